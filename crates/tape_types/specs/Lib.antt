@@ -1,0 +1,3 @@
+pub mod ListingFaults
+pub mod Names
+pub mod Ranges

@@ -1,0 +1,36 @@
+-- The listing of a day: two lists of distinct names, in order.
+use Rattle.std.specs.Prelude.{ℕ, Bool, cond, true, false, ◌||◌, nat_lt, nat_eq, List, [], ◌∷◌, length, Option, Some, None}
+use Rattle.std.specs.List.{list_any}
+use Rattle.std.specs.Str.{bytes_eq}
+use Rattle.tape_types.specs.declared.listing_fault.ListingFault.{ListingFault}
+use Rattle.tape_types.specs.declared.listing_fault.ListingFault.TheVariants.{Empty, TooMany, Repeated}
+
+-- what a contract sees of a listing
+pub record Names : Type 0 where
+  pub symbols : List (List ℕ)
+  pub participants : List ℕ
+
+-- `==` of two symbols
+abbrev pub symbol_eq : List ℕ → List ℕ → Bool
+symbol_eq a b = bytes_eq a b
+
+-- some element equals one before it
+abbrev pub has_repeat : {A : Type 0} → (A → A → Bool) → List A → Bool
+has_repeat eq [] = false
+has_repeat eq (x ∷ xs) = list_any (λ y. eq y x) xs || has_repeat eq xs
+
+-- the first fault whose test holds
+abbrev pub first_fault : {F : Type 0} → List (Bool × F) → Option F
+first_fault [] = None
+first_fault (c ∷ cases) = cond c.0 (Some c.1) (first_fault cases)
+
+abbrev pub is_nil : {A : Type 0} → List A → Bool
+is_nil [] = true
+is_nil (x ∷ xs) = false
+
+-- the fault of two lists of names, want of memory aside
+abbrev pub refusal_of : List (List ℕ) → List ℕ → Option ListingFault
+refusal_of symbols participants = first_fault (
+    (is_nil symbols || is_nil participants, Empty) ∷
+    (nat_lt 4096 (length symbols) || nat_lt 26 (length participants), TooMany) ∷
+    (has_repeat symbol_eq symbols || has_repeat nat_eq participants, Repeated) ∷ [])

@@ -1,0 +1,23 @@
+//! The small values of a trade tape, each in its range, and the listing of a day.
+#![tactic(auto)]
+
+mod listing;
+mod listing_fault;
+mod msg_number;
+mod participant;
+mod price;
+mod size;
+mod symbol;
+mod tape_number;
+
+pub use listing::Listing;
+pub use listing_fault::ListingFault;
+pub use msg_number::MsgNumber;
+pub use participant::Participant;
+pub use price::Price;
+pub use size::Size;
+pub use symbol::Symbol;
+pub use tape_number::TapeNumber;
+
+#[cfg(test)]
+mod tests;

@@ -1,0 +1,40 @@
+//! Why no listing was made.
+ghost use Rattle.std.specs.Prelude.{◌≡◌};
+ghost use Rattle.tape_types.specs.ListingFaults.{listing_fault_code, listing_fault_name};
+
+use thiserror::Error;
+
+/// Why no listing was made, the first that applies.
+#[derive(Clone, Copy, Debug, PartialEq, Eq, Error)]
+#[error("{}", self.name())]
+pub enum ListingFault {
+    /// There is no symbol, or no participant.
+    Empty = 1,
+    /// There are more than 4,096 symbols, or more than 26 participants.
+    TooMany = 2,
+    /// A symbol or a participant stands twice.
+    Repeated = 3,
+    /// Memory ran out.
+    OutOfMemory = 4,
+}
+
+impl ListingFault {
+    /// The number of the fault.
+    pub fn code(self) -> u8
+        ensures { result ≡ listing_fault_code self }
+    {
+        self as u8
+    }
+
+    /// The name of the fault, as it is printed.
+    pub fn name(self) -> &'static str
+        ensures { result.now ≡ listing_fault_name self }
+    {
+        match self {
+            ListingFault::Empty => "Empty",
+            ListingFault::TooMany => "TooMany",
+            ListingFault::Repeated => "Repeated",
+            ListingFault::OutOfMemory => "OutOfMemory",
+        }
+    }
+}

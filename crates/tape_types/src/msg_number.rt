@@ -1,0 +1,43 @@
+//! A message number.
+ghost use Rattle.std.specs.Prelude.{◌≡◌, ℕ, ◌↔◌, IsSome, IfSome};
+ghost use Rattle.tape_types.specs.Ranges.{IsMessageNumber};
+
+use std::marker::Model;
+
+/// The number that a participant gave its message, of the message itself or of a target: 1 to 4,294,967,295.
+#[derive(Clone, Copy, Debug, PartialEq, Eq, PartialOrd, Ord, Hash)]
+pub struct MsgNumber {
+    number: u32,
+}
+
+impl Model for MsgNumber {
+    ghost Value = { ℕ };
+
+    ghost view = { λ m. m.number };
+
+    ghost invariant = { λ m. IsMessageNumber m.number };
+
+    ghost inverse = { λ n. record { number = n } };
+}
+
+impl MsgNumber {
+    /// The message number, or `None` for 0.
+    pub fn try_new(number: u32) -> Option<Self>
+        ensures valid { IsSome result ↔ IsMessageNumber number }
+        ensures value { IfSome result (λ m. m ≡ number) }
+    {
+        if number > 0 {
+            Some(MsgNumber { number })
+        } else {
+            None
+        }
+    }
+
+    /// The number, from 1.
+    pub fn value(self) -> u32
+        ensures value { result ≡ self }
+        ensures in_range { IsMessageNumber self }
+    {
+        self.number
+    }
+}

@@ -1,0 +1,43 @@
+//! A participant.
+ghost use Rattle.std.specs.Prelude.{◌≡◌, ℕ, ◌↔◌, IsSome, IfSome};
+ghost use Rattle.tape_types.specs.Ranges.{IsParticipant};
+
+use std::marker::Model;
+
+/// A participant, by its letter: `A` to `Z`.
+#[derive(Clone, Copy, Debug, PartialEq, Eq, PartialOrd, Ord, Hash)]
+pub struct Participant {
+    letter: u8,
+}
+
+impl Model for Participant {
+    ghost Value = { ℕ };
+
+    ghost view = { λ p. p.letter };
+
+    ghost invariant = { λ p. IsParticipant p.letter };
+
+    ghost inverse = { λ n. record { letter = n } };
+}
+
+impl Participant {
+    /// The participant of the letter, or `None` where it is no capital letter.
+    pub fn try_new(letter: u8) -> Option<Self>
+        ensures valid { IsSome result ↔ IsParticipant letter }
+        ensures value { IfSome result (λ p. p ≡ letter) }
+    {
+        if letter.is_ascii_uppercase() {
+            Some(Participant { letter })
+        } else {
+            None
+        }
+    }
+
+    /// The letter, as its byte.
+    pub fn value(self) -> u8
+        ensures value { result ≡ self }
+        ensures in_range { IsParticipant self }
+    {
+        self.letter
+    }
+}

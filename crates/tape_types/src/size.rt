@@ -1,0 +1,43 @@
+//! A size.
+ghost use Rattle.std.specs.Prelude.{◌≡◌, ℕ, ◌↔◌, IsSome, IfSome};
+ghost use Rattle.tape_types.specs.Ranges.{IsSize};
+
+use std::marker::Model;
+
+/// A number of shares: 1 to 99,999,999.
+#[derive(Clone, Copy, Debug, PartialEq, Eq, PartialOrd, Ord, Hash)]
+pub struct Size {
+    shares: u32,
+}
+
+impl Model for Size {
+    ghost Value = { ℕ };
+
+    ghost view = { λ s. s.shares };
+
+    ghost invariant = { λ s. IsSize s.shares };
+
+    ghost inverse = { λ n. record { shares = n } };
+}
+
+impl Size {
+    /// So many shares, or `None` outside 1 to 99,999,999.
+    pub fn try_new(shares: u32) -> Option<Self>
+        ensures valid { IsSome result ↔ IsSize shares }
+        ensures value { IfSome result (λ s. s ≡ shares) }
+    {
+        if (1..=99_999_999).contains(&shares) {
+            Some(Size { shares })
+        } else {
+            None
+        }
+    }
+
+    /// The number of shares.
+    pub fn value(self) -> u32
+        ensures value { result ≡ self }
+        ensures in_range { IsSize self }
+    {
+        self.shares
+    }
+}

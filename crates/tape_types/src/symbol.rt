@@ -1,0 +1,66 @@
+//! A symbol.
+ghost use Rattle.std.specs.Prelude.{◌≡◌, ◌≤◌, ℕ, List, length, All, ◌↔◌, IsSome, IfSome, IsTrue};
+ghost use Rattle.tape_types.specs.Ranges.{IsSymbol, is_name_byte, name_of};
+
+use std::marker::Model;
+
+/// A symbol: a name of one to eight of `A` to `Z`, `0` to `9` and `.`, with spaces to the end of its eight bytes.
+#[derive(Clone, Copy, Debug, PartialEq, Eq, PartialOrd, Ord, Hash)]
+pub struct Symbol {
+    bytes: [u8; 8],
+}
+
+impl Model for Symbol {
+    ghost Value = { List ℕ };
+
+    ghost view = { λ s. s.bytes };
+
+    ghost invariant = { λ s. IsSymbol s.bytes };
+
+    ghost inverse = { λ b. record { bytes = b } };
+}
+
+impl Symbol {
+    /// The symbol that the eight bytes spell, or `None` where they spell none.
+    pub fn try_new(bytes: [u8; 8]) -> Option<Self>
+        ensures valid { IsSome result ↔ IsSymbol bytes }
+        ensures value { IfSome result (λ s. s ≡ bytes) }
+    {
+        let name_len = name_length(&bytes);
+        if name_len > 0 && is_padding(&bytes[name_len..]) {
+            Some(Symbol { bytes })
+        } else {
+            None
+        }
+    }
+
+    /// The eight bytes: the name, and spaces to the end.
+    pub fn value(self) -> [u8; 8]
+        ensures value { result ≡ self }
+        ensures in_range { IsSymbol self }
+    {
+        self.bytes
+    }
+}
+
+/// How many bytes stand before the padding.
+fn name_length(bytes: &[u8]) -> usize
+    ensures length { result ≡ length (name_of bytes.now) }
+    ensures within { result ≤ length bytes.now }
+{
+    bytes.iter().take_while(|b| is_name(**b)).count()
+}
+
+/// Whether all bytes are spaces.
+fn is_padding(bytes: &[u8]) -> bool
+    ensures { IsTrue result ↔ All (λ b. b ≡ 32) bytes.now }
+{
+    bytes.iter().all(|b| *b == b' ')
+}
+
+/// Whether a byte may stand in a name.
+fn is_name(byte: u8) -> bool
+    ensures { result ≡ is_name_byte byte }
+{
+    byte.is_ascii_uppercase() || byte.is_ascii_digit() || byte == b'.'
+}

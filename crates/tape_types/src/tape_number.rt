@@ -1,0 +1,43 @@
+//! A tape number.
+ghost use Rattle.std.specs.Prelude.{◌≡◌, ℕ, ◌↔◌, IsSome, IfSome};
+ghost use Rattle.tape_types.specs.Ranges.{IsTapeNumber};
+
+use std::marker::Model;
+
+/// A position on the tape: 1 to 1,048,576. A report's place is the tape number of its admission.
+#[derive(Clone, Copy, Debug, PartialEq, Eq, PartialOrd, Ord, Hash)]
+pub struct TapeNumber {
+    position: u32,
+}
+
+impl Model for TapeNumber {
+    ghost Value = { ℕ };
+
+    ghost view = { λ t. t.position };
+
+    ghost invariant = { λ t. IsTapeNumber t.position };
+
+    ghost inverse = { λ n. record { position = n } };
+}
+
+impl TapeNumber {
+    /// The tape number, or `None` outside 1 to 1,048,576.
+    pub fn try_new(position: u32) -> Option<Self>
+        ensures valid { IsSome result ↔ IsTapeNumber position }
+        ensures value { IfSome result (λ t. t ≡ position) }
+    {
+        if (1..=1_048_576).contains(&position) {
+            Some(TapeNumber { position })
+        } else {
+            None
+        }
+    }
+
+    /// The position, from 1.
+    pub fn value(self) -> u32
+        ensures value { result ≡ self }
+        ensures in_range { IsTapeNumber self }
+    {
+        self.position
+    }
+}
