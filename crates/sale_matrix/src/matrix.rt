@@ -1,0 +1,167 @@
+//! The cells of each code, and how they are joined.
+ghost use Rattle.std.specs.Prelude.{◌≡◌};
+ghost use Rattle.std.specs.Option.{option_map};
+ghost use Rattle.sale_matrix.specs.Matrix.{first_rows, second_rows, third_rows, fourth_rows, cells_in, cells_of_row, least_cells, weaker};
+
+/// When a trade becomes the last one: what a last cell of the matrix says. The weakest rule comes first.
+#[derive(Clone, Copy, Debug, PartialEq, Eq, PartialOrd, Ord)]
+pub enum LastRule {
+    /// It never does (`N`).
+    Never,
+    /// Where there is no last yet (`F`).
+    FirstOnly,
+    /// Where there is no last yet, or the present last is of the same participant (`S`).
+    SameMarket,
+    /// It always does (`Y`).
+    Always,
+}
+
+/// Which figures a trade changes: the cells of a code, or the least of those of several codes.
+#[derive(Clone, Copy, Debug, PartialEq, Eq)]
+pub struct Cells {
+    /// The consolidated high and low.
+    pub ch: bool,
+    /// The consolidated last.
+    pub cl: LastRule,
+    /// The participant's own high and low.
+    pub ph: bool,
+    /// The participant's own last.
+    pub pl: LastRule,
+    /// The volume, consolidated and the participant's own.
+    pub volume: bool,
+}
+
+const NEUTRAL: Cells = Cells {
+    ch: true,
+    cl: LastRule::Always,
+    ph: true,
+    pl: LastRule::Always,
+    volume: true,
+};
+
+const VOLUME_ALONE: Cells = Cells {
+    ch: false,
+    cl: LastRule::Never,
+    ph: false,
+    pl: LastRule::Never,
+    volume: true,
+};
+
+const OUT_OF_SEQUENCE: Cells = Cells {
+    ch: true,
+    cl: LastRule::FirstOnly,
+    ph: true,
+    pl: LastRule::FirstOnly,
+    volume: true,
+};
+
+const SOLD_LAST: Cells = Cells {
+    ch: true,
+    cl: LastRule::SameMarket,
+    ph: true,
+    pl: LastRule::SameMarket,
+    volume: true,
+};
+
+const CORRECTED_CLOSE: Cells = Cells {
+    ch: true,
+    cl: LastRule::Always,
+    ph: false,
+    pl: LastRule::Never,
+    volume: false,
+};
+
+const OFFICIAL_CLOSE: Cells = Cells {
+    ch: false,
+    cl: LastRule::Never,
+    ph: true,
+    pl: LastRule::Always,
+    volume: false,
+};
+
+const OFFICIAL_OPEN: Cells = Cells {
+    ch: false,
+    cl: LastRule::Never,
+    ph: true,
+    pl: LastRule::Never,
+    volume: false,
+};
+
+/// The cells of a code in the first position, where it is one of its codes.
+#[tactic(auto, unfolding(crate::specs::Matrix::first_rows))]
+pub(crate) fn first_position(code: u8) -> Option<Cells>
+    ensures { result ≡ option_map cells_of_row (cells_in first_rows code) }
+{
+    match code {
+        b'@' => Some(NEUTRAL),
+        b'C' | b'N' | b'R' => Some(VOLUME_ALONE),
+        _ => None,
+    }
+}
+
+/// The cells of a code in the second position, where it is one of its codes.
+#[tactic(auto, unfolding(crate::specs::Matrix::second_rows))]
+pub(crate) fn second_position(code: u8) -> Option<Cells>
+    ensures { result ≡ option_map cells_of_row (cells_in second_rows code) }
+{
+    match code {
+        b' ' | b'F' | b'O' | b'5' | b'6' => Some(NEUTRAL),
+        b'4' => Some(OUT_OF_SEQUENCE),
+        b'7' => Some(VOLUME_ALONE),
+        b'9' => Some(CORRECTED_CLOSE),
+        _ => None,
+    }
+}
+
+/// The cells of a code in the third position, where it is one of its codes.
+#[tactic(auto, unfolding(crate::specs::Matrix::third_rows))]
+pub(crate) fn third_position(code: u8) -> Option<Cells>
+    ensures { result ≡ option_map cells_of_row (cells_in third_rows code) }
+{
+    match code {
+        b' ' => Some(NEUTRAL),
+        b'T' | b'U' => Some(VOLUME_ALONE),
+        b'L' => Some(SOLD_LAST),
+        b'Z' => Some(OUT_OF_SEQUENCE),
+        _ => None,
+    }
+}
+
+/// The cells of a code in the fourth position, where it is one of its codes.
+#[tactic(auto, unfolding(crate::specs::Matrix::fourth_rows))]
+pub(crate) fn fourth_position(code: u8) -> Option<Cells>
+    ensures { result ≡ option_map cells_of_row (cells_in fourth_rows code) }
+{
+    match code {
+        b' ' | b'A' | b'B' | b'D' | b'S' | b'X' | b'Y' | b'1' => Some(NEUTRAL),
+        b'H' | b'I' | b'V' | b'W' => Some(VOLUME_ALONE),
+        b'P' | b'G' => Some(OUT_OF_SEQUENCE),
+        b'M' => Some(OFFICIAL_CLOSE),
+        b'Q' => Some(OFFICIAL_OPEN),
+        _ => None,
+    }
+}
+
+impl LastRule {
+    /// The weaker of two rules.
+    fn weaker(self, other: LastRule) -> LastRule
+        ensures { result ≡ weaker self other }
+    {
+        self.min(other)
+    }
+}
+
+impl Cells {
+    /// The lesser cell in each column.
+    pub(crate) fn and(self, other: Cells) -> Cells
+        ensures { result ≡ least_cells self other }
+    {
+        Cells {
+            ch: self.ch && other.ch,
+            cl: self.cl.weaker(other.cl),
+            ph: self.ph && other.ph,
+            pl: self.pl.weaker(other.pl),
+            volume: self.volume && other.volume,
+        }
+    }
+}
