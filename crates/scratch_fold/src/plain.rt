@@ -1,0 +1,20 @@
+//! The fold over a list.
+ghost use Rattle.std.specs.Prelude.{◌≡◌};
+ghost use Rattle.scratch_fold.specs.Fold.{summary_of, PlacesRise};
+
+use crate::{Effect, Summary};
+use tape_types::TapeNumber;
+
+/// The summary of a list of reports whose places rise: one step of a summary after another.
+pub fn fold(reports: &[(TapeNumber, Effect)]) -> Summary
+    requires rising { PlacesRise reports.now }
+    ensures { result ≡ summary_of reports.now }
+{
+    let mut summary = Summary::empty();
+    for (place, effect) in reports {
+        prove!(place.value() <= 1_048_576);
+        prove!(effect.size.value() <= 99_999_999);
+        summary = summary.after(*place, *effect);
+    }
+    summary
+}
