@@ -1,0 +1,3 @@
+pub mod ParticipantStores
+pub mod HeldTrades
+pub mod Entries

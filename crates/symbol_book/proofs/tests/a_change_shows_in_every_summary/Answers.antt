@@ -1,0 +1,28 @@
+use Rattle.std.proofs.Common.{ℕ, List, Option, Some, None, IsSome, refl, sym, ap, subst, ◌∙◌, rules}
+use Rattle.std.specs.Ordering.{nat_cmp}
+use Rattle.std.specs.FinMap as map
+use Rattle.std.specs.FinMap.{gets}
+use Rattle.symbol_book.specs.declared.trade.Trade.{Trade}
+use Rattle.symbol_book.specs.Columns.{Trades, with_content, reported_trade}
+use Rattle.symbol_book.proofs.HeldTrades.{get-inserted}
+use Rattle.symbol_book.proofs.tests.a_change_shows_in_every_summary.Goals as goal
+
+with_content-present : (m : Trades) (place : ℕ) (o : Option Trade) (price size : ℕ) (condition : List ℕ) → IsSome o → IsSome (map.get (with_content m place o price size condition) place)
+with_content-present m place None price size condition there = absurd (cc)
+with_content-present m place (Some t) price size condition there = subst (λ o. IsSome o) (sym (get-inserted m place (reported_trade t.who price size condition))) refl
+
+pub add-requires : goal.add-requires
+add-requires g c = ap (λ m. map.get m c.in_ok-one.one) c.new-book.ensures ∙ map.get-empty nat_cmp _
+
+pub add-requires-2 : goal.add-requires-2
+add-requires-2 g c = grind (gets, rules)
+
+pub replace-requires : goal.replace-requires
+replace-requires g c = grind (gets, rules)
+
+pub remove-requires : goal.remove-requires
+remove-requires g c =
+    let there : IsSome (map.get c.add-2.new.book c.in_ok-one.one) = grind (gets, rules) in
+    record {
+      present = subst (λ m. IsSome (map.get m c.in_ok-one.one)) (sym c.in_ok-replace.ensures) (with_content-present c.add-2.new.book c.in_ok-one.one _ _ _ _ there);
+    }

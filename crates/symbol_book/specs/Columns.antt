@@ -1,0 +1,53 @@
+-- One map of the reports that stand, under two sets of columns.
+use Rattle.std.specs.Prelude.{ℕ, Bool, cond, ◌==◌, List, map, Option, Some, None}
+use Rattle.std.specs.List.{filter}
+use Rattle.std.specs.Ordering.{nat_cmp}
+use Rattle.std.specs.FinMap as map
+use Rattle.sale_matrix.specs.Matrix.{cells_of}
+use Rattle.scratch_fold.specs.declared.summary.Effect.{Effect}
+use Rattle.scratch_fold.specs.declared.summary.Summary.{Summary}
+use Rattle.scratch_fold.specs.Columns.{consolidated_effect, participant_effect}
+use Rattle.scratch_fold.specs.Fold.{summary_of}
+use Rattle.symbol_book.specs.declared.trade.Trade.{Trade}
+
+-- the trade of a report
+abbrev pub reported_trade : ℕ → ℕ → ℕ → List ℕ → Trade
+reported_trade who price size condition = record { who = who; price = price; size = size; cells = cells_of condition }
+
+-- what it does to the consolidated summary
+abbrev pub consolidated_effect_of : Trade → Effect
+consolidated_effect_of t = consolidated_effect t.who t.price t.size t.cells
+
+-- what it does to its participant's own summary
+abbrev pub own_effect_of : Trade → Effect
+own_effect_of t = participant_effect t.who t.price t.size t.cells
+
+-- the trades that stand, by place
+abbrev pub Trades : Type 0
+Trades = map.FinMap nat_cmp Trade
+
+-- whether a trade is the participant's
+abbrev pub is_of : ℕ → Trade → Bool
+is_of who t = t.who == who
+
+-- the fold of the trades by rising place, in the consolidated columns
+abbrev pub consolidated_summary : Trades → Summary
+consolidated_summary m = summary_of (map (λ r. (r.0, consolidated_effect_of r.1)) (map.entries m))
+
+-- the fold of one participant's trades by rising place, in the participant columns
+abbrev pub own_summary : Trades → ℕ → Summary
+own_summary m who = summary_of (map (λ r. (r.0, own_effect_of r.1)) (filter (λ r. is_of who r.1) (map.entries m)))
+
+-- the effect in the participant's own store, if the trade is the participant's
+abbrev pub own_effect_at : ℕ → Option Trade → Option Effect
+own_effect_at who None = None
+own_effect_at who (Some t) = cond (is_of who t) (Some (own_effect_of t)) None
+
+-- the map with another content for this trade, if there is one
+abbrev pub with_content : Trades → ℕ → Option Trade → ℕ → ℕ → List ℕ → Trades
+with_content m place None price size condition = m
+with_content m place (Some t) price size condition = map.insert m place (reported_trade t.who price size condition)
+
+-- the map with another content at a place that has a trade
+abbrev pub trades_with_content : Trades → ℕ → ℕ → ℕ → List ℕ → Trades
+trades_with_content m place price size condition = with_content m place (map.get m place) price size condition

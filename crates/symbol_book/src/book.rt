@@ -1,0 +1,139 @@
+//! A symbol's book.
+ghost use Rattle.std.specs.Prelude.{◌≡◌, OnOk, OnErr, IsSome, None};
+ghost use Rattle.std.specs.FinMap as map;
+ghost use Rattle.symbol_book.specs.Columns.{reported_trade, consolidated_summary, own_summary, trades_with_content};
+
+use crate::{Trade, participant_stores};
+use price_index::Searches;
+use sale_matrix::Condition;
+use scratch_fold::Summary;
+use std::alloc::{AllocError, Global};
+use std::collections::BTreeMap;
+use std::marker::Model;
+use summaries::Store;
+use tape_types::{Participant, Price, Size, TapeNumber};
+
+/// The reports of a symbol that stand, by place: a store in the consolidated columns, and one in the participant
+/// columns for each participant that has reported. Each call makes a counter of searches of its own.
+#[derive(Drop)]
+pub struct Book<S: Store> {
+    alloc: Global,
+    consolidated: S,
+    own: BTreeMap<Participant, S>,
+}
+
+impl<S: Store> Model for Book<S> {
+    ghost use Rattle.std.specs.FinMap as map;
+    ghost use Rattle.std.specs.Coded.{coded_ℕ};
+    ghost use Rattle.symbol_book.specs.contracts.trade.Trade as trade;
+    ghost use Rattle.symbol_book.specs.Columns.{Trades};
+
+    ghost Value = { Trades };
+
+    ghost coded = { map.code coded_ℕ trade.the_row.coded };
+
+    ghost use Rattle.symbol_book.specs.Stores.{book_trades, IsBook};
+
+    ghost view = { λ b. book_trades S.effects b.consolidated b.own };
+
+    ghost invariant = { λ b. IsBook S.effects S.staged_change b.consolidated b.own };
+}
+
+impl<S: Store> Book<S> {
+    /// A book of no report. It takes no memory.
+    pub fn new(alloc: Global) -> Self
+        ensures { result ≡ map.empty }
+    {
+        Book {
+            alloc,
+            consolidated: S::empty(alloc),
+            own: BTreeMap::new(alloc),
+        }
+    }
+
+    /// Adds a report at a vacant place. Want of memory leaves both of its stores unchanged.
+    pub fn add(
+        &mut self,
+        place: TapeNumber,
+        who: Participant,
+        price: Price,
+        size: Size,
+        condition: &Condition,
+    ) -> Result<(), AllocError>
+        requires vacant { map.get self.old place ≡ None }
+        ensures ok { OnOk result
+            (self.new ≡ map.insert self.old place (reported_trade who price size condition.now)) }
+        ensures err { OnErr result (self.new ≡ self.old) }
+    {
+        let trade = Trade::new(who, price, size, condition);
+        let mut searches = Searches::new();
+        participant_stores::put(
+            &mut self.own,
+            self.alloc,
+            who,
+            place,
+            trade.own(),
+            &mut searches,
+        )?;
+        match self
+            .consolidated
+            .put(place, trade.consolidated(), &mut searches)
+        {
+            Ok(()) => Ok(()),
+            Err(refused) => {
+                participant_stores::take(&mut self.own, who, place, &mut searches);
+                Err(refused)
+            }
+        }
+    }
+
+    /// Gives the report at a place another content; its participant stays. Want of memory leaves both of its stores
+    /// unchanged.
+    pub fn replace(
+        &mut self,
+        place: TapeNumber,
+        price: Price,
+        size: Size,
+        condition: &Condition,
+    ) -> Result<(), AllocError>
+        requires present { IsSome (map.get self.old place) }
+        ensures ok { OnOk result
+            (self.new ≡ trades_with_content self.old place price size condition.now) }
+        ensures err { OnErr result (self.new ≡ self.old) }
+    {
+        let mut searches = Searches::new();
+        let effect = self.consolidated.get(place, &mut searches).unwrap();
+        let trade = Trade::new(effect.who, price, size, condition);
+        participant_stores::replace(
+            &mut self.consolidated,
+            &mut self.own,
+            effect.who,
+            place,
+            &trade,
+        )
+    }
+
+    /// Takes the report at a place away. It takes no memory.
+    pub fn remove(&mut self, place: TapeNumber)
+        requires present { IsSome (map.get self.old place) }
+        ensures { self.new ≡ map.remove self.old place }
+    {
+        let mut searches = Searches::new();
+        let effect = self.consolidated.take(place, &mut searches);
+        participant_stores::take(&mut self.own, effect.who, place, &mut searches);
+    }
+
+    /// The consolidated summary of the reports by rising place. It takes no memory.
+    pub fn consolidated(&self) -> Summary
+        ensures { result ≡ consolidated_summary self.now }
+    {
+        self.consolidated.summary(&mut Searches::new())
+    }
+
+    /// The participant's own summary of its reports by rising place, empty where it has none. It takes no memory.
+    pub fn of(&self, who: Participant) -> Summary
+        ensures { result ≡ own_summary self.now who }
+    {
+        participant_stores::summary(&self.own, who)
+    }
+}

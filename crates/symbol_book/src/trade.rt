@@ -1,0 +1,63 @@
+//! A report as a book sees it.
+
+use sale_matrix::{Cells, Condition, cells};
+use scratch_fold::Effect;
+use tape_types::{Participant, Price, Size};
+
+/// What was reported at a place: whose report it is, its content, and what its sale condition lets it do.
+#[derive(Clone, Copy, Debug, PartialEq, Eq)]
+pub struct Trade {
+    /// The price, in ten-thousandths of a dollar.
+    pub price: Price,
+    /// The number of shares.
+    pub size: Size,
+    /// The participant that reported it.
+    pub who: Participant,
+    /// The cells of its sale condition.
+    pub cells: Cells,
+}
+
+impl Trade {
+    ghost use Rattle.std.specs.Prelude.{◌≡◌};
+    ghost use Rattle.symbol_book.specs.Columns.{consolidated_effect_of, own_effect_of, reported_trade};
+
+    /// The trade of a report.
+    pub(crate) fn new(who: Participant, price: Price, size: Size, condition: &Condition) -> Trade
+        ensures { result ≡ reported_trade who price size condition.now }
+    {
+        Trade {
+            price,
+            size,
+            who,
+            cells: cells(condition),
+        }
+    }
+
+    /// What it does to the consolidated summary.
+    pub(crate) fn consolidated(&self) -> Effect
+        ensures { result ≡ consolidated_effect_of self.now }
+    {
+        Effect {
+            who: self.who,
+            price: self.price,
+            size: self.size,
+            high_low: self.cells.ch,
+            last: self.cells.cl,
+            volume: self.cells.volume,
+        }
+    }
+
+    /// What it does to its participant's own summary.
+    pub(crate) fn own(&self) -> Effect
+        ensures { result ≡ own_effect_of self.now }
+    {
+        Effect {
+            who: self.who,
+            price: self.price,
+            size: self.size,
+            high_low: self.cells.ph,
+            last: self.cells.pl,
+            volume: self.cells.volume,
+        }
+    }
+}
