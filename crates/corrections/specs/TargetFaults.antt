@@ -1,0 +1,16 @@
+-- The faults of a target by number and name.
+use Rattle.std.specs.Prelude.{ℕ, List, codes}
+use Rattle.corrections.specs.declared.target_fault.TargetFault.{TargetFault}
+use Rattle.corrections.specs.declared.target_fault.TargetFault.TheVariants.{NoSuchReport, OtherSymbol, Cancelled}
+
+-- the fault's number
+abbrev pub target_fault_code : TargetFault → ℕ
+target_fault_code NoSuchReport = 37
+target_fault_code OtherSymbol = 38
+target_fault_code Cancelled = 39
+
+-- the fault's name
+abbrev pub target_fault_name : TargetFault → List ℕ
+target_fault_name NoSuchReport = codes "NoSuchReport"
+target_fault_name OtherSymbol = codes "OtherSymbol"
+target_fault_name Cancelled = codes "Cancelled"

@@ -1,0 +1,170 @@
+//! Which report a participant's message number names, and how far each participant has numbered.
+ghost use Rattle.std.specs.Prelude.{◌≡◌, ◌<◌, ℕ, OnOk, OnErr, IsSome, None, if◌then◌else◌, ◌==◌};
+ghost use Rattle.std.specs.FinMap as map;
+ghost use Rattle.tape_types.specs.Ranges.{IsParticipant};
+ghost use Rattle.corrections.specs.Targets.{IsStanding, standing_target, target_answer, targets_after_cancel};
+ghost use Rattle.corrections.specs.RegisterState.{last_of, row_index};
+
+use crate::{Standing, Target, TargetFault};
+use std::alloc::{AllocError, Global};
+use std::collections::HashMap;
+use std::marker::Model;
+use tape_types::{MsgNumber, Participant, Symbol, TapeNumber};
+
+/// Each report of the day by its participant and its message number, and each participant's last message number.
+#[derive(Drop)]
+pub struct Register {
+    targets: HashMap<(Participant, MsgNumber), Target>,
+    /// The last message number of each participant, from `A` to `Z`, and 0 for none.
+    last_numbers: [u32; 26],
+}
+
+impl Model for Register {
+    ghost use Rattle.std.specs.FinMap as map;
+    ghost use Rattle.std.specs.Coded.{code_by, coded_ℕ, coded_list, coded×};
+    ghost use Rattle.corrections.specs.contracts.target.Target as target;
+    ghost use Rattle.corrections.specs.RegisterState.{RegisterState, register_code};
+
+    ghost Value = { RegisterState };
+
+    ghost coded = { register_code target.the_row.coded };
+
+    ghost view = { λ r. record { targets = map.from_entries r.targets.entries; last_numbers = r.last_numbers } };
+}
+
+impl Register {
+    /// A register of no report, in which no participant has a message. It takes no memory.
+    pub fn new(alloc: Global) -> Self
+        ensures targets { result.targets ≡ map.empty }
+        ensures last_numbers { (who : ℕ) → last_of result who ≡ 0 }
+    {
+        Register {
+            targets: HashMap::new(alloc),
+            last_numbers: [0; 26],
+        }
+    }
+
+    /// Notes a report that stands, at the place of its admission. Want of memory leaves the register unchanged.
+    pub fn record(
+        &mut self,
+        who: Participant,
+        number: MsgNumber,
+        symbol: Symbol,
+        place: TapeNumber,
+    ) -> Result<(), AllocError>
+        requires vacant { map.get self.old.targets (who, number) ≡ None }
+        ensures ok { OnOk result (self.new ≡ record self.old {
+          targets = map.insert self.old.targets (who, number) (standing_target symbol place);
+        }) }
+        ensures err { OnErr result (self.new ≡ self.old) }
+    {
+        let target = Target {
+            symbol,
+            place,
+            standing: Standing::Standing,
+        };
+        self.targets.insert((who, number), target)?;
+        Ok(())
+    }
+
+    /// The place of the report that a participant's target names, where it is of the symbol and stands.
+    pub fn find(
+        &self,
+        who: Participant,
+        target: MsgNumber,
+        symbol: Symbol,
+    ) -> Result<TapeNumber, TargetFault>
+        ensures { result ≡ target_answer symbol (map.get self.now.targets (who, target)) }
+    {
+        let Some(target) = self.get(who, target) else {
+            return Err(TargetFault::NoSuchReport);
+        };
+        if symbol != target.symbol {
+            return Err(TargetFault::OtherSymbol);
+        }
+        match target.standing {
+            Standing::Standing => Ok(target.place),
+            Standing::Cancelled => Err(TargetFault::Cancelled),
+        }
+    }
+
+    fn get(&self, who: Participant, number: MsgNumber) -> Option<Target>
+        ensures { result ≡ map.get self.now.targets (who, number) }
+    {
+        self.targets.get(&(who, number)).copied()
+    }
+
+    /// Notes that a standing report is cancelled. It takes no memory.
+    pub fn cancel(&mut self, who: Participant, target: MsgNumber)
+        requires standing { IsStanding (map.get self.old.targets (who, target)) }
+        ensures { self.new ≡ record self.old {
+          targets = targets_after_cancel self.old.targets (who, target);
+        } }
+    {
+        if let Some(held) = self.targets.get_mut(&(who, target)) {
+            *held = Target {
+                standing: Standing::Cancelled,
+                ..*held
+            };
+        }
+    }
+
+    /// Notes a participant's newest message number. It takes no memory.
+    pub fn advance(&mut self, who: Participant, number: MsgNumber)
+        requires above { last_of self.old who < number }
+        ensures targets { self.new.targets ≡ self.old.targets }
+        ensures last_numbers { (other : ℕ) → IsParticipant other →
+            last_of self.new other ≡ (if other == who then number else last_of self.old other) }
+    {
+        self.last_numbers[row_index(who)] = number.value();
+    }
+
+    /// A participant's greatest message number so far, 0 for none.
+    pub fn last_number(&self, who: Participant) -> u32
+        ensures { result ≡ last_of self.now who }
+    {
+        self.last_numbers[row_index(who)]
+    }
+}
+
+/// A participant's index in the row of 26, from 0 for `A`.
+fn row_index(who: Participant) -> usize
+    ensures index { result ≡ row_index who }
+    ensures within { result < 26 }
+{
+    usize::from(who.value() - b'A')
+}
+
+#[cfg(test)]
+mod tests {
+    use super::*;
+    use std::test::Fail;
+
+    #[test]
+    fn a_recorded_report_is_found_until_it_is_cancelled(rt: HostRuntime) -> Result<(), Fail> {
+        let who = Participant::try_new(b'N').ok_or("participant")?;
+        let number = MsgNumber::try_new(7).ok_or("number")?;
+        let symbol = Symbol::try_new(*b"AB      ").ok_or("symbol")?;
+        let other = Symbol::try_new(*b"CD      ").ok_or("other symbol")?;
+        let place = TapeNumber::try_new(3).ok_or("place")?;
+
+        let mut register = Register::new(rt.alloc());
+        assert_eq!(rt;
+            register.find(who, number, symbol),
+            Err(TargetFault::NoSuchReport)
+        );
+        assert_eq!(rt; register.record(who, number, symbol, place), Ok(()));
+        assert_eq!(rt; register.find(who, number, symbol), Ok(place));
+        assert_eq!(rt;
+            register.find(who, number, other),
+            Err(TargetFault::OtherSymbol)
+        );
+        register.cancel(who, number);
+        assert_eq!(rt;
+            register.find(who, number, symbol),
+            Err(TargetFault::Cancelled)
+        );
+        assert_eq!(rt; register.last_number(who), 0);
+        Ok(())
+    }
+}

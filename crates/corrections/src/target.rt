@@ -1,0 +1,23 @@
+//! A report as a cancel or a correction finds it.
+
+use tape_types::{Symbol, TapeNumber};
+
+/// Whether a report stands.
+#[derive(Clone, Copy, Debug, PartialEq, Eq)]
+pub enum Standing {
+    /// The report counts in the summaries.
+    Standing,
+    /// A cancel took the report out.
+    Cancelled,
+}
+
+/// A report that a cancel or a correction can name.
+#[derive(Clone, Copy, Debug, PartialEq, Eq)]
+pub struct Target {
+    /// The symbol of the report.
+    pub symbol: Symbol,
+    /// The tape number of the report's admission, which it keeps for the day.
+    pub place: TapeNumber,
+    /// Whether the report stands.
+    pub standing: Standing,
+}

@@ -1,0 +1,37 @@
+//! Why a target cannot be cancelled or corrected.
+ghost use Rattle.std.specs.Prelude.{◌≡◌};
+ghost use Rattle.corrections.specs.TargetFaults.{target_fault_code, target_fault_name};
+
+use thiserror::Error;
+
+/// Why a target names no report that can be cancelled or corrected. The first that applies is answered.
+#[derive(Clone, Copy, Debug, PartialEq, Eq, Error)]
+#[error("{}", self.name())]
+pub enum TargetFault {
+    /// No report of the participant has the target's number.
+    NoSuchReport = 37,
+    /// The target is a report of another symbol.
+    OtherSymbol = 38,
+    /// The target is cancelled.
+    Cancelled = 39,
+}
+
+impl TargetFault {
+    /// The number of the fault.
+    pub fn code(self) -> u8
+        ensures { result ≡ target_fault_code self }
+    {
+        self as u8
+    }
+
+    /// The name of the fault, as it is printed.
+    pub fn name(self) -> &'static str
+        ensures { result.now ≡ target_fault_name self }
+    {
+        match self {
+            TargetFault::NoSuchReport => "NoSuchReport",
+            TargetFault::OtherSymbol => "OtherSymbol",
+            TargetFault::Cancelled => "Cancelled",
+        }
+    }
+}
