@@ -1,0 +1,12 @@
+pub mod AnswerLemmas
+pub mod BatchLemmas
+pub mod FrontLemmas
+pub mod HexLemmas
+pub mod LineLemmas
+pub mod PieceLemmas
+pub mod ReadLemmas
+pub mod RefusalLemmas
+pub mod ReportLemmas
+pub mod RowLemmas
+pub mod RowText
+pub mod SymbolLemmas

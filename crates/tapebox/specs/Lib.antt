@@ -1,0 +1,12 @@
+pub mod Lines
+pub mod LineRefusals
+pub mod MessageLine
+pub mod Header
+pub mod Pieces
+pub mod Rows
+pub mod CsvLines
+pub mod ReportText
+pub mod Batch
+pub mod BatchEnds
+pub mod Ends
+pub mod Program

@@ -1,0 +1,23 @@
+//! Worked rows, headers and lines of every kind, and the program's statuses.
+
+use crate::{BatchEnd, batch_over};
+use std::alloc::Global;
+use std::process::Abort;
+
+mod headers;
+mod rows;
+mod statuses;
+
+/// Asserts that a batch over `input` is done and writes `text`.
+fn assert_writes<A: Abort>(rt: &A, alloc: Global, input: &[u8], text: &[u8]) {
+    assert_ends(rt, alloc, input, BatchEnd::Done, text);
+}
+
+/// Asserts how a batch over `input` ends, and what it writes.
+fn assert_ends<A: Abort>(rt: &A, alloc: Global, input: &[u8], end: BatchEnd, text: &[u8]) {
+    let mut output = Vec::new(alloc);
+    let mut reader = input;
+    let ended = batch_over(alloc, &mut reader, &mut output);
+    assert_eq!(rt; ended, end);
+    assert_eq!(rt; output.as_slice(), text);
+}

@@ -1,0 +1,164 @@
+use crate::program;
+use std::io;
+use std::io::{ErrorKind, Read, Write};
+use std::test::Fail;
+
+/// A reader whose every read fails.
+#[derive(Drop)]
+struct NoReads(ErrorKind);
+
+impl Read for NoReads {
+    fn read(&mut self, _buf: &mut [u8]) -> io::Result<usize> {
+        Err(io::Error::from(self.0))
+    }
+}
+
+/// A writer whose every write fails.
+#[derive(Drop)]
+struct NoWrites;
+
+impl Write for NoWrites {
+    fn write(&mut self, _buf: &[u8]) -> io::Result<usize> {
+        Err(io::Error::from(ErrorKind::BrokenPipe))
+    }
+
+    fn flush(&mut self) -> io::Result<()> {
+        Ok(())
+    }
+}
+
+/// A writer that takes all and cannot be flushed.
+#[derive(Drop)]
+struct NoFlush;
+
+impl Write for NoFlush {
+    fn write(&mut self, buf: &[u8]) -> io::Result<usize> {
+        Ok(buf.len())
+    }
+
+    fn flush(&mut self) -> io::Result<()> {
+        Err(io::Error::from(ErrorKind::BrokenPipe))
+    }
+}
+
+#[test]
+fn a_batch_that_is_done_or_refused_by_its_header_says_nothing(rt: HostRuntime) {
+    let cases: [(&[u8], u8); 2] = [(b"AB\nN\n", 0), (b"AB AB\nN\n", 2)];
+    for (input, status) in cases {
+        let mut output = Vec::new(rt.alloc());
+        let mut errors = Vec::new(rt.alloc());
+        let mut reader = input;
+        let ended = program(
+            rt.alloc(),
+            b"batch\0",
+            &mut reader,
+            &mut output,
+            &mut errors,
+        );
+        assert_eq!(rt; ended, status);
+        assert!(rt; !output.is_empty());
+        assert!(rt; errors.is_empty());
+    }
+}
+
+#[test]
+fn other_words_are_bad_arguments_and_nothing_is_read(rt: HostRuntime) {
+    let cases: [&[u8]; 6] = [
+        b"",
+        b"batch",
+        b"Batch\0",
+        b"batch\0one\0",
+        b"\0batch\0",
+        b"live\0",
+    ];
+    for words in cases {
+        let mut output = Vec::new(rt.alloc());
+        let mut errors = Vec::new(rt.alloc());
+        let mut reader = b"AB\nN\n".as_slice();
+        let status = program(rt.alloc(), words, &mut reader, &mut output, &mut errors);
+        assert_eq!(rt; status, 2);
+        assert_eq!(rt; reader.len(), 5);
+        assert!(rt; output.is_empty());
+        assert_eq!(rt; errors.as_slice(), b"tapebox: bad arguments\n".as_slice());
+    }
+}
+
+#[test]
+fn an_input_beyond_the_limit_is_too_large(rt: HostRuntime) {
+    let mut output = Vec::new(rt.alloc());
+    let mut errors = Vec::new(rt.alloc());
+    let mut reader = io::repeat(b'A').take(16_777_217);
+    let status = program(
+        rt.alloc(),
+        b"batch\0",
+        &mut reader,
+        &mut output,
+        &mut errors,
+    );
+    assert_eq!(rt; status, 2);
+    assert!(rt; output.is_empty());
+    assert_eq!(rt; errors.as_slice(), b"tapebox: input too large\n".as_slice());
+}
+
+#[test]
+fn a_read_that_fails_or_lacks_memory_is_told_apart(rt: HostRuntime) {
+    let cases: [(ErrorKind, u8, &[u8]); 2] = [
+        (ErrorKind::BrokenPipe, 3, b"tapebox: read fault\n"),
+        (ErrorKind::OutOfMemory, 5, b"tapebox: out of memory\n"),
+    ];
+    for (kind, status, text) in cases {
+        let mut output = Vec::new(rt.alloc());
+        let mut errors = Vec::new(rt.alloc());
+        let ended = program(
+            rt.alloc(),
+            b"batch\0",
+            &mut NoReads(kind),
+            &mut output,
+            &mut errors,
+        );
+        assert_eq!(rt; ended, status);
+        assert!(rt; output.is_empty());
+        assert_eq!(rt; errors.as_slice(), text);
+    }
+}
+
+#[test]
+fn a_write_or_a_flush_that_fails_is_a_write_fault(rt: HostRuntime) {
+    for input in [b"AB\nN\n".as_slice(), b"AB AB\nN\n".as_slice()] {
+        let mut errors = Vec::new(rt.alloc());
+        let mut reader = input;
+        let status = program(
+            rt.alloc(),
+            b"batch\0",
+            &mut reader,
+            &mut NoWrites,
+            &mut errors,
+        );
+        assert_eq!(rt; status, 4);
+        assert_eq!(rt; errors.as_slice(), b"tapebox: write fault\n".as_slice());
+        errors.clear();
+        let mut reader = input;
+        let status = program(
+            rt.alloc(),
+            b"batch\0",
+            &mut reader,
+            &mut NoFlush,
+            &mut errors,
+        );
+        assert_eq!(rt; status, 4);
+        assert_eq!(rt; errors.as_slice(), b"tapebox: write fault\n".as_slice());
+    }
+}
+
+#[test]
+fn a_text_that_cannot_be_said_changes_no_status(rt: HostRuntime) {
+    let mut output = Vec::new(rt.alloc());
+    let status = program(
+        rt.alloc(),
+        b"live\0",
+        &mut b"".as_slice(),
+        &mut output,
+        &mut NoWrites,
+    );
+    assert_eq!(rt; status, 2);
+}
