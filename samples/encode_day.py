@@ -1,0 +1,134 @@
+#!/usr/bin/env python3
+"""Turns a readable day into an input of `tapebox batch`: encode_day.py [FILE.csv] > day.txt
+
+The table has a header row with these columns, in any order; `kind` and `target` may be left out of a table of reports.
+
+    kind         report, cancel or correct (or R, X, C, as the messages have it)
+    participant  one letter, A to Z
+    number       the participant's number of this message, 1 to 4294967295
+    symbol       1 to 8 of A to Z, 0 to 9 and the full stop
+    target       the number of the participant's report that is cancelled or corrected; empty in a report
+    price        dollars, with at most four decimals; empty in a cancel
+    size         1 to 99999999; empty in a cancel
+    condition    four codes of the sale condition matrix, _ for a blank, as @_Z_; empty in a cancel
+
+Every moment is 0. The two header lines have the symbols and the participants in the order of their appearance. Rows
+that the tape refuses, as a target that no report has, are encoded too. The first bad row ends the program with status 1
+and `line N: ..` on standard error, and nothing is written.
+"""
+
+import csv
+import re
+import sys
+
+KINDS = {"report": "R", "cancel": "X", "correct": "C", "R": "R", "X": "X", "C": "C"}
+COLUMNS = ["participant", "number", "symbol", "price", "size", "condition"]
+POSITIONS = ["@CNR", "_FO56479", "_LZTU", "_ABDSXY1HIVWPGMQ"]
+
+
+class BadRow(Exception):
+    """Says what is wrong with a row."""
+
+
+def whole(row, column, most):
+    """The column's number, from 1 to `most`."""
+    text = row[column]
+    if not re.fullmatch("[0-9]{1,20}", text) or not 1 <= int(text) <= most:
+        raise BadRow(f"{column} {text!r} is no number from 1 to {most}")
+    return int(text)
+
+
+def ten_thousandths(row):
+    """The price, exactly."""
+    parts = re.fullmatch(r"([0-9]{1,20})(?:\.([0-9]{1,4}))?", row["price"])
+    price = int(parts[1] + (parts[2] or "").ljust(4, "0")) if parts else 0
+    if not 1 <= price <= 999_999_999_999:
+        raise BadRow(f"price {row['price']!r} is not 0.0001 to 99999999.9999 with at most four decimals")
+    return price
+
+
+def condition(row):
+    """The four codes as bytes, each one of its position."""
+    codes = row["condition"]
+    if len(codes) != 4 or not all(code in allowed for code, allowed in zip(codes, POSITIONS)):
+        raise BadRow(f"condition {codes!r} is not four codes of the matrix, with _ for a blank")
+    return codes.replace("_", " ").encode()
+
+
+def empty(row, columns):
+    """Refuses what the row's kind has no place for."""
+    for column in columns:
+        if row.get(column):
+            raise BadRow(f"a {row['kind']} row has no {column}")
+
+
+def header(row, kind):
+    """What every message begins with, its length aside."""
+    participant, symbol = row["participant"], row["symbol"]
+    if not re.fullmatch("[A-Z]", participant):
+        raise BadRow(f"participant {participant!r} is no letter from A to Z")
+    if not re.fullmatch("[A-Z0-9.]{1,8}", symbol):
+        raise BadRow(f"symbol {symbol!r} is not 1 to 8 of A to Z, 0 to 9 and the full stop")
+    number = whole(row, "number", 4_294_967_295)
+    moment = bytes(8)
+    return kind.encode() + participant.encode() + number.to_bytes(4, "big") + moment + symbol.ljust(8).encode()
+
+
+def message(row):
+    """The row's message as bytes."""
+    kind = KINDS.get(row.setdefault("kind", "report"))
+    if kind is None:
+        raise BadRow(f"kind {row['kind']!r} is not report, cancel or correct")
+    body = header(row, kind)
+    if kind == "R":
+        empty(row, ["target"])
+    else:
+        body += whole(row, "target", 4_294_967_295).to_bytes(4, "big")
+    if kind == "X":
+        empty(row, ["price", "size", "condition"])
+    else:
+        size = whole(row, "size", 99_999_999)
+        body += ten_thousandths(row).to_bytes(8, "big") + size.to_bytes(4, "big") + condition(row)
+    return len(body).to_bytes(2, "big") + body
+
+
+def columns_of(names):
+    """The header row's names, each once and none unknown or missing."""
+    allowed = ["kind", "target", *COLUMNS]
+    if len(set(names)) != len(names) or not set(COLUMNS) <= set(names) <= set(allowed):
+        raise BadRow(f"the columns are {', '.join(allowed)}, each once; kind and target may be left out")
+    return names
+
+
+def encode(table):
+    """The batch input of a table's rows."""
+    columns = columns_of(next(table, []))
+    symbols, participants, lines = {}, {}, []
+    for fields in table:
+        if len(fields) != len(columns):
+            raise BadRow(f"{len(columns)} fields are wanted, and {len(fields)} are there")
+        row = dict(zip(columns, fields))
+        lines.append(f"{row['participant']} {message(row).hex()}")
+        symbols[row["symbol"]] = participants[row["participant"]] = None
+    return "\n".join([" ".join(symbols), " ".join(participants), *lines, ""])
+
+
+def main():
+    if len(sys.argv) > 2:
+        sys.exit("usage: encode_day.py [FILE.csv] > day.txt")
+    source = sys.argv[1] if len(sys.argv) == 2 else 0
+    try:
+        file = open(source, newline="", encoding="utf-8-sig", errors="replace")
+    except OSError as fault:
+        sys.exit(f"encode_day.py: {fault}")
+    with file:
+        table = csv.reader(file)
+        try:
+            text = encode(table)
+        except (BadRow, csv.Error) as fault:
+            sys.exit(f"line {max(table.line_num, 1)}: {fault}")
+    sys.stdout.write(text)
+
+
+if __name__ == "__main__":
+    main()
