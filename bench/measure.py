@@ -1,0 +1,96 @@
+#!/usr/bin/env python3
+"""Measures `tapebox batch` beside the plain program, over days made by a seed.
+
+    bench/measure.py [--turns N] [--seed N] [DAY[:BYTES] ..]
+
+Builds both programs, makes the days (one, busy and a hostile one of 4 MB where none is named), runs the programs on each day in
+turns, checks that their statuses and outputs are equal, and prints per day the least processor seconds of each, the
+least wall-clock seconds, the peak memory, and the ratios tapebox / plain. Needs cargo, rt and Python alone.
+"""
+
+import argparse
+import filecmp
+import os
+import subprocess
+import sys
+import time
+from pathlib import Path
+
+BENCH = Path(__file__).resolve().parent
+ROOT = BENCH.parent
+RELEASE = BENCH / "target" / "release"
+DAYS = BENCH / "target" / "days"
+PROGRAMS = {"plain": RELEASE / "plain", "tapebox": ROOT / "crates" / "tapebox" / "out" / "tapebox"}
+
+
+def build():
+    """Builds the plain program and the maker of days by cargo, and tapebox by `rt run` on an empty day."""
+    subprocess.run(["cargo", "build", "--release", "--offline", "--quiet"], cwd=BENCH, check=True)
+    subprocess.run(
+        ["rt", "run", "--", "batch"],
+        cwd=ROOT / "crates" / "tapebox",
+        input=b"A\nA\n",
+        stdout=subprocess.DEVNULL,
+        check=True,
+    )
+
+
+def make(day, seed, size):
+    """The file of the day: made anew each time, since it takes less than a second."""
+    path = DAYS / f"{day}.txt"
+    words = [str(RELEASE / "make_day"), day, str(seed)] + ([size] if size else [])
+    with open(path, "wb") as file:
+        subprocess.run(words, stdout=file, check=True)
+    return path
+
+
+def run(program, source, target):
+    """Runs the program once; answers its status, processor seconds, wall-clock seconds and peak kilobytes."""
+    with open(source, "rb") as given, open(target, "wb") as written:
+        files = [(os.POSIX_SPAWN_DUP2, given.fileno(), 0), (os.POSIX_SPAWN_DUP2, written.fileno(), 1)]
+        start = time.perf_counter()
+        child = os.posix_spawn(program, [str(program), "batch"], {}, file_actions=files)
+        _, status, usage = os.wait4(child, 0)
+        wall = time.perf_counter() - start
+    return os.waitstatus_to_exitcode(status), usage.ru_utime + usage.ru_stime, wall, usage.ru_maxrss
+
+
+def measure(day, source, turns):
+    """Runs both programs in turns and prints the day's rows; false where they disagree."""
+    best = {}
+    for _ in range(turns):
+        answers = {}
+        for name, program in PROGRAMS.items():
+            written = DAYS / f"{day}.{name}"
+            status, *figures = run(program, source, written)
+            answers[name] = (status, written)
+            best[name] = [min(pair) for pair in zip(best.get(name, figures), figures)]
+        (status, written), (other_status, other) = answers.values()
+        if status != other_status or not filecmp.cmp(written, other, shallow=False):
+            print(f"{day}: the programs DISAGREE: statuses {status} and {other_status}, {written}, {other}")
+            return False
+    for name, (processor, wall, memory) in best.items():
+        print(f"{day:10} {name:10} {processor:10.3f} s {wall:10.3f} s {memory / 1024:10.1f} MB")
+    ratios = [mine / plain for mine, plain in zip(best["tapebox"], best["plain"])]
+    print(f"{day:10} {'ratio':10} {ratios[0]:10.2f}   {ratios[1]:10.2f}   {ratios[2]:10.2f}")
+    return True
+
+
+def main():
+    parser = argparse.ArgumentParser(description="Measures tapebox beside the plain program.")
+    parser.add_argument("--turns", type=int, default=7, help="how often each program runs on each day (7)")
+    parser.add_argument("--seed", type=int, default=1, help="the days' seed (1)")
+    parser.add_argument("days", nargs="*", default=["one", "busy", "hostile:4000000"], metavar="DAY[:BYTES]")
+    words = parser.parse_args()
+    build()
+    DAYS.mkdir(parents=True, exist_ok=True)
+    print(f"{'day':10} {'program':10} {'processor':>12} {'wall clock':>12} {'peak memory':>13}")
+    equal = True
+    for word in words.days:
+        day, _, size = word.partition(":")
+        equal &= measure(day, make(day, words.seed, size), words.turns)
+    return 0 if equal else 1
+
+
+if __name__ == "__main__":
+    sys.exit(main())

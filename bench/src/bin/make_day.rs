@@ -1,0 +1,469 @@
+//! `make_day DAY [SEED [BYTES]]` writes a batch input to standard output: the same bytes for the same words.
+//!
+//! - `one`: one symbol and one participant, plain reports alone.
+//! - `busy`: 400 symbols and 15 participants, mixed conditions, some lines refused, 3 in 200 cancels and corrections.
+//! - `hostile`: every second message cancels or corrects a report of one busy symbol.
+//! - `stored`: 20,000 reports with mixed conditions; BYTES is not looked at.
+//! - `odd`: every second line is changed somewhere, in its text or in its message's bytes.
+
+use std::io::{self, Write};
+use std::process::ExitCode;
+
+/// The greatest number of bytes of an input.
+const MAX_INPUT: usize = 16_777_216;
+
+fn main() -> ExitCode {
+    let words: Vec<String> = std::env::args().skip(1).collect();
+    let number = |at: usize, default: u64| match words.get(at) {
+        Some(word) => word.parse().ok(),
+        None => Some(default),
+    };
+    let (Some(seed), Some(bytes)) = (number(1, 1), number(2, MAX_INPUT as u64)) else {
+        return usage();
+    };
+    let mut maker = Maker::new(seed, bytes as usize);
+    match words.first().map(String::as_str) {
+        Some("one") => maker.one(),
+        Some("busy") => maker.busy(),
+        Some("hostile") => maker.hostile(),
+        Some("stored") => maker.stored(),
+        Some("odd") => maker.odd(),
+        _ => return usage(),
+    }
+    match io::stdout().write_all(&maker.text) {
+        Ok(()) => ExitCode::SUCCESS,
+        Err(_) => ExitCode::FAILURE,
+    }
+}
+
+fn usage() -> ExitCode {
+    eprintln!("usage: make_day one|busy|hostile|stored|odd [SEED [BYTES]]");
+    ExitCode::FAILURE
+}
+
+/// Sebastiano Vigna's splitmix64.
+struct Random(u64);
+
+impl Random {
+    fn next(&mut self) -> u64 {
+        self.0 = self.0.wrapping_add(0x9e37_79b9_7f4a_7c15);
+        let mixed = (self.0 ^ self.0 >> 30).wrapping_mul(0xbf58_476d_1ce4_e5b9);
+        let mixed = (mixed ^ mixed >> 27).wrapping_mul(0x94d0_49bb_1331_11eb);
+        mixed ^ mixed >> 31
+    }
+
+    /// A number below `bound`.
+    fn below(&mut self, bound: u64) -> u64 {
+        ((u128::from(self.next()) * u128::from(bound)) >> 64) as u64
+    }
+
+    fn one_of<'a, T>(&mut self, choices: &'a [T]) -> &'a T {
+        &choices[self.below(choices.len() as u64) as usize]
+    }
+
+    fn happens(&mut self, times: u64, of: u64) -> bool {
+        self.below(of) < times
+    }
+}
+
+/// A participant and the reports that it may yet cancel or correct: their numbers and symbols.
+struct Sender {
+    letter: u8,
+    number: u32,
+    sent: Vec<(u32, usize)>,
+}
+
+struct Traded {
+    name: [u8; 8],
+    /// Ten-thousandths of a dollar.
+    price: u64,
+}
+
+struct Maker {
+    random: Random,
+    bytes: usize,
+    text: Vec<u8>,
+    symbols: Vec<Traded>,
+    senders: Vec<Sender>,
+}
+
+/// Sale conditions as often as a day has them: mostly regular, then the others.
+const CONDITIONS: [&[u8; 4]; 32] = [
+    b"@   ", b"@   ", b"@   ", b"@   ", b"@   ", b"@   ", b"@   ", b"@   ", b"@F  ", b"@F  ",
+    b"@F  ", b"@F I", b"@  I", b"@  I", b"@  I", b"@ T ", b"@FT ", b"@ TI", b"@ U ", b"@ Z ",
+    b"@ L ", b"@4  ", b"@4 W", b"@7 V", b"@O X", b"@5  ", b"@6 X", b"@  P", b"C   ", b"@9  ",
+    b"@  M", b"@  Q",
+];
+
+/// What is wrong with a line that is meant to be refused.
+const FAULTS: [Fault; 8] = [
+    Fault::OddDigits,
+    Fault::BadPrice,
+    Fault::BadCondition,
+    Fault::WrongLine,
+    Fault::UnknownParticipant,
+    Fault::Stale,
+    Fault::UnknownSymbol,
+    Fault::NoSuchReport,
+];
+
+#[derive(Clone, Copy)]
+enum Fault {
+    OddDigits,
+    BadPrice,
+    BadCondition,
+    WrongLine,
+    UnknownParticipant,
+    Stale,
+    UnknownSymbol,
+    NoSuchReport,
+}
+
+/// Where a message's bytes are changed, and the digits that are written there.
+const DISTORTIONS: [(usize, &str); 25] = [
+    (0, "0000"),
+    (0, "0040"),
+    (0, "0041"),
+    (1, "1a"),
+    (2, "52"),
+    (2, "58"),
+    (2, "43"),
+    (2, "5a"),
+    (3, "40"),
+    (3, "5b"),
+    (3, "57"),
+    (4, "00000000"),
+    (4, "00000001"),
+    (16, "20"),
+    (16, "42"),
+    (17, "5a"),
+    (17, "2e"),
+    (20, "2041"),
+    (24, "00000000"),
+    (24, "00000001"),
+    (24, "0000000000000000"),
+    (28, "ff"),
+    (32, "00000000"),
+    (36, "43"),
+    (37, "394d"),
+];
+
+impl Maker {
+    fn new(seed: u64, bytes: usize) -> Self {
+        Maker {
+            random: Random(seed),
+            bytes,
+            text: Vec::with_capacity(bytes),
+            symbols: Vec::new(),
+            senders: Vec::new(),
+        }
+    }
+
+    fn one(&mut self) {
+        self.header(1, 1);
+        while self.has_room() {
+            self.report(0, 0, *b"@   ");
+        }
+    }
+
+    fn busy(&mut self) {
+        self.header(400, 15);
+        while self.has_room() {
+            let sender = self.random.below(15) as usize;
+            if self.random.happens(3, 200) {
+                self.change(sender, None);
+            } else if self.random.happens(1, 100) {
+                let fault = *self.random.one_of(&FAULTS);
+                self.faulty(sender, fault);
+            } else {
+                let symbol = self.popular_symbol();
+                let condition = **self.random.one_of(&CONDITIONS);
+                self.report(sender, symbol, condition);
+            }
+        }
+    }
+
+    fn hostile(&mut self) {
+        self.header(20, 5);
+        while self.has_room() {
+            let sender = self.random.below(5) as usize;
+            let symbol = match self.random.happens(9, 10) {
+                true => 0,
+                false => self.random.below(20) as usize,
+            };
+            let condition = **self.random.one_of(&CONDITIONS);
+            self.report(sender, symbol, condition);
+            self.change(sender, Some(0));
+        }
+    }
+
+    fn stored(&mut self) {
+        self.header(40, 12);
+        for _ in 0..20_000 {
+            let sender = self.random.below(12) as usize;
+            let symbol = self.popular_symbol();
+            let condition = **self.random.one_of(&CONDITIONS);
+            self.report(sender, symbol, condition);
+        }
+    }
+
+    fn odd(&mut self) {
+        self.header(4, 4);
+        while self.has_room() {
+            let start = self.text.len();
+            let sender = self.random.below(4) as usize;
+            if self.random.happens(1, 3) {
+                self.change(sender, None);
+            } else {
+                let symbol = self.popular_symbol();
+                let condition = **self.random.one_of(&CONDITIONS);
+                self.report(sender, symbol, condition);
+            }
+            if self.random.happens(1, 2) && self.text.len() > start {
+                self.distort(start);
+            }
+        }
+    }
+
+    /// Changes the line that begins here: a byte of its text, its length, or some bytes of its message.
+    fn distort(&mut self, start: usize) {
+        let end = self.text.len() - 1;
+        let at = start + self.random.below((end - start) as u64) as usize;
+        match self.random.below(8) {
+            0 => self.text[at] = *self.random.one_of(b" \rgGzN\xff0"),
+            1 => _ = self.text.remove(at),
+            2 => self.text.insert(at, *self.random.one_of(b"0f \n")),
+            3 => self.text.truncate(at + 1),
+            4 => _ = self.text.splice(end..end, *b"00"),
+            5 => self.text[start] = *self.random.one_of(b"AWXYZ"),
+            _ => self.distort_message(start),
+        }
+        self.text.pop();
+        self.text.push(b'\n');
+    }
+
+    /// Writes digits over one of the fields of the message, or over a part of it.
+    fn distort_message(&mut self, start: usize) {
+        let (field, digits) = *self.random.one_of(&DISTORTIONS);
+        let first = start + 2 + 2 * field;
+        let last = (first + digits.len()).min(self.text.len() - 1);
+        for (at, digit) in (first..last).zip(digits.bytes()) {
+            self.text[at] = digit;
+        }
+    }
+
+    /// Whether the longest line still has room.
+    fn has_room(&self) -> bool {
+        self.text.len() + 92 <= self.bytes
+    }
+
+    fn header(&mut self, symbols: usize, participants: usize) {
+        for index in 0..symbols {
+            let name = symbol_name(index);
+            let price = 10_000 * (5 + self.random.below(400));
+            self.symbols.push(Traded { name, price });
+            self.text.extend(name.iter().filter(|byte| **byte != b' '));
+            self.text.push(b' ');
+        }
+        self.end_names();
+        for letter in (b'A'..=b'Z').rev().take(participants) {
+            self.senders.push(Sender {
+                letter,
+                number: 0,
+                sent: Vec::new(),
+            });
+            self.text.extend([letter, b' ']);
+        }
+        self.end_names();
+    }
+
+    fn end_names(&mut self) {
+        self.text.pop();
+        self.text.push(b'\n');
+    }
+
+    /// A symbol, the earlier ones of the listing more often.
+    fn popular_symbol(&mut self) -> usize {
+        let bound = 1 + self.random.below(self.symbols.len() as u64);
+        self.random.below(bound) as usize
+    }
+
+    /// The sender's next number; now and then some are left out.
+    fn next_number(&mut self, sender: usize) -> u32 {
+        let skipped = match self.random.happens(1, 50) {
+            true => 1 + self.random.below(4) as u32,
+            false => 0,
+        };
+        let sender = &mut self.senders[sender];
+        sender.number += 1 + skipped;
+        sender.number
+    }
+
+    /// The symbol's next price, a few cents from the one before.
+    fn next_price(&mut self, symbol: usize) -> u64 {
+        let step = 100 * self.random.below(9);
+        let price = self.symbols[symbol].price + step;
+        self.symbols[symbol].price = price.saturating_sub(400).max(400);
+        self.symbols[symbol].price
+    }
+
+    fn size(&mut self) -> u32 {
+        match self.random.happens(1, 3) {
+            true => 1 + self.random.below(99) as u32,
+            false => 100 * (1 + self.random.below(20) as u32),
+        }
+    }
+
+    fn report(&mut self, sender: usize, symbol: usize, condition: [u8; 4]) {
+        let number = self.next_number(sender);
+        let content = (self.next_price(symbol), self.size(), condition);
+        let letter = self.senders[sender].letter;
+        let name = self.symbols[symbol].name;
+        self.senders[sender].sent.push((number, symbol));
+        let body = body(b'R', letter, number, name, None, Some(content));
+        self.line(letter, &body);
+    }
+
+    /// A cancel, one in four, or a correction of one of the sender's reports, of any symbol or of this one.
+    fn change(&mut self, sender: usize, symbol: Option<usize>) {
+        let Some(report) = self.target(sender, symbol) else {
+            return;
+        };
+        let (target, symbol) = self.senders[sender].sent[report];
+        let number = self.next_number(sender);
+        let letter = self.senders[sender].letter;
+        let name = self.symbols[symbol].name;
+        let body = if self.random.happens(1, 4) {
+            // Now and then a cancelled report stays to be named again.
+            if self.random.happens(9, 10) {
+                self.senders[sender].sent.swap_remove(report);
+            }
+            body(b'X', letter, number, name, Some(target), None)
+        } else {
+            let price = self.symbols[symbol].price + 100 * self.random.below(20);
+            let condition = **self.random.one_of(&CONDITIONS);
+            let content = (price, self.size(), condition);
+            body(b'C', letter, number, name, Some(target), Some(content))
+        };
+        self.line(letter, &body);
+    }
+
+    /// The index of one of the sender's reports, any or the next of the symbol.
+    fn target(&mut self, sender: usize, symbol: Option<usize>) -> Option<usize> {
+        let sent = &self.senders[sender].sent;
+        if sent.is_empty() {
+            return None;
+        }
+        let start = self.random.below(sent.len() as u64) as usize;
+        (start..sent.len())
+            .chain(0..start)
+            .find(|report| symbol.is_none_or(|symbol| sent[*report].1 == symbol))
+    }
+
+    /// A line that is refused and changes nothing.
+    fn faulty(&mut self, sender: usize, fault: Fault) {
+        let mut letter = self.senders[sender].letter;
+        let mut body = self.faultless_body(sender);
+        let mut from = letter;
+        match fault {
+            Fault::OddDigits => {}
+            Fault::BadPrice => body[22..30].fill(0),
+            Fault::BadCondition => body[34] = b'E',
+            Fault::WrongLine => from = if letter == b'A' { b'B' } else { b'A' },
+            Fault::UnknownParticipant => {
+                letter = b'A';
+                body[1] = letter;
+                from = letter;
+            }
+            Fault::Stale => {
+                let last = self.senders[sender].number.max(1);
+                body[2..6].copy_from_slice(&last.to_be_bytes());
+            }
+            Fault::UnknownSymbol => body[14..22].copy_from_slice(b"UNLISTED"),
+            Fault::NoSuchReport => {
+                body[0] = b'X';
+                body.truncate(22);
+                body.extend(u32::MAX.to_be_bytes());
+            }
+        }
+        self.line(from, &body);
+        if let Fault::OddDigits = fault {
+            self.text.pop();
+            self.text.pop();
+            self.text.push(b'\n');
+        }
+    }
+
+    fn faultless_body(&mut self, sender: usize) -> Vec<u8> {
+        let symbol = self.popular_symbol();
+        let sender = &self.senders[sender];
+        let content = (self.symbols[symbol].price, 100, *b"@   ");
+        let name = self.symbols[symbol].name;
+        body(
+            b'R',
+            sender.letter,
+            sender.number + 1,
+            name,
+            None,
+            Some(content),
+        )
+    }
+
+    /// Adds the line of the message with this body; one in sixteen has capital digits.
+    fn line(&mut self, from: u8, body: &[u8]) {
+        let digits = match self.random.happens(1, 16) {
+            true => b"0123456789ABCDEF",
+            false => b"0123456789abcdef",
+        };
+        self.text.extend([from, b' ']);
+        for byte in [0, body.len() as u8].iter().chain(body) {
+            let high = digits[usize::from(byte >> 4)];
+            let low = digits[usize::from(byte & 15)];
+            self.text.extend([high, low]);
+        }
+        self.text.push(b'\n');
+    }
+}
+
+/// The bytes of a message after its length: content is price, size and condition.
+fn body(
+    kind: u8,
+    letter: u8,
+    number: u32,
+    symbol: [u8; 8],
+    target: Option<u32>,
+    content: Option<(u64, u32, [u8; 4])>,
+) -> Vec<u8> {
+    let mut body = vec![kind, letter];
+    body.extend(number.to_be_bytes());
+    body.extend(
+        0x0123_4567_u64
+            .wrapping_mul(u64::from(number))
+            .to_be_bytes(),
+    );
+    body.extend(symbol);
+    if let Some(target) = target {
+        body.extend(target.to_be_bytes());
+    }
+    if let Some((price, size, condition)) = content {
+        body.extend(price.to_be_bytes());
+        body.extend(size.to_be_bytes());
+        body.extend(condition);
+    }
+    body
+}
+
+/// Names of one to four bytes, each once: `A`, `B`, .., `AA`, ..
+fn symbol_name(index: usize) -> [u8; 8] {
+    let mut letters = Vec::new();
+    let mut rest = index + 1;
+    while rest > 0 {
+        letters.push(b'A' + ((rest - 1) % 26) as u8);
+        rest = (rest - 1) / 26;
+    }
+    let mut name = [b' '; 8];
+    for (place, letter) in name.iter_mut().zip(letters.iter().rev()) {
+        *place = *letter;
+    }
+    name
+}

@@ -1,0 +1,113 @@
+//! Which prices and volumes a sale condition changes.
+
+/// When a trade becomes the last one, the weakest rule first.
+#[derive(Clone, Copy, Debug, PartialEq, Eq, PartialOrd, Ord)]
+pub enum LastRule {
+    Never,
+    FirstOnly,
+    SameMarket,
+    Always,
+}
+
+use LastRule::{Always, FirstOnly, Never, SameMarket};
+
+/// The five cells of a code, or the least cells of several codes.
+#[derive(Clone, Copy, Debug, PartialEq, Eq)]
+pub struct Cells {
+    /// The consolidated high and low, then the participant's.
+    pub high_low: [bool; 2],
+    /// The consolidated last, then the participant's.
+    pub last: [LastRule; 2],
+    pub volume: bool,
+}
+
+impl Cells {
+    const fn new(high_low: [bool; 2], last: [LastRule; 2], volume: bool) -> Self {
+        Cells {
+            high_low,
+            last,
+            volume,
+        }
+    }
+
+    const fn least(self, other: Cells) -> Cells {
+        Cells {
+            high_low: [
+                self.high_low[0] && other.high_low[0],
+                self.high_low[1] && other.high_low[1],
+            ],
+            last: [
+                lesser(self.last[0], other.last[0]),
+                lesser(self.last[1], other.last[1]),
+            ],
+            volume: self.volume && other.volume,
+        }
+    }
+}
+
+const fn lesser(a: LastRule, b: LastRule) -> LastRule {
+    if (a as u8) < (b as u8) { a } else { b }
+}
+
+const EVERYTHING: Cells = Cells::new([true; 2], [Always; 2], true);
+const VOLUME: Cells = Cells::new([false; 2], [Never; 2], true);
+const FIRST: Cells = Cells::new([true; 2], [FirstOnly; 2], true);
+const SAME: Cells = Cells::new([true; 2], [SameMarket; 2], true);
+const CORRECTED_CLOSE: Cells = Cells::new([true, false], [Always, Never], false);
+const MARKET_CLOSE: Cells = Cells::new([false, true], [Never, Always], false);
+const MARKET_OPEN: Cells = Cells::new([false, true], [Never; 2], false);
+
+/// The codes of each position with their cells.
+const ROWS: [&[(&[u8], Cells)]; 4] = [
+    &[(b"@", EVERYTHING), (b"CNR", VOLUME)],
+    &[
+        (b" FO56", EVERYTHING),
+        (b"4", FIRST),
+        (b"7", VOLUME),
+        (b"9", CORRECTED_CLOSE),
+    ],
+    &[
+        (b" ", EVERYTHING),
+        (b"TU", VOLUME),
+        (b"L", SAME),
+        (b"Z", FIRST),
+    ],
+    &[
+        (b" ABDSXY1", EVERYTHING),
+        (b"HIVW", VOLUME),
+        (b"PG", FIRST),
+        (b"M", MARKET_CLOSE),
+        (b"Q", MARKET_OPEN),
+    ],
+];
+
+/// Each position's cells by its code, made once at compile time.
+static BY_CODE: [[Option<Cells>; 256]; 4] = by_code();
+
+const fn by_code() -> [[Option<Cells>; 256]; 4] {
+    let mut table = [[None; 256]; 4];
+    let mut position = 0;
+    while position < 4 {
+        let mut row = 0;
+        while row < ROWS[position].len() {
+            let (codes, cells) = ROWS[position][row];
+            let mut code = 0;
+            while code < codes.len() {
+                table[position][codes[code] as usize] = Some(cells);
+                code += 1;
+            }
+            row += 1;
+        }
+        position += 1;
+    }
+    table
+}
+
+/// The least cells over the four codes; `None` where one is not of its position.
+pub fn cells(codes: [u8; 4]) -> Option<Cells> {
+    let first = BY_CODE[0][codes[0] as usize]?;
+    let second = BY_CODE[1][codes[1] as usize]?;
+    let third = BY_CODE[2][codes[2] as usize]?;
+    let fourth = BY_CODE[3][codes[3] as usize]?;
+    Some(first.least(second).least(third).least(fourth))
+}

@@ -1,0 +1,120 @@
+//! A message from its bytes, the first fault first.
+
+use crate::header::is_symbol;
+use crate::matrix::{Cells, cells};
+
+/// What a message asks for.
+pub enum Kind {
+    Report(Content),
+    Cancel { target: u32 },
+    Correct { target: u32, content: Content },
+}
+
+/// What was traded, and which figures it changes.
+#[derive(Clone, Copy)]
+pub struct Content {
+    /// Ten-thousandths of a dollar.
+    pub price: u64,
+    pub size: u32,
+    pub cells: Cells,
+}
+
+/// A message of a participant.
+pub struct Message {
+    pub participant: u8,
+    pub number: u32,
+    pub symbol: [u8; 8],
+    pub kind: Kind,
+}
+
+/// The message that the bytes spell whole, or why they don't, by number and name. `count` is how many bytes
+/// there are; `bytes` are the first of them, at most 66.
+pub fn decode(bytes: &[u8], count: usize) -> Result<Message, &'static str> {
+    let body = body(bytes)?;
+    let message = fields(body)?;
+    if count > 2 + body.len() {
+        return Err("23 ExtraBytes");
+    }
+    Ok(message)
+}
+
+/// The bytes that the message's length counts.
+fn body(bytes: &[u8]) -> Result<&[u8], &'static str> {
+    let Some((len, rest)) = bytes.split_first_chunk::<2>() else {
+        return Err("12 Short");
+    };
+    let len = usize::from(u16::from_be_bytes(*len));
+    if len == 0 || len > 64 {
+        return Err("11 Oversize");
+    }
+    rest.get(..len).ok_or("12 Short")
+}
+
+fn fields(body: &[u8]) -> Result<Message, &'static str> {
+    let len = match body[0] {
+        b'R' => 38,
+        b'X' => 26,
+        b'C' => 42,
+        _ => return Err("13 BadKind"),
+    };
+    if body.len() != len {
+        return Err("14 BadLength");
+    }
+    let participant = body[1];
+    if !participant.is_ascii_uppercase() {
+        return Err("15 BadParticipant");
+    }
+    let number = word(body, 2);
+    if number == 0 {
+        return Err("16 BadNumber");
+    }
+    let symbol = long(body, 14).to_be_bytes();
+    if !is_symbol(&symbol) {
+        return Err("17 BadSymbol");
+    }
+    let kind = match body[0] {
+        b'R' => Kind::Report(content(&body[22..])?),
+        b'X' => Kind::Cancel {
+            target: target(body)?,
+        },
+        _ => Kind::Correct {
+            target: target(body)?,
+            content: content(&body[26..])?,
+        },
+    };
+    Ok(Message {
+        participant,
+        number,
+        symbol,
+        kind,
+    })
+}
+
+fn target(body: &[u8]) -> Result<u32, &'static str> {
+    match word(body, 22) {
+        0 => Err("18 BadTarget"),
+        target => Ok(target),
+    }
+}
+
+fn content(bytes: &[u8]) -> Result<Content, &'static str> {
+    let price = long(bytes, 0);
+    if !(1..=999_999_999_999).contains(&price) {
+        return Err("19 BadPrice");
+    }
+    let size = word(bytes, 8);
+    if !(1..=99_999_999).contains(&size) {
+        return Err("20 BadSize");
+    }
+    let codes = word(bytes, 12).to_be_bytes();
+    let cells = cells(codes).ok_or("21 BadCondition")?;
+    Ok(Content { price, size, cells })
+}
+
+fn word(bytes: &[u8], at: usize) -> u32 {
+    u32::from_be_bytes(bytes[at..at + 4].try_into().unwrap())
+}
+
+fn long(bytes: &[u8], at: usize) -> u64 {
+    u64::from_be_bytes(bytes[at..at + 8].try_into().unwrap())
+}

@@ -1,0 +1,310 @@
+//! The worked rows that a batch can show, with their figures written out.
+
+use bench::batch;
+
+const HEADER: &str = "symbol,who,open,open_at,high,high_at,low,low_at,last,last_at,volume,trades";
+
+/// The batch's output, line by line.
+fn output(input: &str) -> Vec<String> {
+    let mut text = Vec::new();
+    batch(input.as_bytes(), &mut text);
+    let text = String::from_utf8(text).unwrap();
+    text.lines().map(String::from).collect()
+}
+
+/// A message line from a kind, a participant, a number, a symbol and the bytes that the kind adds.
+fn line(kind: char, who: char, number: u32, symbol: &str, rest: &[u8]) -> String {
+    let mut body = vec![kind as u8, who as u8];
+    body.extend(number.to_be_bytes());
+    body.extend([0; 8]);
+    body.extend(format!("{symbol:8}").bytes());
+    body.extend(rest);
+    let digits: String = body.iter().map(|byte| format!("{byte:02x}")).collect();
+    format!("{who} {:04x}{digits}", body.len())
+}
+
+fn content(price: u64, size: u32, condition: &str) -> Vec<u8> {
+    [
+        &price.to_be_bytes()[..],
+        &size.to_be_bytes(),
+        condition.as_bytes(),
+    ]
+    .concat()
+}
+
+fn report(who: char, number: u32, condition: &str, price: u64, size: u32) -> String {
+    line('R', who, number, "AB", &content(price, size, condition))
+}
+
+fn cancel(who: char, number: u32, symbol: &str, target: u32) -> String {
+    line('X', who, number, symbol, &target.to_be_bytes())
+}
+
+fn correct(who: char, number: u32, target: u32, price: u64) -> String {
+    let rest = [&target.to_be_bytes()[..], &content(price, 100, "@   ")].concat();
+    line('C', who, number, "AB", &rest)
+}
+
+/// Runs the messages over AB and CD and compares the answers and the rows of AB.
+fn check(participants: &str, messages: &[String], answers: &[&str], rows: &[&str]) {
+    let written = output(&format!("AB CD\n{participants}\n{}", messages.join("\n")));
+    let (told, report) = written.split_at(messages.len());
+    assert_eq!(told, answers);
+    assert_eq!(report[0], HEADER);
+    assert_eq!(&report[1..report.len() - 1], rows);
+    assert_eq!(report.last().unwrap(), "CD,ALL,,,,,,,,,0,0");
+}
+
+#[test]
+fn an_empty_day_has_a_row_a_symbol() {
+    check("N", &[], &[], &["AB,ALL,,,,,,,,,0,0"]);
+}
+
+#[test]
+fn an_odd_lot_alone_changes_the_volume() {
+    let rows = ["AB,ALL,,,,,,,,,50,1", "AB,N,,,,,,,,,50,1"];
+    check("N", &[report('N', 1, "@  I", 100_000, 50)], &["1"], &rows);
+}
+
+#[test]
+fn a_sale_out_of_sequence_sets_the_first_last_alone() {
+    let messages = [
+        report('N', 1, "@ Z ", 100_000, 100),
+        report('Q', 1, "@ Z ", 101_000, 200),
+    ];
+    let rows = [
+        "AB,ALL,100000,1,101000,2,100000,1,100000,1,300,2",
+        "AB,N,100000,1,100000,1,100000,1,100000,1,100,1",
+        "AB,Q,101000,2,101000,2,101000,2,101000,2,200,1",
+    ];
+    check("N Q", &messages, &["1", "2"], &rows);
+}
+
+#[test]
+fn a_sold_last_follows_a_last_of_its_own_market() {
+    let messages = [
+        report('N', 1, "@   ", 100_000, 100),
+        report('Q', 1, "@ L ", 100_500, 100),
+        report('N', 2, "@ L ", 99_000, 100),
+    ];
+    let rows = [
+        "AB,ALL,100000,1,100500,2,99000,3,99000,3,300,3",
+        "AB,N,100000,1,100000,1,99000,3,99000,3,200,2",
+        "AB,Q,100500,2,100500,2,100500,2,100500,2,100,1",
+    ];
+    check("N Q", &messages, &["1", "2", "3"], &rows);
+}
+
+#[test]
+fn a_cancel_gives_the_last_back() {
+    let messages = [
+        report('Q', 1, "@   ", 100_000, 100),
+        report('N', 1, "@   ", 101_000, 100),
+        report('Q', 2, "@ L ", 100_500, 100),
+        cancel('N', 2, "AB", 1),
+    ];
+    let rows = [
+        "AB,ALL,100000,1,100500,3,100000,1,100500,3,200,2",
+        "AB,Q,100000,1,100500,3,100000,1,100500,3,200,2",
+    ];
+    check("N Q", &messages, &["1", "2", "3", "4"], &rows);
+    let rows = [
+        "AB,ALL,100000,1,101000,2,100000,1,101000,2,300,3",
+        "AB,N,101000,2,101000,2,101000,2,101000,2,100,1",
+        "AB,Q,100000,1,100500,3,100000,1,100500,3,200,2",
+    ];
+    check("N Q", &messages[..3], &["1", "2", "3"], &rows);
+}
+
+#[test]
+fn two_cancels_in_turn_give_two_former_lasts_back() {
+    let mut messages = vec![
+        report('N', 1, "@ Z ", 100_000, 100),
+        report('Q', 1, "@ L ", 101_000, 100),
+        report('P', 1, "@   ", 102_000, 100),
+        report('Q', 2, "@ L ", 100_500, 100),
+        cancel('P', 2, "AB", 1),
+    ];
+    let answers = ["1", "2", "3", "4", "5", "6"];
+    let rows = [
+        "AB,ALL,100000,1,101000,2,100000,1,100000,1,300,3",
+        "AB,N,100000,1,100000,1,100000,1,100000,1,100,1",
+        "AB,Q,101000,2,101000,2,100500,4,100500,4,200,2",
+    ];
+    check("N P Q", &messages, &answers[..5], &rows);
+    messages.push(cancel('N', 2, "AB", 1));
+    let rows = [
+        "AB,ALL,101000,2,101000,2,100500,4,100500,4,200,2",
+        "AB,Q,101000,2,101000,2,100500,4,100500,4,200,2",
+    ];
+    check("N P Q", &messages, &answers, &rows);
+}
+
+#[test]
+fn a_correction_keeps_its_place() {
+    let messages = [
+        report('N', 1, "@   ", 100_000, 100),
+        report('N', 2, "@   ", 102_000, 100),
+        report('N', 3, "@   ", 102_000, 100),
+        correct('N', 4, 2, 99_000),
+    ];
+    let rows = [
+        "AB,ALL,100000,1,102000,3,99000,2,102000,3,300,3",
+        "AB,N,100000,1,102000,3,99000,2,102000,3,300,3",
+    ];
+    check("N", &messages, &["1", "2", "3", "4"], &rows);
+}
+
+#[test]
+fn targets_of_every_kind_are_told_apart() {
+    let messages = [
+        report('N', 1, "@   ", 100_000, 100),
+        correct('N', 2, 1, 100_000),
+        correct('N', 3, 2, 100_000),
+        cancel('N', 3, "CD", 1),
+        cancel('N', 3, "AB", 1),
+        correct('N', 4, 1, 100_000),
+        cancel('N', 4, "AB", 9),
+    ];
+    let answers = [
+        "1",
+        "2",
+        "refused 37 NoSuchReport",
+        "refused 38 OtherSymbol",
+        "3",
+        "refused 39 Cancelled",
+        "refused 37 NoSuchReport",
+    ];
+    check("N", &messages, &answers, &["AB,ALL,,,,,,,,,0,0"]);
+}
+
+#[test]
+fn a_refused_number_is_used_again() {
+    let plain = content(100_000, 100, "@   ");
+    let messages = [
+        report('N', 1, "@   ", 100_000, 100),
+        report('N', 1, "@   ", 100_000, 100),
+        line('R', 'N', 5, "EF", &plain),
+        report('N', 5, "@   ", 100_000, 100),
+        report('Q', 1, "@   ", 100_000, 100),
+        report('N', u32::MAX, "@   ", 100_000, 100),
+        report('N', u32::MAX, "@   ", 100_000, 100),
+    ];
+    let answers = [
+        "1",
+        "refused 35 Stale",
+        "refused 36 UnknownSymbol",
+        "2",
+        "refused 34 UnknownParticipant",
+        "3",
+        "refused 35 Stale",
+    ];
+    let rows = [
+        "AB,ALL,100000,1,100000,1,100000,1,100000,3,300,3",
+        "AB,N,100000,1,100000,1,100000,1,100000,3,300,3",
+    ];
+    check("N", &messages, &answers, &rows);
+}
+
+#[test]
+fn conditions_of_one_market_and_combined_codes_count_as_their_least_cells() {
+    let rows = [
+        "AB,ALL,,,,,,,,,0,1",
+        "AB,N,100000,1,100000,1,100000,1,100000,1,0,1",
+    ];
+    check("N", &[report('N', 1, "@  M", 100_000, 500)], &["1"], &rows);
+    let messages = [
+        report('N', 1, "@FTI", 100_000, 10),
+        report('N', 2, "@4  ", 101_000, 20),
+        report('N', 3, "@9 M", 102_000, 30),
+    ];
+    let rows = [
+        "AB,ALL,101000,2,101000,2,101000,2,101000,2,30,3",
+        "AB,N,101000,2,101000,2,101000,2,101000,2,30,3",
+    ];
+    check("N", &messages, &["1", "2", "3"], &rows);
+}
+
+#[test]
+fn the_first_fault_of_a_line_is_answered() {
+    let whole = report('N', 1, "@ Z ", 100_000, 100);
+    let digits = &whole[2..];
+    let with = |at: usize, bytes: &str| {
+        format!(
+            "N {}{bytes}{}",
+            &digits[..2 * at],
+            &digits[2 * at + bytes.len()..]
+        )
+    };
+    let mut cases: Vec<(String, &str)> = (0..40)
+        .map(|bytes| (format!("N {}", &digits[..2 * bytes]), "refused 12 Short"))
+        .collect();
+    for bad in [
+        "",
+        "N",
+        "n 00",
+        "N 0",
+        "N  00",
+        "N 00\r",
+        "N zz",
+        "N \u{ff}\u{ff}",
+    ] {
+        cases.push((bad.into(), "refused 22 BadLine"));
+    }
+    cases.extend([
+        (with(0, "0000"), "refused 11 Oversize"),
+        (with(0, "0041"), "refused 11 Oversize"),
+        ("N 0000".into(), "refused 11 Oversize"),
+        (with(2, "5a"), "refused 13 BadKind"),
+        (format!("{}00", with(0, "0027")), "refused 14 BadLength"),
+        (with(3, "61"), "refused 15 BadParticipant"),
+        (with(4, "00000000"), "refused 16 BadNumber"),
+        (with(16, "4120422020202020"), "refused 17 BadSymbol"),
+        (cancel('N', 1, "AB", 0), "refused 18 BadTarget"),
+        (with(24, "0000000000000000"), "refused 19 BadPrice"),
+        (with(24, "000000e8d4a51000"), "refused 19 BadPrice"),
+        (with(32, "05f5e100"), "refused 20 BadSize"),
+        (with(36, "40452020"), "refused 21 BadCondition"),
+        (format!("{whole}00"), "refused 23 ExtraBytes"),
+        (format!("Q {digits}"), "refused 33 WrongLine"),
+        (format!("Z {digits}"), "refused 33 WrongLine"),
+        (
+            report('Q', 1, "@   ", 100_000, 100),
+            "refused 34 UnknownParticipant",
+        ),
+    ]);
+    for (line, answer) in cases {
+        assert_eq!(output(&format!("AB\nN\n{line}\n"))[0], answer, "{line:?}");
+    }
+}
+
+#[test]
+fn a_bad_header_is_the_only_line() {
+    let symbols: Vec<String> = (0..4_097).map(|number| format!("S{number}")).collect();
+    let too_many = format!("{}\nN", symbols.join(" "));
+    let letters: Vec<String> = ('A'..='Z').chain(['A']).map(String::from).collect();
+    let letters = format!("AB\n{}", letters.join(" "));
+    for (input, answer) in [
+        ("", "1 Empty"),
+        ("AB", "1 Empty"),
+        ("AB\n", "1 Empty"),
+        ("AB\n\nN 00\n", "1 Empty"),
+        ("\nN", "1 Empty"),
+        ("ab", "9 BadHeader"),
+        ("AB \nN", "9 BadHeader"),
+        (" AB\nN", "9 BadHeader"),
+        ("AB  CD\nN", "9 BadHeader"),
+        (" \nN", "9 BadHeader"),
+        ("A\tB\nN", "9 BadHeader"),
+        ("AB\r\nN", "9 BadHeader"),
+        ("ABCDEFGHI\nN", "9 BadHeader"),
+        ("AB\nNQ", "9 BadHeader"),
+        ("AB\nn", "9 BadHeader"),
+        (&too_many, "2 TooMany"),
+        (&letters, "2 TooMany"),
+        ("AB AB\nN", "3 Repeated"),
+        ("AB\nN N", "3 Repeated"),
+    ] {
+        assert_eq!(output(input), [format!("refused {answer}")], "{input:?}");
+    }
+}
