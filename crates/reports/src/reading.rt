@@ -128,6 +128,7 @@ impl Unread<'_> {
         })
     }
 
+    #[inline(always)]
     #[tactic(auto, unfolding(crate::specs::Reading::content_at))]
     fn content(&mut self) -> Result<Content, MessageFault>
         ensures { Reads result self.new.rest.now (content_at self.old.rest.now) }

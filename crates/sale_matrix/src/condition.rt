@@ -52,7 +52,9 @@ impl Condition {
     }
 }
 
-/// The cells of the four codes joined, where each has a row.
+/// The cells of the four codes joined, where each has a row. Whoever asks only whether there are any needs none of them
+/// computed.
+#[inline(always)]
 fn joined(codes: [u8; 4]) -> Option<Cells>
     ensures found { IsSome result ↔ (list_all is_some (cells_of_codes codes) ≡ true) }
     ensures cells { IfSome result (λ c. c ≡ cells_of codes) }

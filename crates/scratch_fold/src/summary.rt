@@ -35,12 +35,12 @@ pub struct Summary {
 /// What one report does to a summary: its figures, and the cells of its sale condition in the summary's columns.
 #[derive(Clone, Copy, Debug, PartialEq, Eq)]
 pub struct Effect {
-    /// The participant that reported it.
-    pub who: Participant,
     /// Its price, in ten-thousandths of a dollar.
     pub price: Price,
     /// Its shares.
     pub size: Size,
+    /// The participant that reported it.
+    pub who: Participant,
     /// Whether it may become the high and the low.
     pub high_low: bool,
     /// When it becomes the last.
@@ -64,11 +64,12 @@ impl Effect {
     fn becomes_last(&self, last: Option<Mark>) -> bool
         ensures { result ≡ becomes_last self.now.last self.now.who last }
     {
-        match (self.last, last) {
-            (LastRule::Always, _) => true,
-            (LastRule::SameMarket, Some(mark)) => mark.who == self.who,
-            (LastRule::Never, _) => false,
-            (_, last) => last.is_none(),
+        match last {
+            None => self.last != LastRule::Never,
+            Some(mark) => match self.last {
+                LastRule::SameMarket => mark.who == self.who,
+                rule => rule == LastRule::Always,
+            },
         }
     }
 

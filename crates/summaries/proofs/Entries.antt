@@ -1,7 +1,7 @@
 -- Entries in the order of their places, and the finite map that they make.
-use Rattle.std.proofs.Common.{◌≡◌, ℕ, zero, suc, ◌+◌, ◌-◌, ◌<◌, ◌≤◌, ◌≢◌, ltb, Bool, true, false, cond, not, List, [], ◌∷◌, ◌++◌, length, get_or, set, Option, Some, None, IsSome, refl, sym, ap, subst, ◌∙◌, inl, inr, arith}
+use Rattle.std.proofs.Common.{◌≡◌, ℕ, zero, suc, ◌+◌, ◌<◌, ◌≤◌, ◌≢◌, ltb, Bool, true, false, cond, not, List, [], ◌∷◌, ◌++◌, length, get_or, set, Option, Some, None, IsSome, refl, sym, ap, subst, ◌∙◌, inl, inr, arith}
 use Rattle.std.specs.declared.cmp.Ordering.TheVariants.{Less, Equal, Greater}
-use Rattle.std.specs.Prelude.{T, ◌&&◌}
+use Rattle.std.specs.Prelude.{T, ◌&&◌, All}
 use Rattle.std.specs.List.{insert, remove}
 use Rattle.std.specs.List.Sorted.{IsPartitionPoint}
 use Rattle.std.specs.Ordering.{nat_cmp, eq_by_cmp, is_lt, is_eq}
@@ -10,6 +10,7 @@ use Rattle.std.specs.FinMap as map
 use Rattle.std.specs.FinMap.{nat_cmp-IsAntisymmetric}
 use Rattle.std.specs.FinMap.Entries.{is_sorted, below_all, find, put, where_key, by_order, is_sorted-put, find-put, is_sorted-where_key, find-where_key}
 use Rattle.std.proofs.lemmas.List.{get_or_default}
+use Rattle.std.proofs.lemmas.List.Elements.{AllWithin-from_all}
 use Rattle.std.proofs.lemmas.List.Edits.{insert_end}
 use Rattle.std.proofs.lemmas.Bool.{cases_lt, cases_eq}
 use Rattle.std.proofs.lemmas.Bool.Decides.{nat_tests}
@@ -212,14 +213,11 @@ module _ {X : Type 0} where
     not_below = λ j d low lt. let test : ltb (get_or es j d).0 k ≡ false = parted.1 j d low lt in grind (arith, nat_tests);
   }
 
-  -- a place above the last one goes to the end
-  pub position-end : (k : ℕ) (es : List (ℕ × X)) → T (is_sorted nat_cmp es) → ((d : ℕ × X) → 0 < length es → (get_or es (length es - 1) d).0 < k) → IsPosition k es (length es)
-  position-end k es h last = record {
+  -- a place above all others goes to the end
+  pub position-end : (k : ℕ) (es : List (ℕ × X)) → All (λ (e : ℕ × X). e.0 < k) es → IsPosition k es (length es)
+  position-end k es all = record {
     in_range = omega arith;
-    below = λ j d low lt.
-        let rise : (get_or es j d).0 ≤ (get_or es (length es - 1) d).0 = places-rise es h j (length es - 1) d (omega arith) (omega arith) in
-        let end : (get_or es (length es - 1) d).0 < k = last d (omega arith) in
-        omega arith;
+    below = AllWithin-from_all (λ e. e.0 < k) es all;
     not_below = λ j d low lt. absurd (omega arith);
   }
 

@@ -1,5 +1,5 @@
 -- A finite map from places to effects, and its summary.
-use Rattle.std.specs.Prelude.{ℕ, ◌<◌, ◌≤◌, Option, Some, None, IsSome, List, length, T}
+use Rattle.std.specs.Prelude.{ℕ, ◌<◌, ◌≤◌, Option, Some, None, IsSome, List, length, All, T}
 use Rattle.std.specs.List.{AllWithin}
 use Rattle.std.specs.Ordering.{nat_cmp}
 use Rattle.std.specs.FinMap as map
@@ -36,6 +36,10 @@ effects_of es = map.from_entries es
 -- the places strictly rise
 abbrev pub HasRisingPlaces : List (ℕ × Effect) → Type 0
 HasRisingPlaces es = T (map.is_sorted nat_cmp es)
+
+-- no place is above the bound
+abbrev pub HasPlacesTo : ℕ → List (ℕ × Effect) → Type 0
+HasPlacesTo bound es = All (λ (e : ℕ × Effect). e.0 ≤ bound) es
 
 -- where a place stands in the order of the entries: all before are below it, and none from here on is
 pub record IsPosition {X : Type 0} (place : ℕ) (es : List (ℕ × X)) (i : ℕ) : Type 0 where

@@ -1,10 +1,9 @@
 //! The plain store, which keeps the effects by place and folds them whenever it is asked.
-ghost use Rattle.std.specs.Prelude.{◌≡◌, IsSome, OnOk, OnErr, Some, None, length};
-ghost use Rattle.std.specs.Bool.{OnTrue};
+ghost use Rattle.std.specs.Prelude.{◌≡◌, ℕ, IsSome, OnOk, OnErr, Some, None};
 ghost use Rattle.std.specs.FinMap as map;
 ghost use Rattle.std.specs.Coded.{coded_ℕ, coded×, coded_option};
 ghost use Rattle.scratch_fold.specs.contracts.summary.Effect as effect;
-ghost use Rattle.summaries.specs.Effects.{Effects, Change, map_summary, ReplacesEffect, effects_of, HasRisingPlaces, IsPosition};
+ghost use Rattle.summaries.specs.Effects.{Effects, Change, map_summary, ReplacesEffect, effects_of, HasRisingPlaces, HasPlacesTo, IsPosition};
 
 use crate::Store;
 use price_index::Searches;
@@ -13,11 +12,13 @@ use std::alloc::{AllocError, Global};
 use std::marker::Model;
 use tape_types::TapeNumber;
 
-/// The effects by rising place in one vector, and the staged change. It counts no searches: `put` above the last place
+/// The effects by rising place in one vector, and the staged change. It counts no searches: `put` above all places
 /// is a push, a summary goes over all effects, and every other call finds its place by halving.
 #[derive(Drop)]
 pub struct ScratchStore {
     effects: Vec<(TapeNumber, Effect)>,
+    /// No place is above it, so that a greater one goes to the end without a look at the last entry.
+    bound: u32,
     staged: Option<(TapeNumber, Effect)>,
 }
 
@@ -28,7 +29,7 @@ impl Model for ScratchStore {
 
     ghost view = { λ s. (effects_of s.effects.items, s.staged) };
 
-    ghost invariant = { λ s. HasRisingPlaces s.effects.items × ReplacesEffect (effects_of s.effects.items) s.staged };
+    ghost invariant = { λ s. HasRisingPlaces s.effects.items × HasPlacesTo s.bound s.effects.items × ReplacesEffect (effects_of s.effects.items) s.staged };
 }
 
 impl Store for ScratchStore {
@@ -39,17 +40,19 @@ impl Store for ScratchStore {
     fn empty(alloc: Global) -> Self {
         ScratchStore {
             effects: Vec::new(alloc),
+            bound: 0,
             staged: None,
         }
     }
 
+    #[inline(always)]
     fn put(
         &mut self,
         place: TapeNumber,
         effect: Effect,
         _searches: &mut Searches,
     ) -> Result<(), AllocError> {
-        add(&mut self.effects, place, effect)
+        add(&mut self.effects, &mut self.bound, place, effect)
     }
 
     fn stage(
@@ -103,31 +106,25 @@ fn position_of(effects: &[(TapeNumber, Effect)], place: TapeNumber) -> usize
     effects.partition_point(|(at, _)| *at < place)
 }
 
-/// Whether a place is above all places of entries whose places rise.
-fn is_above_all(effects: &[(TapeNumber, Effect)], place: TapeNumber) -> bool
-    requires rising { HasRisingPlaces effects.now }
-    ensures { OnTrue result (IsPosition place effects.now (length effects.now)) }
-{
-    match effects.last() {
-        Some((last, _)) => *last < place,
-        None => true,
-    }
-}
-
-/// Adds an effect at a vacant place.
+/// Adds an effect at a vacant place, and raises the bound of the places where it has to.
+#[inline(always)]
 fn add(
     effects: &mut Vec<(TapeNumber, Effect)>,
+    bound: &mut u32,
     place: TapeNumber,
     effect: Effect,
 ) -> Result<(), AllocError>
     requires rising { HasRisingPlaces effects.old.items }
+    requires bound { HasPlacesTo bound.old effects.old.items }
     requires vacant { map.get (effects_of effects.old.items) place ≡ None }
     ensures rising { HasRisingPlaces effects.new.items }
+    ensures bound { HasPlacesTo bound.new effects.new.items }
     ensures ok { OnOk result (effects_of effects.new.items ≡ map.insert (effects_of effects.old.items) place effect) }
     ensures err { OnErr result (effects.new.items ≡ effects.old.items) }
 {
-    if is_above_all(effects, place) {
+    if place.value() > *bound {
         effects.push((place, effect))?;
+        *bound = place.value();
     } else {
         let position = position_of(effects, place);
         effects.insert(position, (place, effect))?;
@@ -140,6 +137,7 @@ fn replace(effects: &mut Vec<(TapeNumber, Effect)>, place: TapeNumber, effect: E
     requires rising { HasRisingPlaces effects.old.items }
     requires present { IsSome (map.get (effects_of effects.old.items) place) }
     ensures rising { HasRisingPlaces effects.new.items }
+    ensures bound { (bound : ℕ) → HasPlacesTo bound effects.old.items → HasPlacesTo bound effects.new.items }
     ensures replaced { effects_of effects.new.items ≡ map.insert (effects_of effects.old.items) place effect }
 {
     let position = position_of(effects, place);
@@ -151,6 +149,7 @@ fn take(effects: &mut Vec<(TapeNumber, Effect)>, place: TapeNumber) -> Effect
     requires rising { HasRisingPlaces effects.old.items }
     requires present { IsSome (map.get (effects_of effects.old.items) place) }
     ensures rising { HasRisingPlaces effects.new.items }
+    ensures bound { (bound : ℕ) → HasPlacesTo bound effects.old.items → HasPlacesTo bound effects.new.items }
     ensures taken { map.get (effects_of effects.old.items) place ≡ Some result }
     ensures effects { effects_of effects.new.items ≡ map.remove (effects_of effects.old.items) place }
 {

@@ -1,5 +1,5 @@
 -- The participants' own stores, one of them changed.
-use Rattle.std.proofs.Common.{◌≡◌, ℕ, Bool, true, false, cond, Option, Some, None, refl, sym, ap, subst, ◌∙◌, arith, IsSome, IfSome, is_some}
+use Rattle.std.proofs.Common.{◌≡◌, ℕ, Bool, true, false, cond, Option, Some, None, refl, sym, ap, subst, ◌∙◌, arith, IsSome, IfSome}
 use Rattle.std.specs.Ordering.{nat_cmp, eq_by_cmp}
 use Rattle.std.specs.Cmp.{nat_cmp_total, eq_by_cmp_equiv}
 use Rattle.std.specs.BTreeMap as tree
@@ -24,10 +24,6 @@ module _ {S : Type 0} where
       → (w : ℕ) → tree.get nat_cmp new w ≡ cond (eq_by_cmp nat_cmp w who) (Some s) (tree.get nat_cmp old w)
   after_update old new who s up w = up.0 w ∙ ap (λ (b : Bool). cond b (Some s) (tree.get nat_cmp old w)) ((eq_by_cmp_equiv nat_cmp_total).symm who w)
 
-  -- the store that was written is there
-  pub get-updated : (old new : BTreeMap ℕ S) (who : ℕ) (s : S) → tree.Updates nat_cmp old new who (Some s) → tree.get nat_cmp new who ≡ Some s
-  get-updated old new who s up = after_update old new who s up who ∙ ap (λ (b : Bool). cond b (Some s) (tree.get nat_cmp old who)) (key_itself who)
-
   -- a participant with an effect has a store
   pub store-there : (effects_in : S → Effects) (o : Option S) (place : ℕ) → IsSome (map.get (effects_of_store effects_in o) place) → IsSome o
   store-there effects_in None place h = subst (λ (e : Option Effect). IsSome e) (map.get-empty nat_cmp place) h
@@ -44,16 +40,6 @@ module _ {S : Type 0} (effects_in : S → Effects) (change_in : S → Change) wh
         (elim (eq_by_cmp nat_cmp w who) as (λ b. IfSome (cond b (Some s) (tree.get nat_cmp old w)) (λ x. change_in x ≡ None)) [ true ↦ here | false ↦ settled w ]);
   }
 
-  -- nothing was written
-  pub OwnBecomes-same : (old : BTreeMap ℕ S) (who : ℕ) → AllSettled change_in old → OwnBecomes effects_in change_in old old who (participant_effects effects_in old who)
-  OwnBecomes-same old who settled = record {
-    held_now = λ w. elim (eq_by_cmp nat_cmp w who) as (λ b. eq_by_cmp nat_cmp w who ≡ b → participant_effects effects_in old w ≡ cond b (participant_effects effects_in old who) (participant_effects effects_in old w)) [
-      | true ↦ λ e. ap (participant_effects effects_in old) (same_key w who e)
-      | false ↦ λ _. refl
-    ] refl;
-    settled = settled;
-  }
-
   -- what the changed store holds
   pub OwnBecomes-here : (old new : BTreeMap ℕ S) (who : ℕ) (effects : Effects) → OwnBecomes effects_in change_in old new who effects → participant_effects effects_in new who ≡ effects
   OwnBecomes-here old new who effects h = h.held_now who ∙ ap (λ (b : Bool). cond b effects (participant_effects effects_in old who)) (key_itself who)
@@ -65,8 +51,3 @@ module _ {S : Type 0} (effects_in : S → Effects) (change_in : S → Change) wh
         ∙ elim (eq_by_cmp nat_cmp w who) as (λ t. cond t b (cond t a (participant_effects effects_in old w)) ≡ cond t b (participant_effects effects_in old w)) [ true ↦ refl | false ↦ refl ];
     settled = k.settled;
   }
-
--- a test for presence that fails
-pub none_of : {A : Type 0} (o : Option A) (b : Bool) → b ≡ is_some o → b ≡ false → o ≡ None
-none_of None b h e = refl
-none_of (Some x) b h e = absurd (cc)

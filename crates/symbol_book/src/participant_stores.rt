@@ -31,26 +31,31 @@ pub fn put<S: Store>(
     ensures err { OnErr result (OwnBecomes S.effects S.staged_change own.old own.new who
         (participant_effects S.effects own.old who)) }
 {
-    provide(own, alloc, who)?;
-    let store = own.get_mut(&who).unwrap();
-    store.put(place, effect, searches)
+    match own.get_mut(&who) {
+        Some(store) => store.put(place, effect, searches),
+        None => put_first(own, alloc, who, place, effect, searches),
+    }
 }
 
-/// Makes an empty store for a participant that has none.
-fn provide<S: Store>(
+/// Makes the store of a participant that has none, with its first effect.
+fn put_first<S: Store>(
     own: &mut BTreeMap<Participant, S>,
     alloc: Global,
     who: Participant,
+    place: TapeNumber,
+    effect: Effect,
+    searches: &mut Searches,
 ) -> Result<(), AllocError>
     requires settled { AllSettled S.staged_change own.old }
-    ensures same { OwnBecomes S.effects S.staged_change own.old own.new who
-        (participant_effects S.effects own.old who) }
-    ensures present { OnOk result (IsSome (tree.get nat_cmp own.new who)) }
+    requires absent { tree.get nat_cmp own.old who ≡ None }
+    ensures ok { OnOk result (OwnBecomes S.effects S.staged_change own.old own.new who
+        (map.insert (participant_effects S.effects own.old who) place effect)) }
+    ensures err { OnErr result (OwnBecomes S.effects S.staged_change own.old own.new who
+        (participant_effects S.effects own.old who)) }
 {
-    if own.contains_key(&who) {
-        return Ok(());
-    }
-    own.insert(who, S::empty(alloc))?;
+    let mut store = S::empty(alloc);
+    store.put(place, effect, searches)?;
+    own.insert(who, store)?;
     Ok(())
 }
 

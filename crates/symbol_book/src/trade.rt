@@ -22,6 +22,7 @@ impl Trade {
     ghost use Rattle.symbol_book.specs.Columns.{consolidated_effect_of, own_effect_of, reported_trade};
 
     /// The trade of a report.
+    #[inline(always)]
     pub(crate) fn new(who: Participant, price: Price, size: Size, condition: &Condition) -> Trade
         ensures { result ≡ reported_trade who price size condition.now }
     {

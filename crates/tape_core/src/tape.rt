@@ -1,5 +1,7 @@
 //! The tape.
-ghost use Rattle.std.specs.Prelude.{◌≡◌, ◌+◌, ◌<◌, ◌≤◌, ℕ, [], List, length, Err, None, unwrap_or, IfErr, IfOk, OnOk, OnErr, Bool, true, false};
+ghost use Rattle.std.specs.Prelude.{◌≡◌, ◌+◌, ◌<◌, ◌≤◌, ℕ, [], List, length, Err, None, unwrap_or, IfErr, IfOk, OnOk, OnErr, Bool, true, false, Some, position};
+ghost use Rattle.reports.specs.Messages.{header_of};
+ghost use Rattle.tape_types.specs.Names.{symbol_eq};
 ghost use Rattle.reports.specs.declared.message.Message.TheVariants.{Report, Cancel, Correct};
 ghost use Rattle.tape_types.specs.Ranges.{IsTapeNumber};
 ghost use Rattle.tape_core.specs.Standing.{count_of, sizes_of, last_number};
@@ -137,17 +139,18 @@ impl<S: Store> Tape<S> {
     pub fn admit(&mut self, message: Message) -> Result<Entry, Refusal>
         ensures { Answers self.old message result self.new }
     {
-        if let Some(refusal) = self.refusal(&message) {
-            return Err(refusal);
-        }
+        let at = match self.book_index(&message) {
+            Ok(at) => at,
+            Err(refusal) => return Err(refusal),
+        };
         let admitted = match message {
-            Message::Report { header, content } => self.append_report(header, content),
-            Message::Cancel { header, target } => self.append_cancel(header, target),
+            Message::Report { header, content } => self.append_report(at, header, content),
+            Message::Cancel { header, target } => self.append_cancel(at, header, target),
             Message::Correct {
                 header,
                 target,
                 content,
-            } => self.append_correction(header, target, content),
+            } => self.append_correction(at, header, target, content),
         };
         match admitted {
             Ok(entry) => Ok(entry),
@@ -155,37 +158,47 @@ impl<S: Store> Tape<S> {
         }
     }
 
-    /// The refusal that the message would meet, want of memory aside.
-    fn refusal(&self, message: &Message) -> Option<Refusal>
-        ensures { result ≡ refusal self.now message.now }
+    /// The index of the book of the message's symbol, or the refusal that the message meets, want of memory aside.
+    fn book_index(&self, message: &Message) -> Result<usize, Refusal>
+        ensures index { IfOk result (λ at. position (symbol_eq (header_of message.now).symbol) self.now.listing.symbols ≡ Some at) }
+        ensures none { OnOk result (refusal self.now message.now ≡ None) }
+        ensures refused { IfErr result (λ r. refusal self.now message.now ≡ Some r) }
     {
         let header = message.header();
         if self.closed {
-            return Some(Refusal::Closed);
+            return Err(Refusal::Closed);
         }
         if self.entries.len() == self.limit as usize {
-            return Some(Refusal::Full);
+            return Err(Refusal::Full);
         }
         if !self.listing.has(header.participant) {
-            return Some(Refusal::UnknownParticipant);
+            return Err(Refusal::UnknownParticipant);
         }
         if header.number.value() <= self.register.last_number(header.participant) {
-            return Some(Refusal::Stale);
+            return Err(Refusal::Stale);
         }
-        if self.listing.position(header.symbol).is_none() {
-            return Some(Refusal::UnknownSymbol);
+        let Some(at) = self.listing.position(header.symbol) else {
+            return Err(Refusal::UnknownSymbol);
+        };
+        match targets::refusal(&self.register, message) {
+            None => Ok(at),
+            Some(refusal) => Err(refusal),
         }
-        targets::refusal(&self.register, message)
     }
 
     /// Appends a report's entry. Its symbol's book and the register have the report then, or neither has.
-    fn append_report(&mut self, header: Header, content: Content) -> Result<Entry, AllocError>
-        requires { refusal self.old (Report header content) ≡ None }
+    fn append_report(
+        &mut self,
+        at: usize,
+        header: Header,
+        content: Content,
+    ) -> Result<Entry, AllocError>
+        requires none { refusal self.old (Report header content) ≡ None }
+        requires index { position (symbol_eq header.symbol) self.old.listing.symbols ≡ Some at }
         ensures entry { IfOk result (λ e. e ≡ next_entry self.old.entries (Report header content)) }
         ensures ok { OnOk result (self.new ≡ with_message self.old (Report header content)) }
         ensures err { OnErr result (self.new ≡ self.old) }
     {
-        let at = self.listing.position(header.symbol).unwrap();
         let number = next_number(&self.entries);
         self.entries.reserve(1)?;
         let book = &mut self.books[at];
@@ -202,13 +215,18 @@ impl<S: Store> Tape<S> {
     }
 
     /// Appends a cancel's entry, and takes the report that it names out of its symbol's book.
-    fn append_cancel(&mut self, header: Header, target: MsgNumber) -> Result<Entry, AllocError>
-        requires { refusal self.old (Cancel header target) ≡ None }
+    fn append_cancel(
+        &mut self,
+        at: usize,
+        header: Header,
+        target: MsgNumber,
+    ) -> Result<Entry, AllocError>
+        requires none { refusal self.old (Cancel header target) ≡ None }
+        requires index { position (symbol_eq header.symbol) self.old.listing.symbols ≡ Some at }
         ensures entry { IfOk result (λ e. e ≡ next_entry self.old.entries (Cancel header target)) }
         ensures ok { OnOk result (self.new ≡ with_message self.old (Cancel header target)) }
         ensures err { OnErr result (self.new ≡ self.old) }
     {
-        let at = self.listing.position(header.symbol).unwrap();
         let place = targets::place(&self.register, &header, target);
         let number = next_number(&self.entries);
         self.entries.reserve(1)?;
@@ -228,16 +246,17 @@ impl<S: Store> Tape<S> {
     /// Appends a correction's entry, and gives the report that it names the new content in its symbol's book.
     fn append_correction(
         &mut self,
+        at: usize,
         header: Header,
         target: MsgNumber,
         content: Content,
     ) -> Result<Entry, AllocError>
-        requires { refusal self.old (Correct header target content) ≡ None }
+        requires none { refusal self.old (Correct header target content) ≡ None }
+        requires index { position (symbol_eq header.symbol) self.old.listing.symbols ≡ Some at }
         ensures entry { IfOk result (λ e. e ≡ next_entry self.old.entries (Correct header target content)) }
         ensures ok { OnOk result (self.new ≡ with_message self.old (Correct header target content)) }
         ensures err { OnErr result (self.new ≡ self.old) }
     {
-        let at = self.listing.position(header.symbol).unwrap();
         let place = targets::place(&self.register, &header, target);
         let number = next_number(&self.entries);
         self.entries.reserve(1)?;
