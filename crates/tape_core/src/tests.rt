@@ -144,6 +144,14 @@ fn all_told(alloc: Global, tape: &mut Tape<ScratchStore>, rows: &[Row]) -> Resul
     Ok(all)
 }
 
+/// The consolidated summary of AB behind the rows, on a tape of their own.
+fn summary_after(alloc: Global, rows: &[Row]) -> Result<Summary, Fail> {
+    let mut tape = tape(alloc, 10)?;
+    all_told(alloc, &mut tape, rows)?;
+    let ab = Symbol::try_new(*AB).ok_or("symbol")?;
+    Ok(tape.summary(ab).ok_or("summary")?)
+}
+
 fn mark(price: u64, place: u32, who: u8) -> Option<Mark> {
     Some(Mark {
         price: Price::try_new(price)?,
@@ -161,6 +169,8 @@ fn a_cancel_gives_the_last_back(rt: HostRuntime) -> Result<(), Fail> {
         report(b'Q', 2, b"@ L ", 100_500),
         cancel(b'N', 2, 1),
     ];
+    let before = summary_after(rt.alloc(), &rows[..3])?;
+    assert_eq!(rt; before.last, mark(101_000, 2, b'N'));
     let answers = all_told(rt.alloc(), &mut tape, &rows)?;
     assert_eq!(rt; answers.as_slice(), [1, 2, 3, 4].as_slice());
     let after = Summary {
@@ -189,7 +199,10 @@ fn two_cancels_in_turn(rt: HostRuntime) -> Result<(), Fail> {
         cancel(b'P', 2, 1),
         cancel(b'N', 2, 1),
     ];
-    all_told(rt.alloc(), &mut tape, &rows)?;
+    let before = summary_after(rt.alloc(), &rows[..4])?;
+    assert_eq!(rt; before.last, mark(102_000, 3, b'P'));
+    let answers = all_told(rt.alloc(), &mut tape, &rows)?;
+    assert_eq!(rt; answers.as_slice(), [1, 2, 3, 4, 5, 6].as_slice());
     let first = Summary {
         opening: mark(100_000, 1, b'N'),
         high: mark(101_000, 2, b'Q'),
@@ -222,6 +235,8 @@ fn a_correction_keeps_its_place(rt: HostRuntime) -> Result<(), Fail> {
         report(b'N', 3, b"@   ", 102_000),
         correction(b'N', 4, 2, 99_000),
     ];
+    let before = summary_after(rt.alloc(), &rows[..3])?;
+    assert_eq!(rt; before.high, mark(102_000, 2, b'N'));
     all_told(rt.alloc(), &mut tape, &rows)?;
     let after = Summary {
         opening: mark(100_000, 1, b'N'),
@@ -275,9 +290,12 @@ fn a_refused_number_is_used_again(rt: HostRuntime) -> Result<(), Fail> {
         report(b'N', 5, b"@   ", 100_000),
         report(b'Z', 1, b"@   ", 100_000),
     ];
-    let answers = all_told(rt.alloc(), &mut tape, &rows)?;
-    assert_eq!(rt; answers.as_slice(), [1, 35, 36, 2, 34].as_slice());
     let who = Participant::try_new(b'N').ok_or("participant")?;
+    let answers = all_told(rt.alloc(), &mut tape, &rows[..2])?;
+    assert_eq!(rt; answers.as_slice(), [1, 35].as_slice());
+    assert_eq!(rt; tape.count_of(who), 1);
+    let answers = all_told(rt.alloc(), &mut tape, &rows[2..])?;
+    assert_eq!(rt; answers.as_slice(), [36, 2, 34].as_slice());
     assert_eq!(rt; tape.count_of(who), 2);
     Ok(())
 }
@@ -309,5 +327,14 @@ fn a_tape_is_full_and_then_closed(rt: HostRuntime) -> Result<(), Fail> {
     tape.close();
     let answers = all_told(rt.alloc(), &mut tape, &[cancel(b'N', 4, 9)])?;
     assert_eq!(rt; answers.as_slice(), [31].as_slice());
+    Ok(())
+}
+
+#[test]
+fn want_of_memory_is_refusal_40(rt: HostRuntime) -> Result<(), Fail> {
+    let refusal = Refusal::OutOfMemory;
+    assert_eq!(rt; refusal.code(), 40);
+    assert_eq!(rt; refusal.name(), "OutOfMemory");
+    assert_eq!(rt; refusal.to_string(rt.alloc())?.as_str(), "OutOfMemory");
     Ok(())
 }
