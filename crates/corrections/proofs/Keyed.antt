@@ -23,7 +23,7 @@ abbrev pub key_eq : ℕ × ℕ → ℕ × ℕ → Bool
 key_eq p q = (p.0 == q.0) && (p.1 == q.1)
 
 -- the order and the equality of the keys agree
-ties : (p q : ℕ × ℕ) → eq_by_cmp key_cmp p q ≡ key_eq p q
+pub ties : (p q : ℕ × ℕ) → eq_by_cmp key_cmp p q ≡ key_eq p q
 ties p q = grind (arith, nat_tests)
 
 -- the two look-ups in a list of entries agree
