@@ -88,6 +88,7 @@ impl Register {
         }
     }
 
+    /// What is noted under a participant's message number, whatever its symbol and standing.
     fn get(&self, who: Participant, number: MsgNumber) -> Option<Target>
         ensures { result ≡ map.get self.now.targets (who, number) }
     {

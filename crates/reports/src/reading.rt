@@ -30,6 +30,7 @@ pub fn decode(bytes: &[u8]) -> Result<(Message, usize), MessageFault>
     front(bytes)
 }
 
+/// What `decode` answers, apart from the laws that follow for spellings.
 #[tactic(auto, unfolding(crate::specs::Reading::message_at, crate::specs::Reading::announced_length))]
 fn front(bytes: &[u8]) -> Result<(Message, usize), MessageFault>
     ensures { result ≡ message_at bytes.now }
@@ -50,6 +51,7 @@ fn front(bytes: &[u8]) -> Result<(Message, usize), MessageFault>
     }
 }
 
+/// The message that a whole body is. No byte is left over, since each kind has one length.
 #[tactic(auto, unfolding(crate::specs::Reading::body_message))]
 fn body(bytes: &[u8]) -> Result<Message, MessageFault>
     ensures { result ≡ body_message bytes.now }
@@ -80,6 +82,7 @@ impl Unread<'_> {
         }
     }
 
+    /// The fields of a report.
     #[tactic(auto, unfolding(crate::specs::Reading::report_at))]
     fn report(&mut self) -> Result<Message, MessageFault>
         ensures { Reads result self.new.rest.now (report_at self.old.rest.now) }
@@ -89,6 +92,7 @@ impl Unread<'_> {
         Ok(Message::Report { header, content })
     }
 
+    /// The fields of a cancel, which has no content.
     #[tactic(auto, unfolding(crate::specs::Reading::cancel_at))]
     fn cancel(&mut self) -> Result<Message, MessageFault>
         ensures { Reads result self.new.rest.now (cancel_at self.old.rest.now) }
@@ -98,6 +102,7 @@ impl Unread<'_> {
         Ok(Message::Cancel { header, target })
     }
 
+    /// The fields of a correction: the target stands before the new content.
     #[tactic(auto, unfolding(crate::specs::Reading::correction_at))]
     fn correction(&mut self) -> Result<Message, MessageFault>
         ensures { Reads result self.new.rest.now (correction_at self.old.rest.now) }
@@ -112,6 +117,7 @@ impl Unread<'_> {
         })
     }
 
+    /// What every kind begins with. Any moment is taken.
     #[tactic(auto, unfolding(crate::specs::Reading::header_at))]
     fn header(&mut self) -> Result<Header, MessageFault>
         ensures { Reads result self.new.rest.now (header_at self.old.rest.now) }
@@ -128,6 +134,7 @@ impl Unread<'_> {
         })
     }
 
+    /// What was traded: a report's own content, or the new one of a correction.
     #[inline(always)]
     #[tactic(auto, unfolding(crate::specs::Reading::content_at))]
     fn content(&mut self) -> Result<Content, MessageFault>
@@ -143,6 +150,7 @@ impl Unread<'_> {
         })
     }
 
+    /// The letter of the sender.
     #[tactic(auto, unfolding(crate::specs::Fields::ranged_at))]
     fn participant(&mut self) -> Result<Participant, MessageFault>
         ensures { Reads result self.new.rest.now
@@ -152,6 +160,7 @@ impl Unread<'_> {
         Participant::try_new(letter).ok_or(MessageFault::BadParticipant)
     }
 
+    /// The message's own number.
     #[tactic(auto, unfolding(crate::specs::Fields::ranged_at))]
     fn number(&mut self) -> Result<MsgNumber, MessageFault>
         ensures { Reads result self.new.rest.now
@@ -161,6 +170,7 @@ impl Unread<'_> {
         MsgNumber::try_new(number).ok_or(MessageFault::BadNumber)
     }
 
+    /// The number of the report that is meant: as a message's own, but with another fault.
     #[tactic(auto, unfolding(crate::specs::Fields::ranged_at))]
     fn target(&mut self) -> Result<MsgNumber, MessageFault>
         ensures { Reads result self.new.rest.now (target_at self.old.rest.now) }
@@ -169,6 +179,7 @@ impl Unread<'_> {
         MsgNumber::try_new(target).ok_or(MessageFault::BadTarget)
     }
 
+    /// A price in ten-thousandths of a dollar.
     #[tactic(auto, unfolding(crate::specs::Fields::ranged_at))]
     fn price(&mut self) -> Result<Price, MessageFault>
         ensures { Reads result self.new.rest.now
@@ -178,6 +189,7 @@ impl Unread<'_> {
         Price::try_new(price).ok_or(MessageFault::BadPrice)
     }
 
+    /// A number of shares.
     #[tactic(auto, unfolding(crate::specs::Fields::ranged_at))]
     fn size(&mut self) -> Result<Size, MessageFault>
         ensures { Reads result self.new.rest.now
@@ -187,6 +199,7 @@ impl Unread<'_> {
         Size::try_new(size).ok_or(MessageFault::BadSize)
     }
 
+    /// A name with spaces to the end of its eight bytes.
     #[tactic(auto, unfolding(crate::specs::Fields::text_at))]
     fn symbol(&mut self) -> Result<Symbol, MessageFault>
         ensures { Reads result self.new.rest.now
@@ -196,6 +209,7 @@ impl Unread<'_> {
         Symbol::try_new(bytes).ok_or(MessageFault::BadSymbol)
     }
 
+    /// Four sale condition codes.
     #[tactic(auto, unfolding(crate::specs::Fields::text_at))]
     fn condition(&mut self) -> Result<Condition, MessageFault>
         ensures { Reads result self.new.rest.now
@@ -205,6 +219,7 @@ impl Unread<'_> {
         Condition::try_new(codes).ok_or(MessageFault::BadCondition)
     }
 
+    /// One byte.
     #[tactic(auto, unfolding(crate::specs::Fields::number_at))]
     fn u8(&mut self) -> Result<u8, MessageFault>
         ensures { Reads result self.new.rest.now (number_at fault.Short w8 self.old.rest.now) }
@@ -213,6 +228,7 @@ impl Unread<'_> {
         Ok(u8::from_be_bytes(bytes))
     }
 
+    /// Four bytes, big-endian.
     #[tactic(auto, unfolding(crate::specs::Fields::number_at))]
     fn u32(&mut self) -> Result<u32, MessageFault>
         ensures { Reads result self.new.rest.now (number_at fault.Short w32 self.old.rest.now) }
@@ -221,6 +237,7 @@ impl Unread<'_> {
         Ok(u32::from_be_bytes(bytes))
     }
 
+    /// Eight bytes, big-endian.
     #[tactic(auto, unfolding(crate::specs::Fields::number_at))]
     fn u64(&mut self) -> Result<u64, MessageFault>
         ensures { Reads result self.new.rest.now (number_at fault.Short w64 self.old.rest.now) }
@@ -229,6 +246,7 @@ impl Unread<'_> {
         Ok(u64::from_be_bytes(bytes))
     }
 
+    /// The next bytes as they are: the one place where a field can be short.
     #[tactic(auto, unfolding(crate::specs::Fields::bytes_at))]
     fn bytes<const N: usize>(&mut self) -> Result<[u8; N], MessageFault>
         ensures { Reads result self.new.rest.now (bytes_at fault.Short N self.old.rest.now) }

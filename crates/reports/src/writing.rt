@@ -43,6 +43,7 @@ pub fn encode_into(message: &Message, row: &mut [u8; 44]) -> usize
 
 // Each of these puts a text behind the first `at` bytes of the row, and answers where the text ends.
 
+/// The length of what follows, and the kind. It stands at the front of the row.
 fn put_start(row: &mut [u8], len: u16, kind: u8) -> usize
     requires { 3 ≤ length row.old }
     ensures { Puts 0 (to_be_bytes w16 len ++ (kind ∷ [])) row.old row.new result }
@@ -51,6 +52,7 @@ fn put_start(row: &mut [u8], len: u16, kind: u8) -> usize
     put(row, at, &[kind])
 }
 
+/// Who sent it, under which number, when, and for which symbol.
 fn put_header(row: &mut [u8], at: usize, header: &Header) -> usize
     requires { at + 21 ≤ length row.old }
     ensures puts { Puts at (header_text header.now) row.old row.new result }
@@ -62,6 +64,7 @@ fn put_header(row: &mut [u8], at: usize, header: &Header) -> usize
     put(row, at, &header.symbol.value())
 }
 
+/// The number of the report that is meant.
 fn put_target(row: &mut [u8], at: usize, target: MsgNumber) -> usize
     requires { at + 4 ≤ length row.old }
     ensures puts { Puts at (target_text target) row.old row.new result }
@@ -70,6 +73,7 @@ fn put_target(row: &mut [u8], at: usize, target: MsgNumber) -> usize
     put(row, at, &target.value().to_be_bytes())
 }
 
+/// Price, size and sale condition.
 fn put_content(row: &mut [u8], at: usize, content: &Content) -> usize
     requires { at + 16 ≤ length row.old }
     ensures puts { Puts at (content_text content.now) row.old row.new result }
@@ -80,6 +84,7 @@ fn put_content(row: &mut [u8], at: usize, content: &Content) -> usize
     put(row, at, &content.condition.value())
 }
 
+/// The bytes as they are: the one place that writes to the row.
 fn put(row: &mut [u8], at: usize, bytes: &[u8]) -> usize
     requires { at + length bytes.now ≤ length row.old }
     ensures { Puts at bytes.now row.old row.new result }

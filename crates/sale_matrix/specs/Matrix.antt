@@ -11,11 +11,13 @@ use Rattle.sale_matrix.specs.declared.matrix.Cells.{Cells}
 abbrev pub Row : Type 0
 Row = List ℕ × List ℕ
 
+-- the settlement
 unfoldable pub first_rows : List Row
 first_rows =
     (codes "@", codes "YYYYY") ∷
     (codes "CNR", codes "NNNNY") ∷ []
 
+-- the exemption from trade-through rules
 unfoldable pub second_rows : List Row
 second_rows =
     (codes " ", codes "YYYYY") ∷
@@ -24,6 +26,7 @@ second_rows =
     (codes "7", codes "NNNNY") ∷
     (codes "9", codes "YYNNN") ∷ []
 
+-- extended hours, or sold
 unfoldable pub third_rows : List Row
 third_rows =
     (codes " ", codes "YYYYY") ∷
@@ -31,6 +34,7 @@ third_rows =
     (codes "L", codes "YSYSY") ∷
     (codes "Z", codes "YFYFY") ∷ []
 
+-- the detail that a market asks for
 unfoldable pub fourth_rows : List Row
 fourth_rows =
     (codes " ", codes "YYYYY") ∷
@@ -95,7 +99,7 @@ least_in condition column =
 unfoldable pub cells_of : List ℕ → Cells
 cells_of condition = cells_by (least_in condition)
 
--- the weaker of two rules
+-- the weaker of two rules: this and the next serve clauses of private functions, which join cells pair by pair
 abbrev pub weaker : LastRule → LastRule → LastRule
 weaker Never other = Never
 weaker FirstOnly Never = Never

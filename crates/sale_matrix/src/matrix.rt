@@ -31,6 +31,7 @@ pub struct Cells {
     pub volume: bool,
 }
 
+/// The code restricts nothing, as a blank.
 const NEUTRAL: Cells = Cells {
     ch: true,
     cl: LastRule::Always,
@@ -39,6 +40,7 @@ const NEUTRAL: Cells = Cells {
     volume: true,
 };
 
+/// The trade counts for the volume, and its price for nothing.
 const VOLUME_ALONE: Cells = Cells {
     ch: false,
     cl: LastRule::Never,
@@ -47,6 +49,7 @@ const VOLUME_ALONE: Cells = Cells {
     volume: true,
 };
 
+/// The price may lag behind the market: it is the last only where there is none.
 const OUT_OF_SEQUENCE: Cells = Cells {
     ch: true,
     cl: LastRule::FirstOnly,
@@ -55,6 +58,7 @@ const OUT_OF_SEQUENCE: Cells = Cells {
     volume: true,
 };
 
+/// The trade may be told late: it is the last only behind one of its own participant, or where there is none.
 const SOLD_LAST: Cells = Cells {
     ch: true,
     cl: LastRule::SameMarket,
@@ -63,6 +67,7 @@ const SOLD_LAST: Cells = Cells {
     volume: true,
 };
 
+/// The price counts in the consolidated figures alone, the size nowhere.
 const CORRECTED_CLOSE: Cells = Cells {
     ch: true,
     cl: LastRule::Always,
@@ -71,6 +76,7 @@ const CORRECTED_CLOSE: Cells = Cells {
     volume: false,
 };
 
+/// The price counts in the participant's own figures alone, the size nowhere.
 const OFFICIAL_CLOSE: Cells = Cells {
     ch: false,
     cl: LastRule::Never,
@@ -79,6 +85,7 @@ const OFFICIAL_CLOSE: Cells = Cells {
     volume: false,
 };
 
+/// As the official close, but never the last.
 const OFFICIAL_OPEN: Cells = Cells {
     ch: false,
     cl: LastRule::Never,

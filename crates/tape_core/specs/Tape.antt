@@ -29,9 +29,11 @@ messages_of entries = map numbered_message entries
 
 -- ## Refusals
 
+-- whether the symbol is listed
 abbrev pub lists_symbol : Names → List ℕ → Bool
 lists_symbol listing symbol = is_some (position (symbol_eq symbol) listing.symbols)
 
+-- whether the participant is listed
 abbrev pub lists_participant : Names → ℕ → Bool
 lists_participant listing who = list_any (λ p. who == p) listing.participants
 

@@ -24,6 +24,7 @@ abbrev pub first_fault : {F : Type 0} → List (Bool × F) → Option F
 first_fault [] = None
 first_fault (c ∷ cases) = cond c.0 (Some c.1) (first_fault cases)
 
+-- whether a list has nothing
 abbrev pub is_nil : {A : Type 0} → List A → Bool
 is_nil [] = true
 is_nil (x ∷ xs) = false
