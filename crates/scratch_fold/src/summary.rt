@@ -66,10 +66,11 @@ impl Effect {
     {
         match last {
             None => self.last != LastRule::Never,
-            Some(mark) => match self.last {
-                LastRule::SameMarket => mark.who == self.who,
-                rule => rule == LastRule::Always,
-            },
+            // Both are looked at, since which rule comes next is not to be foreseen.
+            Some(mark) => {
+                (self.last == LastRule::Always)
+                    | ((self.last == LastRule::SameMarket) & (mark.who == self.who))
+            }
         }
     }
 
@@ -78,7 +79,7 @@ impl Effect {
         ensures { result ≡ (self.now.high_low && is_higher self.now.price high) }
     {
         self.high_low
-            && match high {
+            & match high {
                 Some(mark) => self.price > mark.price,
                 None => true,
             }
@@ -101,7 +102,7 @@ impl Effect {
         ensures { result ≡ (self.now.high_low && is_lower self.now.price low) }
     {
         self.high_low
-            && match low {
+            & match low {
                 Some(mark) => self.price < mark.price,
                 None => true,
             }
