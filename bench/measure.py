@@ -1,11 +1,12 @@
 #!/usr/bin/env python3
-"""Measures `tapebox batch` beside the plain program, over days made by a seed.
+"""Measures `tapebox batch` beside the two plain programs, over days made by a seed.
 
-    bench/measure.py [--turns N] [--seed N] [DAY[:BYTES] ..]
+    bench/measure.py [--no-build] [--turns N] [--seed N] [DAY[:BYTES] ..]
 
-Builds both programs, makes the days (one, busy and a hostile one of 4 MB where none is named), runs the programs on each day in
-turns, checks that their statuses and outputs are equal, and prints per day the least processor seconds of each, the
-least wall-clock seconds, the peak memory, and the ratios tapebox / plain. Needs cargo, rt and Python alone.
+Builds the programs, makes the days (one, busy and a hostile one of 4 MB where none is named), runs the programs on each day in
+turns, checks that their statuses and outputs are equal, and prints per day the least processor seconds of each, the least
+wall-clock seconds, the peak memory, and the ratios of tapebox to `plain`, which keeps the same tape, and to `least`, which keeps
+none. Needs cargo, rt and Python alone; with --no-build it takes the programs that are there.
 """
 
 import argparse
@@ -20,11 +21,15 @@ BENCH = Path(__file__).resolve().parent
 ROOT = BENCH.parent
 RELEASE = BENCH / "target" / "release"
 DAYS = BENCH / "target" / "days"
-PROGRAMS = {"plain": RELEASE / "plain", "tapebox": ROOT / "crates" / "tapebox" / "out" / "tapebox"}
+PROGRAMS = {
+    "plain": RELEASE / "plain",
+    "least": RELEASE / "least",
+    "tapebox": ROOT / "crates" / "tapebox" / "out" / "tapebox",
+}
 
 
 def build():
-    """Builds the plain program and the maker of days by cargo, and tapebox by `rt run` on an empty day."""
+    """Builds the plain programs and the maker of days by cargo, and tapebox by `rt run` on an empty day."""
     subprocess.run(["cargo", "build", "--release", "--offline", "--quiet"], cwd=BENCH, check=True)
     subprocess.run(
         ["rt", "run", "--", "batch"],
@@ -55,8 +60,14 @@ def run(program, source, target):
     return os.waitstatus_to_exitcode(status), usage.ru_utime + usage.ru_stime, wall, usage.ru_maxrss
 
 
+def agree(answers):
+    """Whether all programs, by name, answered the same status and the same output."""
+    (status, written), *others = answers.values()
+    return all(other[0] == status and filecmp.cmp(written, other[1], shallow=False) for other in others)
+
+
 def measure(day, source, turns):
-    """Runs both programs in turns and prints the day's rows; false where they disagree."""
+    """Runs the programs in turns and prints the day's rows; false where they disagree."""
     best = {}
     for _ in range(turns):
         answers = {}
@@ -65,26 +76,29 @@ def measure(day, source, turns):
             status, *figures = run(program, source, written)
             answers[name] = (status, written)
             best[name] = [min(pair) for pair in zip(best.get(name, figures), figures)]
-        (status, written), (other_status, other) = answers.values()
-        if status != other_status or not filecmp.cmp(written, other, shallow=False):
-            print(f"{day}: the programs DISAGREE: statuses {status} and {other_status}, {written}, {other}")
+        if not agree(answers):
+            told = ", ".join(f"{name} {status} in {written}" for name, (status, written) in answers.items())
+            print(f"{day}: the programs DISAGREE: {told}")
             return False
     for name, (processor, wall, memory) in best.items():
-        print(f"{day:10} {name:10} {processor:10.3f} s {wall:10.3f} s {memory / 1024:10.1f} MB")
-    ratios = [mine / plain for mine, plain in zip(best["tapebox"], best["plain"])]
-    print(f"{day:10} {'ratio':10} {ratios[0]:10.2f}   {ratios[1]:10.2f}   {ratios[2]:10.2f}")
+        print(f"{day:10} {name:15} {processor:10.3f} s {wall:10.3f} s {memory / 1024:10.1f} MB")
+    for name in ("plain", "least"):
+        ratios = [mine / other for mine, other in zip(best["tapebox"], best[name])]
+        print(f"{day:10} {'tapebox/' + name:15} {ratios[0]:10.2f}   {ratios[1]:10.2f}   {ratios[2]:10.2f}")
     return True
 
 
 def main():
-    parser = argparse.ArgumentParser(description="Measures tapebox beside the plain program.")
+    parser = argparse.ArgumentParser(description="Measures tapebox beside the plain programs.")
+    parser.add_argument("--no-build", action="store_true", help="measure the programs that are there")
     parser.add_argument("--turns", type=int, default=7, help="how often each program runs on each day (7)")
     parser.add_argument("--seed", type=int, default=1, help="the days' seed (1)")
     parser.add_argument("days", nargs="*", default=["one", "busy", "hostile:4000000"], metavar="DAY[:BYTES]")
     words = parser.parse_args()
-    build()
+    if not words.no_build:
+        build()
     DAYS.mkdir(parents=True, exist_ok=True)
-    print(f"{'day':10} {'program':10} {'processor':>12} {'wall clock':>12} {'peak memory':>13}")
+    print(f"{'day':10} {'program':15} {'processor':>12} {'wall clock':>12} {'peak memory':>13}")
     equal = True
     for word in words.days:
         day, _, size = word.partition(":")

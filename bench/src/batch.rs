@@ -3,34 +3,30 @@
 use crate::day::Day;
 use crate::header;
 use crate::hex::{Line, Lines};
+use crate::keep::Keep;
 use crate::message::decode;
 use crate::report;
 
-/// How a batch ended.
+/// The header's lines were refused.
 #[derive(Debug, PartialEq, Eq)]
-pub enum Outcome {
-    Done,
-    BadHeader,
-}
+pub struct BadHeader;
 
-/// The shortest line of a report, its line feed counted.
+/// The shortest line of a report and of any message, its line feed counted.
 const REPORT_LINE: usize = 83;
+const MESSAGE_LINE: usize = 59;
 
-/// Adds the batch's output for the input to the text.
-pub fn batch(input: &[u8], text: &mut Vec<u8>) -> Outcome {
+/// Adds the batch's output for the input to the text, and answers the day as it ended.
+pub fn batch<K: Keep>(input: &[u8], text: &mut Vec<u8>) -> Result<Day<K>, BadHeader> {
     let mut lines = Lines::new(input);
     let symbols = lines.next_text().unwrap_or_default();
     let participants = lines.next_text().unwrap_or_default();
-    let names = match header::read(symbols, participants) {
-        Ok(names) => names,
-        Err(refusal) => {
-            write_refusal(refusal, text);
-            return Outcome::BadHeader;
-        }
-    };
-    let room = input.len() / REPORT_LINE;
-    text.reserve(8 * room + 100 * names.symbols.len());
-    let mut day = Day::new(names, room);
+    let names = header::read(symbols, participants).map_err(|refusal| {
+        write_refusal(refusal, text);
+        BadHeader
+    })?;
+    let reports = input.len() / REPORT_LINE;
+    text.reserve(8 * reports + 100 * names.symbols.len());
+    let mut day = Day::new(names, reports, input.len() / MESSAGE_LINE);
     let mut line = Line::default();
     while let Some(read) = lines.next_message(&mut line) {
         match read
@@ -45,16 +41,16 @@ pub fn batch(input: &[u8], text: &mut Vec<u8>) -> Outcome {
         }
     }
     report::write(&day, text);
-    Outcome::Done
+    Ok(day)
 }
 
 /// The tape number of the line's message, or its refusal.
-fn answer(day: &mut Day, line: &Line) -> Result<u32, &'static str> {
+fn answer<K: Keep>(day: &mut Day<K>, line: &Line) -> Result<u32, &'static str> {
     let message = decode(line.front(), line.count)?;
     if message.participant != line.letter {
         return Err("33 WrongLine");
     }
-    day.admit(&message)
+    day.admit(message)
 }
 
 fn write_refusal(refusal: &str, text: &mut Vec<u8>) {

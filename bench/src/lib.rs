@@ -1,15 +1,25 @@
-//! The batch of a trade tape by plain code: the same input, answers and report as `tapebox batch`, with nothing of its code.
+//! The batch of a trade tape as two plain programs, `plain` with the whole tape kept and `least` with none: the input,
+//! answers and report of `tapebox batch`, with nothing of its code.
 
 mod batch;
 mod day;
 mod header;
 mod hex;
+mod keep;
 mod matrix;
 mod message;
+mod program;
 mod report;
+mod summary;
 
-pub use batch::{Outcome, batch};
+pub use batch::{BadHeader, batch};
+pub use day::{Day, Report};
+pub use header::Names;
+pub use keep::{Entry, Keep, Nothing, Tape};
 pub use matrix::{Cells, LastRule, cells};
+pub use message::{Content, Kind, Message};
+pub use program::run;
+pub use summary::{Mark, Summary};
 
 /// The greatest number of bytes of an input.
 pub const MAX_INPUT: usize = 16_777_216;

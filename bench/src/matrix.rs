@@ -11,6 +11,17 @@ pub enum LastRule {
 
 use LastRule::{Always, FirstOnly, Never, SameMarket};
 
+impl LastRule {
+    /// The weakest rule by which a participant's trade becomes the last after one of `last`'s.
+    pub fn weakest(last: Option<u8>, participant: u8) -> Self {
+        match last {
+            None => FirstOnly,
+            Some(market) if market == participant => SameMarket,
+            Some(_) => Always,
+        }
+    }
+}
+
 /// The five cells of a code, or the least cells of several codes.
 #[derive(Clone, Copy, Debug, PartialEq, Eq)]
 pub struct Cells {

@@ -4,26 +4,41 @@ use crate::header::is_symbol;
 use crate::matrix::{Cells, cells};
 
 /// What a message asks for.
+#[derive(Clone, Copy, Debug, PartialEq, Eq)]
 pub enum Kind {
+    /// A trade.
     Report(Content),
+    /// To take the report of that number back.
     Cancel { target: u32 },
+    /// To give the report of that number another content.
     Correct { target: u32, content: Content },
 }
 
 /// What was traded, and which figures it changes.
-#[derive(Clone, Copy)]
+#[derive(Clone, Copy, Debug, PartialEq, Eq)]
 pub struct Content {
     /// Ten-thousandths of a dollar.
     pub price: u64,
+    /// Shares.
     pub size: u32,
+    /// The four codes of the sale condition.
+    pub condition: [u8; 4],
+    /// What the codes say together.
     pub cells: Cells,
 }
 
 /// A message of a participant.
+#[derive(Clone, Copy, Debug, PartialEq, Eq)]
 pub struct Message {
+    /// A letter.
     pub participant: u8,
+    /// From 1.
     pub number: u32,
+    /// Carried, and never looked at.
+    pub moment: u64,
+    /// Padded with spaces.
     pub symbol: [u8; 8],
+    /// What it asks for.
     pub kind: Kind,
 }
 
@@ -85,6 +100,7 @@ fn fields(body: &[u8]) -> Result<Message, &'static str> {
     Ok(Message {
         participant,
         number,
+        moment: long(body, 6),
         symbol,
         kind,
     })
@@ -106,9 +122,14 @@ fn content(bytes: &[u8]) -> Result<Content, &'static str> {
     if !(1..=99_999_999).contains(&size) {
         return Err("20 BadSize");
     }
-    let codes = word(bytes, 12).to_be_bytes();
-    let cells = cells(codes).ok_or("21 BadCondition")?;
-    Ok(Content { price, size, cells })
+    let condition = word(bytes, 12).to_be_bytes();
+    let cells = cells(condition).ok_or("21 BadCondition")?;
+    Ok(Content {
+        price,
+        size,
+        condition,
+        cells,
+    })
 }
 
 fn word(bytes: &[u8], at: usize) -> u32 {

@@ -1,22 +1,30 @@
 //! The worked rows that a batch can show, with their figures written out.
 
-use bench::batch;
+use bench::{Day, Kind, LastRule, Mark, Nothing, Summary, Tape, batch};
+use std::num::NonZeroU32;
 
 const HEADER: &str = "symbol,who,open,open_at,high,high_at,low,low_at,last,last_at,volume,trades";
 
-/// The batch's output, line by line.
+/// The batch's output, line by line: with a tape the same as without.
 fn output(input: &str) -> Vec<String> {
-    let mut text = Vec::new();
-    batch(input.as_bytes(), &mut text);
+    let [mut text, mut least] = [Vec::new(), Vec::new()];
+    let kept = batch::<Tape>(input.as_bytes(), &mut text).is_ok();
+    assert_eq!(batch::<Nothing>(input.as_bytes(), &mut least).is_ok(), kept);
+    assert_eq!(text, least);
     let text = String::from_utf8(text).unwrap();
     text.lines().map(String::from).collect()
+}
+
+/// A moment that tells a participant's messages apart.
+fn moment(number: u32) -> u64 {
+    34_200_000_000_000 + u64::from(number)
 }
 
 /// A message line from a kind, a participant, a number, a symbol and the bytes that the kind adds.
 fn line(kind: char, who: char, number: u32, symbol: &str, rest: &[u8]) -> String {
     let mut body = vec![kind as u8, who as u8];
     body.extend(number.to_be_bytes());
-    body.extend([0; 8]);
+    body.extend(moment(number).to_be_bytes());
     body.extend(format!("{symbol:8}").bytes());
     body.extend(rest);
     let digits: String = body.iter().map(|byte| format!("{byte:02x}")).collect();
@@ -53,6 +61,20 @@ fn check(participants: &str, messages: &[String], answers: &[&str], rows: &[&str
     assert_eq!(report[0], HEADER);
     assert_eq!(&report[1..report.len() - 1], rows);
     assert_eq!(report.last().unwrap(), "CD,ALL,,,,,,,,,0,0");
+}
+
+/// The day of the messages over AB and CD, with its tape.
+fn day(participants: &str, messages: &[String]) -> Day<Tape> {
+    let input = format!("AB CD\n{participants}\n{}", messages.join("\n"));
+    batch(input.as_bytes(), &mut Vec::new()).unwrap()
+}
+
+fn mark(price: u64, place: u32, participant: char) -> Option<Mark> {
+    Some(Mark {
+        price,
+        place: NonZeroU32::new(place).unwrap(),
+        participant: participant as u8,
+    })
 }
 
 #[test]
@@ -153,6 +175,119 @@ fn a_correction_keeps_its_place() {
         "AB,N,100000,1,102000,3,99000,2,102000,3,300,3",
     ];
     check("N", &messages, &["1", "2", "3", "4"], &rows);
+}
+
+#[test]
+fn the_tape_carries_the_summary_after_a_cancel() {
+    let messages = [
+        report('Q', 1, "@   ", 100_000, 100),
+        report('N', 1, "@   ", 101_000, 100),
+        report('Q', 2, "@ L ", 100_500, 100),
+        cancel('N', 2, "AB", 1),
+    ];
+    let after = Summary {
+        open: mark(100_000, 1, 'Q'),
+        high: mark(100_500, 3, 'Q'),
+        low: mark(100_000, 1, 'Q'),
+        last: mark(100_500, 3, 'Q'),
+        volume: 200,
+        trades: 2,
+    };
+    let entries = day("N Q", &messages).kept.entries;
+    let carried: Vec<_> = entries.iter().map(|entry| entry.after).collect();
+    assert_eq!(carried, [None, None, None, Some(after)]);
+    assert_eq!(entries[3].message.kind, Kind::Cancel { target: 1 });
+}
+
+#[test]
+fn the_tape_carries_the_summary_after_a_correction() {
+    let messages = [
+        report('N', 1, "@   ", 100_000, 100),
+        report('N', 2, "@   ", 102_000, 100),
+        report('N', 3, "@   ", 102_000, 100),
+        correct('N', 4, 2, 99_000),
+        line('R', 'N', 5, "CD", &content(50_000, 100, "@   ")),
+        correct('N', 6, 3, 98_000),
+    ];
+    let after = Summary {
+        open: mark(100_000, 1, 'N'),
+        high: mark(102_000, 3, 'N'),
+        low: mark(99_000, 2, 'N'),
+        last: mark(102_000, 3, 'N'),
+        volume: 300,
+        trades: 3,
+    };
+    let later = Summary {
+        high: mark(100_000, 1, 'N'),
+        low: mark(98_000, 3, 'N'),
+        last: mark(98_000, 3, 'N'),
+        ..after
+    };
+    let entries = day("N", &messages).kept.entries;
+    let carried: Vec<_> = entries.iter().map(|entry| entry.after).collect();
+    assert_eq!(carried, [None, None, None, Some(after), None, Some(later)]);
+}
+
+#[test]
+fn a_carried_summary_is_the_row_of_its_moment() {
+    let conditions = [
+        "@   ", "@ L ", "@ Z ", "@4  ", "@  I", "@  M", "@9  ", "@F P",
+    ];
+    let mut messages = Vec::new();
+    let mut carried = 0;
+    for number in 1..=200 {
+        let mixed = number * 7_919 % 1_009;
+        let who = ['N', 'P', 'Q'][mixed as usize % 3];
+        let condition = conditions[mixed as usize / 3 % 8];
+        let price = 100_000 + 100 * u64::from(mixed % 11);
+        messages.push(match mixed % 5 {
+            0 => cancel(who, number, "AB", 1 + mixed % number),
+            1 | 2 => correct(who, number, 1 + mixed % number, price),
+            _ => report(who, number, condition, price, mixed),
+        });
+        let input = format!("AB\nN P Q\n{}", messages.join("\n"));
+        let day = day("N P Q", &messages);
+        let Some(Some(after)) = day.kept.entries.last().map(|entry| entry.after) else {
+            continue;
+        };
+        carried += 1;
+        let row = output(&input)[messages.len() + 1].clone();
+        assert_eq!(row, format!("AB,ALL,{}", figures(&after)), "{input}");
+    }
+    assert!(carried > 20, "only {carried} summaries were carried");
+}
+
+/// The figures as a report's row has them.
+fn figures(summary: &Summary) -> String {
+    let marks = [summary.open, summary.high, summary.low, summary.last];
+    let marks = marks.map(|mark| match mark {
+        Some(mark) => format!("{},{}", mark.price, mark.place),
+        None => ",".into(),
+    });
+    format!("{},{},{}", marks.join(","), summary.volume, summary.trades)
+}
+
+#[test]
+fn an_entry_has_all_of_its_message() {
+    let messages = [
+        report('N', 7, "@ Z ", 100_000, 100),
+        report('N', 7, "@   ", 100_000, 100),
+        report('Q', 9, "@F L", 100_000, 100),
+        report('Q', 9, "@F I", 101_000, 200),
+    ];
+    let entries = day("N Q", &messages).kept.entries;
+    let numbers: Vec<_> = entries.iter().map(|entry| entry.number).collect();
+    assert_eq!(numbers, [1, 2]);
+    let message = entries[1].message;
+    let told = (message.participant, message.number, message.moment);
+    assert_eq!(told, (b'Q', 9, moment(9)));
+    assert_eq!(&message.symbol, b"AB      ");
+    let Kind::Report(content) = message.kind else {
+        panic!("{message:?} is no report");
+    };
+    assert_eq!((content.price, content.size), (101_000, 200));
+    assert_eq!(&content.condition, b"@F I");
+    assert_eq!(content.cells.last, [LastRule::Never; 2]);
 }
 
 #[test]

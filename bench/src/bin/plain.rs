@@ -1,48 +1,5 @@
-//! `plain batch`: the plain program, with the words, statuses and messages of `tapebox batch`.
+//! `plain batch`: the plain program that keeps the whole tape, as `tapebox batch` does.
 
-use bench::{MAX_INPUT, Outcome, batch};
-use std::fs::File;
-use std::io::{self, Read, Write};
-use std::os::fd::AsFd;
-use std::process::ExitCode;
-
-fn main() -> ExitCode {
-    let words: Vec<_> = std::env::args_os().skip(1).collect();
-    if words.len() != 1 || words[0] != "batch" {
-        return fault(2, "bad arguments");
-    }
-    let Ok(input) = read_input() else {
-        return fault(3, "read fault");
-    };
-    if input.len() > MAX_INPUT {
-        return fault(2, "input too large");
-    }
-    let mut text = Vec::new();
-    let outcome = batch(&input, &mut text);
-    if write_output(&text).is_err() {
-        return fault(4, "write fault");
-    }
-    match outcome {
-        Outcome::Done => ExitCode::SUCCESS,
-        Outcome::BadHeader => ExitCode::from(2),
-    }
-}
-
-/// Standard input whole, or one byte more than an input may have. A file's room is reserved at once.
-fn read_input() -> io::Result<Vec<u8>> {
-    let file = File::from(io::stdin().as_fd().try_clone_to_owned()?);
-    let most = MAX_INPUT as u64 + 1;
-    let size = file.metadata()?.len().min(most);
-    let mut input = Vec::with_capacity(size as usize + 1);
-    file.take(most).read_to_end(&mut input)?;
-    Ok(input)
-}
-
-fn write_output(text: &[u8]) -> io::Result<()> {
-    File::from(io::stdout().as_fd().try_clone_to_owned()?).write_all(text)
-}
-
-fn fault(status: u8, message: &str) -> ExitCode {
-    let _ = writeln!(io::stderr(), "tapebox: {message}");
-    ExitCode::from(status)
+fn main() -> std::process::ExitCode {
+    bench::run::<bench::Tape>()
 }
