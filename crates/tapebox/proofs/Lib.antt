@@ -3,6 +3,7 @@ pub mod BatchLemmas
 pub mod FrontLemmas
 pub mod HexLemmas
 pub mod LineLemmas
+pub mod NameLemmas
 pub mod PieceLemmas
 pub mod ReadLemmas
 pub mod RefusalLemmas

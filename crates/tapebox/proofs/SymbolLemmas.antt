@@ -10,7 +10,7 @@ use Rattle.tape_types.specs.Ranges.{IsSymbol, is_name_byte, name_of}
 use Rattle.tapebox.specs.Header.{symbol_named}
 
 -- a name ends at the first space behind it
-prefix_len-name : (name : List ℕ) (spaces : ℕ) → list_all is_name_byte name ≡ true → prefix_len is_name_byte (name ++ replicate spaces 32) ≡ length name
+pub prefix_len-name : (name : List ℕ) (spaces : ℕ) → list_all is_name_byte name ≡ true → prefix_len is_name_byte (name ++ replicate spaces 32) ≡ length name
 prefix_len-name [] zero all = refl
 prefix_len-name [] (suc spaces) all = refl
 prefix_len-name (byte ∷ name) spaces all = elim (cases_Bool (is_name_byte byte)) [
