@@ -10,4 +10,5 @@ pub mod RefusalLemmas
 pub mod ReportLemmas
 pub mod RowLemmas
 pub mod RowText
+pub mod SayLemmas
 pub mod SymbolLemmas

@@ -25,7 +25,8 @@ pub use batch::batch_over;
 pub use batch_end::BatchEnd;
 pub use header_fault::HeaderFault;
 pub use line_refusal::LineRefusal;
-pub use program::{program, told};
+pub use program::program;
+use program::report_end;
 use std::process::ExitCode;
 
 fn main(rt: HostRuntime) -> ExitCode {
@@ -38,7 +39,7 @@ fn main(rt: HostRuntime) -> ExitCode {
             &mut rt.stdout(),
             &mut errors,
         ),
-        Err(_) => told(&mut errors, BatchEnd::OutOfMemory),
+        Err(_) => report_end(&mut errors, BatchEnd::OutOfMemory),
     };
     ExitCode::from(status)
 }
