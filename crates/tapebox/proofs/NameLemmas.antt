@@ -13,7 +13,7 @@ use Rattle.tape_types.specs.Ranges.{is_name_byte, name_of}
 use Rattle.tape_types.specs.declared.listing_fault.ListingFault.{ListingFault}
 use Rattle.tape_types.specs.declared.listing_fault.ListingFault.TheVariants.{Empty, OutOfMemory, Repeated, TooMany}
 use Rattle.tapebox.proofs.SymbolLemmas.{prefix_len-name}
-use Rattle.tapebox.specs.Header.{all_named, header_listing, listing_of, listing_unless, name_texts, participant_named, pieces_of, symbol_named}
+use Rattle.tapebox.specs.Header.{all_named, header_listing, listing_of, listing_by_fault, name_texts, participant_named, pieces_of, symbol_named}
 use Rattle.tapebox.specs.MessageLine.{is_capital}
 use Rattle.tapebox.specs.declared.header_fault.HeaderFault.TheVariants.{BadListing}
 
@@ -210,7 +210,7 @@ unfolding header_listing
 fault_told first second fault first_is second_is is =
     cases (all_named symbol_named (name_texts first)) (all_named participant_named (name_texts second)) refl refl first_is second_is
   where
-    told : (refused : Option ListingFault) (names : Names) → BadListing (unwrap_or refused OutOfMemory) ≡ unwrap_or (result_err (listing_unless refused names)) (BadListing OutOfMemory)
+    told : (refused : Option ListingFault) (names : Names) → BadListing (unwrap_or refused OutOfMemory) ≡ unwrap_or (result_err (listing_by_fault refused names)) (BadListing OutOfMemory)
     told None names = refl
     told (Some refused) names = refl
 

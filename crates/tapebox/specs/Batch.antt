@@ -23,23 +23,23 @@ INPUT_MOST = 16777216
 -- ## Answers
 
 -- the answer to a message that the tape refuses so, or not at all
-abbrev pub number_unless : TapeState → Option Refusal → Result ℕ LineRefusal
-number_unless t None = Ok (length t.entries + 1)
-number_unless t (Some refused) = Err (Refused refused)
+abbrev pub answer_by_refusal : TapeState → Option Refusal → Result ℕ LineRefusal
+answer_by_refusal t None = Ok (length t.entries + 1)
+answer_by_refusal t (Some refused) = Err (Refused refused)
 
 -- the tape behind a message that it refuses so, or not at all
-abbrev pub tape_unless : TapeState → Message → Option Refusal → TapeState
-tape_unless t m None = with_message t m
-tape_unless t m (Some refused) = t
+abbrev pub tape_by_refusal : TapeState → Message → Option Refusal → TapeState
+tape_by_refusal t m None = with_message t m
+tape_by_refusal t m (Some refused) = t
 
 -- the answer to what a line brings
 abbrev pub answer_to : TapeState → Result Message LineRefusal → Result ℕ LineRefusal
-answer_to t (Ok m) = number_unless t (refusal t m)
+answer_to t (Ok m) = answer_by_refusal t (refusal t m)
 answer_to t (Err refused) = Err refused
 
 -- the tape behind what a line brings
 abbrev pub tape_behind : TapeState → Result Message LineRefusal → TapeState
-tape_behind t (Ok m) = tape_unless t m (refusal t m)
+tape_behind t (Ok m) = tape_by_refusal t m (refusal t m)
 tape_behind t (Err refused) = t
 
 -- the answer to a line: a tape number, or the first refusal
