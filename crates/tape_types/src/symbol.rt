@@ -41,6 +41,13 @@ impl Symbol {
     {
         self.bytes
     }
+
+    /// Its name: the bytes before the padding.
+    pub fn name(&self) -> &[u8]
+        ensures { result.now ≡ name_of self.now }
+    {
+        &self.bytes[..name_length(&self.bytes)]
+    }
 }
 
 /// How many bytes stand before the padding.

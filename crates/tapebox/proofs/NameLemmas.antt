@@ -1,5 +1,5 @@
 -- The names of a header's lines: whether they name something, how many they are, and whether one stands twice.
-use Rattle.std.proofs.Common.{◌≡◌, ◌≢◌, ◌<◌, ◌≤◌, ◌+◌, ◌-◌, ◌==◌, ◌&&◌, ◌∷◌, ◌++◌, ◌∙◌, ◌||◌, ◌⊎◌, if◌then◌else◌, [], ℕ, suc, List, Bool, true, false, Option, Some, None, is_some, option_and_then, option_map, refl, sym, ap, arith, length, replicate, take, unwrap_or, nat_le, nat_lt, nat_eq, inl, inr}
+use Rattle.std.proofs.Common.{◌≡◌, ◌≢◌, ◌<◌, ◌≤◌, ◌+◌, ◌-◌, ◌==◌, ◌&&◌, ◌∷◌, ◌++◌, ◌∙◌, ◌||◌, ◌⊎◌, if◌then◌else◌, [], ℕ, suc, List, Bool, true, false, Option, Some, None, is_some, option_and_then, option_map, refl, sym, ap, arith, length, replicate, unwrap_or, nat_le, nat_lt, nat_eq, inl, inr}
 use Rattle.std.specs.Bool.{Decides}
 use Rattle.std.specs.List.{list_all, list_any, onto_first}
 use Rattle.std.specs.Result.{result_err}
@@ -7,12 +7,11 @@ use Rattle.std.specs.Str.{bytes_eq}
 use Rattle.std.proofs.lemmas.Bool.{cases_Bool, lt-ltb, ne_eqb}
 use Rattle.std.proofs.lemmas.Bool.Decides.{Decides-eqb, nat_tests}
 use Rattle.std.proofs.lemmas.Slice.Eq.{bytes_eq-Decides}
-use Rattle.std.proofs.Math.Seq.{take-append_seam}
 use Rattle.tape_types.specs.Names.{Names, first_fault, has_repeat, is_nil, refusal_of, symbol_eq}
 use Rattle.tape_types.specs.Ranges.{is_name_byte, name_of}
 use Rattle.tape_types.specs.declared.listing_fault.ListingFault.{ListingFault}
 use Rattle.tape_types.specs.declared.listing_fault.ListingFault.TheVariants.{Empty, OutOfMemory, Repeated, TooMany}
-use Rattle.tapebox.proofs.SymbolLemmas.{prefix_len-name}
+use Rattle.tapebox.proofs.SymbolLemmas.{name_of-padded}
 use Rattle.tapebox.specs.Header.{all_named, header_listing, listing_of, listing_by_fault, name_texts, participant_named, pieces_of, symbol_named}
 use Rattle.tapebox.specs.MessageLine.{is_capital}
 use Rattle.tapebox.specs.declared.header_fault.HeaderFault.TheVariants.{BadListing}
@@ -125,9 +124,7 @@ symbol_named-is name symbol is = cases (nat_lt 0 (length name) && (nat_le (lengt
 name_of-named : (name symbol : List ℕ) → symbol_named name ≡ Some symbol → name_of symbol ≡ name
 name_of-named name symbol is =
     let made = symbol_named-is name symbol is in
-    ap name_of made.1
-    ∙ ap (λ n. take n (name ++ replicate (8 - length name) 32)) (prefix_len-name name (8 - length name) made.0)
-    ∙ take-append_seam name (replicate (8 - length name) 32)
+    ap name_of made.1 ∙ name_of-padded name (8 - length name) made.0
 
 symbol_named-faithful : IsFaithful symbol_named symbol_eq
 symbol_named-faithful a b x y is_x is_y =

@@ -1,14 +1,12 @@
 //! The header of a batch.
 ghost use Rattle.std.specs.Prelude.{◌≡◌, ◌≤◌, IfOk, IfErr, Ok, Some, is_some, length, true, unwrap_or};
-ghost use Rattle.std.specs.List.{list_all};
 ghost use Rattle.std.specs.Result.{result_err};
-ghost use Rattle.tape_types.specs.Ranges.{is_name_byte};
 ghost use Rattle.tape_types.specs.declared.listing_fault.ListingFault.TheVariants.{OutOfMemory};
 ghost use Rattle.tapebox.specs.Header.{all_named, header_listing, name_texts, participant_named, symbol_named};
 ghost use Rattle.tapebox.specs.declared.header_fault.HeaderFault.TheVariants.{BadListing};
 
 use crate::HeaderFault;
-use crate::names::{has_repeat, is_name_byte, name_count};
+use crate::names::{has_repeat, name_count};
 use crate::pieces::Pieces;
 use std::alloc::{AllocError, Global};
 use tape_types::{Listing, ListingFault, Participant, Symbol};
@@ -19,23 +17,23 @@ const MAX_SYMBOLS: usize = 4_096;
 /// The most participants of a listing.
 const MAX_PARTICIPANTS: usize = 26;
 
-/// Whether all bytes may stand in a symbol's name.
-fn are_name_bytes(name: &[u8]) -> bool
-    ensures { result ≡ list_all is_name_byte name.now }
-{
-    name.iter().all(|byte| is_name_byte(*byte))
-}
-
 /// The symbol of a name, with spaces to the end.
 fn symbol_named(name: &[u8]) -> Option<Symbol>
     ensures { result ≡ symbol_named name.now }
 {
-    if name.is_empty() || name.len() > 8 || !are_name_bytes(name) {
+    if name.len() > 8 {
         return None;
     }
     let mut bytes = [b' '; 8];
     bytes[..name.len()].copy_from_slice(name);
-    Symbol::try_new(bytes)
+    let Some(symbol) = Symbol::try_new(bytes) else {
+        return None;
+    };
+    // A space at the end of a name would pass for padding.
+    if symbol.name() != name {
+        return None;
+    }
+    Some(symbol)
 }
 
 /// The participant of a name.

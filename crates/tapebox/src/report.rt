@@ -9,7 +9,6 @@ ghost use Rattle.tapebox.specs.ReportText.{column_names, line_of, mark_fields, r
 ghost use Rattle.tapebox.specs.Rows.{symbol_rows};
 
 use crate::day_tape::DayTape;
-use crate::names::is_name_byte;
 use crate::rows::Row;
 use csv::{ByteRecord, Writer, WriterBuilder};
 use itoa::Buffer;
@@ -59,22 +58,13 @@ fn push_who(line: &mut ByteRecord, who: Option<Participant>) -> Result<(), Alloc
     }
 }
 
-/// The length of a symbol's name, without its padding.
-fn name_length(symbol: &[u8]) -> usize
-    ensures length { result ≡ length (name_of symbol.now) }
-    ensures within { result ≤ length symbol.now }
-{
-    symbol.iter().take_while(|b| is_name_byte(**b)).count()
-}
-
 /// Adds a symbol's name.
 fn push_name(line: &mut ByteRecord, symbol: Symbol) -> Result<(), AllocError>
     requires { partial_of line.old ≡ [] }
     ensures fields { OnOk result (fields_of line.new ≡ fields_of line.old ++ name_of symbol ∷ []) }
     ensures partial { OnOk result (partial_of line.new ≡ []) }
 {
-    let bytes = symbol.value();
-    line.push_field(&bytes[..name_length(&bytes)])
+    line.push_field(symbol.name())
 }
 
 /// Adds the marks, the volume and the trades.
