@@ -1,6 +1,7 @@
 pub mod Lines
 pub mod LineRefusals
 pub mod MessageLine
+pub mod Gathered
 pub mod Header
 pub mod Pieces
 pub mod Rows

@@ -2,6 +2,7 @@
 ghost use Rattle.std.specs.Prelude.{◌≡◌, ◌≤◌, ◌+◌, ◌++◌, ◌<◌, [], length, IfOk, OnOk, Err, ◌≢◌};
 ghost use Rattle.std.specs.Io.KnownBytes.{Appends, Keeps, append_known};
 ghost use Rattle.tapebox.specs.Batch.{answer_line};
+ghost use Rattle.tapebox.specs.Gathered.{PIECE, ROOM};
 ghost use Rattle.tapebox.specs.declared.stop.Stop.TheVariants.{OutOfMemory};
 
 use crate::LineRefusal;
@@ -27,12 +28,13 @@ pub struct Gathered {
 impl Model for Gathered {
     ghost use Rattle.std.specs.Prelude.{List, ℕ, ◌≤◌};
     ghost use Rattle.std.specs.Vec.{vec_capacity};
+    ghost use Rattle.tapebox.specs.Gathered.{ROOM};
 
     ghost Value = { List ℕ };
 
     ghost view = { λ g. g.bytes.items };
 
-    ghost invariant = { λ g. 8320 ≤ vec_capacity g.bytes };
+    ghost invariant = { λ g. ROOM ≤ vec_capacity g.bytes };
 }
 
 impl Gathered {
@@ -46,7 +48,7 @@ impl Gathered {
 
     /// Adds a text within the room.
     fn push(&mut self, text: &[u8])
-        requires { length self.old + length text.now ≤ 8320 }
+        requires { length self.old + length text.now ≤ ROOM }
         ensures { self.new ≡ self.old ++ text.now }
     {
         self.bytes.extend_from_slice(text).unwrap();
@@ -54,7 +56,7 @@ impl Gathered {
 
     /// Adds the line of an answer.
     pub fn push_answer(&mut self, answer: &Result<TapeNumber, LineRefusal>)
-        requires { length self.old ≤ 8192 }
+        requires { length self.old ≤ PIECE }
         ensures { self.new ≡ self.old ++ answer_line answer.now }
     {
         let mut digits = Buffer::new();
@@ -85,7 +87,7 @@ impl Gathered {
 
     /// Writes what is gathered, where it is a piece.
     pub fn write_piece<W: Write>(&mut self, writer: &mut W) -> Result<(), Stop>
-        ensures room { OnOk result (length self.new ≤ 8192) }
+        ensures room { OnOk result (length self.new ≤ PIECE) }
         ensures kept { OnOk result (Keeps
             (append_known (W.contents writer.old) self.old)
             (append_known (W.contents writer.new) self.new)) }

@@ -1,6 +1,8 @@
 //! The lines of a text.
 ghost use Rattle.std.specs.Prelude.{◌≡◌, ◌==◌};
 ghost use Rattle.std.specs.Iterator.{YieldsFirstRef, item_count};
+ghost use Rattle.std.specs.List.{list_any};
+ghost use Rattle.memchr.specs.Find.{IsFirstByte, is_byte};
 ghost use Rattle.tapebox.specs.Lines.{lines_of};
 
 use memchr::memchr;
@@ -9,6 +11,8 @@ use memchr::memchr;
 #[derive(Drop)]
 pub struct Lines<'a> {
     rest: &'a [u8],
+    /// How long the line before was, or 0.
+    former: usize,
 }
 
 impl<'a> Lines<'a> {
@@ -16,7 +20,10 @@ impl<'a> Lines<'a> {
     pub fn new(text: &'a [u8]) -> Lines<'a>
         ensures { result.rest.now ≡ text.now }
     {
-        Lines { rest: text }
+        Lines {
+            rest: text,
+            former: 0,
+        }
     }
 }
 
@@ -32,15 +39,40 @@ impl<'a> Iterator for Lines<'a> {
         if rest.is_empty() {
             return None;
         }
-        match memchr(b'\n', rest) {
+        match line_end(rest, self.former) {
             None => {
                 self.rest = &[];
                 Some(rest)
             }
             Some(end) => {
                 self.rest = &rest[end + 1..];
+                self.former = end;
                 Some(&rest[..end])
             }
         }
     }
+}
+
+/// Where the first line of a text ends.
+///
+/// Most message lines are as long as the one before. That a text has no line feed before that place is found without
+/// a branch that hangs on its bytes.
+fn line_end(text: &[u8], former: usize) -> Option<usize>
+    ensures { IsFirstByte (is_byte 10) text.now result }
+{
+    if text.get(former) == Some(&b'\n') && !has_line_feed(&text[..former]) {
+        return Some(former);
+    }
+    memchr(b'\n', text)
+}
+
+/// Whether a text has a line feed.
+fn has_line_feed(text: &[u8]) -> bool
+    ensures { result ≡ list_any (λ byte. byte == 10) text.now }
+{
+    let mut found = false;
+    for byte in text {
+        found |= *byte == b'\n';
+    }
+    found
 }
