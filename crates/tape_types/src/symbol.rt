@@ -1,11 +1,15 @@
 //! A symbol.
-ghost use Rattle.std.specs.Prelude.{◌≡◌, ◌≤◌, ℕ, List, length, All, ◌↔◌, IsSome, IfSome, IsTrue};
+ghost use Rattle.std.specs.Prelude.{◌≡◌, ◌≤◌, ℕ, List, [], ◌∷◌, length, All, ◌↔◌, IsSome, IfSome, IsTrue};
+ghost use Rattle.std.specs.Cmp.Rules.{comparing, hashing};
+ghost use Rattle.std.proofs.Common.{rules};
+ghost use Rattle.tape_types.specs.Names.{symbol_eq};
 ghost use Rattle.tape_types.specs.Ranges.{IsSymbol, is_name_byte, name_of};
 
+use std::hash::{Hash, Hasher};
 use std::marker::Model;
 
 /// A symbol: a name of one to eight of `A` to `Z`, `0` to `9` and `.`, with spaces to the end of its eight bytes.
-#[derive(Clone, Copy, Debug, PartialEq, Eq, PartialOrd, Ord, Hash)]
+#[derive(Clone, Copy, Debug, Eq, PartialOrd, Ord)]
 pub struct Symbol {
     bytes: [u8; 8],
 }
@@ -47,6 +51,27 @@ impl Symbol {
         ensures { result.now ≡ name_of self.now }
     {
         &self.bytes[..name_length(&self.bytes)]
+    }
+}
+
+// A symbol is looked up for every message: it is compared and hashed whole, since a derive goes byte by byte.
+impl PartialEq for Symbol {
+    ghost eq = { symbol_eq };
+
+    ghost laws = { Prim.search (comparing, rules) };
+
+    fn eq(&self, other: &Symbol) -> bool {
+        u64::from_be_bytes(self.value()) == u64::from_be_bytes(other.value())
+    }
+}
+
+impl Hash for Symbol {
+    ghost hash_input = { λ bytes. bytes ∷ [] };
+
+    ghost respects_eq = { Prim.search (hashing, rules) };
+
+    fn hash<H: Hasher>(&self, state: &mut H) {
+        state.write(&self.bytes);
     }
 }
 
