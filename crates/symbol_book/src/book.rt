@@ -8,7 +8,6 @@ use price_index::Searches;
 use sale_matrix::Condition;
 use scratch_fold::Summary;
 use std::alloc::{AllocError, Global};
-use std::collections::BTreeMap;
 use std::marker::Model;
 use summaries::Store;
 use tape_types::{Participant, Price, Size, TapeNumber};
@@ -19,7 +18,8 @@ use tape_types::{Participant, Price, Size, TapeNumber};
 pub struct Book<S: Store> {
     alloc: Global,
     consolidated: S,
-    own: BTreeMap<Participant, S>,
+    /// The participants' own stores by letter, from `A`.
+    own: Vec<Option<S>>,
 }
 
 impl<S: Store> Model for Book<S> {
@@ -34,9 +34,9 @@ impl<S: Store> Model for Book<S> {
 
     ghost use Rattle.symbol_book.specs.Stores.{book_trades, IsBook};
 
-    ghost view = { λ b. book_trades S.effects b.consolidated b.own };
+    ghost view = { λ b. book_trades S.effects b.consolidated b.own.items };
 
-    ghost invariant = { λ b. IsBook S.effects S.staged_change b.consolidated b.own };
+    ghost invariant = { λ b. IsBook S.effects S.staged_change b.consolidated b.own.items };
 }
 
 impl<S: Store> Book<S> {
@@ -47,7 +47,7 @@ impl<S: Store> Book<S> {
         Book {
             alloc,
             consolidated: S::empty(alloc),
-            own: BTreeMap::new(alloc),
+            own: Vec::new(alloc),
         }
     }
 

@@ -1,102 +1,117 @@
-//! The participants' own stores of a book.
-ghost use Rattle.std.specs.Prelude.{◌≡◌, OnOk, OnErr, IsSome, None};
-ghost use Rattle.std.specs.Ordering.{nat_cmp};
+//! The participants' own stores of a book, in a row by letter, from `A`: as long as the greatest letter that has reported
+//! needs.
+ghost use Rattle.std.specs.Prelude.{◌≡◌, ◌+◌, ◌<◌, ℕ, length, OnOk, OnErr, IsSome, None};
+ghost use Rattle.std.specs.Option.{option_copied};
 ghost use Rattle.std.specs.FinMap as map;
-ghost use Rattle.std.specs.BTreeMap as tree;
 ghost use Rattle.summaries.specs.Effects.{map_summary};
 ghost use Rattle.symbol_book.specs.Columns.{consolidated_effect_of, own_effect_of};
-ghost use Rattle.symbol_book.specs.Stores.{participant_effects, AllSettled, OwnBecomes};
+ghost use Rattle.symbol_book.specs.Stores.{store_of, participant_effects, AllSettled, OwnBecomes};
 
 use crate::Trade;
 use price_index::Searches;
 use scratch_fold::{Effect, Summary};
 use std::alloc::{AllocError, Global};
-use std::collections::BTreeMap;
 use summaries::Store;
 use tape_types::{Participant, TapeNumber};
 
 /// Puts an effect into the participant's store, which is made if it has none.
 pub fn put<S: Store>(
-    own: &mut BTreeMap<Participant, S>,
+    own: &mut Vec<Option<S>>,
     alloc: Global,
     who: Participant,
     place: TapeNumber,
     effect: Effect,
     searches: &mut Searches,
 ) -> Result<(), AllocError>
-    requires settled { AllSettled S.staged_change own.old }
-    requires vacant { map.get (participant_effects S.effects own.old who) place ≡ None }
-    ensures ok { OnOk result (OwnBecomes S.effects S.staged_change own.old own.new who
-        (map.insert (participant_effects S.effects own.old who) place effect)) }
-    ensures err { OnErr result (OwnBecomes S.effects S.staged_change own.old own.new who
-        (participant_effects S.effects own.old who)) }
+    requires settled { AllSettled S.staged_change own.old.items }
+    requires vacant { map.get (participant_effects S.effects own.old.items who) place ≡ None }
+    ensures ok { OnOk result (OwnBecomes S.effects S.staged_change own.old.items own.new.items who
+        (map.insert (participant_effects S.effects own.old.items who) place effect)) }
+    ensures err { OnErr result (OwnBecomes S.effects S.staged_change own.old.items own.new.items who
+        (participant_effects S.effects own.old.items who)) }
 {
-    match own.get_mut(&who) {
-        Some(store) => store.put(place, effect, searches),
-        None => put_first(own, alloc, who, place, effect, searches),
+    let index = row_index(who);
+    if index < own.len()
+        && let Some(store) = &mut own[index]
+    {
+        return store.put(place, effect, searches);
     }
+    put_first(own, alloc, who, place, effect, searches)
 }
 
 /// Makes the store of a participant that has none, with its first effect.
 fn put_first<S: Store>(
-    own: &mut BTreeMap<Participant, S>,
+    own: &mut Vec<Option<S>>,
     alloc: Global,
     who: Participant,
     place: TapeNumber,
     effect: Effect,
     searches: &mut Searches,
 ) -> Result<(), AllocError>
-    requires settled { AllSettled S.staged_change own.old }
-    requires absent { tree.get nat_cmp own.old who ≡ None }
-    ensures ok { OnOk result (OwnBecomes S.effects S.staged_change own.old own.new who
-        (map.insert (participant_effects S.effects own.old who) place effect)) }
-    ensures err { OnErr result (OwnBecomes S.effects S.staged_change own.old own.new who
-        (participant_effects S.effects own.old who)) }
+    requires settled { AllSettled S.staged_change own.old.items }
+    requires absent { store_of own.old.items who ≡ None }
+    ensures ok { OnOk result (OwnBecomes S.effects S.staged_change own.old.items own.new.items who
+        (map.insert (participant_effects S.effects own.old.items who) place effect)) }
+    ensures err { OnErr result (OwnBecomes S.effects S.staged_change own.old.items own.new.items who
+        (participant_effects S.effects own.old.items who)) }
 {
     let mut store = S::empty(alloc);
     store.put(place, effect, searches)?;
-    own.insert(who, store)?;
+    let index = row_index(who);
+    make_room(own, index)?;
+    own[index] = Some(store);
+    Ok(())
+}
+
+/// Lengthens the row to an index. It makes no store, also where memory runs out on the way.
+fn make_room<S: Store>(own: &mut Vec<Option<S>>, index: usize) -> Result<(), AllocError>
+    ensures same { (who : ℕ) → store_of own.new.items who ≡ store_of own.old.items who }
+    ensures room { OnOk result (index < length own.new.items) }
+{
+    while own.len() <= index {
+        own.push(None)?;
+    }
     Ok(())
 }
 
 /// Takes the effect at a place out of the participant's store.
 pub fn take<S: Store>(
-    own: &mut BTreeMap<Participant, S>,
+    own: &mut Vec<Option<S>>,
     who: Participant,
     place: TapeNumber,
     searches: &mut Searches,
 )
-    requires settled { AllSettled S.staged_change own.old }
-    requires present { IsSome (map.get (participant_effects S.effects own.old who) place) }
-    ensures { OwnBecomes S.effects S.staged_change own.old own.new who
-        (map.remove (participant_effects S.effects own.old who) place) }
+    requires settled { AllSettled S.staged_change own.old.items }
+    requires present { IsSome (map.get (participant_effects S.effects own.old.items who) place) }
+    ensures { OwnBecomes S.effects S.staged_change own.old.items own.new.items who
+        (map.remove (participant_effects S.effects own.old.items who) place) }
 {
-    let store = own.get_mut(&who).unwrap();
+    let store = own[row_index(who)].as_mut().unwrap();
     store.take(place, searches);
 }
 
 /// Replaces a participant's trade in the consolidated store and in its own: in both, or in none.
 pub fn replace<S: Store>(
     consolidated: &mut S,
-    own: &mut BTreeMap<Participant, S>,
+    own: &mut Vec<Option<S>>,
     who: Participant,
     place: TapeNumber,
     trade: &Trade,
 ) -> Result<(), AllocError>
     requires settled { S.staged_change consolidated.old ≡ None }
-    requires own_settled { AllSettled S.staged_change own.old }
+    requires own_settled { AllSettled S.staged_change own.old.items }
     requires present { IsSome (map.get (S.effects consolidated.old) place) }
-    requires own_present { IsSome (map.get (participant_effects S.effects own.old who) place) }
+    requires own_present { IsSome (map.get (participant_effects S.effects own.old.items who) place) }
     ensures settled { S.staged_change consolidated.new ≡ None }
     ensures ok { OnOk result (S.effects consolidated.new
         ≡ map.insert (S.effects consolidated.old) place (consolidated_effect_of trade.now)) }
-    ensures own_ok { OnOk result (OwnBecomes S.effects S.staged_change own.old own.new who
-        (map.insert (participant_effects S.effects own.old who) place (own_effect_of trade.now))) }
+    ensures own_ok { OnOk result (OwnBecomes S.effects S.staged_change own.old.items own.new.items who
+        (map.insert (participant_effects S.effects own.old.items who) place (own_effect_of trade.now))) }
     ensures err { OnErr result (S.effects consolidated.new ≡ S.effects consolidated.old) }
-    ensures own_err { OnErr result (OwnBecomes S.effects S.staged_change own.old own.new who
-        (participant_effects S.effects own.old who)) }
+    ensures own_err { OnErr result (OwnBecomes S.effects S.staged_change own.old.items own.new.items who
+        (participant_effects S.effects own.old.items who)) }
 {
-    let store = own.get_mut(&who).unwrap();
+    let store = own[row_index(who)].as_mut().unwrap();
     replace_both(consolidated, store, place, trade)
 }
 
@@ -135,12 +150,26 @@ fn replace_both<S: Store>(
 }
 
 /// The summary of the participant's own store, the empty one where it has none.
-pub fn summary<S: Store>(own: &BTreeMap<Participant, S>, who: Participant) -> Summary
+pub fn summary<S: Store>(own: &[Option<S>], who: Participant) -> Summary
     requires settled { AllSettled S.staged_change own.now }
     ensures { result ≡ map_summary (participant_effects S.effects own.now who) }
 {
-    match own.get(&who) {
+    match store(own, who) {
         Some(store) => store.summary(&mut Searches::new()),
         None => Summary::empty(),
     }
+}
+
+/// The participant's own store, if it has one.
+fn store<S: Store>(own: &[Option<S>], who: Participant) -> Option<&S>
+    ensures { option_copied result ≡ store_of own.now who }
+{
+    own.get(row_index(who))?.as_ref()
+}
+
+/// The index of a participant's store in the row, from 0 for `A`.
+fn row_index(who: Participant) -> usize
+    ensures { result + 65 ≡ who }
+{
+    usize::from(who.value() - b'A')
 }

@@ -4,9 +4,9 @@ use Rattle.symbol_book.proofs.book.Book.new.Goals as goal
 
 pub invariant_of-result : goal.invariant_of-result
 invariant_of-result g c =
-    IsBook-holds g.S.Store.effects g.S.Store.staged_change map.empty c.empty.result c.new.result
-    (HoldTrades-empty g.S.Store.effects g.S.Store.staged_change c.empty.result c.new.result c.empty.ensures.effects c.new.ensures.empty)
-    c.empty.ensures.settled (AllSettled-empty g.S.Store.effects g.S.Store.staged_change c.new.result c.new.ensures.empty)
+    IsBook-holds g.S.Store.effects g.S.Store.staged_change map.empty c.empty.result c.new.result.items
+    (HoldTrades-empty g.S.Store.effects g.S.Store.staged_change c.empty.result c.new.result.items c.empty.ensures.effects c.new.ensures.items)
+    c.empty.ensures.settled (AllSettled-empty g.S.Store.effects g.S.Store.staged_change c.new.result.items c.new.ensures.items)
 
 pub returns : goal.returns
-returns g c = trades-unique map.empty _ _ (HoldTrades-empty g.S.Store.effects g.S.Store.staged_change c.empty.result c.new.result c.empty.ensures.effects c.new.ensures.empty)
+returns g c = trades-unique map.empty _ _ (HoldTrades-empty g.S.Store.effects g.S.Store.staged_change c.empty.result c.new.result.items c.empty.ensures.effects c.new.ensures.items)
