@@ -110,6 +110,7 @@ impl<S: Store> Book<S> {
             effect.who,
             place,
             &trade,
+            &mut searches,
         )
     }
 

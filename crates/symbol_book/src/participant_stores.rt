@@ -97,6 +97,7 @@ pub fn replace<S: Store>(
     who: Participant,
     place: TapeNumber,
     trade: &Trade,
+    searches: &mut Searches,
 ) -> Result<(), AllocError>
     requires settled { S.staged_change consolidated.old ≡ None }
     requires own_settled { AllSettled S.staged_change own.old.items }
@@ -112,7 +113,7 @@ pub fn replace<S: Store>(
         (participant_effects S.effects own.old.items who)) }
 {
     let store = own[row_index(who)].as_mut().unwrap();
-    replace_both(consolidated, store, place, trade)
+    replace_both(consolidated, store, place, trade, searches)
 }
 
 /// Replaces a trade in the consolidated store and in its participant's: in both, or in none.
@@ -121,6 +122,7 @@ fn replace_both<S: Store>(
     own: &mut S,
     place: TapeNumber,
     trade: &Trade,
+    searches: &mut Searches,
 ) -> Result<(), AllocError>
     requires settled { S.staged_change consolidated.old ≡ None }
     requires own_settled { S.staged_change own.old ≡ None }
@@ -135,15 +137,14 @@ fn replace_both<S: Store>(
     ensures err { OnErr result (S.effects consolidated.new ≡ S.effects consolidated.old) }
     ensures own_err { OnErr result (S.effects own.new ≡ S.effects own.old) }
 {
-    let mut searches = Searches::new();
-    own.stage(place, trade.own(), &mut searches)?;
-    match consolidated.swap(place, trade.consolidated(), &mut searches) {
+    own.stage(place, trade.own(), searches)?;
+    match consolidated.swap(place, trade.consolidated(), searches) {
         Ok(()) => {
-            own.commit(&mut searches);
+            own.commit(searches);
             Ok(())
         }
         Err(refused) => {
-            own.abort(&mut searches);
+            own.abort(searches);
             Err(refused)
         }
     }
