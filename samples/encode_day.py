@@ -32,7 +32,7 @@ class BadRow(Exception):
 
 def whole(row, column, most):
     """The column's number, from 1 to `most`."""
-    text = row[column]
+    text = row.get(column, "")
     if not re.fullmatch("[0-9]{1,20}", text) or not 1 <= int(text) <= most:
         raise BadRow(f"{column} {text!r} is no number from 1 to {most}")
     return int(text)

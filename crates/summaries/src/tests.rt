@@ -58,19 +58,30 @@ fn summary_at(marks: [u32; 4], trades: u32) -> Result<Summary, Fail>
     })
 }
 
+/// The summary, for which no more searches are made than a call may make.
+fn summary_of<R: Abort, S: Store>(rt: &R, store: &S) -> Summary
+    requires { S.staged_change store.now ≡ None }
+{
+    let mut searches = Searches::new();
+    let summary = store.summary(&mut searches);
+    assert!(rt; searches.made() <= 24);
+    summary
+}
+
 fn put_at<R: Abort, S: Store>(
     rt: &R,
     store: &mut S,
     number: u32,
     last: LastRule,
-    searches: &mut Searches,
 ) -> Result<(), Fail>
     requires { S.staged_change store.old ≡ None }
     ensures { S.staged_change store.new ≡ None }
 {
     let place = TapeNumber::try_new(number).ok_or("place")?;
-    assert_eq!(rt; store.get(place, searches), None);
-    store.put(place, effect_at(number, last)?, searches)?;
+    let (mut looked, mut searches) = (Searches::new(), Searches::new());
+    assert_eq!(rt; store.get(place, &mut looked), None);
+    store.put(place, effect_at(number, last)?, &mut searches)?;
+    assert!(rt; looked.made() <= 24 && searches.made() <= 24);
     Ok(())
 }
 
@@ -79,17 +90,18 @@ fn swap_at<R: Abort, S: Store>(
     store: &mut S,
     number: u32,
     rules: [LastRule; 2],
-    searches: &mut Searches,
 ) -> Result<(), Fail>
     requires { S.staged_change store.old ≡ None }
     ensures { S.staged_change store.new ≡ None }
 {
     let place = TapeNumber::try_new(number).ok_or("place")?;
+    let (mut looked, mut searches) = (Searches::new(), Searches::new());
     assert_eq!(rt;
-        store.get(place, searches),
+        store.get(place, &mut looked),
         Some(effect_at(number, rules[0])?)
     );
-    store.swap(place, effect_at(number, rules[1])?, searches)?;
+    store.swap(place, effect_at(number, rules[1])?, &mut searches)?;
+    assert!(rt; looked.made() <= 24 && searches.made() <= 24);
     Ok(())
 }
 
@@ -98,19 +110,22 @@ fn stage_and_abort_at<R: Abort, S: Store>(
     store: &mut S,
     number: u32,
     rules: [LastRule; 2],
-    searches: &mut Searches,
 ) -> Result<(), Fail>
     requires { S.staged_change store.old ≡ None }
     ensures { S.staged_change store.new ≡ None }
 {
     let place = TapeNumber::try_new(number).ok_or("place")?;
+    let (mut looked, mut searches) = (Searches::new(), Searches::new());
     assert_eq!(rt;
-        store.get(place, searches),
+        store.get(place, &mut looked),
         Some(effect_at(number, rules[0])?)
     );
-    let staged = store.stage(place, effect_at(number, rules[1])?, searches);
+    let staged = store.stage(place, effect_at(number, rules[1])?, &mut searches);
     assert_eq!(rt; staged, Ok(()));
-    store.abort(searches);
+    assert!(rt; looked.made() <= 24 && searches.made() <= 24);
+    let mut searches = Searches::new();
+    store.abort(&mut searches);
+    assert!(rt; searches.made() <= 24);
     Ok(())
 }
 
@@ -119,45 +134,36 @@ fn take_at<R: Abort, S: Store>(
     store: &mut S,
     number: u32,
     last: LastRule,
-    searches: &mut Searches,
 ) -> Result<(), Fail>
     requires { S.staged_change store.old ≡ None }
     ensures { S.staged_change store.new ≡ None }
 {
     let place = TapeNumber::try_new(number).ok_or("place")?;
-    assert_eq!(rt; store.get(place, searches), Some(effect_at(number, last)?));
-    assert_eq!(rt; store.take(place, searches), effect_at(number, last)?);
+    let (mut looked, mut searches) = (Searches::new(), Searches::new());
+    assert_eq!(rt;
+        store.get(place, &mut looked),
+        Some(effect_at(number, last)?)
+    );
+    assert_eq!(rt; store.take(place, &mut searches), effect_at(number, last)?);
+    assert!(rt; looked.made() <= 24 && searches.made() <= 24);
     Ok(())
 }
 
 fn follows_the_row<R: Abort, S: Store>(rt: &R, store: &mut S) -> Result<(), Fail>
     requires { S.staged_change store.old ≡ None }
 {
-    let searches = &mut Searches::new();
-    put_at(rt, store, 9, LastRule::Always, searches)?;
-    put_at(rt, store, 2, LastRule::SameMarket, searches)?;
-    put_at(rt, store, 5, LastRule::SameMarket, searches)?;
-    assert_eq!(rt; store.summary(searches), summary_at([2, 2, 9, 9], 3)?);
-    take_at(rt, store, 9, LastRule::Always, searches)?;
-    assert_eq!(rt; store.summary(searches), summary_at([2, 2, 5, 2], 2)?);
-    swap_at(
-        rt,
-        store,
-        2,
-        [LastRule::SameMarket, LastRule::FirstOnly],
-        searches,
-    )?;
-    assert_eq!(rt; store.summary(searches), summary_at([2, 2, 5, 2], 2)?);
-    stage_and_abort_at(
-        rt,
-        store,
-        5,
-        [LastRule::SameMarket, LastRule::Always],
-        searches,
-    )?;
-    assert_eq!(rt; store.summary(searches), summary_at([2, 2, 5, 2], 2)?);
-    take_at(rt, store, 2, LastRule::FirstOnly, searches)?;
-    assert_eq!(rt; store.summary(searches), summary_at([5, 5, 5, 5], 1)?);
+    put_at(rt, store, 9, LastRule::Always)?;
+    put_at(rt, store, 2, LastRule::SameMarket)?;
+    put_at(rt, store, 5, LastRule::SameMarket)?;
+    assert_eq!(rt; summary_of(rt, store), summary_at([2, 2, 9, 9], 3)?);
+    take_at(rt, store, 9, LastRule::Always)?;
+    assert_eq!(rt; summary_of(rt, store), summary_at([2, 2, 5, 2], 2)?);
+    swap_at(rt, store, 2, [LastRule::SameMarket, LastRule::FirstOnly])?;
+    assert_eq!(rt; summary_of(rt, store), summary_at([2, 2, 5, 2], 2)?);
+    stage_and_abort_at(rt, store, 5, [LastRule::SameMarket, LastRule::Always])?;
+    assert_eq!(rt; summary_of(rt, store), summary_at([2, 2, 5, 2], 2)?);
+    take_at(rt, store, 2, LastRule::FirstOnly)?;
+    assert_eq!(rt; summary_of(rt, store), summary_at([5, 5, 5, 5], 1)?);
     Ok(())
 }
 

@@ -13,7 +13,7 @@ fn participant(rt: &impl Abort, letter: u8) -> Participant {
 
 #[test]
 fn a_listing_keeps_both_orders(rt: HostRuntime) -> Result<(), Fail> {
-    let symbols = [symbol(&rt, b"CD      "), symbol(&rt, b"AB      ")];
+    let symbols = [symbol(&rt, b"AB      "), symbol(&rt, b"CD      ")];
     let participants = [participant(&rt, b'Q'), participant(&rt, b'N')];
     let listing = Listing::new(rt.alloc(), &symbols, &participants)?;
     assert_eq!(rt; listing.position(symbols[0]), Some(0));

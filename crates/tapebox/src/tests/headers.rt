@@ -59,6 +59,18 @@ fn symbols_beyond_the_most_are_too_many_though_they_repeat(rt: HostRuntime) -> R
 fn the_last_line_feed_may_be_left_out(rt: HostRuntime) {
     assert_writes(&rt, rt.alloc(), b"AB\nN", QUIET_DAY);
     assert_writes(&rt, rt.alloc(), b"AB\nN\n", QUIET_DAY);
+    // A message line too, and an empty line between two others is a line.
+    assert_writes(
+        &rt,
+        rt.alloc(),
+        b"AB\nN\n\
+N 0026524e000000010000000000000000414220202020202000000000000186a00000006440205a20\n\n\
+N 0026524e000000010000000000000000414220202020202000000000000186a00000006440205a20",
+        b"1\nrefused 22 BadLine\nrefused 35 Stale\n\
+symbol,who,open,open_at,high,high_at,low,low_at,last,last_at,volume,trades\n\
+AB,ALL,100000,1,100000,1,100000,1,100000,1,100,1\n\
+AB,N,100000,1,100000,1,100000,1,100000,1,100,1\n",
+    );
 }
 
 /// Asserts that a line is answered so, on a day of its own, and leaves the tape as it was.

@@ -27,6 +27,33 @@ impl Write for NoWrites {
     }
 }
 
+/// A writer that takes one byte at a time, and is interrupted before each.
+#[derive(Drop)]
+struct SlowWrites {
+    taken: Vec<u8>,
+    is_interrupted: bool,
+}
+
+impl Write for SlowWrites {
+    fn write(&mut self, buf: &[u8]) -> io::Result<usize> {
+        self.is_interrupted = !self.is_interrupted;
+        if self.is_interrupted {
+            return Err(io::Error::from(ErrorKind::Interrupted));
+        }
+        let Some(byte) = buf.first() else {
+            return Ok(0);
+        };
+        match self.taken.push(*byte) {
+            Ok(()) => Ok(1),
+            Err(_) => Err(io::Error::from(ErrorKind::OutOfMemory)),
+        }
+    }
+
+    fn flush(&mut self) -> io::Result<()> {
+        Ok(())
+    }
+}
+
 /// A writer that takes all and cannot be flushed.
 #[derive(Drop)]
 struct NoFlush;
@@ -161,4 +188,32 @@ fn a_text_that_cannot_be_said_changes_no_status(rt: HostRuntime) {
         &mut NoWrites,
     );
     assert_eq!(rt; status, 2);
+}
+
+#[test]
+fn a_writer_that_takes_one_byte_at_a_time_is_given_all(rt: HostRuntime) {
+    let mut output = SlowWrites {
+        taken: Vec::new(rt.alloc()),
+        is_interrupted: false,
+    };
+    let mut errors = SlowWrites {
+        taken: Vec::new(rt.alloc()),
+        is_interrupted: false,
+    };
+    let mut reader = b"AB AB\nN\n".as_slice();
+    let status = program(
+        rt.alloc(),
+        b"batch\0",
+        &mut reader,
+        &mut output,
+        &mut errors,
+    );
+    assert_eq!(rt; status, 2);
+    assert_eq!(rt; output.taken.as_slice(), b"refused 3 Repeated\n".as_slice());
+    let status = program(rt.alloc(), b"live\0", &mut reader, &mut output, &mut errors);
+    assert_eq!(rt; status, 2);
+    assert_eq!(rt;
+        errors.taken.as_slice(),
+        b"tapebox: bad arguments\n".as_slice()
+    );
 }
