@@ -128,7 +128,7 @@ impl Summary {
     }
 
     /// The summary after one more report, whose volume and number of trades have to fit.
-    pub fn after(self, place: TapeNumber, effect: Effect) -> Summary
+    pub(crate) fn after(self, place: TapeNumber, effect: Effect) -> Summary
         requires volume { (step self (place, effect)).volume < 2 ^ 64 }
         requires trades { self.trades + 1 < 2 ^ 32 }
         ensures step { result ≡ step self (place, effect) }

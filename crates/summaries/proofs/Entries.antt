@@ -1,15 +1,15 @@
 -- Entries in the order of their places, and the finite map that they make.
-use Rattle.std.proofs.Common.{◌≡◌, ℕ, zero, suc, ◌+◌, ◌<◌, ◌≤◌, ◌≢◌, ltb, Bool, true, false, cond, not, List, [], ◌∷◌, ◌++◌, length, get_or, set, Option, Some, None, IsSome, refl, sym, ap, subst, ◌∙◌, inl, inr, arith}
+use Rattle.std.proofs.Common.{map as map_list, add-one, ◌≡◌, ℕ, zero, suc, ◌<◌, ◌≤◌, ◌≢◌, ltb, Bool, true, false, cond, not, List, [], ◌∷◌, ◌++◌, length, get_or, set, Option, Some, None, IsSome, refl, sym, ap, subst, ◌∙◌, inl, inr, arith}
 use Rattle.std.specs.declared.cmp.Ordering.TheVariants.{Less, Equal, Greater}
 use Rattle.std.specs.Prelude.{T, ◌&&◌, All}
 use Rattle.std.specs.List.{insert, remove}
-use Rattle.std.specs.List.Sorted.{IsPartitionPoint}
+use Rattle.std.specs.List.Sorted.{IsPartitionPoint, IsStrictlyIncreasing}
 use Rattle.std.specs.Ordering.{nat_cmp, eq_by_cmp, is_lt, is_eq}
 use Rattle.std.specs.Cmp.{nat_cmp_total, eq_by_cmp_equiv}
 use Rattle.std.specs.FinMap as map
 use Rattle.std.specs.FinMap.{nat_cmp-IsAntisymmetric}
 use Rattle.std.specs.FinMap.Entries.{is_sorted, below_all, find, put, where_key, by_order, is_sorted-put, find-put, is_sorted-where_key, find-where_key}
-use Rattle.std.proofs.lemmas.List.{get_or_default}
+use Rattle.std.proofs.lemmas.List.{get_or_default, get_or-map, length-map}
 use Rattle.std.proofs.lemmas.List.Elements.{AllWithin-from_all}
 use Rattle.std.proofs.lemmas.List.Edits.{insert_end}
 use Rattle.std.proofs.lemmas.Bool.{cases_lt, cases_eq}
@@ -60,19 +60,20 @@ module _ {X : Type 0} where
   places-rise (e ∷ es) h (suc i) zero d le lt = absurd (omega arith)
   places-rise (e ∷ es) h (suc i) (suc j) d le lt = places-rise es (second _ _ h) i j d (omega arith) (omega arith)
 
-  -- so each is further behind the first than there are entries between
-  spread : (e : ℕ × X) (es : List (ℕ × X)) → T (is_sorted nat_cmp (e ∷ es)) → (i : ℕ) (d : ℕ × X) → i < length (e ∷ es) → e.0 + i ≤ (get_or (e ∷ es) i d).0
-  spread e es h zero d lt = omega arith
-  spread e [] h (suc i) d lt = absurd (omega arith)
-  spread e (f ∷ fs) h (suc i) d lt =
-      let step : e.0 < f.0 = below-each e.0 (f ∷ fs) (first _ _ h) 0 f (omega arith) in
-      let rest : f.0 + i ≤ (get_or (f ∷ fs) i d).0 = spread f fs (second (below_all nat_cmp e.0 (f ∷ fs)) (is_sorted nat_cmp (f ∷ fs)) h) i d (omega arith) in
-      omega arith
+  -- each place is below the next
+  places-step : (es : List (ℕ × X)) → T (is_sorted nat_cmp es) → (k : ℕ) (d : ℕ × X) → suc k < length es → (get_or es k d).0 < (get_or es (suc k) d).0
+  places-step [] h k d lt = absurd (omega arith)
+  places-step (e ∷ es) h zero d lt = below-each e.0 es (first _ _ h) 0 d (omega arith)
+  places-step (e ∷ es) h (suc k) d lt = places-step es (second _ _ h) k d (omega arith)
 
-  -- so no entry stands behind its place's number
-  pub place-counts : (es : List (ℕ × X)) → T (is_sorted nat_cmp es) → (i : ℕ) (d : ℕ × X) → i < length es → i ≤ (get_or es i d).0
-  place-counts [] h i d lt = absurd (omega arith)
-  place-counts (e ∷ es) h i d lt = omega (arith, spread e es h i d lt)
+  -- so they strictly increase
+  pub places-increase : (es : List (ℕ × X)) → T (is_sorted nat_cmp es) → IsStrictlyIncreasing (map_list (λ e. e.0) es)
+  places-increase [] h k lt = absurd (omega arith)
+  places-increase (e ∷ es) h k lt =
+      let within : suc k < length (e ∷ es) = omega (arith, length-map (e ∷ es) (λ (x : ℕ × X). x.0)) in
+      let here : get_or (map_list (λ (x : ℕ × X). x.0) (e ∷ es)) k 0 ≡ (get_or (e ∷ es) k e).0 = get_or-map (λ x. x.0) (e ∷ es) k e 0 (omega arith) in
+      let next : get_or (map_list (λ (x : ℕ × X). x.0) (e ∷ es)) (suc k) 0 ≡ (get_or (e ∷ es) (suc k) e).0 = get_or-map (λ x. x.0) (e ∷ es) (suc k) e 0 within in
+      rw (add-one, here, next) (places-step (e ∷ es) h k e within)
 
   -- a position in the tail is one less
   position-tail : (k : ℕ) (e : ℕ × X) (es : List (ℕ × X)) (i : ℕ) → IsPosition k (e ∷ es) (suc i) → IsPosition k es i

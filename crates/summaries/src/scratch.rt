@@ -7,13 +7,13 @@ ghost use Rattle.summaries.specs.Effects.{Effects, Change, map_summary, Replaces
 
 use crate::Store;
 use price_index::Searches;
-use scratch_fold::{Effect, Summary};
+use scratch_fold::{Effect, Summary, fold};
 use std::alloc::{AllocError, Global};
 use std::marker::Model;
 use tape_types::TapeNumber;
 
 /// The effects by rising place in one vector, and the staged change. It counts no searches: `put` above all places
-/// is a push, a summary goes over all effects, and every other call finds its place by halving.
+/// is a push, a summary goes over all effects, and the other calls that look for a place find it by halving.
 #[derive(Drop)]
 pub struct ScratchStore {
     effects: Vec<(TapeNumber, Effect)>,
@@ -168,18 +168,4 @@ fn find(effects: &[(TapeNumber, Effect)], place: TapeNumber) -> Option<Effect>
         Some((at, effect)) if *at == place => Some(*effect),
         _ => None,
     }
-}
-
-/// The summary of the effects by rising place.
-fn fold(effects: &[(TapeNumber, Effect)]) -> Summary
-    requires rising { HasRisingPlaces effects.now }
-    ensures { result ≡ map_summary (effects_of effects.now) }
-{
-    let mut summary = Summary::empty();
-    for &(place, effect) in effects {
-        prove!(place.value() <= 1_048_576);
-        prove!(effect.size.value() <= 99_999_999);
-        summary = summary.after(place, effect);
-    }
-    summary
 }
