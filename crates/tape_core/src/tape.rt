@@ -139,10 +139,7 @@ impl<S: Store> Tape<S> {
     pub fn admit(&mut self, message: Message) -> Result<Entry, Refusal>
         ensures { Answers self.old message result self.new }
     {
-        let at = match self.book_index(&message) {
-            Ok(at) => at,
-            Err(refusal) => return Err(refusal),
-        };
+        let at = self.book_index(&message)?;
         let admitted = match message {
             Message::Report { header, content } => self.append_report(at, header, content),
             Message::Cancel { header, target } => self.append_cancel(at, header, target),
@@ -152,10 +149,7 @@ impl<S: Store> Tape<S> {
                 content,
             } => self.append_correction(at, header, target, content),
         };
-        match admitted {
-            Ok(entry) => Ok(entry),
-            Err(_) => Err(Refusal::OutOfMemory),
-        }
+        admitted.or(Err(Refusal::OutOfMemory))
     }
 
     /// The index of the book of the message's symbol, or the refusal that the message meets, want of memory aside.
@@ -298,11 +292,7 @@ pub fn run<S: Store>(
 {
     let mut answers = Vec::with_capacity(alloc, messages.len())?;
     for message in messages {
-        let answer = match tape.admit(*message) {
-            Ok(entry) => Ok(entry),
-            Err(refusal) => Err(refusal),
-        };
-        answers.push_reserved(answer);
+        answers.push_reserved(tape.admit(*message));
     }
     Ok(answers)
 }

@@ -64,10 +64,7 @@ impl Listing {
             }
             Err(fault) => return Err(fault),
         };
-        let participants = match in_order(alloc, participants) {
-            Ok(participants) => participants,
-            Err(fault) => return Err(fault),
-        };
+        let participants = in_order(alloc, participants)?;
         Ok(Listing {
             symbols,
             participants,
