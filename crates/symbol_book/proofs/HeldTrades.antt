@@ -1,17 +1,18 @@
 -- Trades in two sets of columns, and the stores that hold them.
-use Rattle.std.proofs.Common.{◌≡◌, ℕ, Bool, true, false, cond, ◌==◌, List, [], ◌∷◌, map, Option, Some, None, refl, sym, ap, subst, ◌∙◌, arith, IfSome, Result, Ok, Err, OnErr, OnOk, IsSome}
+use Rattle.std.proofs.Common.{◌≡◌, ℕ, Bool, true, false, cond, ◌==◌, List, [], ◌∷◌, map, Option, Some, None, refl, sym, ap, subst, ◌∙◌, arith, Result, Ok, Err, OnErr, OnOk, IsSome}
 use Rattle.std.specs.Option.{option_map, unwrap_or}
 use Rattle.std.specs.Ordering.{nat_cmp, eq_by_cmp}
 use Rattle.std.specs.Cmp.{nat_cmp_total}
 use Rattle.std.specs.FinMap as map
 use Rattle.std.specs.FinMap.{nat_cmp-IsAntisymmetric}
 use Rattle.std.proofs.lemmas.Bool.Decides.{nat_tests}
+use Rattle.std.proofs.lemmas.List.Elements.{All-nil, All-same}
 use Rattle.scratch_fold.specs.declared.summary.Effect.{Effect}
 use Rattle.summaries.specs.Effects.{Effects, Change}
 use Rattle.symbol_book.specs.declared.trade.Trade.{Trade}
 use Rattle.symbol_book.specs.Columns.{Trades, consolidated_effect_of, own_effect_of, own_effect_at, reported_trade, trades_with_content, with_content}
-use Rattle.symbol_book.specs.Stores.{trade_of, trades_of, book_trades, HoldTrades, participant_effects_with, effects_of_store, participant_effects, AllSettled, IsBook, OwnBecomes}
-use Rattle.symbol_book.proofs.ParticipantStores.{same_key, key_itself, store_of-none, OwnBecomes-here, OwnBecomes-then}
+use Rattle.symbol_book.specs.Stores.{trade_of, trades_of, book_trades, HoldTrades, participant_effects_with, participant_effects, AllSettled, IsBook, OwnBecomes}
+use Rattle.symbol_book.proofs.ParticipantStores.{same_key, key_itself, participant_effects-none, OwnBecomes-here, OwnBecomes-then}
 
 -- a value at each key, made of the key and what stood there
 pub find-keyed : {X Y : Type 0} (f : ℕ → X → Y) (q : ℕ) (es : List (ℕ × X)) → map.find nat_cmp q (map (λ e. (e.0, f e.0 e.1)) es) ≡ option_map (f q) (map.find nat_cmp q es)
@@ -137,22 +138,22 @@ get-inserted {X = X} m k v = map.get-insert nat_cmp_total m k v k ∙ ap (λ (b 
 
 module _ {S : Type 0} (effects_in : S → Effects) (change_in : S → Change) where
   -- stores that hold some map of trades, with nothing staged, make a book
-  pub IsBook-holds : (m : Trades) (all : S) (stores : List (Option S)) → HoldTrades m (effects_in all) (participant_effects effects_in stores) → change_in all ≡ None → AllSettled change_in stores → IsBook effects_in change_in all stores
+  pub IsBook-holds : (m : Trades) (all : S) (stores : List S) → HoldTrades m (effects_in all) (participant_effects effects_in stores) → change_in all ≡ None → AllSettled change_in stores → IsBook effects_in change_in all stores
   IsBook-holds m all stores h s t = record { trades = subst (λ x. HoldTrades x (effects_in all) (participant_effects effects_in stores)) (sym (trades-unique m (effects_in all) (participant_effects effects_in stores) h)) h; settled = s; own_settled = t }
 
   -- a book with nothing in it
-  pub HoldTrades-empty : (all : S) (stores : List (Option S)) → effects_in all ≡ map.empty → stores ≡ [] → HoldTrades map.empty (effects_in all) (participant_effects effects_in stores)
+  pub HoldTrades-empty : (all : S) (stores : List S) → effects_in all ≡ map.empty → stores ≡ [] → HoldTrades map.empty (effects_in all) (participant_effects effects_in stores)
   HoldTrades-empty all stores none empty = record {
     all_are = λ n. ap (λ (e : Effects). map.get e n) none ∙ map.get-empty nat_cmp n ∙ sym (ap (option_map consolidated_effect_of) (map.get-empty nat_cmp n));
-    own_are = λ w n. ap (λ o. map.get (effects_of_store effects_in o) n) (store_of-none stores w empty) ∙ map.get-empty nat_cmp n ∙ sym (ap (own_effect_at w) (map.get-empty nat_cmp n));
+    own_are = λ w n. ap (λ (e : Effects). map.get e n) (participant_effects-none effects_in stores w empty) ∙ map.get-empty nat_cmp n ∙ sym (ap (own_effect_at w) (map.get-empty nat_cmp n));
   }
 
   -- no store has anything staged where there is none
-  pub AllSettled-empty : (stores : List (Option S)) → stores ≡ [] → AllSettled change_in stores
-  AllSettled-empty stores empty w = subst (λ (o : Option S). IfSome o (λ s. change_in s ≡ None)) (sym (store_of-none stores w empty)) tt
+  pub AllSettled-empty : (stores : List S) → stores ≡ [] → AllSettled change_in stores
+  AllSettled-empty stores empty = All-same (λ s. change_in s ≡ None) stores [] empty (All-nil (λ s. change_in s ≡ None))
 
   -- nothing that is held has changed
-  pub Book-same : (all all' : S) (old new : List (Option S)) (who : ℕ) → effects_in all' ≡ effects_in all → change_in all' ≡ None → OwnBecomes effects_in change_in old new who (participant_effects effects_in old who)
+  pub Book-same : (all all' : S) (old new : List S) (who : ℕ) → effects_in all' ≡ effects_in all → change_in all' ≡ None → OwnBecomes effects_in change_in old new who (participant_effects effects_in old who)
       → IsBook effects_in change_in all old → IsBook effects_in change_in all' new × (book_trades effects_in all' new ≡ book_trades effects_in all old)
   Book-same all all' old new who is settled own' b =
       let m : Trades = book_trades effects_in all old in
@@ -161,7 +162,7 @@ module _ {S : Type 0} (effects_in : S → Effects) (change_in : S → Change) wh
       (IsBook-holds m all' new h settled own'.settled, trades-unique m (effects_in all') (participant_effects effects_in new) h)
 
   -- a trade is put at a vacant place
-  pub Book-add : (all all' : S) (old new : List (Option S)) (k : ℕ) (t : Trade) → map.get (book_trades effects_in all old) k ≡ None
+  pub Book-add : (all all' : S) (old new : List S) (k : ℕ) (t : Trade) → map.get (book_trades effects_in all old) k ≡ None
       → effects_in all' ≡ map.insert (effects_in all) k (consolidated_effect_of t) → change_in all' ≡ None → OwnBecomes effects_in change_in old new t.who (map.insert (participant_effects effects_in old t.who) k (own_effect_of t))
       → IsBook effects_in change_in all old → IsBook effects_in change_in all' new × (book_trades effects_in all' new ≡ map.insert (book_trades effects_in all old) k t)
   Book-add all all' old new k t vacant is settled own' b =
@@ -171,7 +172,7 @@ module _ {S : Type 0} (effects_in : S → Effects) (change_in : S → Change) wh
       (IsBook-holds (map.insert m k t) all' new h settled own'.settled, trades-unique (map.insert m k t) (effects_in all') (participant_effects effects_in new) h)
 
   -- a trade was put into its participant's own store, and taken away again
-  pub Book-undone : (all all' : S) (old mid new : List (Option S)) (who k : ℕ) (e : Effect) → map.get (book_trades effects_in all old) k ≡ None
+  pub Book-undone : (all all' : S) (old mid new : List S) (who k : ℕ) (e : Effect) → map.get (book_trades effects_in all old) k ≡ None
       → effects_in all' ≡ effects_in all → change_in all' ≡ None → OwnBecomes effects_in change_in old mid who (map.insert (participant_effects effects_in old who) k e)
       → OwnBecomes effects_in change_in mid new who (map.remove (participant_effects effects_in mid who) k)
       → IsBook effects_in change_in all old → IsBook effects_in change_in all' new × (book_trades effects_in all' new ≡ book_trades effects_in all old)
@@ -206,7 +207,7 @@ own_there m all of_who k e h is =
 
 module _ {S : Type 0} (effects_in : S → Effects) (change_in : S → Change) where
   -- a trade is taken out of both of its stores
-  pub Book-remove : (all all' : S) (old new : List (Option S)) (k : ℕ) (e : Effect) → map.get (effects_in all) k ≡ Some e
+  pub Book-remove : (all all' : S) (old new : List S) (k : ℕ) (e : Effect) → map.get (effects_in all) k ≡ Some e
       → effects_in all' ≡ map.remove (effects_in all) k → change_in all' ≡ None → OwnBecomes effects_in change_in old new e.who (map.remove (participant_effects effects_in old e.who) k)
       → IsBook effects_in change_in all old → IsBook effects_in change_in all' new × (book_trades effects_in all' new ≡ map.remove (book_trades effects_in all old) k)
   Book-remove all all' old new k e here is settled own' b =
@@ -220,7 +221,7 @@ module _ {S : Type 0} (effects_in : S → Effects) (change_in : S → Change) wh
       (IsBook-holds effects_in change_in (map.remove m k) all' new h settled own'.settled, trades-unique (map.remove m k) (effects_in all') (participant_effects effects_in new) h)
 
   -- a trade gives way to another of the same participant
-  pub Book-replace : (all all' : S) (old new : List (Option S)) (k : ℕ) (e : Effect) (t : Trade) → map.get (effects_in all) k ≡ Some e → t.who ≡ e.who
+  pub Book-replace : (all all' : S) (old new : List S) (k : ℕ) (e : Effect) (t : Trade) → map.get (effects_in all) k ≡ Some e → t.who ≡ e.who
       → effects_in all' ≡ map.insert (effects_in all) k (consolidated_effect_of t) → change_in all' ≡ None → OwnBecomes effects_in change_in old new e.who (map.insert (participant_effects effects_in old e.who) k (own_effect_of t))
       → IsBook effects_in change_in all old → IsBook effects_in change_in all' new × (book_trades effects_in all' new ≡ map.insert (book_trades effects_in all old) k t)
   Book-replace all all' old new k e t here same is settled own' b =
@@ -235,7 +236,7 @@ module _ {S : Type 0} (effects_in : S → Effects) (change_in : S → Change) wh
       (IsBook-holds effects_in change_in (map.insert m k t) all' new h settled own'.settled, trades-unique (map.insert m k t) (effects_in all') (participant_effects effects_in new) h)
 
   -- the trades with another content, from what the consolidated store holds
-  pub trades_with_content-is : (all : S) (stores : List (Option S)) (k : ℕ) (e : Effect) (price size : ℕ) (condition : List ℕ) → map.get (effects_in all) k ≡ Some e → IsBook effects_in change_in all stores
+  pub trades_with_content-is : (all : S) (stores : List S) (k : ℕ) (e : Effect) (price size : ℕ) (condition : List ℕ) → map.get (effects_in all) k ≡ Some e → IsBook effects_in change_in all stores
       → trades_with_content (book_trades effects_in all stores) k price size condition ≡ map.insert (book_trades effects_in all stores) k (reported_trade e.who price size condition)
   trades_with_content-is all stores k e price size condition here b =
       let m : Trades = book_trades effects_in all stores in

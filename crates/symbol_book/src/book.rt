@@ -12,14 +12,15 @@ use std::marker::Model;
 use summaries::Store;
 use tape_types::{Participant, Price, Size, TapeNumber};
 
-/// The reports of a symbol that stand, by place: a store in the consolidated columns, and one in the participant
-/// columns for each participant that has reported. Each call makes a counter of searches of its own.
+/// The reports of a symbol that stand, by place: a store in the consolidated columns, and a row of stores in the
+/// participant columns, one for each letter up to the greatest that has reported. Each call makes a counter of searches
+/// of its own.
 #[derive(Drop)]
 pub struct Book<S: Store> {
     alloc: Global,
     consolidated: S,
     /// The participants' own stores by letter, from `A`.
-    own: Vec<Option<S>>,
+    own: Vec<S>,
 }
 
 impl<S: Store> Model for Book<S> {
@@ -51,7 +52,7 @@ impl<S: Store> Book<S> {
         }
     }
 
-    /// Adds a report at a vacant place. Want of memory leaves both of its stores unchanged.
+    /// Adds a report at a vacant place. Want of memory leaves what both of its stores hold unchanged.
     pub fn add(
         &mut self,
         place: TapeNumber,

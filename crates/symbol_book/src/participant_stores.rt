@@ -1,11 +1,10 @@
 //! The participants' own stores of a book, in a row by letter, from `A`: as long as the greatest letter that has reported
-//! needs.
+//! needs. The store of a letter in the row that has not reported is empty.
 ghost use Rattle.std.specs.Prelude.{◌≡◌, ◌+◌, ◌<◌, ℕ, length, OnOk, OnErr, IsSome, None};
-ghost use Rattle.std.specs.Option.{option_copied};
 ghost use Rattle.std.specs.FinMap as map;
 ghost use Rattle.summaries.specs.Effects.{map_summary};
 ghost use Rattle.symbol_book.specs.Columns.{consolidated_effect_of, own_effect_of};
-ghost use Rattle.symbol_book.specs.Stores.{store_of, participant_effects, AllSettled, OwnBecomes};
+ghost use Rattle.symbol_book.specs.Stores.{participant_effects, AllSettled, OwnBecomes};
 
 use crate::Trade;
 use price_index::Searches;
@@ -14,9 +13,9 @@ use std::alloc::{AllocError, Global};
 use summaries::Store;
 use tape_types::{Participant, TapeNumber};
 
-/// Puts an effect into the participant's store, which is made if it has none.
+/// Puts an effect into the participant's store. Want of memory leaves what each participant holds unchanged.
 pub fn put<S: Store>(
-    own: &mut Vec<Option<S>>,
+    own: &mut Vec<S>,
     alloc: Global,
     who: Participant,
     place: TapeNumber,
@@ -31,52 +30,31 @@ pub fn put<S: Store>(
         (participant_effects S.effects own.old.items who)) }
 {
     let index = row_index(who);
-    if index < own.len()
-        && let Some(store) = &mut own[index]
-    {
-        return store.put(place, effect, searches);
+    if own.len() <= index {
+        make_room(own, alloc, index)?;
     }
-    put_first(own, alloc, who, place, effect, searches)
+    own[index].put(place, effect, searches)
 }
 
-/// Makes the store of a participant that has none, with its first effect.
-fn put_first<S: Store>(
-    own: &mut Vec<Option<S>>,
-    alloc: Global,
-    who: Participant,
-    place: TapeNumber,
-    effect: Effect,
-    searches: &mut Searches,
-) -> Result<(), AllocError>
-    requires settled { AllSettled S.staged_change own.old.items }
-    requires absent { store_of own.old.items who ≡ None }
-    ensures ok { OnOk result (OwnBecomes S.effects S.staged_change own.old.items own.new.items who
-        (map.insert (participant_effects S.effects own.old.items who) place effect)) }
-    ensures err { OnErr result (OwnBecomes S.effects S.staged_change own.old.items own.new.items who
-        (participant_effects S.effects own.old.items who)) }
-{
-    let mut store = S::empty(alloc);
-    store.put(place, effect, searches)?;
-    let index = row_index(who);
-    make_room(own, index)?;
-    own[index] = Some(store);
-    Ok(())
-}
-
-/// Lengthens the row to an index. It makes no store, also where memory runs out on the way.
-fn make_room<S: Store>(own: &mut Vec<Option<S>>, index: usize) -> Result<(), AllocError>
-    ensures same { (who : ℕ) → store_of own.new.items who ≡ store_of own.old.items who }
+/// Lengthens the row to an index by empty stores. That changes nothing that is held, also where memory runs out on the
+/// way.
+#[cold]
+fn make_room<S: Store>(own: &mut Vec<S>, alloc: Global, index: usize) -> Result<(), AllocError>
+    requires { AllSettled S.staged_change own.old.items }
+    ensures same { (who : ℕ) → participant_effects S.effects own.new.items who
+        ≡ participant_effects S.effects own.old.items who }
+    ensures settled { AllSettled S.staged_change own.new.items }
     ensures room { OnOk result (index < length own.new.items) }
 {
     while own.len() <= index {
-        own.push(None)?;
+        own.push(S::empty(alloc))?;
     }
     Ok(())
 }
 
 /// Takes the effect at a place out of the participant's store.
 pub fn take<S: Store>(
-    own: &mut Vec<Option<S>>,
+    own: &mut Vec<S>,
     who: Participant,
     place: TapeNumber,
     searches: &mut Searches,
@@ -86,14 +64,13 @@ pub fn take<S: Store>(
     ensures { OwnBecomes S.effects S.staged_change own.old.items own.new.items who
         (map.remove (participant_effects S.effects own.old.items who) place) }
 {
-    let store = own[row_index(who)].as_mut().unwrap();
-    store.take(place, searches);
+    own[row_index(who)].take(place, searches);
 }
 
 /// Replaces a participant's trade in the consolidated store and in its own: in both, or in none.
 pub fn replace<S: Store>(
     consolidated: &mut S,
-    own: &mut Vec<Option<S>>,
+    own: &mut Vec<S>,
     who: Participant,
     place: TapeNumber,
     trade: &Trade,
@@ -112,8 +89,13 @@ pub fn replace<S: Store>(
     ensures own_err { OnErr result (OwnBecomes S.effects S.staged_change own.old.items own.new.items who
         (participant_effects S.effects own.old.items who)) }
 {
-    let store = own[row_index(who)].as_mut().unwrap();
-    replace_both(consolidated, store, place, trade, searches)
+    replace_both(
+        consolidated,
+        &mut own[row_index(who)],
+        place,
+        trade,
+        searches,
+    )
 }
 
 /// Replaces a trade in the consolidated store and in its participant's: in both, or in none.
@@ -150,22 +132,15 @@ fn replace_both<S: Store>(
     }
 }
 
-/// The summary of the participant's own store, the empty one where it has none.
-pub fn summary<S: Store>(own: &[Option<S>], who: Participant) -> Summary
+/// The summary of the participant's own store, the empty one where the row has none.
+pub fn summary<S: Store>(own: &[S], who: Participant) -> Summary
     requires settled { AllSettled S.staged_change own.now }
     ensures { result ≡ map_summary (participant_effects S.effects own.now who) }
 {
-    match store(own, who) {
+    match own.get(row_index(who)) {
         Some(store) => store.summary(&mut Searches::new()),
         None => Summary::empty(),
     }
-}
-
-/// The participant's own store, if it has one.
-fn store<S: Store>(own: &[Option<S>], who: Participant) -> Option<&S>
-    ensures { option_copied result ≡ store_of own.now who }
-{
-    own.get(row_index(who))?.as_ref()
 }
 
 /// The index of a participant's store in the row, from 0 for `A`.

@@ -1,11 +1,15 @@
-use Rattle.std.proofs.Common.{◌≡◌, ap, sym, ◌∙◌, subst, None, IfSome}
+use Rattle.std.proofs.Common.{◌<◌, ◌≤◌, length, ap, sym, ◌∙◌, rules}
 use Rattle.summaries.specs.Effects.{map_summary}
-use Rattle.symbol_book.specs.Stores.{effects_of_store}
+use Rattle.symbol_book.proofs.ParticipantStores.{participant_effects-past, participant_effects-read}
 use Rattle.symbol_book.proofs.Entries.{summary-none}
 use Rattle.symbol_book.proofs.participant_stores.summary.Goals as goal
 
-pub summary-requires : goal.summary-requires
-summary-requires g c = record { settled = subst (λ o. IfSome o (λ s. g.S.Store.staged_change s ≡ None)) (sym c.in-Some.ensures) (c.requires.settled c.args.who) }
+pub returns-in-Some : goal.returns-in-Some
+returns-in-Some g c =
+    let inside : c.row_index.result < length c.args.own.now = c.in-Some.ensures.lookup.3.0 in
+    c.summary.ensures.summary ∙ ap map_summary (sym (participant_effects-read g.S.Store.effects c.args.own.now c.row_index.result c.args.who c.in-Some.store.now c.row_index.ensures inside c.in-Some.ensures.lookup.1))
 
 pub returns-in-None : goal.returns-in-None
-returns-in-None g c = c.empty.ensures ∙ sym (ap (λ o. map_summary (effects_of_store g.S.Store.effects o)) (sym c.in-None.ensures) ∙ summary-none)
+returns-in-None g c =
+    let past : length c.args.own.now ≤ c.row_index.result = search rules in
+    c.empty.ensures ∙ sym (ap map_summary (participant_effects-past g.S.Store.effects c.args.own.now c.row_index.result c.args.who c.row_index.ensures past) ∙ summary-none)
