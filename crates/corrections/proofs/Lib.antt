@@ -1,2 +1,2 @@
-pub mod Keyed
-pub mod Row
+pub mod LastNumbers
+pub mod Rows

@@ -1,3 +1,4 @@
 pub mod Targets
 pub mod TargetFaults
 pub mod RegisterState
+pub mod Rows

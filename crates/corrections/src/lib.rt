@@ -2,6 +2,7 @@
 #![tactic(auto)]
 
 mod register;
+mod row;
 mod target;
 mod target_fault;
 

@@ -1,35 +1,40 @@
 //! Which report a participant's message number names, and how far each participant has numbered.
-ghost use Rattle.std.specs.Prelude.{◌≡◌, ◌<◌, ℕ, OnOk, OnErr, IsSome, None, if◌then◌else◌, ◌==◌};
+ghost use Rattle.std.specs.Prelude.{◌≡◌, ◌+◌, ◌<◌, ℕ, OnOk, OnErr, IsSome, None, if◌then◌else◌, ◌==◌};
 ghost use Rattle.std.specs.FinMap as map;
 ghost use Rattle.tape_types.specs.Ranges.{IsParticipant};
 ghost use Rattle.corrections.specs.Targets.{IsStanding, standing_target, target_answer, targets_after_cancel};
 ghost use Rattle.corrections.specs.RegisterState.{last_of, row_index};
 
+use crate::row::Row;
 use crate::{Standing, Target, TargetFault};
 use std::alloc::{AllocError, Global};
-use std::collections::HashMap;
+use std::array;
 use std::marker::Model;
 use tape_types::{MsgNumber, Participant, Symbol, TapeNumber};
 
 /// Each report of the day by its participant and its message number, and each participant's last message number.
 #[derive(Drop)]
 pub struct Register {
-    targets: HashMap<(Participant, MsgNumber), Target>,
+    /// The reports of each participant, from `A` to `Z`.
+    rows: [Row; 26],
     /// The last message number of each participant, from `A` to `Z`, and 0 for none.
     last_numbers: [u32; 26],
 }
 
 impl Model for Register {
-    ghost use Rattle.std.specs.FinMap as map;
+    ghost use Rattle.std.specs.Prelude.{◌≡◌, length};
     ghost use Rattle.std.specs.Coded.{code_by, coded_ℕ, coded_list, coded×};
     ghost use Rattle.corrections.specs.contracts.target.Target as target;
     ghost use Rattle.corrections.specs.RegisterState.{RegisterState, register_code};
+    ghost use Rattle.corrections.specs.Rows.{targets_of_rows};
 
     ghost Value = { RegisterState };
 
     ghost coded = { register_code target.the_row.coded };
 
-    ghost view = { λ r. record { targets = map.from_entries r.targets.entries; last_numbers = r.last_numbers } };
+    ghost view = { λ r. record { targets = targets_of_rows r.rows; last_numbers = r.last_numbers } };
+
+    ghost invariant = { λ r. length r.rows ≡ 26 };
 }
 
 impl Register {
@@ -39,7 +44,7 @@ impl Register {
         ensures last_numbers { (who : ℕ) → last_of result who ≡ 0 }
     {
         Register {
-            targets: HashMap::new(alloc),
+            rows: array::from_fn(|_| Row::new(alloc)),
             last_numbers: [0; 26],
         }
     }
@@ -63,8 +68,7 @@ impl Register {
             place,
             standing: Standing::Standing,
         };
-        self.targets.insert((who, number), target)?;
-        Ok(())
+        self.rows[row_index(who)].record(number, target)
     }
 
     /// The place of the report that a participant's target names, where it is of the symbol and stands.
@@ -92,7 +96,7 @@ impl Register {
     fn get(&self, who: Participant, number: MsgNumber) -> Option<Target>
         ensures { result ≡ map.get self.now.targets (who, number) }
     {
-        self.targets.get(&(who, number)).copied()
+        self.rows[row_index(who)].get(number)
     }
 
     /// Notes that a standing report is cancelled. It takes no memory.
@@ -102,11 +106,13 @@ impl Register {
           targets = targets_after_cancel self.old.targets (who, target);
         } }
     {
-        if let Some(held) = self.targets.get_mut(&(who, target)) {
-            *held = Target {
+        let row = &mut self.rows[row_index(who)];
+        if let Some(held) = row.get(target) {
+            let cancelled = Target {
                 standing: Standing::Cancelled,
-                ..*held
+                ..held
             };
+            row.replace(target, cancelled);
         }
     }
 
@@ -131,6 +137,7 @@ impl Register {
 /// A participant's index in the row of 26, from 0 for `A`.
 fn row_index(who: Participant) -> usize
     ensures index { result ≡ row_index who }
+    ensures letter { result + 65 ≡ who }
     ensures within { result < 26 }
 {
     usize::from(who.value() - b'A')
@@ -139,6 +146,7 @@ fn row_index(who: Participant) -> usize
 #[cfg(test)]
 mod tests {
     use super::*;
+    use std::process::Abort;
     use std::test::Fail;
 
     #[test]
@@ -166,6 +174,50 @@ mod tests {
             Err(TargetFault::Cancelled)
         );
         assert_eq!(rt; register.last_number(who), 0);
+        Ok(())
+    }
+
+    /// What names a report: the participant of a letter, and a message number.
+    fn key(letter: u8, number: u32) -> Result<(Participant, MsgNumber), Fail> {
+        Ok((
+            Participant::try_new(letter).ok_or("participant")?,
+            MsgNumber::try_new(number).ok_or("number")?,
+        ))
+    }
+
+    /// Records a report under a number that names none so far.
+    fn record_at<R: Abort>(
+        rt: &R,
+        register: &mut Register,
+        symbol: Symbol,
+        (letter, number, position): (u8, u32, u32),
+    ) -> Result<(), Fail> {
+        let (who, number) = key(letter, number)?;
+        let place = TapeNumber::try_new(position).ok_or("place")?;
+        assert_eq!(rt;
+            register.find(who, number, symbol),
+            Err(TargetFault::NoSuchReport)
+        );
+        register.record(who, number, symbol, place)?;
+        Ok(())
+    }
+
+    #[test]
+    fn numbers_may_come_in_any_order_and_belong_to_their_participant(
+        rt: HostRuntime,
+    ) -> Result<(), Fail> {
+        let symbol = Symbol::try_new(*b"AB      ").ok_or("symbol")?;
+        let reports = [(b'A', 9, 1), (b'A', 4, 2), (b'Z', 9, 3), (b'A', 6, 4)];
+
+        let mut register = Register::new(rt.alloc());
+        for report in reports {
+            record_at(&rt, &mut register, symbol, report)?;
+        }
+        for (letter, number, position) in reports {
+            let (who, number) = key(letter, number)?;
+            let place = TapeNumber::try_new(position).ok_or("place")?;
+            assert_eq!(rt; register.find(who, number, symbol), Ok(place));
+        }
         Ok(())
     }
 }

@@ -1,3 +1,4 @@
 pub mod ListingFaults
 pub mod Names
 pub mod Ranges
+pub mod RisingEntries

@@ -1,12 +1,23 @@
-use Rattle.std.proofs.Common.{ap, ◌∙◌}
+use Rattle.std.proofs.Common.{◌<◌, length, ap, sym, ◌∙◌, arith}
 use Rattle.std.specs.FinMap as map
-use Rattle.corrections.specs.Targets.{standing_target, Targets}
+use Rattle.std.proofs.lemmas.Result.{on_ok_weaker}
 use Rattle.corrections.specs.RegisterState.{RegisterState}
-use Rattle.corrections.proofs.Keyed.{view-insert}
+use Rattle.corrections.specs.Targets.{Targets, standing_target}
+use Rattle.corrections.proofs.Rows.{get-row, targets-insert}
 use Rattle.corrections.proofs.register.Register.record.Goals as goal
+
+pub record-requires : goal.record-requires
+record-requires c =
+    let inside : c.row_index.result < length c.self.inside.rows = omega arith in
+    record {
+      vacant = sym (get-row c.self.inside.rows c.args.who c.args.number c.row_index.result c.index-self-row_index.result c.row_index.ensures.letter inside)
+          ∙ ap (λ r. map.get r.targets (c.args.who, c.args.number)) c.self.view_is ∙ c.requires.vacant;
+    }
 
 pub returns-clause-ok : goal.returns-clause-ok
 returns-clause-ok c =
-    let f : Targets → RegisterState = λ m. record { targets = m; last_numbers = c.self.inside.last_numbers } in
-    ap f (view-insert c.self.inside.targets c.insert.new.self (c.args.who, c.args.number) _ c.in_ok-insert.ensures.updates)
-    ∙ ap (λ (r : RegisterState). record r { targets = map.insert r.targets (c.args.who, c.args.number) (standing_target c.args.symbol c.args.place) }) c.self.view_is
+    let inside : c.row_index.result < length c.self.inside.rows = omega arith in
+    let with_targets : Targets → RegisterState = λ t. record { targets = t; last_numbers = c.self.inside.last_numbers } in
+    on_ok_weaker c.record.result (λ is. ap with_targets
+    (targets-insert c.self.inside.rows c.args.who c.args.number c.row_index.result c.index-self-row_index.result c.record.new.self (standing_target c.args.symbol c.args.place) c.row_index.ensures.letter inside is)
+    ∙ ap (λ (r : RegisterState). record r { targets = map.insert r.targets (c.args.who, c.args.number) (standing_target c.args.symbol c.args.place) }) c.self.view_is) c.record.ensures.ok

@@ -1,0 +1,19 @@
+-- The targets of the day by rows, one for each participant.
+use Rattle.std.specs.Prelude.{ℕ, ◌+◌, List, [], ◌∷◌, ◌++◌, map as map_list}
+use Rattle.std.specs.Ordering.{nat_cmp}
+use Rattle.std.specs.FinMap as map
+use Rattle.corrections.specs.declared.target.Target.{Target}
+use Rattle.corrections.specs.Targets.{Targets}
+
+-- the reports of one participant by their message numbers
+abbrev pub RowTargets : Type 0
+RowTargets = map.FinMap nat_cmp Target
+
+-- the entries of rows, the first row's under the participant `who` and each further one's under the next
+abbrev pub row_entries : ℕ → List RowTargets → List ((ℕ × ℕ) × Target)
+row_entries who [] = []
+row_entries who (row ∷ rows) = map_list (λ e. ((who, e.0), e.1)) (map.entries row) ++ row_entries (who + 1) rows
+
+-- the targets of rows that begin with `A`, which is 65
+abbrev pub targets_of_rows : List RowTargets → Targets
+targets_of_rows rows = map.from_entries (row_entries 65 rows)
