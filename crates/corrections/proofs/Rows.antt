@@ -1,32 +1,15 @@
 -- The rows of the participants seen as one finite map.
-use Rattle.std.proofs.Common.{map as map_list, ◌≡◌, ◌≢◌, ℕ, zero, suc, ◌+◌, ◌-◌, ◌<◌, false, cond, List, [], ◌∷◌, ◌++◌, length, get_or, set, Some, None, refl, sym, ap, ◌∙◌, inl, inr, arith}
+use Rattle.std.proofs.Common.{map as map_list, ◌≡◌, ◌≢◌, ℕ, zero, suc, ◌+◌, ◌-◌, ◌<◌, cond, List, [], ◌∷◌, ◌++◌, length, get_or, set, Some, None, refl, sym, ap, ◌∙◌, inl, inr, arith}
 use Rattle.std.specs.Ordering.{nat_cmp, eq_by_cmp}
-use Rattle.std.specs.Cmp.{IsTotalOrder, nat_cmp_total, on_total, then_total}
+use Rattle.std.specs.Cmp.{nat_cmp_total}
 use Rattle.std.specs.FinMap as map
 use Rattle.std.specs.FinMap.Entries.{find}
 use Rattle.std.proofs.lemmas.Bool.{cases_lt, cases_eq}
-use Rattle.std.proofs.lemmas.Bool.Decides.{nat_tests}
 use Rattle.std.proofs.lemmas.List.{get_or_default, get_or_past, get_or-set_same, get_or-set_other}
-use Rattle.std.proofs.lemmas.Map.Lookups.{exact_pairs, exact_unsigned}
 use Rattle.corrections.specs.declared.target.Target.{Target}
 use Rattle.corrections.specs.Targets.{key_cmp}
+use Rattle.corrections.proofs.Keyed.{key_total, key_exact, tied-same, tied-other}
 use Rattle.corrections.specs.Rows.{RowTargets, row_entries, targets_of_rows}
-
--- the order of the keys is total
-key_total : IsTotalOrder key_cmp
-key_total = then_total (on_total (λ (p : ℕ × ℕ). p.0) nat_cmp_total) (on_total (λ (p : ℕ × ℕ). p.1) nat_cmp_total)
-
--- keys that compare equal are one
-key_exact : map.IsAntisymmetric key_cmp
-key_exact = exact_pairs nat_cmp nat_cmp exact_unsigned exact_unsigned
-
--- keys of one participant are equal where their numbers are
-tied-same : (w n v m : ℕ) → w ≡ v → eq_by_cmp key_cmp (w, n) (v, m) ≡ eq_by_cmp nat_cmp n m
-tied-same w n v m same = grind (arith, nat_tests)
-
--- those of two are not equal
-tied-other : (w n v m : ℕ) → w ≢ v → eq_by_cmp key_cmp (w, n) (v, m) ≡ false
-tied-other w n v m other = grind (arith, nat_tests)
 
 -- a row's entries under its participant
 abbrev tagged : ℕ → List (ℕ × Target) → List ((ℕ × ℕ) × Target)
