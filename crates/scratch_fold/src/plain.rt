@@ -14,7 +14,7 @@ pub fn fold(reports: &[(TapeNumber, Effect)]) -> Summary
     for (place, effect) in reports {
         prove!(place.value() <= 1_048_576);
         prove!(effect.size.value() <= 99_999_999);
-        summary = summary.after(*place, *effect);
+        summary.add(*place, effect);
     }
     summary
 }

@@ -1,5 +1,4 @@
 //! What a day comes to, and what one report does to it.
-ghost use Rattle.std.specs.Prelude.{◌≡◌, if◌then◌else◌};
 
 use sale_matrix::LastRule;
 use tape_types::{Participant, Price, Size, TapeNumber};
@@ -49,16 +48,23 @@ pub struct Effect {
     pub volume: bool,
 }
 
-/// What a summary keeps of one figure: the report, where it counts there, or what it had.
-fn kept(counts: bool, mark: Mark, had: Option<Mark>) -> Option<Mark>
-    ensures { result ≡ (if counts then Some mark else had) }
-{
-    if counts { Some(mark) } else { had }
-}
-
 impl Effect {
-    ghost use Rattle.std.specs.Prelude.{◌≡◌, ◌≤◌, ◌&&◌, if◌then◌else◌};
-    ghost use Rattle.scratch_fold.specs.Fold.{becomes_last, is_higher, is_lower};
+    ghost use Rattle.std.specs.Prelude.{◌≡◌, ◌≤◌, ◌&&◌, Some, if◌then◌else◌};
+    ghost use Rattle.scratch_fold.specs.Fold.{becomes_last, is_higher, is_lower, mark_of};
+
+    /// Makes it the report of a figure, where it counts there. The figure is written in place and only then, since
+    /// most reports change few of them.
+    fn mark_where(&self, counts: bool, place: TapeNumber, figure: &mut Option<Mark>)
+        ensures { figure.new ≡ (if counts then Some (mark_of (place, self.now)) else figure.old) }
+    {
+        if counts {
+            *figure = Some(Mark {
+                price: self.price,
+                place,
+                who: self.who,
+            });
+        }
+    }
 
     /// Whether it becomes the last, by its rule and the last so far.
     fn becomes_last(&self, last: Option<Mark>) -> bool
@@ -127,26 +133,22 @@ impl Summary {
         }
     }
 
-    /// The summary after one more report, whose volume and number of trades have to fit.
-    pub(crate) fn after(self, place: TapeNumber, effect: Effect) -> Summary
-        requires volume { (step self (place, effect)).volume < 2 ^ 64 }
-        requires trades { self.trades + 1 < 2 ^ 32 }
-        ensures step { result ≡ step self (place, effect) }
-        ensures volume { result.volume ≤ self.volume + 99999999 }
+    /// Counts one report more, whose volume and number of trades have to fit.
+    pub(crate) fn add(&mut self, place: TapeNumber, effect: &Effect)
+        requires volume { (step self.old (place, effect.now)).volume < 2 ^ 64 }
+        requires trades { self.old.trades + 1 < 2 ^ 32 }
+        ensures step { self.new ≡ step self.old (place, effect.now) }
+        ensures volume { self.new.volume ≤ self.old.volume + 99999999 }
     {
-        let mark = Mark {
-            price: effect.price,
-            place,
-            who: effect.who,
-        };
         let is_last = effect.becomes_last(self.last);
-        Summary {
-            opening: kept(is_last && self.last.is_none(), mark, self.opening),
-            high: kept(effect.is_higher(self.high), mark, self.high),
-            low: kept(effect.is_lower(self.low), mark, self.low),
-            last: kept(is_last, mark, self.last),
-            volume: self.volume + effect.counted(),
-            trades: self.trades + 1,
-        }
+        let is_first = is_last && self.last.is_none();
+        let is_higher = effect.is_higher(self.high);
+        let is_lower = effect.is_lower(self.low);
+        effect.mark_where(is_first, place, &mut self.opening);
+        effect.mark_where(is_higher, place, &mut self.high);
+        effect.mark_where(is_lower, place, &mut self.low);
+        effect.mark_where(is_last, place, &mut self.last);
+        self.volume += effect.counted();
+        self.trades += 1;
     }
 }
