@@ -1,9 +1,20 @@
 -- The ranges of the small values.
-use Rattle.std.specs.Prelude.{◌≡◌, ℕ, ◌<◌, ◌≤◌, Bool, ◌&&◌, ◌||◌, ◌==◌, nat_le, List, length, drop, take_while, All}
+use Rattle.std.specs.Prelude.{◌≡◌, ℕ, ◌+◌, ◌*◌, ◌/◌, ◌%◌, ◌<◌, ◌≤◌, Bool, ◌&&◌, ◌||◌, ◌==◌, nat_le, List, length, drop, take_while, All}
 
 -- a price, in ten-thousandths of a dollar
 abbrev pub IsPrice : ℕ → Type 0
 IsPrice n = (1 ≤ n) × (n ≤ 999999999999)
+
+-- so many dollars and ten-thousandths, in ten-thousandths
+abbrev pub price_of : ℕ → ℕ → ℕ
+price_of dollars rest = dollars * 10000 + rest
+
+-- the whole dollars of a price, and the ten-thousandths beyond them
+abbrev pub dollars_of : ℕ → ℕ
+dollars_of price = price / 10000
+
+abbrev pub rest_of : ℕ → ℕ
+rest_of price = price % 10000
 
 -- a number of shares
 abbrev pub IsSize : ℕ → Type 0

@@ -1,23 +1,38 @@
 //! A price.
-ghost use Rattle.std.specs.Prelude.{◌≡◌, ℕ, ◌↔◌, IsSome, IfSome};
+ghost use Rattle.std.specs.Prelude.{◌≡◌, ◌==◌, Some, ◌↔◌, IsSome, IfSome};
+ghost use Rattle.std.specs.Cmp.Rules.{comparing, hashing};
+ghost use Rattle.std.specs.Hash as fed;
+ghost use Rattle.std.specs.Ordering.{nat_cmp};
+ghost use Rattle.std.proofs.Common.{rules};
 ghost use Rattle.tape_types.specs.Ranges.{IsPrice};
 
+use std::cmp::Ordering;
+use std::hash::{Hash, Hasher};
 use std::marker::Model;
 
+/// The ten-thousandths of a dollar.
+const DOLLAR: u64 = 10_000;
+
 /// A price, in ten-thousandths of a dollar: 1 to 999,999,999,999.
-#[derive(Clone, Copy, Debug, PartialEq, Eq, PartialOrd, Ord, Hash)]
+///
+/// The dollars and the rest are kept apart, which takes no more room than their bytes: a day keeps millions of prices.
+#[derive(Clone, Copy, Debug)]
 pub struct Price {
-    ten_thousandths: u64,
+    dollars: u32,
+    ten_thousandths: u16,
 }
 
 impl Model for Price {
+    ghost use Rattle.std.specs.Prelude.{ℕ, ◌<◌};
+    ghost use Rattle.tape_types.specs.Ranges.{IsPrice, price_of, dollars_of, rest_of};
+
     ghost Value = { ℕ };
 
-    ghost view = { λ p. p.ten_thousandths };
+    ghost view = { λ p. price_of p.dollars p.ten_thousandths };
 
-    ghost invariant = { λ p. IsPrice p.ten_thousandths };
+    ghost invariant = { λ p. IsPrice (price_of p.dollars p.ten_thousandths) × (p.ten_thousandths < 10000) };
 
-    ghost inverse = { λ n. record { ten_thousandths = n } };
+    ghost inverse = { λ n. record { dollars = dollars_of n; ten_thousandths = rest_of n } };
 }
 
 impl Price {
@@ -27,7 +42,10 @@ impl Price {
         ensures value { IfSome result (λ p. p ≡ ten_thousandths) }
     {
         if (1..=999_999_999_999).contains(&ten_thousandths) {
-            Some(Price { ten_thousandths })
+            Some(Price {
+                dollars: (ten_thousandths / DOLLAR) as u32,
+                ten_thousandths: (ten_thousandths % DOLLAR) as u16,
+            })
         } else {
             None
         }
@@ -38,6 +56,54 @@ impl Price {
         ensures value { result ≡ self }
         ensures in_range { IsPrice self }
     {
-        self.ten_thousandths
+        u64::from(self.dollars) * DOLLAR + u64::from(self.ten_thousandths)
+    }
+}
+
+impl PartialEq for Price {
+    ghost eq = { λ a b. a == b };
+
+    ghost laws = { Prim.search (comparing, rules) };
+
+    fn eq(&self, other: &Price) -> bool {
+        self.value() == other.value()
+    }
+}
+
+impl Eq for Price {
+    ghost laws = { Prim.search (comparing, rules) };
+}
+
+impl PartialOrd for Price {
+    ghost partial_cmp = { λ a b. Some (nat_cmp a b) };
+
+    ghost laws = { Prim.search (comparing, rules) };
+
+    fn partial_cmp(&self, other: &Price) -> Option<Ordering> {
+        self.value().partial_cmp(&other.value())
+    }
+}
+
+impl Ord for Price {
+    ghost cmp = { nat_cmp };
+
+    ghost total = { Prim.search (comparing, rules) };
+
+    ghost matches_partial_cmp = { Prim.search (comparing, rules) };
+
+    ghost matches_eq = { Prim.search (comparing, rules) };
+
+    fn cmp(&self, other: &Price) -> Ordering {
+        self.value().cmp(&other.value())
+    }
+}
+
+impl Hash for Price {
+    ghost hash_input = { fed.u64 };
+
+    ghost respects_eq = { Prim.search (hashing, rules) };
+
+    fn hash<H: Hasher>(&self, state: &mut H) {
+        self.value().hash(state);
     }
 }
