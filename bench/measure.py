@@ -4,14 +4,15 @@
     bench/measure.py [--no-build] [--turns N] [--seed N] [DAY[:BYTES] ..]
 
 Builds the programs, makes the days (one, busy and a hostile one of 4 MB where none is named), runs the programs on each day in
-turns, checks that their statuses and outputs are equal, and prints per day the least processor seconds of each, the least
-wall-clock seconds, the peak memory, and the ratios of tapebox to `plain`, which keeps the same tape, and to `least`, which keeps
-none. Needs cargo, rt and Python alone; with --no-build it takes the programs that are there.
+turns, checks that their statuses and outputs are equal, and prints per day the processor seconds of each (of its least run and of
+its middle one), the least wall-clock seconds, the peak memory, and the ratios of tapebox to `plain`, which keeps the same tape, and
+to `least`, which keeps none. Needs cargo, rt and Python alone; with --no-build it takes the programs that are there.
 """
 
 import argparse
 import filecmp
 import os
+import statistics
 import subprocess
 import sys
 import time
@@ -66,25 +67,32 @@ def agree(answers):
     return all(other[0] == status and filecmp.cmp(written, other[1], shallow=False) for other in others)
 
 
+def summed_up(runs):
+    """The least and the middle processor seconds of a program's runs, the least wall-clock seconds, and the peak kilobytes."""
+    processor, wall, memory = zip(*runs)
+    return min(processor), statistics.median(processor), min(wall), min(memory)
+
+
 def measure(day, source, turns):
     """Runs the programs in turns and prints the day's rows; false where they disagree."""
-    best = {}
+    runs = {name: [] for name in PROGRAMS}
     for _ in range(turns):
         answers = {}
         for name, program in PROGRAMS.items():
             written = DAYS / f"{day}.{name}"
             status, *figures = run(program, source, written)
             answers[name] = (status, written)
-            best[name] = [min(pair) for pair in zip(best.get(name, figures), figures)]
+            runs[name].append(figures)
         if not agree(answers):
             told = ", ".join(f"{name} {status} in {written}" for name, (status, written) in answers.items())
             print(f"{day}: the programs DISAGREE: {told}")
             return False
-    for name, (processor, wall, memory) in best.items():
-        print(f"{day:10} {name:15} {processor:10.3f} s {wall:10.3f} s {memory / 1024:10.1f} MB")
+    figures = {name: summed_up(own) for name, own in runs.items()}
+    for name, (least, middle, wall, memory) in figures.items():
+        print(f"{day:10} {name:15} {least:10.3f} s {middle:10.3f} s {wall:10.3f} s {memory / 1024:10.1f} MB")
     for name in ("plain", "least"):
-        ratios = [mine / other for mine, other in zip(best["tapebox"], best[name])]
-        print(f"{day:10} {'tapebox/' + name:15} {ratios[0]:10.2f}   {ratios[1]:10.2f}   {ratios[2]:10.2f}")
+        ratios = [f"{mine / other:10.2f}" for mine, other in zip(figures["tapebox"], figures[name])]
+        print(f"{day:10} {'tapebox/' + name:15} " + "   ".join(ratios))
     return True
 
 
@@ -98,7 +106,7 @@ def main():
     if not words.no_build:
         build()
     DAYS.mkdir(parents=True, exist_ok=True)
-    print(f"{'day':10} {'program':15} {'processor':>12} {'wall clock':>12} {'peak memory':>13}")
+    print(f"{'day':10} {'program':15} {'processor':>12} {'middle run':>12} {'wall clock':>12} {'peak memory':>13}")
     equal = True
     for word in words.days:
         day, _, size = word.partition(":")
