@@ -68,7 +68,7 @@ impl Register {
             place,
             standing: Standing::Standing,
         };
-        self.rows[row_index(who)].record(number, target)
+        self.rows[who.row_index()].record(number, target)
     }
 
     /// The place of the report that a participant's target names, where it is of the symbol and stands.
@@ -96,7 +96,7 @@ impl Register {
     fn get(&self, who: Participant, number: MsgNumber) -> Option<Target>
         ensures { result ≡ map.get self.now.targets (who, number) }
     {
-        self.rows[row_index(who)].get(number)
+        self.rows[who.row_index()].get(number)
     }
 
     /// Notes that a standing report is cancelled. It takes no memory.
@@ -106,7 +106,7 @@ impl Register {
           targets = targets_after_cancel self.old.targets (who, target);
         } }
     {
-        let row = &mut self.rows[row_index(who)];
+        let row = &mut self.rows[who.row_index()];
         if let Some(held) = row.get(target) {
             let cancelled = Target {
                 standing: Standing::Cancelled,
@@ -123,24 +123,15 @@ impl Register {
         ensures last_numbers { (other : ℕ) → IsParticipant other →
             last_of self.new other ≡ (if other == who then number else last_of self.old other) }
     {
-        self.last_numbers[row_index(who)] = number.value();
+        self.last_numbers[who.row_index()] = number.value();
     }
 
     /// A participant's greatest message number so far, 0 for none.
     pub fn last_number(&self, who: Participant) -> u32
         ensures { result ≡ last_of self.now who }
     {
-        self.last_numbers[row_index(who)]
+        self.last_numbers[who.row_index()]
     }
-}
-
-/// A participant's index in the row of 26, from 0 for `A`.
-fn row_index(who: Participant) -> usize
-    ensures index { result ≡ row_index who }
-    ensures letter { result + 65 ≡ who }
-    ensures within { result < 26 }
-{
-    usize::from(who.value() - b'A')
 }
 
 #[cfg(test)]

@@ -29,7 +29,7 @@ pub fn put<S: Store>(
     ensures err { OnErr result (OwnBecomes S.effects S.staged_change own.old.items own.new.items who
         (participant_effects S.effects own.old.items who)) }
 {
-    let index = row_index(who);
+    let index = who.row_index();
     if own.len() <= index {
         make_room(own, alloc, index)?;
     }
@@ -64,7 +64,7 @@ pub fn take<S: Store>(
     ensures { OwnBecomes S.effects S.staged_change own.old.items own.new.items who
         (map.remove (participant_effects S.effects own.old.items who) place) }
 {
-    own[row_index(who)].take(place, searches);
+    own[who.row_index()].take(place, searches);
 }
 
 /// Replaces a participant's trade in the consolidated store and in its own: in both, or in none.
@@ -91,7 +91,7 @@ pub fn replace<S: Store>(
 {
     replace_both(
         consolidated,
-        &mut own[row_index(who)],
+        &mut own[who.row_index()],
         place,
         trade,
         searches,
@@ -137,15 +137,8 @@ pub fn summary<S: Store>(own: &[S], who: Participant) -> Summary
     requires settled { AllSettled S.staged_change own.now }
     ensures { result ≡ map_summary (participant_effects S.effects own.now who) }
 {
-    match own.get(row_index(who)) {
+    match own.get(who.row_index()) {
         Some(store) => store.summary(&mut Searches::new()),
         None => Summary::empty(),
     }
-}
-
-/// The index of a participant's store in the row, from 0 for `A`.
-fn row_index(who: Participant) -> usize
-    ensures { result + 65 ≡ who }
-{
-    usize::from(who.value() - b'A')
 }

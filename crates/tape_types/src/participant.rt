@@ -1,5 +1,5 @@
 //! A participant.
-ghost use Rattle.std.specs.Prelude.{◌≡◌, ℕ, ◌↔◌, IsSome, IfSome};
+ghost use Rattle.std.specs.Prelude.{◌≡◌, ◌+◌, ◌<◌, ℕ, ◌↔◌, IsSome, IfSome};
 ghost use Rattle.tape_types.specs.Ranges.{IsParticipant};
 
 use std::marker::Model;
@@ -39,5 +39,13 @@ impl Participant {
         ensures in_range { IsParticipant self }
     {
         self.letter
+    }
+
+    /// Its index in a row that has one element for each letter: 0 for `A`, up to 25.
+    pub fn row_index(self) -> usize
+        ensures letter { result + 65 ≡ self }
+        ensures within { result < 26 }
+    {
+        usize::from(self.letter - b'A')
     }
 }

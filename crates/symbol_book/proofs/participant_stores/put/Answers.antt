@@ -20,7 +20,7 @@ held_before : (g : Over) (c : After-index_mut g) → participant_effects g.S.Sto
 held_before g c =
     let inside : c.row_index-index.result < length c.if-len-index.own.items = search rules in
     sym (same_held g c c.args.who)
-    ∙ participant_effects-read g.S.Store.effects c.if-len-index.own.items c.row_index-index.result c.args.who c.index_mut.result.now c.row_index-index.ensures inside c.index_mut.ensures.value
+    ∙ participant_effects-read g.S.Store.effects c.if-len-index.own.items c.row_index-index.result c.args.who c.index_mut.result.now c.row_index-index.ensures.letter inside c.index_mut.ensures.value
 
 -- the row with the store that is written back
 written : (g : Over) (c : After-index_mut g) (store : g.row.S.Denot) (effects : Effects) → g.S.Store.staged_change store ≡ None → g.S.Store.effects store ≡ effects
@@ -29,7 +29,7 @@ written g c store effects settled is =
     let inside : c.row_index-index.result < length c.if-len-index.own.items = search rules in
     let own_settled : AllSettled g.S.Store.staged_change c.if-len-index.own.items = search rules in
     OwnBecomes-from g.S.Store.effects g.S.Store.staged_change c.args.own.now.items c.if-len-index.own.items _ c.args.who effects (same_held g c)
-    (OwnBecomes-set g.S.Store.effects g.S.Store.staged_change c.if-len-index.own.items c.row_index-index.result c.args.who store effects c.row_index-index.ensures inside own_settled settled is)
+    (OwnBecomes-set g.S.Store.effects g.S.Store.staged_change c.if-len-index.own.items c.row_index-index.result c.args.who store effects c.row_index-index.ensures.letter inside own_settled settled is)
 
 pub put-requires-clause-vacant : goal.put-requires-clause-vacant
 put-requires-clause-vacant g c = subst (λ (e : Effects). map.get e c.args.place ≡ None) (held_before g (goal.at.put-requires-clause-vacant g c).After-index_mut) c.requires.vacant
