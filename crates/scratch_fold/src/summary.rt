@@ -91,6 +91,17 @@ impl Effect {
             }
     }
 
+    /// Whether it becomes the low: strictly below the one so far, or the first.
+    fn is_lower(&self, low: Option<Mark>) -> bool
+        ensures { result ≡ (self.now.high_low && is_lower self.now.price low) }
+    {
+        self.high_low
+            & match low {
+                Some(mark) => self.price < mark.price,
+                None => true,
+            }
+    }
+
     /// How many of its shares count.
     fn counted(&self) -> u64
         ensures counted { result ≡ (if self.now.volume then self.now.size else 0) }
@@ -101,17 +112,6 @@ impl Effect {
         } else {
             0
         }
-    }
-
-    /// Whether it becomes the low: strictly below the one so far, or the first.
-    fn is_lower(&self, low: Option<Mark>) -> bool
-        ensures { result ≡ (self.now.high_low && is_lower self.now.price low) }
-    {
-        self.high_low
-            & match low {
-                Some(mark) => self.price < mark.price,
-                None => true,
-            }
     }
 }
 

@@ -13,8 +13,8 @@ use summaries::Store;
 use tape_types::{Participant, Price, Size, TapeNumber};
 
 /// The reports of a symbol that stand, by place: a store in the consolidated columns, and a row of stores in the
-/// participant columns, one for each letter up to the greatest that has reported. Each call makes a counter of searches
-/// of its own.
+/// participant columns, one for each letter, as far as a report has needed the row. Each call makes a counter of
+/// searches of its own.
 #[derive(Drop)]
 pub struct Book<S: Store> {
     alloc: Global,

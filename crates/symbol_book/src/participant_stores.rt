@@ -1,5 +1,5 @@
-//! The participants' own stores of a book, in a row by letter, from `A`: as long as the greatest letter that has reported
-//! needs. The store of a letter in the row that has not reported is empty.
+//! The participants' own stores of a book, in a row by letter, from `A`, as far as a report has needed it. The store of a
+//! letter in the row that has not reported is empty.
 ghost use Rattle.std.specs.Prelude.{◌≡◌, ◌+◌, ◌<◌, ℕ, length, OnOk, OnErr, IsSome, None};
 ghost use Rattle.std.specs.FinMap as map;
 ghost use Rattle.summaries.specs.Effects.{map_summary};

@@ -15,7 +15,8 @@ const DOLLAR: u64 = 10_000;
 
 /// A price, in ten-thousandths of a dollar: 1 to 999,999,999,999.
 ///
-/// The dollars and the rest are kept apart, which takes no more room than their bytes: a day keeps millions of prices.
+/// The dollars and the rest are kept apart, so that a price needs no place at a multiple of eight bytes, and a figure of a
+/// summary no padding for it: a day keeps millions of them.
 #[derive(Clone, Copy, Debug)]
 pub struct Price {
     dollars: u32,
