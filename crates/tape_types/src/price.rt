@@ -81,7 +81,7 @@ impl PartialOrd for Price {
     ghost laws = { Prim.search (comparing, rules) };
 
     fn partial_cmp(&self, other: &Price) -> Option<Ordering> {
-        self.value().partial_cmp(&other.value())
+        Some(self.cmp(other))
     }
 }
 
@@ -95,7 +95,9 @@ impl Ord for Price {
     ghost matches_eq = { Prim.search (comparing, rules) };
 
     fn cmp(&self, other: &Price) -> Ordering {
-        self.value().cmp(&other.value())
+        self.dollars
+            .cmp(&other.dollars)
+            .then(self.ten_thousandths.cmp(&other.ten_thousandths))
     }
 }
 
