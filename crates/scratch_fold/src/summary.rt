@@ -8,10 +8,10 @@ use tape_types::{Participant, Price, Size, TapeNumber};
 pub struct Mark {
     /// The report's price, in ten-thousandths of a dollar.
     pub price: Price,
-    /// The tape number of the report's first admission.
-    pub place: TapeNumber,
     /// The participant that reported it.
     pub who: Participant,
+    /// The tape number of the report's first admission.
+    pub place: TapeNumber,
 }
 
 /// The figures of a day: what the reports that stand come to, in the order of their places.

@@ -5,16 +5,19 @@ use Rattle.std.specs.Prelude.{◌≡◌, ℕ, ◌+◌, ◌*◌, ◌/◌, ◌%◌
 abbrev pub IsPrice : ℕ → Type 0
 IsPrice n = (1 ≤ n) × (n ≤ 999999999999)
 
--- so many dollars and ten-thousandths, in ten-thousandths
-abbrev pub price_of : ℕ → ℕ → ℕ
-price_of dollars rest = dollars * 10000 + rest
+-- a price of three words of 65,536 values, the lowest first
+abbrev pub price_of : ℕ → ℕ → ℕ → ℕ
+price_of low middle high = low + 65536 * (middle + 65536 * high)
 
--- the whole dollars of a price, and the ten-thousandths beyond them
-abbrev pub dollars_of : ℕ → ℕ
-dollars_of price = price / 10000
+-- the words of a price
+abbrev pub low_word : ℕ → ℕ
+low_word price = price % 65536
 
-abbrev pub rest_of : ℕ → ℕ
-rest_of price = price % 10000
+abbrev pub middle_word : ℕ → ℕ
+middle_word price = price / 65536 % 65536
+
+abbrev pub high_word : ℕ → ℕ
+high_word price = price / 65536 / 65536
 
 -- a number of shares
 abbrev pub IsSize : ℕ → Type 0

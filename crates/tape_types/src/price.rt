@@ -10,30 +10,31 @@ use std::cmp::Ordering;
 use std::hash::{Hash, Hasher};
 use std::marker::Model;
 
-/// The ten-thousandths of a dollar.
-const DOLLAR: u64 = 10_000;
+/// How many values a word of a price has.
+const WORD: u64 = 65_536;
 
 /// A price, in ten-thousandths of a dollar: 1 to 999,999,999,999.
 ///
-/// The dollars and the rest are kept apart, so that a price needs no place at a multiple of eight bytes, and a figure of a
-/// summary no padding for it: a day keeps millions of them.
+/// Its 48 bits are kept in three words, so that a price needs no place at a multiple of four or eight bytes, and a figure
+/// of a summary no padding for it: a day keeps millions of them.
 #[derive(Clone, Copy, Debug)]
 pub struct Price {
-    dollars: u32,
-    ten_thousandths: u16,
+    low: u16,
+    middle: u16,
+    high: u16,
 }
 
 impl Model for Price {
     ghost use Rattle.std.specs.Prelude.{ℕ, ◌<◌};
-    ghost use Rattle.tape_types.specs.Ranges.{IsPrice, price_of, dollars_of, rest_of};
+    ghost use Rattle.tape_types.specs.Ranges.{IsPrice, price_of, low_word, middle_word, high_word};
 
     ghost Value = { ℕ };
 
-    ghost view = { λ p. price_of p.dollars p.ten_thousandths };
+    ghost view = { λ p. price_of p.low p.middle p.high };
 
-    ghost invariant = { λ p. IsPrice (price_of p.dollars p.ten_thousandths) × (p.ten_thousandths < 10000) };
+    ghost invariant = { λ p. IsPrice (price_of p.low p.middle p.high) × (p.low < 65536) × (p.middle < 65536) };
 
-    ghost inverse = { λ n. record { dollars = dollars_of n; ten_thousandths = rest_of n } };
+    ghost inverse = { λ n. record { low = low_word n; middle = middle_word n; high = high_word n } };
 }
 
 impl Price {
@@ -44,8 +45,9 @@ impl Price {
     {
         if (1..=999_999_999_999).contains(&ten_thousandths) {
             Some(Price {
-                dollars: (ten_thousandths / DOLLAR) as u32,
-                ten_thousandths: (ten_thousandths % DOLLAR) as u16,
+                low: (ten_thousandths % WORD) as u16,
+                middle: (ten_thousandths / WORD % WORD) as u16,
+                high: (ten_thousandths / WORD / WORD) as u16,
             })
         } else {
             None
@@ -57,7 +59,7 @@ impl Price {
         ensures value { result ≡ self }
         ensures in_range { IsPrice self }
     {
-        u64::from(self.dollars) * DOLLAR + u64::from(self.ten_thousandths)
+        u64::from(self.low) + WORD * (u64::from(self.middle) + WORD * u64::from(self.high))
     }
 }
 
@@ -95,9 +97,7 @@ impl Ord for Price {
     ghost matches_eq = { Prim.search (comparing, rules) };
 
     fn cmp(&self, other: &Price) -> Ordering {
-        self.dollars
-            .cmp(&other.dollars)
-            .then(self.ten_thousandths.cmp(&other.ten_thousandths))
+        self.value().cmp(&other.value())
     }
 }
 
