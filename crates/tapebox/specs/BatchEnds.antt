@@ -30,11 +30,11 @@ EndsAt ReadFault input = Unit {0}
 EndsAt WriteFault input = length input ≤ INPUT_MOST
 EndsAt OutOfMemory input = Unit {0}
 
--- the ends that reading gives, with the inputs at which they come
-abbrev pub IsReadEnd : BatchEnd → List ℕ → Type 0
-IsReadEnd TooLarge input = INPUT_MOST < length input
-IsReadEnd ReadFault input = Unit {0}
-IsReadEnd OutOfMemory input = Unit {0}
-IsReadEnd Done input = ⊥
-IsReadEnd BadHeader input = ⊥
-IsReadEnd WriteFault input = ⊥
+-- the ends that reading gives, with the lengths of input at which they come
+abbrev pub IsReadEnd : BatchEnd → ℕ → Type 0
+IsReadEnd TooLarge len = INPUT_MOST < len
+IsReadEnd ReadFault len = Unit {0}
+IsReadEnd OutOfMemory len = Unit {0}
+IsReadEnd Done len = ⊥
+IsReadEnd BadHeader len = ⊥
+IsReadEnd WriteFault len = ⊥

@@ -1,4 +1,5 @@
 pub mod Lines
+pub mod Input
 pub mod LineRefusals
 pub mod MessageLine
 pub mod Gathered
@@ -9,5 +10,6 @@ pub mod CsvLines
 pub mod ReportText
 pub mod Batch
 pub mod BatchEnds
+pub mod Day
 pub mod Ends
 pub mod Program

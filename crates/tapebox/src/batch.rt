@@ -1,49 +1,33 @@
 //! A batch: a whole input answered line by line, and the report of the tape that it leaves.
-ghost use Rattle.std.specs.Prelude.{◌≡◌, ◌≤◌, ◌⊎◌, IfOk, IfErr, OnOk, IfSome, length, Err, ◌≢◌, [], drop, slice_index_or};
+ghost use Rattle.std.specs.Prelude.{◌≡◌, ◌≢◌, ◌≤◌, ◌+◌, ◌++◌, ◌⊎◌, IfOk, IfErr, OnOk, IfSome, length, Err, false, [], List, ℕ};
 ghost use Rattle.std.specs.Io.KnownBytes.{Appends, Keeps};
-ghost use Rattle.tapebox.specs.Batch.{INPUT_MOST, StopsForMemory, body_text, empty_tape, fault_line, input_listing, message_lines};
+ghost use Rattle.std.specs.List.{flat_map};
+ghost use Rattle.tapebox.specs.Batch.{INPUT_MOST, answer_line, empty_tape, fault_line, input_listing, message_lines};
 ghost use Rattle.tapebox.specs.BatchEnds.{EndsAt, IsReadEnd, Wrote, WroteForMemory};
+ghost use Rattle.tapebox.specs.Day.{HasAnswered, ReadsBatch};
 ghost use Rattle.tapebox.specs.Lines.{lines_of};
+ghost use Rattle.tapebox.specs.ReportText.{report_text};
 ghost use Rattle.tapebox.specs.declared.batch_end.BatchEnd.TheVariants.{BadHeader, Done, ReadFault, TooLarge, WriteFault};
 ghost use Rattle.tapebox.specs.declared.stop.Stop.TheVariants.{OutOfMemory};
 
-use crate::answers::answer_lines;
+use crate::day::{Answer, Day};
 use crate::day_tape::DayTape;
 use crate::gathered::Gathered;
 use crate::header::read_header;
-use crate::lines::Lines;
+use crate::input::{INPUT_LIMIT, Input};
 use crate::report::report_of;
 use crate::stop::Stop;
 use crate::{BatchEnd, HeaderFault};
 use itoa::Buffer;
 use std::alloc::{AllocError, Global};
-use std::io::{ErrorKind, Read, Write};
+use std::io::{BufRead, BufReader, Read, Write};
 use tape_types::{Listing, ListingFault};
 
-/// The longest input, in bytes.
-const INPUT_LIMIT: u64 = 16_777_216;
+/// How many bytes are read at once.
+const PIECE: usize = 65_536;
 
 /// The limit of a batch's tape, in entries.
 const TAPE_LIMIT: u32 = 1_048_576;
-
-/// Reads the input whole.
-fn read_input<R: Read>(alloc: Global, reader: &mut R) -> Result<Vec<u8>, BatchEnd>
-    ensures whole { IfOk result (λ input. IfSome (R.remaining reader.old) (λ bytes. input.items ≡ bytes)) }
-    ensures fits { IfOk result (λ input. length input.items ≤ INPUT_MOST) }
-    ensures ends { IfErr result (λ end. IfSome (R.remaining reader.old) (IsReadEnd end)) }
-{
-    let mut input = Vec::new(alloc);
-    if let Err(error) = reader.take(INPUT_LIMIT + 1).read_to_end(&mut input) {
-        return Err(match error.kind() {
-            ErrorKind::OutOfMemory => BatchEnd::OutOfMemory,
-            _ => BatchEnd::ReadFault,
-        });
-    }
-    if input.len() as u64 > INPUT_LIMIT {
-        return Err(BatchEnd::TooLarge);
-    }
-    Ok(input)
-}
 
 /// The line of a refused header.
 fn fault_line(alloc: Global, fault: HeaderFault) -> Result<Vec<u8>, AllocError>
@@ -69,26 +53,6 @@ fn write_text<W: Write>(writer: &mut W, text: &[u8]) -> Result<(), Stop>
     }
 }
 
-/// Writes the answers to the message lines, and the report of the tape that they leave.
-fn write_body<W: Write>(
-    alloc: Global,
-    listing: Listing,
-    lines: Lines<'_>,
-    writer: &mut W,
-) -> Result<(), Stop>
-    ensures written { OnOk result (Appends (W.contents writer.old) (W.contents writer.new) (body_text listing (lines_of lines.entry.rest.now))) }
-    ensures memory { result ≡ Err OutOfMemory
-        → StopsForMemory (empty_tape listing) (lines_of lines.entry.rest.now) (W.contents writer.old) (W.contents writer.new) }
-{
-    let Ok(mut tape) = DayTape::new(alloc, listing, TAPE_LIMIT) else {
-        return Err(Stop::OutOfMemory);
-    };
-    let mut gathered = Gathered::new(alloc)?;
-    answer_lines(&mut tape, lines, &mut gathered, writer)?;
-    let report = report_of(alloc, &tape)?;
-    write_text(writer, &report)
-}
-
 /// Writes the line of a refused header.
 fn write_refusal<W: Write>(alloc: Global, fault: HeaderFault, writer: &mut W) -> Result<(), Stop>
     ensures written { OnOk result (Appends (W.contents writer.old) (W.contents writer.new) (fault_line fault)) }
@@ -96,41 +60,6 @@ fn write_refusal<W: Write>(alloc: Global, fault: HeaderFault, writer: &mut W) ->
 {
     let line = fault_line(alloc, fault)?;
     write_text(writer, &line)
-}
-
-/// The next line, of no bytes where there is none.
-fn next_line<'a>(lines: &mut Lines<'a>) -> &'a [u8]
-    ensures line { result.now ≡ slice_index_or (lines_of lines.old.rest.now) 0 [] }
-    ensures left { lines_of lines.new.rest.now ≡ drop 1 (lines_of lines.old.rest.now) }
-{
-    match lines.next() {
-        Some(line) => line,
-        None => &[],
-    }
-}
-
-/// Writes the text of a whole input.
-fn write_batch<W: Write>(alloc: Global, input: &[u8], writer: &mut W) -> Result<BatchEnd, Stop>
-    ensures wrote { IfOk result (λ end. Wrote end input.now (W.contents writer.old) (W.contents writer.new)) }
-    ensures memory { result ≡ Err OutOfMemory
-        → WroteForMemory (input_listing input.now) (message_lines input.now) (W.contents writer.old) (W.contents writer.new) }
-    ensures ends { IfOk result (λ end. length input.now ≤ INPUT_MOST → EndsAt end input.now) }
-    ensures named { IfOk result (λ end. (end ≡ Done) ⊎ (end ≡ BadHeader)) }
-{
-    let mut lines = Lines::new(input);
-    let first = next_line(&mut lines);
-    let second = next_line(&mut lines);
-    match read_header(alloc, first, second) {
-        Ok(listing) => {
-            write_body(alloc, listing, lines, writer)?;
-            Ok(BatchEnd::Done)
-        }
-        Err(HeaderFault::BadListing(ListingFault::OutOfMemory)) => Err(Stop::OutOfMemory),
-        Err(fault) => {
-            write_refusal(alloc, fault, writer)?;
-            Ok(BatchEnd::BadHeader)
-        }
-    }
 }
 
 /// The end, once what was written is flushed.
@@ -141,6 +70,135 @@ fn flushed<W: Write>(writer: &mut W, end: BatchEnd) -> BatchEnd
     match writer.flush() {
         Ok(()) => end,
         Err(_) => BatchEnd::WriteFault,
+    }
+}
+
+/// Answers the lines of an input that are left behind its header: the day that they leave.
+fn read_day<B: BufRead>(
+    alloc: Global,
+    listing: Listing,
+    input: &mut Input<B>,
+    line: &mut Vec<u8>,
+) -> Result<Day, BatchEnd>
+    ensures day { IfOk result (λ day. IfSome (B.remaining input.old.left) (λ bytes. HasAnswered (empty_tape listing) (lines_of bytes) day)) }
+    ensures fits { OnOk result (IfSome (B.remaining input.old.left) (λ bytes. input.old.taken + length bytes ≤ INPUT_MOST)) }
+    ensures err { IfErr result (λ end. IfSome (B.remaining input.old.left) (λ bytes. IsReadEnd end (input.old.taken + length bytes))) }
+{
+    let Ok(tape) = DayTape::new(alloc, listing, TAPE_LIMIT) else {
+        return Err(BatchEnd::OutOfMemory);
+    };
+    let mut day = Day::new(alloc, tape);
+    day.answer_all(input, line)?;
+    Ok(day)
+}
+
+/// Reads a whole input, and answers its lines: the day that they leave, or what is wrong with the header.
+fn read_batch<B: BufRead>(
+    alloc: Global,
+    input: &mut Input<B>,
+) -> Result<Result<Day, HeaderFault>, BatchEnd>
+    ensures read { IfOk result (λ read. IfSome (B.remaining input.old.left) (ReadsBatch read)) }
+    ensures fits { OnOk result (IfSome (B.remaining input.old.left) (λ bytes. input.old.taken + length bytes ≤ INPUT_MOST)) }
+    ensures err { IfErr result (λ end. IfSome (B.remaining input.old.left) (λ bytes. IsReadEnd end (input.old.taken + length bytes))) }
+{
+    let mut first = Vec::new(alloc);
+    let mut second = Vec::new(alloc);
+    input.next_line(&mut first)?;
+    input.next_line(&mut second)?;
+    match read_header(alloc, &first, &second) {
+        Ok(listing) => {
+            let day = read_day(alloc, listing, input, &mut first)?;
+            Ok(Ok(day))
+        }
+        Err(HeaderFault::BadListing(ListingFault::OutOfMemory)) => Err(BatchEnd::OutOfMemory),
+        Err(fault) => {
+            input.skip_lines(&mut first)?;
+            Ok(Err(fault))
+        }
+    }
+}
+
+/// Writes answers, each on its line.
+fn write_answers<W: Write>(
+    answers: &[Answer],
+    gathered: &mut Gathered,
+    writer: &mut W,
+) -> Result<(), Stop>
+    requires { gathered.old ≡ [] }
+    ensures written { OnOk result (Appends (W.contents writer.old) (W.contents writer.new) (flat_map answer_line answers.now)) }
+    ensures fault { result ≢ Err OutOfMemory }
+{
+    for answer in answers {
+        gathered.push_answer(answer);
+        gathered.write_piece(writer)?;
+    }
+    gathered.write_to(writer)
+}
+
+/// Writes a day: its answers, and, unless memory ran out at one of them, the report of its tape.
+fn write_day<W: Write>(
+    alloc: Global,
+    day: &Day,
+    gathered: &mut Gathered,
+    writer: &mut W,
+) -> Result<(), Stop>
+    requires { gathered.old ≡ [] }
+    ensures goes_on { OnOk result (day.now.is_stopped ≡ false) }
+    ensures written { OnOk result (Appends (W.contents writer.old) (W.contents writer.new)
+        (flat_map answer_line day.now.answers.items ++ report_text day.now.tape)) }
+    ensures memory { result ≡ Err OutOfMemory → Keeps (W.contents writer.old) (W.contents writer.new)
+        ⊎ Appends (W.contents writer.old) (W.contents writer.new) (flat_map answer_line day.now.answers.items) }
+{
+    write_answers(&day.answers, gathered, writer)?;
+    if day.is_stopped {
+        return Err(Stop::OutOfMemory);
+    }
+    let report = report_of(alloc, &day.tape)?;
+    write_text(writer, &report)
+}
+
+/// Writes what was read of a batch: a day, or the line of a refused header.
+fn write_batch<W: Write>(
+    alloc: Global,
+    read: &Result<Day, HeaderFault>,
+    gathered: &mut Gathered,
+    writer: &mut W,
+) -> Result<BatchEnd, Stop>
+    requires { gathered.old ≡ [] }
+    ensures wrote { (input : List ℕ) → ReadsBatch read.now input → IfOk result (λ end. Wrote end input (W.contents writer.old) (W.contents writer.new)) }
+    ensures memory { (input : List ℕ) → ReadsBatch read.now input → result ≡ Err OutOfMemory
+        → WroteForMemory (input_listing input) (message_lines input) (W.contents writer.old) (W.contents writer.new) }
+    ensures ends { (input : List ℕ) → ReadsBatch read.now input → length input ≤ INPUT_MOST → IfOk result (λ end. EndsAt end input) }
+    ensures named { IfOk result (λ end. (end ≡ Done) ⊎ (end ≡ BadHeader)) }
+{
+    match read {
+        Ok(day) => {
+            write_day(alloc, day, gathered, writer)?;
+            Ok(BatchEnd::Done)
+        }
+        Err(fault) => {
+            write_refusal(alloc, *fault, writer)?;
+            Ok(BatchEnd::BadHeader)
+        }
+    }
+}
+
+/// Writes what was read of a batch, flushed at the end.
+fn finish_batch<W: Write>(
+    alloc: Global,
+    read: &Result<Day, HeaderFault>,
+    gathered: &mut Gathered,
+    writer: &mut W,
+) -> BatchEnd
+    requires { gathered.old ≡ [] }
+    ensures wrote { (input : List ℕ) → ReadsBatch read.now input → Wrote result input (W.contents writer.old) (W.contents writer.new) }
+    ensures ends { (input : List ℕ) → ReadsBatch read.now input → length input ≤ INPUT_MOST → EndsAt result input }
+    ensures writes { (result ≢ TooLarge) × (result ≢ ReadFault) }
+{
+    match write_batch(alloc, read, gathered, writer) {
+        Ok(end) => flushed(writer, end),
+        Err(Stop::WriteFault) => BatchEnd::WriteFault,
+        Err(Stop::OutOfMemory) => flushed(writer, BatchEnd::OutOfMemory),
     }
 }
 
@@ -155,13 +213,15 @@ pub fn batch_over<R: Read, W: Write>(alloc: Global, reader: &mut R, writer: &mut
     // These ends leave the writer alone, whatever the reader.
     ensures silent { (result ≡ TooLarge) ⊎ (result ≡ ReadFault) → writer.new ≡ writer.old }
 {
-    let input = match read_input(alloc, reader) {
-        Ok(input) => input,
-        Err(end) => return end,
+    let Ok(left) = BufReader::with_capacity(alloc, PIECE, reader.take(INPUT_LIMIT + 1)) else {
+        return BatchEnd::OutOfMemory;
     };
-    match write_batch(alloc, &input, writer) {
-        Ok(end) => flushed(writer, end),
-        Err(Stop::WriteFault) => BatchEnd::WriteFault,
-        Err(Stop::OutOfMemory) => flushed(writer, BatchEnd::OutOfMemory),
+    // Room to write comes first, so that a refusal for want of memory is always told.
+    let Ok(mut gathered) = Gathered::new(alloc) else {
+        return BatchEnd::OutOfMemory;
+    };
+    match read_batch(alloc, &mut Input::new(left)) {
+        Ok(read) => finish_batch(alloc, &read, &mut gathered, writer),
+        Err(end) => end,
     }
 }

@@ -1,13 +1,14 @@
 //! `tapebox`: a consolidated trade tape as a program.
 #![tactic(auto)]
 
-mod answers;
 mod batch;
 mod batch_end;
+mod day;
 mod day_tape;
 mod gathered;
 mod header;
 mod header_fault;
+mod input;
 mod line_refusal;
 mod lines;
 mod message_line;

@@ -1,10 +1,11 @@
-//! Worked rows, headers and lines of every kind, and the program's statuses.
+//! Worked rows, headers and lines of every kind, readers that give an input in pieces, and the program's statuses.
 
 use crate::{BatchEnd, batch_over};
 use std::alloc::Global;
 use std::process::Abort;
 
 mod headers;
+mod readers;
 mod rows;
 mod statuses;
 

@@ -150,6 +150,31 @@ fn a_read_that_fails_or_lacks_memory_is_told_apart(rt: HostRuntime) {
 }
 
 #[test]
+fn a_read_that_fails_behind_a_good_piece_writes_nothing(rt: HostRuntime) {
+    // A message line, and a refused header.
+    let inputs: [&[u8]; 2] = [
+        b"AB\nN\n\
+N 0026524e000000010000000000000000414220202020202000000000000186a00000006440202020\n",
+        b"AB AB\nN\n\n",
+    ];
+    for input in inputs {
+        let mut output = Vec::new(rt.alloc());
+        let mut errors = Vec::new(rt.alloc());
+        let mut reader = input.chain(NoReads(ErrorKind::BrokenPipe));
+        let status = program(
+            rt.alloc(),
+            b"batch\0",
+            &mut reader,
+            &mut output,
+            &mut errors,
+        );
+        assert_eq!(rt; status, 3);
+        assert!(rt; output.is_empty());
+        assert_eq!(rt; errors.as_slice(), b"tapebox: read fault\n".as_slice());
+    }
+}
+
+#[test]
 fn a_write_or_a_flush_that_fails_is_a_write_fault(rt: HostRuntime) {
     for input in [b"AB\nN\n".as_slice(), b"AB AB\nN\n".as_slice()] {
         let mut errors = Vec::new(rt.alloc());

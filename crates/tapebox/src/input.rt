@@ -1,0 +1,94 @@
+//! The input of a batch, read in pieces.
+ghost use Rattle.std.specs.Prelude.{◌≡◌, ◌≤◌, ◌<◌, ◌+◌, ◌⊎◌, true, false, [], ◌∷◌, IfOk, IfErr, IfSome, OnOk, Ok, length, if◌then◌else◌};
+ghost use Rattle.std.specs.Io.BufRead.{strip_last};
+ghost use Rattle.std.specs.Io.KnownBytes.{IsAtEnd};
+ghost use Rattle.tapebox.specs.Batch.{INPUT_MOST};
+ghost use Rattle.tapebox.specs.BatchEnds.{IsReadEnd};
+ghost use Rattle.tapebox.specs.Input.{TakesLines};
+ghost use Rattle.tapebox.specs.declared.batch_end.BatchEnd.TheVariants.{OutOfMemory, ReadFault, TooLarge};
+
+use crate::BatchEnd;
+use std::io::{BufRead, Error, ErrorKind};
+
+/// The longest input, in bytes.
+pub const INPUT_LIMIT: u64 = 16_777_216;
+
+/// The end that a failed read brings.
+pub fn failed_read(error: &Error) -> BatchEnd
+    ensures { (result ≡ OutOfMemory) ⊎ (result ≡ ReadFault) }
+{
+    match error.kind() {
+        ErrorKind::OutOfMemory => BatchEnd::OutOfMemory,
+        _ => BatchEnd::ReadFault,
+    }
+}
+
+/// Takes the line feed off a line's end, if there is one.
+fn drop_line_feed(line: &mut Vec<u8>)
+    ensures { line.new.items ≡ strip_last 10 line.old.items }
+{
+    if line.last() == Some(&b'\n') {
+        line.pop();
+    }
+}
+
+/// What is left of an input, and how many of its bytes were taken.
+#[derive(Drop)]
+pub struct Input<B> {
+    /// What is left.
+    pub left: B,
+    /// How many bytes were taken.
+    pub taken: u64,
+}
+
+impl<B: BufRead> Input<B> {
+    /// An input of which nothing was taken.
+    pub fn new(left: B) -> Self
+        ensures left { result.left ≡ left }
+        ensures taken { result.taken ≡ 0 }
+    {
+        Input { left, taken: 0 }
+    }
+
+    /// Counts bytes as taken. More than an input may have are refused.
+    pub fn count(&mut self, len: usize) -> Result<(), BatchEnd>
+        ensures left { self.new.left ≡ self.old.left }
+        ensures taken { OnOk result (self.new.taken ≡ self.old.taken + len) }
+        ensures fits { OnOk result (self.new.taken ≤ INPUT_MOST) }
+        ensures err { IfErr result (λ end. (end ≡ TooLarge) × (INPUT_MOST < self.old.taken + len)) }
+    {
+        self.taken = self.taken.saturating_add(len as u64);
+        if self.taken > INPUT_LIMIT {
+            return Err(BatchEnd::TooLarge);
+        }
+        Ok(())
+    }
+
+    /// Takes the next line, without its line feed: whether there was one.
+    pub fn next_line(&mut self, line: &mut Vec<u8>) -> Result<bool, BatchEnd>
+        ensures took { IfOk result (λ some. TakesLines (B.remaining self.old.left) (B.remaining self.new.left) self.old.taken self.new.taken
+            (if some then line.new.items ∷ [] else [])) }
+        ensures end { result ≡ Ok false → IsAtEnd (B.remaining self.old.left) × (line.new.items ≡ []) }
+        ensures grows { result ≡ Ok true → self.old.taken < self.new.taken }
+        ensures fits { OnOk result (self.new.taken ≤ INPUT_MOST) }
+        ensures err { IfErr result (λ end. IfSome (B.remaining self.old.left) (λ bytes. IsReadEnd end (self.old.taken + length bytes))) }
+    {
+        line.clear();
+        let len = match self.left.read_until(b'\n', line) {
+            Ok(len) => len,
+            Err(error) => return Err(failed_read(&error)),
+        };
+        self.count(len)?;
+        drop_line_feed(line);
+        Ok(len > 0)
+    }
+
+    /// Takes all lines that are left.
+    pub fn skip_lines(&mut self, line: &mut Vec<u8>) -> Result<(), BatchEnd>
+        ensures fits { OnOk result (IfSome (B.remaining self.old.left) (λ bytes. self.old.taken + length bytes ≤ INPUT_MOST)) }
+        ensures err { IfErr result (λ end. IfSome (B.remaining self.old.left) (λ bytes. IsReadEnd end (self.old.taken + length bytes))) }
+    {
+        while self.next_line(line)? {}
+        Ok(())
+    }
+}
