@@ -1,7 +1,6 @@
 use crate::program;
 use std::io;
 use std::io::{ErrorKind, Read, Write};
-use std::test::Fail;
 
 /// A reader whose every read fails.
 #[derive(Drop)]
