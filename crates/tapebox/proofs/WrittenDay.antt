@@ -1,6 +1,6 @@
 -- A day's answers and its report, as they are written.
-use Rattle.std.proofs.Common.{◌≡◌, ◌∷◌, ◌++◌, ◌⊎◌, ◌∙◌, [], inl, inr, ℕ, List, Bool, true, false, Option, Result, Ok, Err, refl, ap, append-nil}
-use Rattle.std.specs.Io.KnownBytes.{Appends, Keeps}
+use Rattle.std.proofs.Common.{◌≡◌, ◌∷◌, ◌++◌, ◌∙◌, [], inl, inr, ℕ, List, Bool, true, false, Option, Result, Ok, Err, refl, ap, append-nil}
+use Rattle.std.specs.Io.KnownBytes.{Appends}
 use Rattle.std.specs.List.{flat_map}
 use Rattle.std.proofs.lemmas.Grind.{flat_map-append}
 use Rattle.tape_core.specs.Tape.{TapeState}
@@ -29,13 +29,12 @@ stopped-text t answered answers are =
     ap (flat_map answer_line) are ∙ flat_map-append answer_line (line_answers t answered) (Err (Refused OutOfMemory) ∷ [])
     ∙ ap (λ (l : List ℕ). flat_map answer_line (line_answers t answered) ++ l) (append-nil (answer_line (Err (Refused OutOfMemory))))
 
--- a day of which nothing or all answers were written stops for want of memory
+-- a day of which all answers were written stops for want of memory
 pub Answers-stop : (t : TapeState) (lines : List (List ℕ)) (stopped : Bool) (now : TapeState) (answers : List (Result ℕ LineRefusal)) (old new : Option (List ℕ)) → Answers t lines stopped now answers
-    → Keeps old new ⊎ Appends old new (flat_map answer_line answers) → StopsForMemory t lines old new
+    → Appends old new (flat_map answer_line answers) → StopsForMemory t lines old new
 unfolding answer_lines
-Answers-stop t lines stopped now answers old new h (inl kept) = inl kept
-Answers-stop t lines false now answers old new h (inr written) = inr (inr (Appends-same old new _ _ (ap (flat_map answer_line) h.1) written))
-Answers-stop t lines true now answers old new h (inr written) = inr (inl (record {
+Answers-stop t lines false now answers old new h written = inr (inr (Appends-same old new _ _ (ap (flat_map answer_line) h.1) written))
+Answers-stop t lines true now answers old new h written = inr (inl (record {
   answered = h.answered;
   refused = h.refused;
   left = h.left;
@@ -50,5 +49,5 @@ ReadsBatch-text day input on read = rw read.1 (Answers-text (empty_tape read.0) 
 
 -- a batch of which a day was read stops for want of memory
 pub ReadsBatch-stop : (day : Day) (input : List ℕ) (old new : Option (List ℕ)) → ReadsBatch (Ok day) input
-    → Keeps old new ⊎ Appends old new (flat_map answer_line day.answers.items) → WroteForMemory (input_listing input) (message_lines input) old new
+    → Appends old new (flat_map answer_line day.answers.items) → WroteForMemory (input_listing input) (message_lines input) old new
 ReadsBatch-stop day input old new read stop = rw read.1 (Answers-stop (empty_tape read.0) (message_lines input) day.is_stopped day.tape day.answers.items old new read.2 stop)

@@ -112,7 +112,7 @@ fn read_batch<B: BufRead>(
         }
         Err(HeaderFault::BadListing(ListingFault::OutOfMemory)) => Err(BatchEnd::OutOfMemory),
         Err(fault) => {
-            input.skip_lines(&mut first)?;
+            input.skip_lines()?;
             Ok(Err(fault))
         }
     }
@@ -146,8 +146,8 @@ fn write_day<W: Write>(
     ensures goes_on { OnOk result (day.now.is_stopped ≡ false) }
     ensures written { OnOk result (Appends (W.contents writer.old) (W.contents writer.new)
         (flat_map answer_line day.now.answers.items ++ report_text day.now.tape)) }
-    ensures memory { result ≡ Err OutOfMemory → Keeps (W.contents writer.old) (W.contents writer.new)
-        ⊎ Appends (W.contents writer.old) (W.contents writer.new) (flat_map answer_line day.now.answers.items) }
+    ensures memory { result ≡ Err OutOfMemory
+        → Appends (W.contents writer.old) (W.contents writer.new) (flat_map answer_line day.now.answers.items) }
 {
     write_answers(&day.answers, gathered, writer)?;
     if day.is_stopped {
@@ -216,7 +216,7 @@ pub fn batch_over<R: Read, W: Write>(alloc: Global, reader: &mut R, writer: &mut
     let Ok(left) = BufReader::with_capacity(alloc, PIECE, reader.take(INPUT_LIMIT + 1)) else {
         return BatchEnd::OutOfMemory;
     };
-    // Room to write comes first, so that a refusal for want of memory is always told.
+    // Room to write comes first, so that it takes none to tell a refusal for want of memory.
     let Ok(mut gathered) = Gathered::new(alloc) else {
         return BatchEnd::OutOfMemory;
     };

@@ -77,7 +77,7 @@ impl Day {
         if self.is_stopped {
             return Ok(());
         }
-        // Room for the answer comes first, so that a refusal for want of memory is always told.
+        // Room for the answer comes first, so that it takes none to hold a refusal for want of memory.
         self.answers.reserve(1)?;
         let answer = answer(&mut self.tape, line);
         self.is_stopped = is_out_of_memory(&answer);
@@ -116,7 +116,8 @@ impl Day {
         Ok(())
     }
 
-    /// Answers all lines of an input: those that stand whole in a piece, then the one between two pieces, and so on.
+    /// Answers all lines of an input: those that stand whole in a piece, then the one between two pieces, and so on. Where
+    /// memory runs out at a line, the rest is taken without memory, so that the input is known to fit.
     pub fn answer_all<B: BufRead>(
         &mut self,
         input: &mut Input<B>,
@@ -127,10 +128,13 @@ impl Day {
         ensures err { IfErr result (λ end. IfSome (B.remaining input.old.left) (λ bytes. IsReadEnd end (input.old.taken + length bytes))) }
     {
         self.answer_piece(input)?;
-        while input.next_line(line)? {
+        while !self.is_stopped {
+            if !input.next_line(line)? {
+                return Ok(());
+            }
             self.answer_line(line)?;
             self.answer_piece(input)?;
         }
-        Ok(())
+        input.skip_lines()
     }
 }

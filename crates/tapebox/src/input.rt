@@ -1,5 +1,5 @@
 //! The input of a batch, read in pieces.
-ghost use Rattle.std.specs.Prelude.{◌≡◌, ◌≤◌, ◌<◌, ◌+◌, ◌⊎◌, true, false, [], ◌∷◌, IfOk, IfErr, IfSome, OnOk, Ok, length, if◌then◌else◌};
+ghost use Rattle.std.specs.Prelude.{◌≡◌, ◌≤◌, ◌<◌, ◌+◌, ◌⊎◌, true, false, ℕ, List, [], ◌∷◌, IfOk, IfErr, IfSome, OnOk, Ok, length, if◌then◌else◌};
 ghost use Rattle.std.specs.Io.BufRead.{strip_last};
 ghost use Rattle.std.specs.Io.KnownBytes.{IsAtEnd};
 ghost use Rattle.tapebox.specs.Batch.{INPUT_MOST};
@@ -83,12 +83,29 @@ impl<B: BufRead> Input<B> {
         Ok(len > 0)
     }
 
-    /// Takes all lines that are left.
-    pub fn skip_lines(&mut self, line: &mut Vec<u8>) -> Result<(), BatchEnd>
+    /// Takes the next line without keeping it, which takes no memory: whether there was one.
+    fn skip_line(&mut self) -> Result<bool, BatchEnd>
+        ensures took { OnOk result ((lines : List (List ℕ))
+            × TakesLines (B.remaining self.old.left) (B.remaining self.new.left) self.old.taken self.new.taken lines) }
+        ensures end { result ≡ Ok false → IsAtEnd (B.remaining self.old.left) × (self.new.taken ≡ self.old.taken) }
+        ensures grows { result ≡ Ok true → self.old.taken < self.new.taken }
+        ensures fits { OnOk result (self.new.taken ≤ INPUT_MOST) }
+        ensures err { IfErr result (λ end. IfSome (B.remaining self.old.left) (λ bytes. IsReadEnd end (self.old.taken + length bytes))) }
+    {
+        let len = match self.left.skip_until(b'\n') {
+            Ok(len) => len,
+            Err(error) => return Err(failed_read(&error)),
+        };
+        self.count(len)?;
+        Ok(len > 0)
+    }
+
+    /// Takes all that is left without keeping it, which takes no memory.
+    pub fn skip_lines(&mut self) -> Result<(), BatchEnd>
         ensures fits { OnOk result (IfSome (B.remaining self.old.left) (λ bytes. self.old.taken + length bytes ≤ INPUT_MOST)) }
         ensures err { IfErr result (λ end. IfSome (B.remaining self.old.left) (λ bytes. IsReadEnd end (self.old.taken + length bytes))) }
     {
-        while self.next_line(line)? {}
+        while self.skip_line()? {}
         Ok(())
     }
 }

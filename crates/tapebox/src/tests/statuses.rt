@@ -12,6 +12,22 @@ impl Read for NoReads {
     }
 }
 
+/// A reader that fails once, and then is at its end.
+#[derive(Drop)]
+struct FailsOnce {
+    has_failed: bool,
+}
+
+impl Read for FailsOnce {
+    fn read(&mut self, _buf: &mut [u8]) -> io::Result<usize> {
+        if self.has_failed {
+            return Ok(0);
+        }
+        self.has_failed = true;
+        Err(io::Error::from(ErrorKind::BrokenPipe))
+    }
+}
+
 /// A writer whose every write fails.
 #[derive(Drop)]
 struct NoWrites;
@@ -159,7 +175,7 @@ N 0026524e000000010000000000000000414220202020202000000000000186a000000064402020
     for input in inputs {
         let mut output = Vec::new(rt.alloc());
         let mut errors = Vec::new(rt.alloc());
-        let mut reader = input.chain(NoReads(ErrorKind::BrokenPipe));
+        let mut reader = input.chain(FailsOnce { has_failed: false });
         let status = program(
             rt.alloc(),
             b"batch\0",
