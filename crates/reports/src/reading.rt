@@ -10,6 +10,7 @@ ghost use Rattle.reports.specs.Spelling.{Spells};
 
 use crate::fault::MessageFault;
 use crate::message::{Content, Header, Message};
+use crate::moment::Moment;
 use sale_matrix::Condition;
 use tape_types::{MsgNumber, Participant, Price, Size, Symbol};
 
@@ -124,7 +125,7 @@ impl Unread<'_> {
     {
         let participant = self.participant()?;
         let number = self.number()?;
-        let moment = self.u64()?;
+        let moment = Moment::new(self.u64()?);
         let symbol = self.symbol()?;
         Ok(Header {
             participant,

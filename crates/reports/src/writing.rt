@@ -60,7 +60,7 @@ fn put_header(row: &mut [u8], at: usize, header: &Header) -> usize
 {
     let at = put(row, at, &header.participant.value().to_be_bytes());
     let at = put(row, at, &header.number.value().to_be_bytes());
-    let at = put(row, at, &header.moment.to_be_bytes());
+    let at = put(row, at, &header.moment.value().to_be_bytes());
     put(row, at, &header.symbol.value())
 }
 

@@ -25,10 +25,11 @@ pub struct Summary {
     pub low: Option<Mark>,
     /// The report that set the last by its rule.
     pub last: Option<Mark>,
-    /// The shares of the reports whose volume counts.
-    pub volume: u64,
+    // The number of trades stands before the volume, which so stands at a multiple of eight without padding.
     /// How many reports stand, whether they change a figure or not.
     pub trades: u32,
+    /// The shares of the reports whose volume counts.
+    pub volume: u64,
 }
 
 /// What one report does to a summary: its figures, and the cells of its sale condition in the summary's columns.

@@ -1,7 +1,7 @@
 //! The worked rows of a tape, at the plain store.
 
 use crate::{Entry, Refusal, Tape, run};
-use reports::{Content, Header, Message};
+use reports::{Content, Header, Message, Moment};
 use sale_matrix::Condition;
 use scratch_fold::{Mark, Summary};
 use std::alloc::Global;
@@ -71,7 +71,7 @@ fn header(row: &Row) -> Option<Header> {
     Some(Header {
         participant: Participant::try_new(row.who)?,
         number: MsgNumber::try_new(row.number)?,
-        moment: 0,
+        moment: Moment::new(0),
         symbol: Symbol::try_new(*row.symbol)?,
     })
 }

@@ -5,19 +5,16 @@ use Rattle.std.specs.Prelude.{◌≡◌, ℕ, ◌+◌, ◌*◌, ◌/◌, ◌%◌
 abbrev pub IsPrice : ℕ → Type 0
 IsPrice n = (1 ≤ n) × (n ≤ 999999999999)
 
--- a price of three words of 65,536 values, the lowest first
-abbrev pub price_of : ℕ → ℕ → ℕ → ℕ
-price_of low middle high = low + 65536 * (middle + 65536 * high)
+-- a price of two parts, of which the low one has 4,294,967,296 values
+abbrev pub price_of : ℕ → ℕ → ℕ
+price_of low high = low + 4294967296 * high
 
--- the words of a price
-abbrev pub low_word : ℕ → ℕ
-low_word price = price % 65536
+-- the parts of a price
+abbrev pub low_part : ℕ → ℕ
+low_part price = price % 4294967296
 
-abbrev pub middle_word : ℕ → ℕ
-middle_word price = price / 65536 % 65536
-
-abbrev pub high_word : ℕ → ℕ
-high_word price = price / 65536 / 65536
+abbrev pub high_part : ℕ → ℕ
+high_part price = price / 4294967296
 
 -- a number of shares
 abbrev pub IsSize : ℕ → Type 0

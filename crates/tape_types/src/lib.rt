@@ -1,6 +1,7 @@
 //! The small values of a trade tape, each in its range, and the listing of a day.
 #![tactic(auto)]
 
+mod four_bytes;
 mod listing;
 mod listing_fault;
 mod msg_number;

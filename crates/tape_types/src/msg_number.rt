@@ -2,12 +2,13 @@
 ghost use Rattle.std.specs.Prelude.{◌≡◌, ℕ, ◌↔◌, IsSome, IfSome};
 ghost use Rattle.tape_types.specs.Ranges.{IsMessageNumber};
 
+use crate::four_bytes::FourBytes;
 use std::marker::Model;
 
 /// The number that a participant gave its message, of the message itself or of a target: 1 to 4,294,967,295.
 #[derive(Clone, Copy, Debug, PartialEq, Eq, PartialOrd, Ord, Hash)]
 pub struct MsgNumber {
-    number: u32,
+    number: FourBytes,
 }
 
 impl Model for MsgNumber {
@@ -27,7 +28,9 @@ impl MsgNumber {
         ensures value { IfSome result (λ m. m ≡ number) }
     {
         if number > 0 {
-            Some(MsgNumber { number })
+            Some(MsgNumber {
+                number: FourBytes::new(number),
+            })
         } else {
             None
         }
@@ -38,6 +41,6 @@ impl MsgNumber {
         ensures value { result ≡ self }
         ensures in_range { IsMessageNumber self }
     {
-        self.number
+        self.number.value()
     }
 }

@@ -6,35 +6,35 @@ ghost use Rattle.std.specs.Ordering.{nat_cmp};
 ghost use Rattle.std.proofs.Common.{rules};
 ghost use Rattle.tape_types.specs.Ranges.{IsPrice};
 
+use crate::four_bytes::FourBytes;
 use std::cmp::Ordering;
 use std::hash::{Hash, Hasher};
 use std::marker::Model;
 
-/// How many values a word of a price has.
-const WORD: u64 = 65_536;
+/// How many values the low part of a price has.
+const LOW_VALUES: u64 = 4_294_967_296;
 
 /// A price, in ten-thousandths of a dollar: 1 to 999,999,999,999.
 ///
-/// Its 48 bits are kept in three words, so that a price needs no place at a multiple of four or eight bytes, and a figure
-/// of a summary no padding for it: a day keeps millions of them.
+/// Its forty bits are kept in five bytes, so that a price needs no place at a multiple of eight, and a figure of a summary
+/// no padding for it: a day keeps millions of them.
 #[derive(Clone, Copy, Debug)]
 pub struct Price {
-    low: u16,
-    middle: u16,
-    high: u16,
+    low: FourBytes,
+    high: u8,
 }
 
 impl Model for Price {
     ghost use Rattle.std.specs.Prelude.{ℕ, ◌<◌};
-    ghost use Rattle.tape_types.specs.Ranges.{IsPrice, price_of, low_word, middle_word, high_word};
+    ghost use Rattle.tape_types.specs.Ranges.{IsPrice, price_of, low_part, high_part};
 
     ghost Value = { ℕ };
 
-    ghost view = { λ p. price_of p.low p.middle p.high };
+    ghost view = { λ p. price_of p.low p.high };
 
-    ghost invariant = { λ p. IsPrice (price_of p.low p.middle p.high) × (p.low < 65536) × (p.middle < 65536) };
+    ghost invariant = { λ p. IsPrice (price_of p.low p.high) × (p.low < 4294967296) };
 
-    ghost inverse = { λ n. record { low = low_word n; middle = middle_word n; high = high_word n } };
+    ghost inverse = { λ n. record { low = low_part n; high = high_part n } };
 }
 
 impl Price {
@@ -45,9 +45,8 @@ impl Price {
     {
         if (1..=999_999_999_999).contains(&ten_thousandths) {
             Some(Price {
-                low: (ten_thousandths % WORD) as u16,
-                middle: (ten_thousandths / WORD % WORD) as u16,
-                high: (ten_thousandths / WORD / WORD) as u16,
+                low: FourBytes::new((ten_thousandths % LOW_VALUES) as u32),
+                high: (ten_thousandths / LOW_VALUES) as u8,
             })
         } else {
             None
@@ -59,7 +58,7 @@ impl Price {
         ensures value { result ≡ self }
         ensures in_range { IsPrice self }
     {
-        u64::from(self.low) + WORD * (u64::from(self.middle) + WORD * u64::from(self.high))
+        u64::from(self.low.value()) + LOW_VALUES * u64::from(self.high)
     }
 }
 

@@ -2,12 +2,13 @@
 ghost use Rattle.std.specs.Prelude.{◌≡◌, ℕ, ◌↔◌, IsSome, IfSome};
 ghost use Rattle.tape_types.specs.Ranges.{IsSize};
 
+use crate::four_bytes::FourBytes;
 use std::marker::Model;
 
 /// A number of shares: 1 to 99,999,999.
 #[derive(Clone, Copy, Debug, PartialEq, Eq, PartialOrd, Ord, Hash)]
 pub struct Size {
-    shares: u32,
+    shares: FourBytes,
 }
 
 impl Model for Size {
@@ -27,7 +28,9 @@ impl Size {
         ensures value { IfSome result (λ s. s ≡ shares) }
     {
         if (1..=99_999_999).contains(&shares) {
-            Some(Size { shares })
+            Some(Size {
+                shares: FourBytes::new(shares),
+            })
         } else {
             None
         }
@@ -38,6 +41,6 @@ impl Size {
         ensures value { result ≡ self }
         ensures in_range { IsSize self }
     {
-        self.shares
+        self.shares.value()
     }
 }

@@ -2,12 +2,13 @@
 ghost use Rattle.std.specs.Prelude.{◌≡◌, ℕ, ◌↔◌, IsSome, IfSome};
 ghost use Rattle.tape_types.specs.Ranges.{IsTapeNumber};
 
+use crate::four_bytes::FourBytes;
 use std::marker::Model;
 
 /// A position on the tape: 1 to 1,048,576. A report's place is the tape number of its admission.
 #[derive(Clone, Copy, Debug, PartialEq, Eq, PartialOrd, Ord, Hash)]
 pub struct TapeNumber {
-    position: u32,
+    position: FourBytes,
 }
 
 impl Model for TapeNumber {
@@ -27,7 +28,9 @@ impl TapeNumber {
         ensures value { IfSome result (λ t. t ≡ position) }
     {
         if (1..=1_048_576).contains(&position) {
-            Some(TapeNumber { position })
+            Some(TapeNumber {
+                position: FourBytes::new(position),
+            })
         } else {
             None
         }
@@ -38,6 +41,6 @@ impl TapeNumber {
         ensures value { result ≡ self }
         ensures in_range { IsTapeNumber self }
     {
-        self.position
+        self.position.value()
     }
 }
