@@ -3,7 +3,7 @@ ghost use Rattle.std.specs.Prelude.{◌≡◌, ◌≢◌, ◌≤◌, ◌+◌, �
 ghost use Rattle.std.specs.Io.KnownBytes.{Appends, Keeps};
 ghost use Rattle.std.specs.List.{flat_map};
 ghost use Rattle.tapebox.specs.Batch.{INPUT_MOST, answer_line, empty_tape, fault_line, input_listing, message_lines};
-ghost use Rattle.tapebox.specs.BatchEnds.{EndsAt, IsReadEnd, Wrote, WroteForMemory};
+ghost use Rattle.tapebox.specs.BatchEnds.{EndsAt, EndsReading, Fits, Wrote, WroteForMemory};
 ghost use Rattle.tapebox.specs.Day.{HasAnswered, ReadsBatch};
 ghost use Rattle.tapebox.specs.Lines.{lines_of};
 ghost use Rattle.tapebox.specs.ReportText.{report_text};
@@ -24,7 +24,7 @@ use std::io::{BufRead, BufReader, Read, Write};
 use tape_types::{Listing, ListingFault};
 
 /// How many bytes are read at once.
-const PIECE: usize = 65_536;
+const READ_PIECE: usize = 65_536;
 
 /// The limit of a batch's tape, in entries.
 const TAPE_LIMIT: u32 = 1_048_576;
@@ -81,8 +81,8 @@ fn read_day<B: BufRead>(
     line: &mut Vec<u8>,
 ) -> Result<Day, BatchEnd>
     ensures day { IfOk result (λ day. IfSome (B.remaining input.old.left) (λ bytes. HasAnswered (empty_tape listing) (lines_of bytes) day)) }
-    ensures fits { OnOk result (IfSome (B.remaining input.old.left) (λ bytes. input.old.taken + length bytes ≤ INPUT_MOST)) }
-    ensures err { IfErr result (λ end. IfSome (B.remaining input.old.left) (λ bytes. IsReadEnd end (input.old.taken + length bytes))) }
+    ensures fits { OnOk result (Fits (B.remaining input.old.left) input.old.taken) }
+    ensures err { IfErr result (EndsReading (B.remaining input.old.left) input.old.taken) }
 {
     let Ok(tape) = DayTape::new(alloc, listing, TAPE_LIMIT) else {
         return Err(BatchEnd::OutOfMemory);
@@ -98,8 +98,8 @@ fn read_batch<B: BufRead>(
     input: &mut Input<B>,
 ) -> Result<Result<Day, HeaderFault>, BatchEnd>
     ensures read { IfOk result (λ read. IfSome (B.remaining input.old.left) (ReadsBatch read)) }
-    ensures fits { OnOk result (IfSome (B.remaining input.old.left) (λ bytes. input.old.taken + length bytes ≤ INPUT_MOST)) }
-    ensures err { IfErr result (λ end. IfSome (B.remaining input.old.left) (λ bytes. IsReadEnd end (input.old.taken + length bytes))) }
+    ensures fits { OnOk result (Fits (B.remaining input.old.left) input.old.taken) }
+    ensures err { IfErr result (EndsReading (B.remaining input.old.left) input.old.taken) }
 {
     let mut first = Vec::new(alloc);
     let mut second = Vec::new(alloc);
@@ -107,6 +107,7 @@ fn read_batch<B: BufRead>(
     input.next_line(&mut second)?;
     match read_header(alloc, &first, &second) {
         Ok(listing) => {
+            // The first line's room serves for those between two pieces.
             let day = read_day(alloc, listing, input, &mut first)?;
             Ok(Ok(day))
         }
@@ -213,7 +214,8 @@ pub fn batch_over<R: Read, W: Write>(alloc: Global, reader: &mut R, writer: &mut
     // These ends leave the writer alone, whatever the reader.
     ensures silent { (result ≡ TooLarge) ⊎ (result ≡ ReadFault) → writer.new ≡ writer.old }
 {
-    let Ok(left) = BufReader::with_capacity(alloc, PIECE, reader.take(INPUT_LIMIT + 1)) else {
+    // One byte beyond the limit is enough to tell that the input is too large.
+    let Ok(left) = BufReader::with_capacity(alloc, READ_PIECE, reader.take(INPUT_LIMIT + 1)) else {
         return BatchEnd::OutOfMemory;
     };
     // Room to write comes first, so that it takes none to tell a refusal for want of memory.

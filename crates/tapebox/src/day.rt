@@ -1,8 +1,8 @@
 //! A day: its tape, and the answers that it holds until its input was read whole.
 ghost use Rattle.std.specs.Prelude.{◌≡◌, ◌≢◌, ◌≤◌, ◌+◌, ◌↔◌, [], ◌∷◌, false, length, Err, IsOk, IsTrue, IfOk, IfErr, IfSome, OnOk, OnErr};
 ghost use Rattle.tape_core.specs.declared.refusal.Refusal.TheVariants.{OutOfMemory};
-ghost use Rattle.tapebox.specs.Batch.{INPUT_MOST, line_answer, tape_after_line};
-ghost use Rattle.tapebox.specs.BatchEnds.{IsReadEnd};
+ghost use Rattle.tapebox.specs.Batch.{line_answer, tape_after_line};
+ghost use Rattle.tapebox.specs.BatchEnds.{EndsReading, Fits};
 ghost use Rattle.tapebox.specs.Day.{AnswersMore, AnswersTaken};
 ghost use Rattle.tapebox.specs.Lines.{lines_of};
 ghost use Rattle.tapebox.specs.declared.line_refusal.LineRefusal.TheVariants.{Refused};
@@ -100,7 +100,7 @@ impl Day {
         ensures answered { OnOk result (AnswersTaken self.old self.new
             (B.remaining input.old.left) (B.remaining input.new.left) input.old.taken input.new.taken) }
         ensures grows { OnOk result (input.old.taken ≤ input.new.taken) }
-        ensures err { IfErr result (λ end. IfSome (B.remaining input.old.left) (λ bytes. IsReadEnd end (input.old.taken + length bytes))) }
+        ensures err { IfErr result (EndsReading (B.remaining input.old.left) input.old.taken) }
     {
         let piece = match input.left.fill_buf() {
             Ok(piece) => piece,
@@ -117,15 +117,16 @@ impl Day {
     }
 
     /// Answers all lines of an input: those that stand whole in a piece, then the one between two pieces, and so on. Where
-    /// memory runs out at a line, the rest is taken without memory, so that the input is known to fit.
+    /// memory runs out at a line, the rest is taken without memory, so that the input is known to fit. An error is that of
+    /// a failed read, of an input beyond the limit, or want of memory for an answer or a line between two pieces.
     pub fn answer_all<B: BufRead>(
         &mut self,
         input: &mut Input<B>,
         line: &mut Vec<u8>,
     ) -> Result<(), BatchEnd>
         ensures answered { OnOk result (IfSome (B.remaining input.old.left) (λ bytes. AnswersMore self.old self.new (lines_of bytes))) }
-        ensures fits { OnOk result (IfSome (B.remaining input.old.left) (λ bytes. input.old.taken + length bytes ≤ INPUT_MOST)) }
-        ensures err { IfErr result (λ end. IfSome (B.remaining input.old.left) (λ bytes. IsReadEnd end (input.old.taken + length bytes))) }
+        ensures fits { OnOk result (Fits (B.remaining input.old.left) input.old.taken) }
+        ensures err { IfErr result (EndsReading (B.remaining input.old.left) input.old.taken) }
     {
         self.answer_piece(input)?;
         while !self.is_stopped {
