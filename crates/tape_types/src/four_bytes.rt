@@ -6,13 +6,14 @@ ghost use Rattle.std.specs.Ordering.{nat_cmp};
 ghost use Rattle.std.proofs.Common.{rules};
 
 use std::cmp::Ordering;
+use std::fmt;
 use std::hash::{Hash, Hasher};
 use std::marker::Model;
 
 /// A number of 32 bits in its four bytes, the lowest first.
 ///
 /// It needs no place at a multiple of four, so that what holds it has no padding for it: a day keeps millions of them.
-#[derive(Clone, Copy, Debug)]
+#[derive(Clone, Copy)]
 pub struct FourBytes {
     bytes: [u8; 4],
 }
@@ -98,5 +99,11 @@ impl Hash for FourBytes {
 
     fn hash<H: Hasher>(&self, state: &mut H) {
         self.value().hash(state);
+    }
+}
+
+impl fmt::Debug for FourBytes {
+    fn fmt<W: fmt::Write>(&self, f: &mut fmt::Formatter<W>) -> fmt::Result {
+        write!(f, "{}", self.value())
     }
 }

@@ -11,7 +11,7 @@ mod size;
 mod symbol;
 mod tape_number;
 
-pub use listing::Listing;
+pub use listing::{Listing, MAX_PARTICIPANTS, MAX_SYMBOLS};
 pub use listing_fault::ListingFault;
 pub use msg_number::MsgNumber;
 pub use participant::Participant;

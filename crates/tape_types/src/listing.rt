@@ -13,10 +13,10 @@ use std::marker::Model;
 use std::slice;
 
 /// The greatest number of symbols of a listing.
-const MAX_SYMBOLS: usize = 4_096;
+pub const MAX_SYMBOLS: usize = 4_096;
 
 /// The greatest number of participants of a listing, one for each capital letter.
-const MAX_PARTICIPANTS: usize = 26;
+pub const MAX_PARTICIPANTS: usize = 26;
 
 /// The symbols and the participants of a day: each list in the order in which it was given, with no name twice.
 #[derive(Drop)]

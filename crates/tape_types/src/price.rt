@@ -8,6 +8,7 @@ ghost use Rattle.tape_types.specs.Ranges.{IsPrice};
 
 use crate::four_bytes::FourBytes;
 use std::cmp::Ordering;
+use std::fmt;
 use std::hash::{Hash, Hasher};
 use std::marker::Model;
 
@@ -18,7 +19,7 @@ const LOW_VALUES: u64 = 4_294_967_296;
 ///
 /// Its forty bits are kept in five bytes, so that a price needs no place at a multiple of eight, and a figure of a summary
 /// no padding for it: a day keeps millions of them.
-#[derive(Clone, Copy, Debug)]
+#[derive(Clone, Copy)]
 pub struct Price {
     low: FourBytes,
     high: u8,
@@ -107,5 +108,11 @@ impl Hash for Price {
 
     fn hash<H: Hasher>(&self, state: &mut H) {
         self.value().hash(state);
+    }
+}
+
+impl fmt::Debug for Price {
+    fn fmt<W: fmt::Write>(&self, f: &mut fmt::Formatter<W>) -> fmt::Result {
+        write!(f, "Price({})", self.value())
     }
 }

@@ -1,5 +1,5 @@
-//! What no clause says: that a listing is made where there is memory, and the printed names of its faults.
-use crate::{Listing, ListingFault, Participant, Symbol};
+//! What no clause says: that a listing is made where there is memory, the printed names of its faults, and printed numbers.
+use crate::{Listing, ListingFault, Participant, Price, Symbol, TapeNumber};
 use std::process::Abort;
 use std::test::Fail;
 
@@ -65,5 +65,16 @@ fn faults_of_a_listing_come_in_their_order(rt: HostRuntime) -> Result<(), Fail> 
         assert_eq!(rt; fault.code(), code);
         assert_eq!(rt; fault.to_string(rt.alloc())?.as_str(), name);
     }
+    Ok(())
+}
+
+#[test]
+fn a_number_is_printed_as_its_value(rt: HostRuntime) -> Result<(), Fail> {
+    let price = Price::try_new(999_999_999_999).ok_or("price")?;
+    let place = TapeNumber::try_new(1_048_576).ok_or("place")?;
+    assert_eq!(rt;
+        format!(in rt.alloc(); "{price:?} {place:?}")?.as_str(),
+        "Price(999999999999) TapeNumber { position: 1048576 }"
+    );
     Ok(())
 }
