@@ -227,3 +227,62 @@ pub fn batch_over<R: Read, W: Write>(alloc: Global, reader: &mut R, writer: &mut
         Err(end) => end,
     }
 }
+
+#[cfg(test)]
+mod tests {
+    use super::*;
+    use crate::LineRefusal;
+    use std::io;
+    use std::io::ErrorKind;
+    use std::test::Fail;
+    use tape_core::Refusal;
+    use tape_types::{Participant, Symbol};
+
+    /// A writer that keeps what it takes, and whether it was flushed behind that.
+    #[derive(Drop)]
+    struct Flushed {
+        taken: Vec<u8>,
+        is_flushed: bool,
+    }
+
+    impl Write for Flushed {
+        fn write(&mut self, buf: &[u8]) -> io::Result<usize> {
+            self.is_flushed = false;
+            match self.taken.extend_from_slice(buf) {
+                Ok(()) => Ok(buf.len()),
+                Err(_) => Err(io::Error::from(ErrorKind::OutOfMemory)),
+            }
+        }
+
+        fn flush(&mut self) -> io::Result<()> {
+            self.is_flushed = true;
+            Ok(())
+        }
+    }
+
+    #[test]
+    fn a_day_that_ran_out_of_memory_is_written_and_flushed(rt: HostRuntime) -> Result<(), Fail> {
+        let symbol = Symbol::try_new(*b"AB      ").ok_or("symbol")?;
+        let participant = Participant::try_new(b'N').ok_or("participant")?;
+        let listing = Listing::new(rt.alloc(), &[symbol], &[participant])?;
+        let mut day = Day::new(rt.alloc(), DayTape::new(rt.alloc(), listing, 1)?);
+        day.answers
+            .push(Err(LineRefusal::Refused(Refusal::OutOfMemory)))?;
+        day.is_stopped = true;
+
+        let read = Ok(day);
+        let mut gathered = Gathered::new(rt.alloc())?;
+        let mut writer = Flushed {
+            taken: Vec::new(rt.alloc()),
+            is_flushed: false,
+        };
+        let end = finish_batch(rt.alloc(), &read, &mut gathered, &mut writer);
+        assert_eq!(rt; end, BatchEnd::OutOfMemory);
+        assert_eq!(rt;
+            writer.taken.as_slice(),
+            b"refused 40 OutOfMemory\n".as_slice()
+        );
+        assert!(rt; writer.is_flushed);
+        Ok(())
+    }
+}
