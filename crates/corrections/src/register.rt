@@ -72,6 +72,9 @@ impl Register {
     }
 
     /// The place of the report that a participant's target names, where it is of the symbol and stands.
+    ///
+    /// Refused, the first that applies: `NoSuchReport` where no report of the participant has the number, `OtherSymbol`
+    /// where the report is of another symbol, and `Cancelled` where it was cancelled.
     pub fn find(
         &self,
         who: Participant,
@@ -165,6 +168,10 @@ mod tests {
             Err(TargetFault::Cancelled)
         );
         assert_eq!(rt; register.last_number(who), 0);
+        assert_eq!(rt;
+            TargetFault::Cancelled.to_string(rt.alloc())?.as_str(),
+            "Cancelled"
+        );
         Ok(())
     }
 

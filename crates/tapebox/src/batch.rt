@@ -203,7 +203,8 @@ fn finish_batch<W: Write>(
     }
 }
 
-/// Reads a batch whole, and writes its answers and its report, in large pieces that are flushed once at the end.
+/// Reads a batch whole, and writes its answers and its report, in large pieces that are flushed once at the end. How it
+/// ends, and what stands written then, `BatchEnd` tells.
 pub fn batch_over<R: Read, W: Write>(alloc: Global, reader: &mut R, writer: &mut W) -> BatchEnd
     // What was written is the text of the whole input and nothing else, or what the end says.
     ensures wrote { IfSome (R.remaining reader.old) (λ input. Wrote result input (W.contents writer.old) (W.contents writer.new)) }

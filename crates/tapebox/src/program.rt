@@ -50,7 +50,9 @@ pub fn report_end<E: Write>(errors: &mut E, end: BatchEnd) -> u8
 /// gives its status.
 ///
 /// `batch` reads a batch from `reader` and writes its text to `writer`; any other words are bad arguments, and then
-/// nothing is read or written. What goes wrong is said on `errors`, by one line.
+/// nothing is read or written. What goes wrong is said on `errors`, by one line. The status is 0 where the batch is done,
+/// 2 for a refused header, an input too large or other words, 3 for a read fault, 4 for a write fault and 5 for want of
+/// memory.
 pub fn program<R: Read, W: Write, E: Write>(
     alloc: Global,
     words: &[u8],

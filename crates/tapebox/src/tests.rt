@@ -1,4 +1,5 @@
-//! Worked rows, headers and lines of every kind, readers that give an input in pieces, and the program's statuses.
+//! Worked rows, headers and lines of every kind, readers that give an input in pieces, writers that
+//! count, and the program's statuses.
 
 use crate::{BatchEnd, batch_over};
 use std::alloc::Global;
@@ -8,6 +9,7 @@ mod headers;
 mod readers;
 mod rows;
 mod statuses;
+mod writers;
 
 /// Asserts that a batch over `input` is done and writes `text`.
 fn assert_writes<A: Abort>(rt: &A, alloc: Global, input: &[u8], text: &[u8]) {
