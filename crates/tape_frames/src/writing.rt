@@ -1,0 +1,144 @@
+//! A packet written as its spelling.
+ghost use Rattle.std.specs.Prelude.{◌≡◌, ◌+◌, ◌≤◌, ◌++◌, ◌∷◌, [], All, length, take, drop, OnOk, OnErr, IfSome, List, flat_map, is_some};
+ghost use Rattle.std.specs.Int.{w8, w16, w32, w64, to_be_bytes};
+ghost use Rattle.reports.specs.Rows.{Puts};
+ghost use Rattle.tape_frames.specs.Rows.{Carries, IsRow, first_number};
+ghost use Rattle.tape_frames.specs.Spelling.{IsEntry, IsFigure, IsMark, IsPacket, IsSummary, bit, carried_text, entry_text, figure_text, header_text, mark_text, packet_text, presence, summary_text};
+
+use crate::{EntryCount, Packet, Row};
+use reports::{encode_into, put};
+use scratch_fold::{Mark, Summary};
+use std::alloc::AllocError;
+use tape_core::Entry;
+
+/// How many bytes the longest packet has: its header, and eight corrections.
+const LONGEST_PACKET: usize = 919;
+
+/// Appends the packet's spelling to the text, which want of memory leaves as it was.
+pub fn write_packet(packet: &Packet, text: &mut Vec<u8>) -> Result<(), AllocError>
+    ensures ok { OnOk result (text.new.items ≡ text.old.items ++ packet_text packet.now) }
+    // With `ok`, what was written spells the packet.
+    ensures valid { IsPacket packet.now }
+    ensures short { length (packet_text packet.now) ≤ 919 }
+    ensures err { OnErr result (text.new.items ≡ text.old.items) }
+{
+    let mut row = [0; LONGEST_PACKET];
+    let end = put_packet(&mut row, packet);
+    text.extend_from_slice(&row[..end])
+}
+
+// Each of these puts a text behind the first `at` bytes of the row, and answers where the text ends.
+
+/// The whole packet, at the front of the row.
+fn put_packet(row: &mut [u8], packet: &Packet) -> usize
+    requires { 919 ≤ length row.old }
+    ensures puts { Puts 0 (packet_text packet.now) row.old row.new result }
+    ensures valid { IsPacket packet.now }
+{
+    match packet {
+        Packet::Data { session, entries } => {
+            let entries = entries.entries();
+            let first = entries[0].number.value();
+            let at = put_header(row, b'D', *session, first, entries.len() as u8);
+            put_entries(row, at, entries)
+        }
+        Packet::Beat { session, last } => put_header(row, b'H', *session, last.value(), 0),
+        Packet::End { session, count } => put_header(row, b'E', *session, count.value(), 0),
+    }
+}
+
+/// Version, kind, session, number and count, at the front of the row.
+fn put_header(row: &mut [u8], kind: u8, session: u64, number: u32, count: u8) -> usize
+    requires { 15 ≤ length row.old }
+    ensures puts { Puts 0 (header_text kind session number count) row.old row.new result }
+{
+    let at = put(row, 0, &[1, kind]);
+    let at = put(row, at, &session.to_be_bytes());
+    let at = put(row, at, &number.to_be_bytes());
+    put(row, at, &[count])
+}
+
+/// The entries, one behind the other.
+fn put_entries(row: &mut [u8], at: usize, entries: &[Entry]) -> usize
+    requires few { length entries.now ≤ 8 }
+    requires carry { All Carries entries.now }
+    requires room { at + 904 ≤ length row.old }
+    ensures puts { Puts at (flat_map entry_text entries.now) row.old row.new result }
+    ensures valid { All IsEntry entries.now }
+{
+    let mut at = at;
+    for entry in entries {
+        at = put_entry(row, at, entry);
+    }
+    at
+}
+
+/// An entry: its number, its message, and what it carries.
+fn put_entry(row: &mut [u8], at: usize, entry: &Entry) -> usize
+    requires room { at + 113 ≤ length row.old }
+    requires carries { Carries entry.now }
+    ensures puts { Puts at (entry_text entry.now) row.old row.new result }
+    ensures within { result ≤ at + 113 }
+    ensures valid { IsEntry entry.now }
+{
+    let at = put(row, at, &entry.number.value().to_be_bytes());
+    let mut text = [0; 44];
+    let len = encode_into(&entry.message, &mut text);
+    let at = put(row, at, &text[..len]);
+    match &entry.after {
+        None => at,
+        Some(summary) => put_summary(row, at, summary),
+    }
+}
+
+/// A summary: which marks are there, the marks, and the two sums.
+fn put_summary(row: &mut [u8], at: usize, summary: &Summary) -> usize
+    requires { at + 65 ≤ length row.old }
+    ensures puts { Puts at (summary_text summary.now) row.old row.new result }
+    ensures len { result ≡ at + 65 }
+    ensures valid { IsSummary summary.now }
+{
+    let at = put(row, at, &[presence(summary)]);
+    let at = put_figure(row, at, &summary.opening);
+    let at = put_figure(row, at, &summary.high);
+    let at = put_figure(row, at, &summary.low);
+    let at = put_figure(row, at, &summary.last);
+    let at = put(row, at, &summary.volume.to_be_bytes());
+    put(row, at, &summary.trades.to_be_bytes())
+}
+
+/// Which marks are there: a bit for each, from the lowest.
+fn presence(summary: &Summary) -> u8
+    ensures value { result ≡ presence summary.now }
+    ensures low { result ≤ 15 }
+{
+    u8::from(summary.opening.is_some())
+        + 2 * u8::from(summary.high.is_some())
+        + 4 * u8::from(summary.low.is_some())
+        + 8 * u8::from(summary.last.is_some())
+}
+
+/// A mark that is there, or zeros.
+fn put_figure(row: &mut [u8], at: usize, figure: &Option<Mark>) -> usize
+    requires { at + 13 ≤ length row.old }
+    ensures puts { Puts at (figure_text figure.now) row.old row.new result }
+    ensures len { result ≡ at + 13 }
+    ensures valid { IsFigure figure.now }
+{
+    match figure {
+        None => put(row, at, &[0; 13]),
+        Some(mark) => put_mark(row, at, mark),
+    }
+}
+
+/// The mark of a report.
+fn put_mark(row: &mut [u8], at: usize, mark: &Mark) -> usize
+    requires { at + 13 ≤ length row.old }
+    ensures puts { Puts at (mark_text mark.now) row.old row.new result }
+    ensures len { result ≡ at + 13 }
+    ensures valid { IsMark mark.now }
+{
+    let at = put(row, at, &mark.price.value().to_be_bytes());
+    let at = put(row, at, &mark.place.value().to_be_bytes());
+    put(row, at, &[mark.who.value()])
+}
