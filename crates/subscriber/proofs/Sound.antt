@@ -1,0 +1,318 @@
+-- What every event of a schedule keeps.
+use Rattle.std.proofs.Common.{◌≡◌, ℕ, zero, suc, ◌+◌, ◌-◌, ◌≤◌, true, false, List, [], ◌∷◌, ◌++◌, length, take, drop, Option, None, Some, refl, sym, ap, subst, ◌∙◌, arith, length-append, length-take-le, append_assoc}
+use Rattle.std.specs.Prelude.{slice_get, IfSome, is_some}
+use Rattle.std.specs.Option.{option_or}
+use Rattle.std.proofs.lemmas.List.{length_push, length-replicate, take-append-drop}
+use Rattle.std.proofs.Math.Seq.{take-append_seam}
+use Rattle.std.proofs.lemmas.Bool.{cond-true, cond-false, both_ways}
+use Rattle.std.proofs.lemmas.Option.{none-some, same_Some}
+use Rattle.tape_types.specs.Names.{Names}
+use Rattle.reports.specs.declared.message.Message.{Message}
+use Rattle.tape_core.specs.declared.entry.Entry.{Entry}
+use Rattle.tape_core.specs.declared.refusal.Refusal.{Refusal}
+use Rattle.tape_core.specs.Laws.{limit_refusal}
+use Rattle.tape_core.specs.Tape.{TapeState, IsLegal, refusal, next_entry, with_message}
+use Rattle.tape_core.proofs.LegalNext.{IsLegal-with_message, admissible}
+use Rattle.tape_core.proofs.LegalPrefix.{number-next, refusal-next, entry-next}
+use Rattle.tape_frames.specs.declared.packet.Packet.{Packet}
+use Rattle.tape_frames.specs.declared.packet.Packet.TheVariants.{Data, Beat, End}
+use Rattle.tape_frames.specs.Rows.{IsNumberedFrom, last_number}
+use Rattle.tape_frames.specs.Packets.{session_of, entries_of, last_of, end_of}
+use Rattle.tape_frames.proofs.Numbers.{slice_get-append-add, slice_get-append-lt}
+use Rattle.arbitration.specs.declared.line.Line.{Line}
+use Rattle.arbitration.specs.Windows.{entry_numbered, next_of, flat, reach}
+use Rattle.arbitration.proofs.Numbers.{find_place}
+use Rattle.arbitration.proofs.Settled.{length-slots_after}
+use Rattle.subscriber.specs.Subscribers.{NextIsOwn, own_entry, with_entry, subscriber_after_entry, subscriber_after}
+use Rattle.subscriber.specs.Schedules.{World, Event, Admits, Closes, Comes, Drains, Restarts, world_after, run, start, IsCut, IsAllowed, IsSchedule, LeadsTo, tape_after}
+use Rattle.subscriber.proofs.Parts.{part_at, part_stands, part_last}
+use Rattle.subscriber.proofs.Due.{FromDue, FromDue-replicate, FromDue-grow, FromDue-append, FromDue-slots_after}
+use Rattle.subscriber.proofs.Turns.{after_entry-admitted, after_entry-refused, own_runs}
+use Rattle.subscriber.proofs.Legal.{IsLegal-empty}
+
+-- a world that a schedule leads to: the entries that are due were announced and are not held yet
+pub record IsSound (w : World) : Type 0 where
+  pub due : List Entry
+  pub later : List Entry
+  pub legal : IsLegal w.tape
+  pub tape : w.tape.entries ≡ w.subscriber.tape.entries ++ (due ++ later)
+  pub listing : w.subscriber.tape.listing ≡ w.tape.listing
+  pub limit : w.subscriber.tape.limit ≡ w.limit
+  pub unclosed : w.subscriber.tape.closed ≡ false
+  pub base : w.subscriber.window.base ≡ length w.subscriber.tape.entries
+  pub announced : w.subscriber.window.announced ≡ length w.subscriber.tape.entries + length due
+  pub slots : FromDue w.subscriber.window.slots due
+  pub session : w.subscriber.window.session ≡ w.session
+  pub size : length w.subscriber.window.slots ≡ reach
+  pub ended : IfSome w.subscriber.window.ended (λ count. (w.tape.closed ≡ true) × (count ≡ length w.tape.entries))
+  pub running : w.subscriber.failed ≡ false
+
+-- a list whose entries have the numbers of their places
+numbered_places : (first : ℕ) (es : List Entry) → ((k : ℕ) (e : Entry) → slice_get es k ≡ Some e → e.number ≡ first + k) → IsNumberedFrom first es
+numbered_places first [] h = tt
+numbered_places first (e ∷ es) h =
+    (h 0 e refl ∙ omega arith, numbered_places (first + 1) es (λ k x found. h (suc k) x found ∙ omega arith))
+
+pub legal-numbered : (t : TapeState) → IsLegal t → IsNumberedFrom 1 t.entries
+legal-numbered t legal = numbered_places 1 t.entries (λ k e found. number-next t k e legal found ∙ omega arith)
+
+pub start-sound : (listing : Names) (tape_limit limit session : ℕ) → IsSound (start listing tape_limit limit session)
+start-sound listing tape_limit limit session = record {
+  due = [];
+  later = [];
+  legal = IsLegal-empty listing tape_limit;
+  tape = refl;
+  listing = refl;
+  limit = refl;
+  unclosed = refl;
+  base = refl;
+  announced = refl;
+  slots = FromDue-replicate reach [];
+  session = refl;
+  size = length-replicate reach None;
+  ended = tt;
+  running = refl;
+}
+
+-- a message is admitted, so the tape is open
+admits : (w : World) (m : Message) → IsSound w → refusal w.tape m ≡ None → IsSound (record w { tape = with_message w.tape m })
+admits w m s free = record {
+  due = s.due;
+  later = s.later ++ next_entry w.tape.entries m ∷ [];
+  legal = IsLegal-with_message w.tape m s.legal free;
+  tape =
+      ap (λ t. t ++ next_entry w.tape.entries m ∷ []) s.tape ∙ append_assoc w.subscriber.tape.entries (s.due ++ s.later) _
+      ∙ ap (λ t. w.subscriber.tape.entries ++ t) (append_assoc s.due s.later _);
+  listing = s.listing;
+  limit = s.limit;
+  unclosed = s.unclosed;
+  base = s.base;
+  announced = s.announced;
+  slots = s.slots;
+  session = s.session;
+  size = s.size;
+  ended = not_ended w.subscriber.window.ended s.ended;
+  running = s.running;
+}
+  where
+    not_ended : (o : Option ℕ) → IfSome o (λ count. (w.tape.closed ≡ true) × (count ≡ length w.tape.entries))
+        → IfSome o (λ count. (w.tape.closed ≡ true) × (count ≡ length (w.tape.entries ++ next_entry w.tape.entries m ∷ [])))
+    not_ended None h = tt
+    not_ended (Some count) h = absurd (both_ways w.tape.closed (admissible w.tape m free).open_tape h.0)
+
+-- a tape is sent a message
+sends : (w : World) (m : Message) → IsSound w → IsSound (record w { tape = tape_after w.tape m })
+sends w m s = by (refusal w.tape m) refl
+  where
+    by : (r : Option Refusal) → refusal w.tape m ≡ r → IsSound (record w { tape = tape_after w.tape m })
+    by None free =
+        subst (λ t. IsSound (record w { tape = t })) (sym (cond-false (is_some (refusal w.tape m)) w.tape (with_message w.tape m) (ap is_some free))) (admits w m s free)
+    by (Some r) refused =
+        subst (λ t. IsSound (record w { tape = t })) (sym (cond-true (is_some (refusal w.tape m)) w.tape (with_message w.tape m) (ap is_some refused))) s
+
+-- what a packet that was cut of the tape tells
+pub record Tells (w : World) (packet : Packet) : Type 0 where
+  pub session : session_of packet ≡ w.session
+  pub stands : (k : ℕ) (e : Entry) → slice_get (entries_of packet) k ≡ Some e → (m : ℕ) × (e.number ≡ suc m) × (slice_get w.tape.entries m ≡ Some e)
+  pub part : (m : ℕ) (e : Entry) → entry_numbered (1 + m) (entries_of packet) ≡ Some e → (slice_get w.tape.entries m ≡ Some e) × (suc m ≤ last_of packet)
+  pub last : last_of packet ≤ length w.tape.entries
+  pub ended : IfSome (end_of packet) (λ count. (w.tape.closed ≡ true) × (count ≡ length w.tape.entries))
+
+pub tells : (w : World) (packet : Packet) → IsLegal w.tape → IsCut w packet → Tells w packet
+tells w (Data session row) legal cut =
+    let numbers = legal-numbered w.tape legal in
+    let last = part_last w.tape.entries row numbers cut.1 in
+    record {
+      session = cut.0;
+      stands = part_stands w.tape.entries row numbers cut.1;
+      part = λ m e found.
+          let place = find_place row (1 + m) e found in
+          let below : e.number ≤ last_number row = last.1 place.0 e place.1 in
+          let number : e.number ≡ 1 + m = place.2 in
+          (part_at w.tape.entries row numbers cut.1 m e found, omega arith);
+      last = last.0;
+      ended = tt;
+    }
+tells w (Beat session last) legal cut = record {
+  session = cut.0;
+  stands = λ k e found. absurd (none-some e found);
+  part = λ m e found. absurd (none-some e found);
+  last = cut.1;
+  ended = tt;
+}
+tells w (End session count) legal cut = record {
+  session = cut.0;
+  stands = λ k e found. absurd (none-some e found);
+  part = λ m e found. absurd (none-some e found);
+  last = (let p : count ≡ length w.tape.entries = cut.2 in omega arith);
+  ended = (cut.1, cut.2);
+}
+
+either_end : (P : ℕ → Type 0) (one other : Option ℕ) → IfSome one P → IfSome other P → IfSome (option_or one other) P
+either_end P None other h k = k
+either_end P (Some x) other h k = h
+
+pub comes : (w : World) (line : Line) (packet : Packet) → IsSound w → Tells w packet → IsSound (world_after w (Comes line packet))
+comes w line packet s told' =
+    let held = w.subscriber.tape.entries in
+    let window = w.subscriber.window in
+    let more = last_of packet - window.announced in
+    let size : length w.tape.entries ≡ length held + (length s.due + length s.later) = ap length s.tape ∙ length-append held _ ∙ ap (λ n. length held + n) (length-append s.due s.later) in
+    let announced : window.announced ≡ length held + length s.due = s.announced in
+    let last : last_of packet ≤ length w.tape.entries = told'.last in
+    let base : window.base ≡ length held = s.base in
+    let fits : more ≤ length s.later = omega arith in
+    let length_due : length (s.due ++ take more s.later) ≡ length s.due + more = length-append s.due _ ∙ ap (λ n. length s.due + n) (length-take-le more s.later fits) in
+    let tape : w.tape.entries ≡ held ++ ((s.due ++ take more s.later) ++ drop more s.later) =
+    s.tape ∙ ap (λ t. held ++ t) (ap (λ t. s.due ++ t) (sym (take-append-drop more s.later)) ∙ sym (append_assoc s.due _ _)) in
+    record {
+      due = s.due ++ take more s.later;
+      later = drop more s.later;
+      legal = s.legal;
+      tape = tape;
+      listing = s.listing;
+      limit = s.limit;
+      unclosed = s.unclosed;
+      base = s.base;
+      announced = omega arith;
+      slots = FromDue-slots_after (window.base + 1) window.slots _ (entries_of packet) (FromDue-grow window.slots s.due _ s.slots) (λ k e found.
+          let m : (window.base + 1) + k ≡ 1 + (window.base + k) = omega arith in
+          let at_tape = told'.part (window.base + k) e (ap (λ n. entry_numbered n (entries_of packet)) (sym m) ∙ found) in
+          let reached : suc (window.base + k) ≤ last_of packet = at_tape.1 in
+          let same_place : length held + k ≡ window.base + k = omega arith in
+          sym (slice_get-append-lt _ (drop more s.later) k (omega arith))
+          ∙ sym (slice_get-append-add held _ k)
+          ∙ ap (slice_get (held ++ ((s.due ++ take more s.later) ++ drop more s.later))) same_place
+          ∙ ap (λ t. slice_get t (window.base + k)) (sym tape) ∙ at_tape.0);
+      session = s.session;
+      size = length-slots_after (window.base + 1) window.slots (entries_of packet) ∙ s.size;
+      ended = either_end _ (end_of packet) window.ended told'.ended s.ended;
+      running = s.running;
+    }
+
+-- the next entry that is ready is the next that is due
+next_due : (slots : List (Option Entry)) (due : List Entry) (e : Entry) → FromDue slots due → flat (slice_get slots 0) ≡ Some e → (rest : List Entry) × (due ≡ e ∷ rest) × FromDue (drop 1 slots) rest
+next_due [] due e h next = absurd (none-some e next)
+next_due (slot ∷ slots) [] e h next = absurd (none-some e (sym h.0 ∙ next))
+next_due (None ∷ slots) (d ∷ due) e h next = absurd (none-some e next)
+next_due (Some x ∷ slots) (d ∷ due) e h next = (due, ap (λ y. y ∷ due) (sym h.0 ∙ same_Some x e next), h.1)
+
+same_size : (slots : List (Option Entry)) (e : Entry) → flat (slice_get slots 0) ≡ Some e → length (drop 1 slots ++ None ∷ []) ≡ length slots
+same_size [] e next = absurd (none-some e next)
+same_size (x ∷ slots) e next = length_push slots None ∙ omega arith
+
+-- the next entry that is ready: it is the tape's next behind those that are held
+pub record IsNext (w : World) (e : Entry) : Type 0 where
+  pub own : own_entry w.subscriber e.message ≡ e
+  pub refused : refusal w.subscriber.tape e.message ≡ limit_refusal w.subscriber.tape
+
+pub next_ready : (w : World) (e : Entry) → IsSound w → next_of w.subscriber.window ≡ Some e → IsNext w e
+next_ready w e s next =
+    let held = w.subscriber.tape.entries in
+    let first = next_due w.subscriber.window.slots s.due e s.slots next in
+    let whole : w.tape.entries ≡ held ++ (e ∷ (first.0 ++ s.later)) = s.tape ∙ ap (λ d. held ++ (d ++ s.later)) first.1 in
+    let place : length held + 0 ≡ length held = omega arith in
+    let at : slice_get w.tape.entries (length held) ≡ Some e =
+    ap (λ t. slice_get t (length held)) whole ∙ ap (slice_get (held ++ (e ∷ (first.0 ++ s.later)))) (sym place) ∙ slice_get-append-add held (e ∷ (first.0 ++ s.later)) 0 in
+    let front : held ≡ take (length held) w.tape.entries = sym (ap (take (length held)) whole ∙ take-append_seam held (e ∷ (first.0 ++ s.later))) in
+    record {
+      own = entry-next w.tape w.subscriber.tape (length held) e s.legal at front;
+      refused = refusal-next w.tape w.subscriber.tape (length held) e s.legal at s.listing front;
+    }
+
+pub takes : (w : World) (e : Entry) → IsSound w → next_of w.subscriber.window ≡ Some e → IsSound (record w { subscriber = with_entry e w.subscriber })
+takes w e s next =
+    let held = w.subscriber.tape.entries in
+    let first = next_due w.subscriber.window.slots s.due e s.slots next in
+    let own : own_entry w.subscriber e.message ≡ e = (next_ready w e s next).own in
+    let base : w.subscriber.window.base ≡ length held = s.base in
+    let announced : w.subscriber.window.announced ≡ length held + length s.due = s.announced in
+    let size : length s.due ≡ suc (length first.0) = ap length first.1 in
+    let size_held = length-append held (own_entry w.subscriber e.message ∷ []) in
+    record {
+      due = first.0;
+      later = s.later;
+      legal = s.legal;
+      tape =
+          s.tape ∙ ap (λ d. held ++ (d ++ s.later)) first.1 ∙ sym (append_assoc held (e ∷ []) (first.0 ++ s.later))
+          ∙ ap (λ x. (held ++ x ∷ []) ++ (first.0 ++ s.later)) (sym own);
+      listing = s.listing;
+      limit = s.limit;
+      unclosed = s.unclosed;
+      base = omega arith;
+      announced = omega arith;
+      slots = FromDue-append (drop 1 w.subscriber.window.slots) 1 first.0 first.2;
+      session = s.session;
+      size = same_size w.subscriber.window.slots e next ∙ s.size;
+      ended = s.ended;
+      running = own_runs w.subscriber e own;
+    }
+
+pub replays : (w : World) (o : Option Entry) → IsSound w → next_of w.subscriber.window ≡ o → IsSound (record w { subscriber = subscriber_after_entry o w.subscriber })
+replays w None s next = s
+replays w (Some e) s next = by (refusal w.subscriber.tape e.message) refl
+  where
+    by : (r : Option Refusal) → refusal w.subscriber.tape e.message ≡ r → IsSound (record w { subscriber = subscriber_after_entry (Some e) w.subscriber })
+    by None free = subst (λ t. IsSound (record w { subscriber = t })) (sym (after_entry-admitted w.subscriber e s.running free)) (takes w e s next)
+    by (Some r) refused = subst (λ t. IsSound (record w { subscriber = t })) (sym (after_entry-refused w.subscriber e (ap is_some refused))) s
+
+pub drains : (n : ℕ) (w : World) → IsSound w → IsSound (record w { subscriber = subscriber_after n w.subscriber })
+drains zero w s = s
+drains (suc n) w s = drains n (record w { subscriber = subscriber_after_entry (next_of w.subscriber.window) w.subscriber }) (replays w (next_of w.subscriber.window) s refl)
+
+pub keeps : (w : World) (event : Event) → IsSound w → IsAllowed w event → IsSound (world_after w event)
+keeps w (Admits message) s ok = sends w message s
+keeps w Closes s ok = record {
+  due = s.due;
+  later = s.later;
+  legal = s.legal;
+  tape = s.tape;
+  listing = s.listing;
+  limit = s.limit;
+  unclosed = s.unclosed;
+  base = s.base;
+  announced = s.announced;
+  slots = s.slots;
+  session = s.session;
+  size = s.size;
+  ended = shut w.subscriber.window.ended s.ended;
+  running = s.running;
+}
+  where
+    shut : (o : Option ℕ) → IfSome o (λ count. (w.tape.closed ≡ true) × (count ≡ length w.tape.entries)) → IfSome o (λ count. (true ≡ true) × (count ≡ length w.tape.entries))
+    shut None h = tt
+    shut (Some count) h = (refl, h.1)
+keeps w (Comes line packet) s ok = comes w line packet s (tells w packet s.legal ok)
+keeps w (Drains count) s ok = drains count w s
+keeps w Restarts s ok = record {
+  due = [];
+  later = w.tape.entries;
+  legal = s.legal;
+  tape = refl;
+  listing = refl;
+  limit = refl;
+  unclosed = refl;
+  base = refl;
+  announced = refl;
+  slots = FromDue-replicate reach [];
+  session = refl;
+  size = length-replicate reach None;
+  ended = tt;
+  running = refl;
+}
+
+pub keeps_all : (events : List Event) (w : World) → IsSound w → IsSchedule w events → IsSound (run w events)
+keeps_all [] w s ok = s
+keeps_all (event ∷ events) w s ok = keeps_all events (world_after w event) (keeps w event s ok.0) ok.1
+
+pub sound : (events : List Event) (w : World) → LeadsTo events w → IsSound w
+sound events w h =
+    subst IsSound h.ends (keeps_all events (start h.listing h.tape_limit h.limit h.session) (start-sound h.listing h.tape_limit h.limit h.session) h.allowed)
+
+-- the next entry that is ready is the own tape's
+pub next_own : (w : World) → IsSound w → NextIsOwn w.subscriber
+next_own w s = go (next_of w.subscriber.window) refl
+  where
+    go : (o : Option Entry) → next_of w.subscriber.window ≡ o → IfSome o (λ e. own_entry w.subscriber e.message ≡ e)
+    go None next = tt
+    go (Some e) next = (next_ready w e s next).own
