@@ -1,9 +1,8 @@
-//! The day: which messages are admitted, and the reports that stand.
+//! The day: which messages are admitted.
 
 use crate::header::Names;
-use crate::keep::Keep;
-use crate::message::{Content, Kind, Message};
-use crate::summary::Mark;
+use crate::keep::{Keep, Named};
+use crate::message::{Kind, Message};
 use std::collections::HashMap;
 use std::hash::{BuildHasherDefault, Hasher};
 use std::num::NonZeroU32;
@@ -11,44 +10,29 @@ use std::num::NonZeroU32;
 /// The greatest tape number.
 const LIMIT: u32 = 1_048_576;
 
-/// A report in its place on the tape.
-pub struct Report {
-    /// As reported, or as last corrected.
-    pub content: Content,
+/// A report as a later message names it.
+struct Report {
     /// The tape number of its first admission.
-    pub place: NonZeroU32,
+    place: NonZeroU32,
     /// The symbol's position in the listing.
-    pub symbol: u16,
-    /// A letter.
-    pub participant: u8,
+    symbol: u16,
     /// Whether it is not cancelled.
-    pub stands: bool,
-}
-
-impl Report {
-    /// Its price with where it was traded.
-    pub fn mark(&self) -> Mark {
-        Mark {
-            price: self.content.price,
-            place: self.place,
-            participant: self.participant,
-        }
-    }
+    stands: bool,
 }
 
 /// A day over its names, with what is kept of each message.
 pub struct Day<K> {
     /// The listed symbols and participants.
     pub names: Names,
-    /// By rising place.
-    pub reports: Vec<Report>,
     /// What is kept of the admitted messages.
     pub kept: K,
     positions: Map<u16>,
+    /// By rising place.
+    reports: Vec<Report>,
     /// A participant's letter and message number, to the report's index.
     sent: Map<u32>,
-    /// By letter: whether it is listed, and its last number.
-    listed: [bool; 26],
+    /// By letter: its position in the listing, and its last number.
+    listed: [Option<u8>; 26],
     last: [u32; 26],
     length: u32,
 }
@@ -60,13 +44,13 @@ impl<K: Keep> Day<K> {
         for (position, symbol) in names.symbols.iter().enumerate() {
             positions.insert(u64::from_be_bytes(*symbol), position as u16);
         }
-        let mut listed = [false; 26];
-        for letter in &names.participants {
-            listed[index(*letter)] = true;
+        let mut listed = [None; 26];
+        for (position, letter) in (0..).zip(&names.participants) {
+            listed[index(*letter)] = Some(position);
         }
         Day {
             reports: Vec::with_capacity(reports),
-            kept: K::with_room(names.symbols.len(), entries),
+            kept: K::with_room(&names, reports, entries),
             names,
             positions,
             sent: Map::with_capacity_and_hasher(reports, Folding::default()),
@@ -82,43 +66,42 @@ impl<K: Keep> Day<K> {
         if self.length == LIMIT {
             return Err("32 Full");
         }
-        if !self.listed[letter] {
-            return Err("34 UnknownParticipant");
-        }
+        let participant = self.listed[letter].ok_or("34 UnknownParticipant")?;
         if message.number <= self.last[letter] {
             return Err("35 Stale");
         }
         let symbol = u64::from_be_bytes(message.symbol);
         let symbol = *self.positions.get(&symbol).ok_or("36 UnknownSymbol")?;
-        let index = match &message.kind {
-            Kind::Report(content) => self.record(&message, symbol, content),
+        let number = NonZeroU32::MIN.saturating_add(self.length);
+        let index = match message.kind {
+            Kind::Report(_) => self.record(&message, symbol, number),
             Kind::Cancel { target } => {
-                let index = self.named(&message, symbol, *target)?;
+                let index = self.named(&message, symbol, target)?;
                 self.reports[index as usize].stands = false;
                 index
             }
-            Kind::Correct { target, content } => {
-                let index = self.named(&message, symbol, *target)?;
-                self.reports[index as usize].content = *content;
-                index
-            }
+            Kind::Correct { target, .. } => self.named(&message, symbol, target)?,
         };
         self.last[letter] = message.number;
         self.length += 1;
-        self.kept.keep(self.length, message, index, &self.reports);
+        let report = Named {
+            index,
+            place: self.reports[index as usize].place,
+            symbol,
+            participant,
+        };
+        self.kept.keep(number, message, report);
         Ok(self.length)
     }
 
     /// Adds the message's report, and answers its index.
-    fn record(&mut self, message: &Message, symbol: u16, content: &Content) -> u32 {
+    fn record(&mut self, message: &Message, symbol: u16, place: NonZeroU32) -> u32 {
         let index = self.reports.len() as u32;
         self.sent
             .insert(key(message.participant, message.number), index);
         self.reports.push(Report {
-            content: *content,
-            place: NonZeroU32::MIN.saturating_add(self.length),
+            place,
             symbol,
-            participant: message.participant,
             stands: true,
         });
         index

@@ -1,58 +1,103 @@
-//! What a day keeps beside its reports: the whole tape, or nothing.
+//! What a day keeps beside the names of its reports: the whole tape with its summaries, or the reports alone.
 
-use crate::day::Report;
-use crate::message::{Kind, Message};
-use crate::summary::Summary;
+use crate::header::Names;
+use crate::message::{Content, Kind, Message};
+use crate::store::{Effect, Store};
+use crate::summary::{Mark, Summary};
+use std::num::NonZeroU32;
+
+/// The report that a message makes or names.
+#[derive(Clone, Copy)]
+pub struct Named {
+    /// How many reports were made before it.
+    pub index: u32,
+    /// The tape number of its first admission.
+    pub place: NonZeroU32,
+    /// The symbol's position in the listing.
+    pub symbol: u16,
+    /// The participant's position in the listing.
+    pub participant: u8,
+}
 
 /// What a day keeps of each admitted message.
 pub trait Keep {
-    /// Nothing kept yet, with room for so many entries over so many symbols.
-    fn with_room(symbols: usize, entries: usize) -> Self;
+    /// Nothing kept yet, with room for so many reports and entries.
+    fn with_room(names: &Names, reports: usize, entries: usize) -> Self;
 
-    /// Keeps a message with its tape number, the index of the report that it makes or names, and the reports after it.
-    fn keep(&mut self, number: u32, message: Message, index: u32, reports: &[Report]);
+    /// Keeps a message with its tape number and the report that it makes or names.
+    fn keep(&mut self, number: NonZeroU32, message: Message, report: Named);
+
+    /// Per symbol its consolidated summary and then its participants', in the order of the listing.
+    fn summaries(&self, names: &Names) -> Vec<Summary>;
 }
 
-/// The numbered tape.
+/// The numbered tape, with each summary exact after each message.
 pub struct Tape {
     /// By tape number, from 1.
     pub entries: Vec<Entry>,
-    /// By a symbol's position, the indices of its reports that stand, by rising place.
-    standing: Vec<Vec<u32>>,
+    /// By a symbol's position.
+    books: Vec<Book>,
 }
 
 /// An admitted message.
 #[derive(Clone, Copy, Debug, PartialEq, Eq)]
 pub struct Entry {
     /// The tape number.
-    pub number: u32,
+    pub number: NonZeroU32,
     /// The message as it came.
     pub message: Message,
     /// The symbol's consolidated summary after a cancel or a correction.
     pub after: Option<Summary>,
 }
 
+/// A symbol's reports that stand.
+#[derive(Default)]
+struct Book {
+    consolidated: Store,
+    /// By a participant's position, as far as a report has needed the row.
+    own: Vec<Store>,
+}
+
+impl Book {
+    fn put(&mut self, report: Named, message: &Message, content: &Content) {
+        let own = usize::from(report.participant);
+        if self.own.len() <= own {
+            self.own.resize_with(own + 1, Store::default);
+        }
+        let [whole, part] = [0, 1].map(|column| Effect::new(message.participant, content, column));
+        self.consolidated.put(report.place, whole);
+        self.own[own].put(report.place, part);
+    }
+
+    fn take(&mut self, report: Named) {
+        self.consolidated.take(report.place);
+        self.own[usize::from(report.participant)].take(report.place);
+    }
+}
+
 impl Keep for Tape {
-    fn with_room(symbols: usize, entries: usize) -> Self {
+    fn with_room(names: &Names, _reports: usize, entries: usize) -> Self {
         Tape {
             entries: Vec::with_capacity(entries),
-            standing: vec![Vec::new(); symbols],
+            books: names.symbols.iter().map(|_| Book::default()).collect(),
         }
     }
 
-    fn keep(&mut self, number: u32, message: Message, index: u32, reports: &[Report]) {
-        let own = &mut self.standing[usize::from(reports[index as usize].symbol)];
-        let after = match message.kind {
-            Kind::Report(_) => {
-                own.push(index);
+    fn keep(&mut self, number: NonZeroU32, message: Message, report: Named) {
+        let book = &mut self.books[usize::from(report.symbol)];
+        let after = match &message.kind {
+            Kind::Report(content) => {
+                book.put(report, &message, content);
                 None
             }
             Kind::Cancel { .. } => {
-                let at = own.binary_search(&index).expect("a cancelled report stood");
-                own.remove(at);
-                Some(consolidated(own, reports))
+                book.take(report);
+                Some(book.consolidated.summary())
             }
-            Kind::Correct { .. } => Some(consolidated(own, reports)),
+            Kind::Correct { content, .. } => {
+                book.put(report, &message, content);
+                Some(book.consolidated.summary())
+            }
         };
         self.entries.push(Entry {
             number,
@@ -60,20 +105,74 @@ impl Keep for Tape {
             after,
         });
     }
-}
 
-/// The consolidated summary over the reports of these indices.
-fn consolidated(own: &[u32], reports: &[Report]) -> Summary {
-    Summary::consolidated(own.iter().map(|index| &reports[*index as usize]))
+    fn summaries(&self, names: &Names) -> Vec<Summary> {
+        let mut summaries = Vec::with_capacity(self.books.len() * (1 + names.participants.len()));
+        for book in &self.books {
+            summaries.push(book.consolidated.summary());
+            for participant in 0..names.participants.len() {
+                let own = book.own.get(participant);
+                summaries.push(own.map(Store::summary).unwrap_or_default());
+            }
+        }
+        summaries
+    }
 }
 
 /// No tape: the least that a batch's output needs.
-pub struct Nothing;
+pub struct Reports {
+    reports: Vec<Report>,
+}
 
-impl Keep for Nothing {
-    fn with_room(_symbols: usize, _entries: usize) -> Self {
-        Nothing
+/// A report as it stands at the day's end.
+struct Report {
+    /// As reported, or as last corrected.
+    content: Content,
+    place: NonZeroU32,
+    symbol: u16,
+    /// The participant's position in the listing.
+    participant: u8,
+    /// A letter.
+    letter: u8,
+    /// Whether it is not cancelled.
+    stands: bool,
+}
+
+impl Keep for Reports {
+    fn with_room(_names: &Names, reports: usize, _entries: usize) -> Self {
+        Reports {
+            reports: Vec::with_capacity(reports),
+        }
     }
 
-    fn keep(&mut self, _number: u32, _message: Message, _index: u32, _reports: &[Report]) {}
+    fn keep(&mut self, _number: NonZeroU32, message: Message, report: Named) {
+        match message.kind {
+            Kind::Report(content) => self.reports.push(Report {
+                content,
+                place: report.place,
+                symbol: report.symbol,
+                participant: report.participant,
+                letter: message.participant,
+                stands: true,
+            }),
+            Kind::Cancel { .. } => self.reports[report.index as usize].stands = false,
+            Kind::Correct { content, .. } => self.reports[report.index as usize].content = content,
+        }
+    }
+
+    fn summaries(&self, names: &Names) -> Vec<Summary> {
+        let width = 1 + names.participants.len();
+        let mut summaries = vec![Summary::default(); names.symbols.len() * width];
+        for report in self.reports.iter().filter(|report| report.stands) {
+            let row = usize::from(report.symbol) * width;
+            let mark = Mark {
+                price: report.content.price,
+                place: report.place,
+                participant: report.letter,
+            };
+            summaries[row].step(mark, &report.content, 0);
+            summaries[row + 1 + usize::from(report.participant)].step(mark, &report.content, 1);
+        }
+        summaries
+    }
 }

@@ -1,5 +1,5 @@
-//! The batch of a trade tape as two plain programs, `plain` with the whole tape kept and `least` with none: the input,
-//! answers and report of `tapebox batch`, with nothing of its code.
+//! The batch of a trade tape as two plain programs, `indexed` with the whole tape kept and each summary exact after each
+//! message, and `least` with none: the input, answers and report of `tapebox batch`, with nothing of its code.
 
 mod batch;
 mod day;
@@ -10,12 +10,13 @@ mod matrix;
 mod message;
 mod program;
 mod report;
+mod store;
 mod summary;
 
 pub use batch::{BadHeader, batch};
-pub use day::{Day, Report};
+pub use day::Day;
 pub use header::Names;
-pub use keep::{Entry, Keep, Nothing, Tape};
+pub use keep::{Entry, Keep, Reports, Tape};
 pub use matrix::{Cells, LastRule, cells};
 pub use message::{Content, Kind, Message};
 pub use program::run;

@@ -1,14 +1,15 @@
 //! The day's report: every symbol's summaries over the reports that stand.
 
 use crate::day::Day;
+use crate::keep::Keep;
 use crate::summary::{Mark, Summary};
 
 /// Adds the report of the day's end to the text.
-pub fn write<K>(day: &Day<K>, text: &mut Vec<u8>) {
+pub fn write<K: Keep>(day: &Day<K>, text: &mut Vec<u8>) {
     text.extend_from_slice(
         b"symbol,who,open,open_at,high,high_at,low,low_at,last,last_at,volume,trades\n",
     );
-    let summaries = summaries(day);
+    let summaries = day.kept.summaries(&day.names);
     let width = 1 + day.names.participants.len();
     for (symbol, row) in day.names.symbols.iter().zip(summaries.chunks(width)) {
         write_row(symbol, b"ALL", &row[0], text);
@@ -18,22 +19,6 @@ pub fn write<K>(day: &Day<K>, text: &mut Vec<u8>) {
             }
         }
     }
-}
-
-/// Per symbol its consolidated summary and then its participants', all in one pass by rising place.
-fn summaries<K>(day: &Day<K>) -> Vec<Summary> {
-    let width = 1 + day.names.participants.len();
-    let mut column_of = [0; 256];
-    for (column, letter) in (1..).zip(&day.names.participants) {
-        column_of[usize::from(*letter)] = column;
-    }
-    let mut summaries = vec![Summary::default(); day.names.symbols.len() * width];
-    for report in day.reports.iter().filter(|report| report.stands) {
-        let row = usize::from(report.symbol) * width;
-        summaries[row].step(report, 0);
-        summaries[row + column_of[usize::from(report.participant)]].step(report, 1);
-    }
-    summaries
 }
 
 fn write_row(symbol: &[u8; 8], who: &[u8], summary: &Summary, text: &mut Vec<u8>) {

@@ -1,6 +1,6 @@
 //! The worked rows that a batch can show, with their figures written out.
 
-use bench::{Day, Kind, LastRule, Mark, Nothing, Summary, Tape, batch};
+use bench::{Day, Kind, LastRule, Mark, Reports, Summary, Tape, batch};
 use std::num::NonZeroU32;
 
 const HEADER: &str = "symbol,who,open,open_at,high,high_at,low,low_at,last,last_at,volume,trades";
@@ -9,7 +9,7 @@ const HEADER: &str = "symbol,who,open,open_at,high,high_at,low,low_at,last,last_
 fn output(input: &str) -> Vec<String> {
     let [mut text, mut least] = [Vec::new(), Vec::new()];
     let kept = batch::<Tape>(input.as_bytes(), &mut text).is_ok();
-    assert_eq!(batch::<Nothing>(input.as_bytes(), &mut least).is_ok(), kept);
+    assert_eq!(batch::<Reports>(input.as_bytes(), &mut least).is_ok(), kept);
     assert_eq!(text, least);
     let text = String::from_utf8(text).unwrap();
     text.lines().map(String::from).collect()
@@ -276,7 +276,7 @@ fn an_entry_has_all_of_its_message() {
         report('Q', 9, "@F I", 101_000, 200),
     ];
     let entries = day("N Q", &messages).kept.entries;
-    let numbers: Vec<_> = entries.iter().map(|entry| entry.number).collect();
+    let numbers: Vec<_> = entries.iter().map(|entry| entry.number.get()).collect();
     assert_eq!(numbers, [1, 2]);
     let message = entries[1].message;
     let told = (message.participant, message.number, message.moment);

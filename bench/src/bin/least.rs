@@ -1,5 +1,5 @@
 //! `least batch`: the plain program that keeps no tape, and does the least that the output needs.
 
 fn main() -> std::process::ExitCode {
-    bench::run::<bench::Nothing>()
+    bench::run::<bench::Reports>()
 }
