@@ -3,7 +3,7 @@
 use crate::day::Day;
 use crate::header;
 use crate::hex::{Line, Lines};
-use crate::keep::Keep;
+use crate::keep::{Keep, Tape};
 use crate::message::decode;
 use crate::report;
 
@@ -41,6 +41,23 @@ pub fn batch<K: Keep>(input: &[u8], text: &mut Vec<u8>) -> Result<Day<K>, BadHea
         }
     }
     report::write(&day, text);
+    Ok(day)
+}
+
+/// The tape of the input: what the batch keeps of it, without its output.
+pub fn tape_of(input: &[u8]) -> Result<Day<Tape>, BadHeader> {
+    let mut lines = Lines::new(input);
+    let symbols = lines.next_text().unwrap_or_default();
+    let participants = lines.next_text().unwrap_or_default();
+    let names = header::read(symbols, participants).map_err(|_| BadHeader)?;
+    let mut day = Day::new(names, input.len() / REPORT_LINE, input.len() / MESSAGE_LINE);
+    let mut line = Line::default();
+    while let Some(read) = lines.next_message(&mut line) {
+        // A line that is refused is passed over.
+        let _ = read
+            .map_err(|()| "22 BadLine")
+            .and_then(|()| answer(&mut day, &line));
+    }
     Ok(day)
 }
 

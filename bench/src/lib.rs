@@ -1,8 +1,11 @@
 //! The batch of a trade tape as two plain programs, `indexed` with the whole tape kept and each summary exact after each
-//! message, and `least` with none: the input, answers and report of `tapebox batch`, with nothing of its code.
+//! message, and `least` with none: the input, answers and report of `tapebox batch`, with nothing of its code. And `feed`, which sends
+//! that tape on two lossy lines to a subscriber.
 
 mod batch;
 mod day;
+mod feed;
+mod frames;
 mod header;
 mod hex;
 mod keep;
@@ -10,11 +13,15 @@ mod matrix;
 mod message;
 mod program;
 mod report;
+mod retransmission;
 mod store;
+mod subscriber;
 mod summary;
+mod window;
 
 pub use batch::{BadHeader, batch};
 pub use day::Day;
+pub use feed::{Figures, feed};
 pub use header::Names;
 pub use keep::{Entry, Keep, Reports, Tape};
 pub use matrix::{Cells, LastRule, cells};

@@ -53,6 +53,12 @@ pub fn decode(bytes: &[u8], count: usize) -> Result<Message, &'static str> {
     Ok(message)
 }
 
+/// The message that the bytes begin with and how many of them it takes, or why there is none, by number and name.
+pub fn decode_front(bytes: &[u8]) -> Result<(Message, usize), &'static str> {
+    let body = body(bytes)?;
+    Ok((fields(body)?, 2 + body.len()))
+}
+
 /// The bytes that the message's length counts.
 fn body(bytes: &[u8]) -> Result<&[u8], &'static str> {
     let Some((len, rest)) = bytes.split_first_chunk::<2>() else {

@@ -102,10 +102,7 @@ impl Store {
         Summary {
             open: self.setters.first().and_then(|place| self.mark(*place)),
             high: self.high(),
-            low: self
-                .prices
-                .first()
-                .and_then(|(_, place)| self.mark(*place)),
+            low: self.prices.first().and_then(|(_, place)| self.mark(*place)),
             last: self.last(),
             volume: self.volume,
             trades: self.effects.len() as u32,

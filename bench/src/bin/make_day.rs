@@ -5,6 +5,8 @@
 //! - `hostile`: every second message cancels or corrects a report of one busy symbol.
 //! - `stored`: 20,000 reports with mixed conditions; BYTES is not looked at.
 //! - `odd`: every second line is changed somewhere, in its text or in its message's bytes.
+//! - `every`: 4,096 symbols and 25 participants, and every kind of line: each refusal that a day of this length can meet, lines
+//!   of 70,000 bytes, and a last line without a line feed that fills the day up to its last byte.
 
 use std::io::{self, Write};
 use std::process::ExitCode;
@@ -28,6 +30,7 @@ fn main() -> ExitCode {
         Some("hostile") => maker.hostile(),
         Some("stored") => maker.stored(),
         Some("odd") => maker.odd(),
+        Some("every") => maker.every(),
         _ => return usage(),
     }
     match io::stdout().write_all(&maker.text) {
@@ -37,7 +40,7 @@ fn main() -> ExitCode {
 }
 
 fn usage() -> ExitCode {
-    eprintln!("usage: make_day one|busy|hostile|stored|odd [SEED [BYTES]]");
+    eprintln!("usage: make_day one|busy|hostile|stored|odd|every [SEED [BYTES]]");
     ExitCode::FAILURE
 }
 
@@ -107,6 +110,23 @@ const FAULTS: [Fault; 8] = [
     Fault::NoSuchReport,
 ];
 
+/// The others that a day can have.
+const RARE_FAULTS: [Fault; 13] = [
+    Fault::Empty,
+    Fault::Oversize,
+    Fault::Short,
+    Fault::BadKind,
+    Fault::BadLength,
+    Fault::BadParticipant,
+    Fault::BadNumber,
+    Fault::BadSymbol,
+    Fault::BadTarget,
+    Fault::BadSize,
+    Fault::ExtraBytes,
+    Fault::OtherSymbol,
+    Fault::LongLine,
+];
+
 #[derive(Clone, Copy)]
 enum Fault {
     OddDigits,
@@ -117,6 +137,19 @@ enum Fault {
     Stale,
     UnknownSymbol,
     NoSuchReport,
+    Empty,
+    Oversize,
+    Short,
+    BadKind,
+    BadLength,
+    BadParticipant,
+    BadNumber,
+    BadSymbol,
+    BadTarget,
+    BadSize,
+    ExtraBytes,
+    OtherSymbol,
+    LongLine,
 }
 
 /// Where a message's bytes are changed, and the digits that are written there.
@@ -222,6 +255,60 @@ impl Maker {
             if self.random.happens(1, 2) && self.text.len() > start {
                 self.distort(start);
             }
+        }
+    }
+
+    fn every(&mut self) {
+        self.header(4_096, 25);
+        while self.text.len() + 1_000 <= self.bytes {
+            let sender = self.random.below(25) as usize;
+            match self.random.below(20) {
+                0..=2 => self.change(sender, None),
+                3..=4 => {
+                    let fault = *self.random.one_of(&FAULTS);
+                    self.faulty(sender, fault);
+                }
+                5..=6 => self.rarely_faulty(sender),
+                _ => {
+                    let symbol = self.popular_symbol();
+                    let condition = **self.random.one_of(&CONDITIONS);
+                    self.report(sender, symbol, condition);
+                }
+            }
+        }
+        self.text.extend(b"Z ");
+        self.text.resize(self.bytes, b'0');
+    }
+
+    /// A line with one of the rare faults; the long line is rarer yet.
+    fn rarely_faulty(&mut self, sender: usize) {
+        let mut fault = *self.random.one_of(&RARE_FAULTS);
+        if let Fault::LongLine = fault {
+            let has_room = self.text.len() + 71_000 <= self.bytes;
+            if !has_room || !self.random.happens(1, 100) {
+                fault = Fault::ExtraBytes;
+            }
+        }
+        let start = self.text.len();
+        self.faulty(sender, fault);
+        let end = self.text.len() - 1;
+        match fault {
+            Fault::Empty => self.text.truncate(start),
+            Fault::Oversize => self.text[start + 2..start + 6].copy_from_slice(b"0041"),
+            Fault::Short => self.text.truncate(end - 2),
+            Fault::BadLength => {
+                self.text[start + 2..start + 6].copy_from_slice(b"0027");
+                self.text.splice(end..end, *b"00");
+            }
+            Fault::ExtraBytes => _ = self.text.splice(end..end, *b"00"),
+            Fault::LongLine => {
+                let digits = std::iter::repeat_n(*self.random.one_of(b"0g"), 70_000);
+                self.text.splice(end..end, digits);
+            }
+            _ => return,
+        }
+        if self.text.last() != Some(&b'\n') || self.text.len() == start {
+            self.text.push(b'\n');
         }
     }
 
@@ -366,7 +453,6 @@ impl Maker {
         let mut body = self.faultless_body(sender);
         let mut from = letter;
         match fault {
-            Fault::OddDigits => {}
             Fault::BadPrice => body[22..30].fill(0),
             Fault::BadCondition => body[34] = b'E',
             Fault::WrongLine => from = if letter == b'A' { b'B' } else { b'A' },
@@ -385,6 +471,32 @@ impl Maker {
                 body.truncate(22);
                 body.extend(u32::MAX.to_be_bytes());
             }
+            Fault::BadKind => body[0] = b'Z',
+            Fault::BadParticipant => body[1] = b'[',
+            Fault::BadNumber => body[2..6].fill(0),
+            Fault::BadSymbol => body[14..22].copy_from_slice(b"A B     "),
+            Fault::BadSize => body[30..34].fill(0xff),
+            Fault::BadTarget => {
+                body[0] = b'X';
+                body.truncate(22);
+                body.extend([0; 4]);
+            }
+            Fault::OtherSymbol => {
+                if let Some(report) = self.target(sender, None) {
+                    let (target, symbol) = self.senders[sender].sent[report];
+                    body[0] = b'X';
+                    body.truncate(14);
+                    body.extend(self.symbols[(symbol + 1) % self.symbols.len()].name);
+                    body.extend(target.to_be_bytes());
+                }
+            }
+            Fault::OddDigits
+            | Fault::Empty
+            | Fault::Oversize
+            | Fault::Short
+            | Fault::BadLength
+            | Fault::ExtraBytes
+            | Fault::LongLine => {}
         }
         self.line(from, &body);
         if let Fault::OddDigits = fault {

@@ -1,0 +1,273 @@
+//! The spelling of tape entries, packets and requests.
+
+use crate::keep::Entry;
+use crate::message::{Content, Kind, Message, decode_front};
+use crate::summary::{Mark, Summary};
+use std::num::NonZeroU32;
+
+/// The greatest tape number.
+const TAPE_MOST: u32 = 1_048_576;
+/// How many entries a packet has at most.
+pub const ENTRIES_MOST: usize = 8;
+/// The longest packet: its header and eight corrections.
+pub const PACKET_LONGEST: usize = 15 + ENTRIES_MOST * 113;
+/// The greatest count of a request.
+const COUNT_MOST: u16 = 64;
+
+const VERSION: u8 = 1;
+
+/// What a packet tells. Its entries stand beside it, in room that is used again.
+#[derive(Clone, Copy, Debug, PartialEq, Eq)]
+pub enum PacketKind {
+    Data,
+    /// The last number so far.
+    Beat(u32),
+    /// The day's final count.
+    End(u32),
+}
+
+/// A packet as read.
+pub struct Packet {
+    pub session: u64,
+    pub kind: PacketKind,
+    /// One to eight for data, none else.
+    pub entries: Vec<Entry>,
+}
+
+impl Packet {
+    /// Room for any packet.
+    pub fn new() -> Self {
+        Packet {
+            session: 0,
+            kind: PacketKind::Beat(0),
+            entries: Vec::with_capacity(ENTRIES_MOST),
+        }
+    }
+
+    /// The number of the last entry, or the one that a beat or an end gives.
+    pub fn last(&self) -> u32 {
+        match self.kind {
+            PacketKind::Data => self.entries.last().map_or(0, |entry| entry.number.get()),
+            PacketKind::Beat(number) | PacketKind::End(number) => number,
+        }
+    }
+
+    /// Reads the packet that the bytes spell, or says by number and name why they spell none.
+    pub fn read(&mut self, bytes: &[u8]) -> Result<(), &'static str> {
+        let mut rest = bytes;
+        let header = taken(&mut rest, 15).ok_or("51 Short")?;
+        self.entries.clear();
+        self.session = long(header, 2);
+        let number = word(header, 10);
+        let count = usize::from(header[14]);
+        if header[0] != VERSION {
+            return Err("52 BadVersion");
+        }
+        self.kind = match header[1] {
+            b'D' => PacketKind::Data,
+            b'H' => PacketKind::Beat(number),
+            b'E' => PacketKind::End(number),
+            _ => return Err("53 BadKind"),
+        };
+        let is_data = self.kind == PacketKind::Data;
+        let counts = if is_data { 1..=ENTRIES_MOST } else { 0..=0 };
+        if !counts.contains(&count) || !is_data && number > TAPE_MOST {
+            return Err("54 BadCount");
+        }
+        for position in 0..count as u32 {
+            let entry = read_entry(&mut rest)?;
+            if u64::from(entry.number.get()) != u64::from(number) + u64::from(position) {
+                return Err("56 NotInOrder");
+            }
+            self.entries.push(entry);
+        }
+        match rest {
+            [] => Ok(()),
+            _ => Err("57 Trailing"),
+        }
+    }
+}
+
+/// Adds a packet of these entries, one to eight of one tape in order.
+pub fn write_data(session: u64, entries: &[Entry], text: &mut Vec<u8>) {
+    let first = entries.first().map_or(0, |entry| entry.number.get());
+    write_header(b'D', session, first, entries.len() as u8, text);
+    for entry in entries {
+        write_entry(entry, text);
+    }
+}
+
+/// Adds the packet of a day's end.
+pub fn write_end(session: u64, count: u32, text: &mut Vec<u8>) {
+    write_header(b'E', session, count, 0, text);
+}
+
+fn write_header(kind: u8, session: u64, number: u32, count: u8, text: &mut Vec<u8>) {
+    text.extend_from_slice(&[VERSION, kind]);
+    text.extend_from_slice(&session.to_be_bytes());
+    text.extend_from_slice(&number.to_be_bytes());
+    text.push(count);
+}
+
+fn write_entry(entry: &Entry, text: &mut Vec<u8>) {
+    text.extend_from_slice(&entry.number.get().to_be_bytes());
+    write_message(&entry.message, text);
+    if let Some(summary) = &entry.after {
+        write_summary(summary, text);
+    }
+}
+
+fn write_message(message: &Message, text: &mut Vec<u8>) {
+    let (len, kind) = match message.kind {
+        Kind::Report(_) => (38, b'R'),
+        Kind::Cancel { .. } => (26, b'X'),
+        Kind::Correct { .. } => (42, b'C'),
+    };
+    text.extend_from_slice(&[0, len, kind, message.participant]);
+    text.extend_from_slice(&message.number.to_be_bytes());
+    text.extend_from_slice(&message.moment.to_be_bytes());
+    text.extend_from_slice(&message.symbol);
+    match &message.kind {
+        Kind::Report(content) => write_content(content, text),
+        Kind::Cancel { target } => text.extend_from_slice(&target.to_be_bytes()),
+        Kind::Correct { target, content } => {
+            text.extend_from_slice(&target.to_be_bytes());
+            write_content(content, text);
+        }
+    }
+}
+
+fn write_content(content: &Content, text: &mut Vec<u8>) {
+    text.extend_from_slice(&content.price.to_be_bytes());
+    text.extend_from_slice(&content.size.to_be_bytes());
+    text.extend_from_slice(&content.condition);
+}
+
+fn write_summary(summary: &Summary, text: &mut Vec<u8>) {
+    let marks = [summary.open, summary.high, summary.low, summary.last];
+    let present = |(bit, mark): (u8, &Option<Mark>)| u8::from(mark.is_some()) << bit;
+    text.push((0..).zip(&marks).map(present).sum());
+    for mark in marks {
+        let (price, place, participant) = mark.map_or((0, 0, 0), |mark| {
+            (mark.price, mark.place.get(), mark.participant)
+        });
+        text.extend_from_slice(&price.to_be_bytes());
+        text.extend_from_slice(&place.to_be_bytes());
+        text.push(participant);
+    }
+    text.extend_from_slice(&summary.volume.to_be_bytes());
+    text.extend_from_slice(&summary.trades.to_be_bytes());
+}
+
+fn read_entry(rest: &mut &[u8]) -> Result<Entry, &'static str> {
+    let number = word(taken(rest, 4).ok_or("51 Short")?, 0);
+    let number = tape_number(number).ok_or("55 BadEntry")?;
+    let (message, count) = decode_front(rest).map_err(|fault| match fault {
+        "12 Short" => "51 Short",
+        _ => "55 BadEntry",
+    })?;
+    *rest = &rest[count..];
+    let after = match message.kind {
+        Kind::Report(_) => None,
+        Kind::Cancel { .. } | Kind::Correct { .. } => {
+            let bytes = taken(rest, 65).ok_or("51 Short")?;
+            Some(read_summary(bytes).ok_or("55 BadEntry")?)
+        }
+    };
+    Ok(Entry {
+        number,
+        message,
+        after,
+    })
+}
+
+fn read_summary(bytes: &[u8]) -> Option<Summary> {
+    let present = bytes[0];
+    if present > 15 {
+        return None;
+    }
+    let mark = |bit: usize| {
+        let bytes = &bytes[1 + 13 * bit..14 + 13 * bit];
+        match present >> bit & 1 {
+            0 => bytes.iter().all(|byte| *byte == 0).then_some(None),
+            _ => read_mark(bytes).map(Some),
+        }
+    };
+    Some(Summary {
+        open: mark(0)?,
+        high: mark(1)?,
+        low: mark(2)?,
+        last: mark(3)?,
+        volume: long(bytes, 53),
+        trades: word(bytes, 61),
+    })
+}
+
+fn read_mark(bytes: &[u8]) -> Option<Mark> {
+    let price = long(bytes, 0);
+    let participant = bytes[12];
+    let in_range = (1..=999_999_999_999).contains(&price) && participant.is_ascii_uppercase();
+    in_range.then_some(Mark {
+        price,
+        place: tape_number(word(bytes, 8))?,
+        participant,
+    })
+}
+
+fn tape_number(number: u32) -> Option<NonZeroU32> {
+    NonZeroU32::new(number).filter(|number| number.get() <= TAPE_MOST)
+}
+
+/// What is missing: so many numbers from one on.
+#[derive(Clone, Copy, Debug, PartialEq, Eq)]
+pub struct Request {
+    pub session: u64,
+    pub from: u32,
+    /// One to 64.
+    pub count: u16,
+}
+
+impl Request {
+    /// The most that one request asks for, at most so many.
+    pub fn new(session: u64, from: u32, count: u32) -> Self {
+        Request {
+            session,
+            from,
+            count: count.min(u32::from(COUNT_MOST)) as u16,
+        }
+    }
+
+    /// Its spelling.
+    pub fn bytes(&self) -> [u8; 14] {
+        let mut bytes = [0; 14];
+        bytes[..8].copy_from_slice(&self.session.to_be_bytes());
+        bytes[8..12].copy_from_slice(&self.from.to_be_bytes());
+        bytes[12..].copy_from_slice(&self.count.to_be_bytes());
+        bytes
+    }
+
+    /// The request that the bytes spell; `None` where the count is none of a request.
+    pub fn read(bytes: &[u8; 14]) -> Option<Self> {
+        let count = u16::from_be_bytes([bytes[12], bytes[13]]);
+        (1..=COUNT_MOST).contains(&count).then_some(Request {
+            session: long(bytes, 0),
+            from: word(bytes, 8),
+            count,
+        })
+    }
+}
+
+/// The first so many bytes, which the rest then lacks.
+fn taken<'a>(rest: &mut &'a [u8], count: usize) -> Option<&'a [u8]> {
+    let (front, behind) = rest.split_at_checked(count)?;
+    *rest = behind;
+    Some(front)
+}
+
+fn word(bytes: &[u8], at: usize) -> u32 {
+    u32::from_be_bytes(bytes[at..at + 4].try_into().unwrap())
+}
+
+fn long(bytes: &[u8], at: usize) -> u64 {
+    u64::from_be_bytes(bytes[at..at + 8].try_into().unwrap())
+}
