@@ -1,25 +1,25 @@
 //! A packet written as its spelling.
-ghost use Rattle.std.specs.Prelude.{◌≡◌, ◌+◌, ◌≤◌, ◌++◌, ◌∷◌, [], All, length, take, drop, OnOk, OnErr, IfSome, List, flat_map, is_some};
+ghost use Rattle.std.specs.Prelude.{◌≡◌, ◌+◌, ◌*◌, ◌≤◌, ◌++◌, ◌∷◌, [], All, length, take, drop, OnOk, OnErr, IfSome, List, flat_map, is_some};
 ghost use Rattle.std.specs.Int.{w8, w16, w32, w64, to_be_bytes};
 ghost use Rattle.reports.specs.Rows.{Puts};
+ghost use Rattle.tape_frames.specs.Limits.{most_entries, header_length, mark_length, summary_length, longest_entry, longest_packet, all_marks};
 ghost use Rattle.tape_frames.specs.Rows.{Carries, IsRow, first_number};
 ghost use Rattle.tape_frames.specs.Spelling.{IsEntry, IsFigure, IsMark, IsPacket, IsSummary, bit, carried_text, entry_text, figure_text, header_text, mark_text, packet_text, presence, summary_text};
 
+use crate::limits::{LONGEST_MESSAGE, LONGEST_PACKET, MARK_LENGTH, VERSION};
 use crate::{EntryCount, Packet, Row};
 use reports::{encode_into, put};
 use scratch_fold::{Mark, Summary};
 use std::alloc::AllocError;
 use tape_core::Entry;
 
-/// How many bytes the longest packet has: its header, and eight corrections.
-const LONGEST_PACKET: usize = 919;
-
-/// Appends the packet's spelling to the text, which want of memory leaves as it was.
+/// Appends the packet's spelling to the text. Where memory runs out, the text is as it was. The spelling is made in a row of
+/// `LONGEST_PACKET` bytes, and the text grows once.
 pub fn write_packet(packet: &Packet, text: &mut Vec<u8>) -> Result<(), AllocError>
     ensures ok { OnOk result (text.new.items ≡ text.old.items ++ packet_text packet.now) }
     // With `ok`, what was written spells the packet.
     ensures valid { IsPacket packet.now }
-    ensures short { length (packet_text packet.now) ≤ 919 }
+    ensures short { length (packet_text packet.now) ≤ longest_packet }
     ensures err { OnErr result (text.new.items ≡ text.old.items) }
 {
     let mut row = [0; LONGEST_PACKET];
@@ -31,7 +31,7 @@ pub fn write_packet(packet: &Packet, text: &mut Vec<u8>) -> Result<(), AllocErro
 
 /// The whole packet, at the front of the row.
 fn put_packet(row: &mut [u8], packet: &Packet) -> usize
-    requires { 919 ≤ length row.old }
+    requires { longest_packet ≤ length row.old }
     ensures puts { Puts 0 (packet_text packet.now) row.old row.new result }
     ensures valid { IsPacket packet.now }
 {
@@ -49,10 +49,10 @@ fn put_packet(row: &mut [u8], packet: &Packet) -> usize
 
 /// Version, kind, session, number and count, at the front of the row.
 fn put_header(row: &mut [u8], kind: u8, session: u64, number: u32, count: u8) -> usize
-    requires { 15 ≤ length row.old }
+    requires { header_length ≤ length row.old }
     ensures puts { Puts 0 (header_text kind session number count) row.old row.new result }
 {
-    let at = put(row, 0, &[1, kind]);
+    let at = put(row, 0, &[VERSION, kind]);
     let at = put(row, at, &session.to_be_bytes());
     let at = put(row, at, &number.to_be_bytes());
     put(row, at, &[count])
@@ -60,9 +60,9 @@ fn put_header(row: &mut [u8], kind: u8, session: u64, number: u32, count: u8) ->
 
 /// The entries, one behind the other.
 fn put_entries(row: &mut [u8], at: usize, entries: &[Entry]) -> usize
-    requires few { length entries.now ≤ 8 }
+    requires few { length entries.now ≤ most_entries }
     requires carry { All Carries entries.now }
-    requires room { at + 904 ≤ length row.old }
+    requires room { at + most_entries * longest_entry ≤ length row.old }
     ensures puts { Puts at (flat_map entry_text entries.now) row.old row.new result }
     ensures valid { All IsEntry entries.now }
 {
@@ -75,14 +75,14 @@ fn put_entries(row: &mut [u8], at: usize, entries: &[Entry]) -> usize
 
 /// An entry: its number, its message, and what it carries.
 fn put_entry(row: &mut [u8], at: usize, entry: &Entry) -> usize
-    requires room { at + 113 ≤ length row.old }
+    requires room { at + longest_entry ≤ length row.old }
     requires carries { Carries entry.now }
     ensures puts { Puts at (entry_text entry.now) row.old row.new result }
-    ensures within { result ≤ at + 113 }
+    ensures within { result ≤ at + longest_entry }
     ensures valid { IsEntry entry.now }
 {
     let at = put(row, at, &entry.number.value().to_be_bytes());
-    let mut text = [0; 44];
+    let mut text = [0; LONGEST_MESSAGE];
     let len = encode_into(&entry.message, &mut text);
     let at = put(row, at, &text[..len]);
     match &entry.after {
@@ -93,9 +93,9 @@ fn put_entry(row: &mut [u8], at: usize, entry: &Entry) -> usize
 
 /// A summary: which marks are there, the marks, and the two sums.
 fn put_summary(row: &mut [u8], at: usize, summary: &Summary) -> usize
-    requires { at + 65 ≤ length row.old }
+    requires { at + summary_length ≤ length row.old }
     ensures puts { Puts at (summary_text summary.now) row.old row.new result }
-    ensures len { result ≡ at + 65 }
+    ensures len { result ≡ at + summary_length }
     ensures valid { IsSummary summary.now }
 {
     let at = put(row, at, &[presence(summary)]);
@@ -110,7 +110,7 @@ fn put_summary(row: &mut [u8], at: usize, summary: &Summary) -> usize
 /// Which marks are there: a bit for each, from the lowest.
 fn presence(summary: &Summary) -> u8
     ensures value { result ≡ presence summary.now }
-    ensures low { result ≤ 15 }
+    ensures low { result ≤ all_marks }
 {
     u8::from(summary.opening.is_some())
         + 2 * u8::from(summary.high.is_some())
@@ -120,22 +120,22 @@ fn presence(summary: &Summary) -> u8
 
 /// A mark that is there, or zeros.
 fn put_figure(row: &mut [u8], at: usize, figure: &Option<Mark>) -> usize
-    requires { at + 13 ≤ length row.old }
+    requires { at + mark_length ≤ length row.old }
     ensures puts { Puts at (figure_text figure.now) row.old row.new result }
-    ensures len { result ≡ at + 13 }
+    ensures len { result ≡ at + mark_length }
     ensures valid { IsFigure figure.now }
 {
     match figure {
-        None => put(row, at, &[0; 13]),
+        None => put(row, at, &[0; MARK_LENGTH]),
         Some(mark) => put_mark(row, at, mark),
     }
 }
 
 /// The mark of a report.
 fn put_mark(row: &mut [u8], at: usize, mark: &Mark) -> usize
-    requires { at + 13 ≤ length row.old }
+    requires { at + mark_length ≤ length row.old }
     ensures puts { Puts at (mark_text mark.now) row.old row.new result }
-    ensures len { result ≡ at + 13 }
+    ensures len { result ≡ at + mark_length }
     ensures valid { IsMark mark.now }
 {
     let at = put(row, at, &mark.price.value().to_be_bytes());

@@ -1,0 +1,111 @@
+-- How long the spellings are.
+use Rattle.std.proofs.Common.{◌≡◌, ℕ, ◌+◌, ◌*◌, ◌≤◌, List, [], ◌∷◌, ◌++◌, length, length-append, Option, Some, None, refl, arith}
+use Rattle.std.specs.Prelude.{All, flat_map}
+use Rattle.std.proofs.lemmas.List.Elements.{All-head, All-tail}
+use Rattle.reports.specs.declared.message.Content.{Content}
+use Rattle.reports.specs.declared.message.Header.{Header}
+use Rattle.reports.specs.declared.message.Message.{Message}
+use Rattle.reports.specs.declared.message.Message.TheVariants.{Report, Cancel, Correct}
+use Rattle.reports.specs.Spelling.{IsContent, IsHeader, IsMessage, content_text, header_text, spelling, target_text}
+use Rattle.scratch_fold.specs.declared.summary.Summary.{Summary}
+use Rattle.tape_core.specs.declared.entry.Entry.{Entry}
+use Rattle.tape_frames.specs.declared.packet.Packet.TheVariants.{Data, Beat, End}
+use Rattle.tape_frames.specs.Limits.{most_entries, summary_length, longest_entry, longest_packet}
+use Rattle.tape_frames.specs.Lengths.{EntryLengths, PacketLengths, RequestLengths, entry_length}
+use Rattle.tape_frames.specs.Rows.{CarriesFor, first_number}
+use Rattle.tape_frames.specs.Spelling as frames
+use Rattle.tape_frames.specs.Spelling.{IsEntry, carried_text, entry_text, packet_text}
+use Rattle.tape_frames.proofs.Summaries.{length-summary_text}
+use Rattle.tape_frames.proofs.Packets.{length-packet_text}
+
+-- ---- entries
+
+-- what a cancel or a correction carries is a summary
+abbrev carried_length : Message → ℕ
+carried_length (Report header content) = 0
+carried_length (Cancel header target) = summary_length
+carried_length (Correct header target content) = summary_length
+
+-- what is carried is as long as the kind asks for
+length-carried_text : (m : Message) (after : Option Summary) → CarriesFor m after → length (carried_text after) ≡ carried_length m
+length-carried_text (Report h c) None carries = refl
+length-carried_text (Report h c) (Some z) carries = absurd (cc carries)
+length-carried_text (Cancel h n) None carries = absurd (cc carries)
+length-carried_text (Cancel h n) (Some z) carries = length-summary_text z
+length-carried_text (Correct h n c) None carries = absurd (cc carries)
+length-carried_text (Correct h n c) (Some z) carries = length-summary_text z
+
+-- the length of a message by its kind
+abbrev message_length : Message → ℕ
+message_length (Report header content) = 40
+message_length (Cancel header target) = 28
+message_length (Correct header target content) = 44
+
+-- the fields that every message begins with
+length-header : (h : Header) → IsHeader h → length (header_text h) ≡ 21
+length-header h fits = omega (arith, fits.symbol.eight)
+
+-- price, size and condition
+length-content : (c : Content) → IsContent c → length (content_text c) ≡ 16
+length-content c fits = omega (arith, fits.condition.four)
+
+-- a message has as many bytes as its kind asks for
+length-spelling : (m : Message) → IsMessage m → length (spelling m) ≡ message_length m
+length-spelling (Report h c) fits =
+    omega (arith, length-append (header_text h) (content_text c), length-header h fits.0, length-content c fits.1)
+length-spelling (Cancel h n) fits = omega (arith, length-append (header_text h) (target_text n), length-header h fits.0)
+length-spelling (Correct h n c) fits =
+    omega (arith, length-append (header_text h) (target_text n ++ content_text c), length-header h fits.0, length-content c fits.1.1)
+
+-- the three parts of an entry together
+entry_sum : (m : Message) → 4 + (message_length m + carried_length m) ≡ entry_length m
+entry_sum (Report h c) = refl
+entry_sum (Cancel h n) = refl
+entry_sum (Correct h n c) = refl
+
+-- each entry has as many bytes as its kind asks for
+pub entry_lengths : EntryLengths
+entry_lengths e is = omega (
+  arith,
+  length-append (spelling e.message) (carried_text e.after),
+  length-spelling e.message is.message,
+  length-carried_text e.message e.after is.carries,
+  entry_sum e.message,
+)
+
+-- no entry is longer than a correction
+entry_at_most : (m : Message) → entry_length m ≤ longest_entry
+entry_at_most (Report h c) = omega arith
+entry_at_most (Cancel h n) = omega arith
+entry_at_most (Correct h n c) = omega arith
+
+-- ---- packets
+
+-- so many entries are no longer than so many corrections
+length-entries : (es : List Entry) → All IsEntry es → length (flat_map entry_text es) ≤ longest_entry * length es
+length-entries [] all = omega arith
+length-entries (e ∷ es) all =
+    let first : IsEntry e = All-head IsEntry e es all in
+    omega (
+      arith,
+      length-append (entry_text e) (flat_map entry_text es),
+      entry_lengths e first,
+      entry_at_most e.message,
+      length-entries es (All-tail IsEntry e es all),
+    )
+
+-- a data packet of so many entries is no longer than the longest packet
+pub length-data_text : (session : ℕ) (es : List Entry) → All IsEntry es → length es ≤ most_entries
+    → length (packet_text (Data session es)) ≤ longest_packet
+length-data_text session es all few =
+    omega (arith, length-append (frames.header_text 68 session (first_number es) (length es)) (flat_map entry_text es), length-entries es all, few)
+
+-- each packet has a header at least, and no packet is longer than the longest
+pub packet_lengths : PacketLengths
+packet_lengths (Data session es) is = (length-packet_text (Data session es), length-data_text session es is.1.1 is.1.0.few)
+packet_lengths (Beat session last) is = (length-packet_text (Beat session last), omega arith)
+packet_lengths (End session count) is = (length-packet_text (End session count), omega arith)
+
+-- all requests have the same length
+pub request_lengths : RequestLengths
+request_lengths r = omega arith
