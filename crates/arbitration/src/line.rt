@@ -1,73 +1,31 @@
-//! The lines, and what a delivery answers.
+//! The lines that packets come by, and what each has brought.
 ghost use Rattle.std.specs.Prelude.{◌≡◌, ◌+◌, ◌<◌, ◌^◌};
-ghost use Rattle.arbitration.specs.Windows.{brought_with, brought_by};
-ghost use Rattle.arbitration.specs.DeliverFaults.{deliver_fault_code, deliver_fault_name};
+ghost use Rattle.arbitration.specs.Counts.{brought_by, brought_with};
 
-use tape_types::TapeNumber;
-use thiserror::Error;
-
-/// The line that a packet came by. R is retransmission.
+/// The line that a packet came by.
 #[derive(Clone, Copy, Debug, PartialEq, Eq)]
 pub enum Line {
+    /// The first of the two lines that carry the whole tape.
     A,
+    /// The second of the two lines that carry the whole tape.
     B,
+    /// Retransmission: the answers to requests for what was lost.
     R,
 }
 
-/// How many entries of a packet were put in, were known already, and were too far ahead.
-#[derive(Clone, Copy, Debug, PartialEq, Eq)]
-pub struct Taken {
-    pub fresh: u32,
-    pub repeated: u32,
-    pub beyond: u32,
-}
-
-/// Why a packet is refused, the first that applies.
-#[derive(Clone, Copy, Debug, PartialEq, Eq, Error)]
-#[error("{}", self.name())]
-pub enum DeliverFault {
-    /// It is of another session.
-    Foreign,
-    /// This is the least number under which another entry is known already.
-    Conflict(TapeNumber),
-    /// It tells of a number past the end, or of another end.
-    PastEnd,
-}
-
-impl DeliverFault {
-    /// The number of the fault.
-    pub fn code(self) -> u8
-        ensures { result ≡ deliver_fault_code self }
-    {
-        match self {
-            DeliverFault::Foreign => 61,
-            DeliverFault::Conflict(_) => 62,
-            DeliverFault::PastEnd => 63,
-        }
-    }
-
-    /// The name of the fault, as it is printed.
-    pub fn name(self) -> &'static str
-        ensures { result.now ≡ deliver_fault_name self }
-    {
-        match self {
-            DeliverFault::Foreign => "Foreign",
-            DeliverFault::Conflict(_) => "Conflict",
-            DeliverFault::PastEnd => "PastEnd",
-        }
-    }
-}
-
-/// How many fresh entries each line brought.
+/// How many fresh entries each line has brought: those that were put into the window and were not there before.
 #[derive(Clone, Copy, Debug, PartialEq, Eq)]
 pub struct Brought {
+    /// Entries that came by line A.
     pub a: u32,
+    /// Entries that came by line B.
     pub b: u32,
+    /// Entries that came by retransmission.
     pub r: u32,
 }
 
 impl Brought {
-    /// How many entries a line brought.
+    /// How many fresh entries one line has brought.
     pub fn by(self, line: Line) -> u32
         ensures { result ≡ brought_by self line }
     {
@@ -78,7 +36,7 @@ impl Brought {
         }
     }
 
-    /// Counts entries that a line brought.
+    /// Adds the fresh entries of one packet to the count of its line.
     pub(crate) fn add(&mut self, line: Line, fresh: u32)
         requires { self.old.a + self.old.b + self.old.r + fresh < 2 ^ 32 }
         ensures { self.new ≡ brought_with self.old line fresh }

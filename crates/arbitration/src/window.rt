@@ -1,26 +1,28 @@
 //! The window that the lines fill.
-ghost use Rattle.std.specs.Prelude.{ℕ, None, ◌≡◌, ◌+◌, ◌-◌, ◌≤◌, ◌<◌, ◌↔◌, length, ◌^◌, ◌∷◌, [], ◌||◌, IsSome, IsOk, IsTrue, OnErr, OnOk, IfOk, MatchResult, MatchOption, All, slice_get, is_some, count_by, replicate};
-ghost use Rattle.std.specs.VecDeque.{deque_len};
-ghost use Rattle.arbitration.specs.Windows.{ready_entries, flat, IsMissing, IsGap, reach, IsWindow, Accepts, Refuses, Agrees, IsLeastConflict, window_after, taken_of, window_past, next_of, slots_after, known_entry, empty_window, placing_of, taken_with, fresh_count, brought_by, brought_with, is_beyond, is_other_end};
-ghost use Rattle.tape_frames.specs.Limits.{IsSpan};
+ghost use Rattle.std.specs.Prelude.{ℕ, None, ◌≡◌, ◌+◌, ◌≤◌, length, replicate, IsSome, IfOk, OnOk, OnErr, MatchResult, MatchOption};
 ghost use Rattle.tape_frames.specs.Packets.{entries_of};
-ghost use Rattle.tape_frames.specs.Rows.{IsEmptyOrRow};
+ghost use Rattle.arbitration.specs.Windows.{IsWindow, empty_window, next_of, reach, window_past};
+ghost use Rattle.arbitration.specs.Counts.{brought_by, taken_of};
+ghost use Rattle.arbitration.specs.Deliveries.{Accepts, Refuses, window_after};
+ghost use Rattle.arbitration.specs.Gaps.{IsGap, IsMissing};
 
+use crate::gap::{MOST_ASKED, empty_run, full_run, span};
+use crate::placing::settle;
+use crate::refusal::{find_conflict, is_past_end};
 use crate::{Brought, DeliverFault, Line, Taken};
 use std::alloc::{AllocError, Global};
 use std::collections::VecDeque;
 use std::marker::Model;
 use tape_core::Entry;
-use tape_frames::{Packet, Request, Span};
-use tape_types::TapeNumber;
+use tape_frames::{Packet, Request};
 
-/// How many numbers above the base a window reaches.
+/// How many numbers above its base a window keeps entries of.
 pub const REACH: usize = 1_024;
 
-/// The most numbers of one request.
-pub const MOST_ASKED: u32 = 64;
-
-/// The entries that wait for their turn.
+/// The entries of a tape that wait for their turn, with what was announced of the tape.
+///
+/// It has one slot for each of the `REACH` numbers above its base, and they are a ring: taking an entry out moves none.
+/// All memory is taken by `new`, and no other call takes any.
 #[derive(Debug, Drop)]
 pub struct Window {
     session: u64,
@@ -43,132 +45,10 @@ impl Model for Window {
     ghost invariant = { IsSound };
 }
 
-/// The entry that is known under a number.
-fn find_known(
-    held: &[Entry],
-    base: u32,
-    slots: &VecDeque<Option<Entry>>,
-    number: u32,
-) -> Option<Entry>
-    requires base { length held.now ≡ base }
-    requires number { 1 ≤ number }
-    requires within { base < 2 ^ 30 }
-    ensures { result ≡ known_entry held.now (base + 1) slots.now.items number }
-{
-    if number <= base {
-        return held.get(number as usize - 1).copied();
-    }
-    slots.get((number - base - 1) as usize).copied().flatten()
-}
-
-/// Whether no other entry is known under its number.
-fn agrees(held: &[Entry], base: u32, slots: &VecDeque<Option<Entry>>, entry: Entry) -> bool
-    requires base { length held.now ≡ base }
-    requires within { base < 2 ^ 30 }
-    ensures { IsTrue result ↔ Agrees held.now (base + 1) slots.now.items entry }
-{
-    match find_known(held, base, slots, entry.number.value()) {
-        Some(other) => other == entry,
-        None => true,
-    }
-}
-
-/// The least number of an entry that is known otherwise.
-fn find_conflict(
-    held: &[Entry],
-    base: u32,
-    slots: &VecDeque<Option<Entry>>,
-    entries: &[Entry],
-) -> Option<TapeNumber>
-    requires base { length held.now ≡ base }
-    requires within { base < 2 ^ 30 }
-    requires row { IsEmptyOrRow entries.now }
-    ensures { MatchOption result (All (Agrees held.now (base + 1) slots.now.items) entries.now) (IsLeastConflict held.now (base + 1) slots.now.items entries.now) }
-{
-    for entry in entries {
-        if !agrees(held, base, slots, *entry) {
-            return Some(entry.number);
-        }
-    }
-    None
-}
-
-/// Puts each entry into its slot, where there is one and it is empty.
-fn settle(slots: &mut VecDeque<Option<Entry>>, base: u32, entries: &[Entry]) -> Taken
-    requires row { IsEmptyOrRow entries.now }
-    requires within { base < 2 ^ 30 }
-    ensures slots { slots.new.items ≡ slots_after (base + 1) slots.old.items entries.now }
-    ensures taken { result ≡ taken_of (base + 1) slots.old.items entries.now }
-    ensures count { count_by is_some slots.new.items ≡ count_by is_some slots.old.items + result.fresh }
-{
-    let mut taken = Taken {
-        fresh: 0,
-        repeated: 0,
-        beyond: 0,
-    };
-    for entry in entries {
-        taken.count(put(slots, base, *entry));
-    }
-    taken
-}
-
-/// What became of one entry.
-#[derive(Clone, Copy, Debug, PartialEq, Eq)]
-enum Placing {
-    Fresh,
-    Repeated,
-    Beyond,
-}
-
-impl Taken {
-    fn count(&mut self, placing: Placing)
-        requires { self.old.fresh + self.old.repeated + self.old.beyond < 2 ^ 31 }
-        ensures { self.new ≡ taken_with self.old placing }
-    {
-        match placing {
-            Placing::Fresh => self.fresh += 1,
-            Placing::Repeated => self.repeated += 1,
-            Placing::Beyond => self.beyond += 1,
-        }
-    }
-}
-
-/// Puts one entry into its slot, where there is one and it is empty.
-fn put(slots: &mut VecDeque<Option<Entry>>, base: u32, entry: Entry) -> Placing
-    requires within { base < 2 ^ 30 }
-    ensures slots { slots.new.items ≡ slots_after (base + 1) slots.old.items (entry ∷ []) }
-    ensures placing { result ≡ placing_of (base + 1) slots.old.items entry }
-    ensures count { count_by is_some slots.new.items ≡ count_by is_some slots.old.items + fresh_count result }
-{
-    let number = entry.number.value();
-    if number <= base {
-        return Placing::Repeated;
-    }
-    let place = (number - base - 1) as usize;
-    if place >= slots.len() {
-        return Placing::Beyond;
-    }
-    if slots[place].is_some() {
-        return Placing::Repeated;
-    }
-    slots[place] = Some(entry);
-    Placing::Fresh
-}
-
-/// As many empty slots as a window has.
-fn empty_slots<T: Copy>(alloc: Global) -> Result<VecDeque<Option<T>>, AllocError>
-    ensures { IfOk result (λ slots. slots.items ≡ replicate reach None) }
-{
-    let mut slots = VecDeque::with_capacity(alloc, REACH)?;
-    for _turn in 0..REACH {
-        slots.push_back_reserved(None);
-    }
-    Ok(slots)
-}
-
 impl Window {
+    /// The window of a session from which nothing was taken, and to which nothing came.
     pub fn new(alloc: Global, session: u64) -> Result<Self, AllocError>
-        ensures { IfOk result (λ w. w ≡ empty_window session) }
+        ensures empty { IfOk result (λ w. w ≡ empty_window session) }
     {
         Ok(Window {
             session,
@@ -180,7 +60,7 @@ impl Window {
         })
     }
 
-    /// How many entries were taken out.
+    /// How many entries were taken out: those numbered 1 to this.
     pub fn base(&self) -> u32
         ensures base { result ≡ self.now.base }
         ensures window { IsWindow self.now }
@@ -188,28 +68,29 @@ impl Window {
         self.base
     }
 
-    /// The greatest last number of the packets taken.
+    /// The greatest last number of the packets taken, 0 for none. A packet's last number is that of its last entry, or the
+    /// number that a beat or an end gives.
     pub fn announced(&self) -> u32
-        ensures { result ≡ self.now.announced }
+        ensures announced { result ≡ self.now.announced }
     {
         self.announced
     }
 
-    /// The end that was taken, if one was.
+    /// How many entries the whole tape has, where an end was taken.
     pub fn ended(&self) -> Option<u32>
-        ensures { result ≡ self.now.ended }
+        ensures ended { result ≡ self.now.ended }
     {
         self.ended
     }
 
-    /// How many entries were put in that came by a line.
+    /// How many fresh entries one line has brought.
     pub fn brought(&self, line: Line) -> u32
-        ensures { result ≡ brought_by self.now.brought line }
+        ensures brought { result ≡ brought_by self.now.brought line }
     {
         self.brought.by(line)
     }
 
-    /// The entry that comes next, if it is there.
+    /// The entry above the base, where it is there.
     pub fn next_ready(&self) -> Option<Entry>
         ensures value { result ≡ next_of self.now }
         ensures window { IsWindow self.now }
@@ -220,19 +101,22 @@ impl Window {
         }
     }
 
-    /// Takes the next entry out.
+    /// Takes the next entry out: the base is one more, and a slot is free for the number that is now in reach.
     pub fn taken(&mut self)
         requires { IsSome (next_of self.old) }
-        ensures { self.new ≡ window_past 1 self.old }
+        ensures state { self.new ≡ window_past 1 self.old }
     {
         self.slots[0] = None;
         self.slots.rotate_left(1);
         self.base += 1;
     }
 
-    /// The first numbers that were announced and are not there.
+    /// What to ask for: the first numbers that were announced and neither were taken out nor wait. They go on to before the
+    /// next entry that waits or to the last number announced, and are at most `MOST_ASKED`. `None` where no number is missing.
     pub fn missing(&self) -> Option<Request>
-        ensures { MatchOption result ((n : ℕ) → ¬ (IsMissing self.now n)) (λ r. (r.session ≡ self.now.session) × IsGap self.now r.from r.count) }
+        ensures gap { MatchOption result
+            ((n : ℕ) → ¬ (IsMissing self.now n))
+            (λ r. (r.session ≡ self.now.session) × IsGap self.now r.from r.count) }
     {
         let full = full_run(&self.slots);
         let from = self.base + 1 + full;
@@ -248,7 +132,12 @@ impl Window {
         })
     }
 
-    /// Takes a packet that came by a line. `held` is what was taken out.
+    /// Takes a packet that came by a line, where `held` is the entries that were taken out of the window, by number.
+    ///
+    /// Each entry above the base and at most `REACH` above it is put into the window where its number was not there.
+    /// Refused, the first that applies: `Foreign`, `Conflict` with the least number under which `held` or the window has
+    /// another entry, `PastEnd`; the window is unchanged then. The same end may come again. It takes no memory, and looks at
+    /// the packet's entries and at what is known under their numbers, and at no more.
     pub fn deliver(
         &mut self,
         line: Line,
@@ -281,54 +170,13 @@ impl Window {
     }
 }
 
-/// So many numbers, as a request asks for them.
-fn span(count: u32) -> Span
-    requires { IsSpan count }
-    ensures { result ≡ count }
+/// As many empty slots as a window has.
+fn empty_slots<T: Copy>(alloc: Global) -> Result<VecDeque<Option<T>>, AllocError>
+    ensures { IfOk result (λ slots. slots.items ≡ replicate reach None) }
 {
-    Span::try_new(count as u16).unwrap()
-}
-
-/// How many slots are full before the first empty one.
-fn full_run(slots: &VecDeque<Option<Entry>>) -> u32
-    requires { length slots.now.items ≡ reach }
-    ensures { result ≡ length (ready_entries slots.now.items) }
-{
-    let mut full = 0;
-    while (full as usize) < slots.len() && slots[full as usize].is_some() {
-        full += 1;
+    let mut slots = VecDeque::with_capacity(alloc, REACH)?;
+    for _turn in 0..REACH {
+        slots.push_back_reserved(None);
     }
-    full
-}
-
-/// How many slots are empty from one on, or past the end, as far as it is asked.
-fn empty_run<T: Copy>(slots: &VecDeque<Option<T>>, from: u32, most: u32) -> u32
-    requires { from ≤ 1024 }
-    ensures within { result ≤ most }
-    ensures empty { (k : ℕ) → k < result → flat (slice_get slots.now.items (from + k)) ≡ None }
-    ensures ends { result < most → IsSome (flat (slice_get slots.now.items (from + result))) }
-{
-    for k in 0..most {
-        if slots
-            .get((from as usize) + (k as usize))
-            .copied()
-            .flatten()
-            .is_some()
-        {
-            return k;
-        }
-    }
-    most
-}
-
-/// Whether a packet does not fit what is known of the end.
-fn is_past_end(ended: Option<u32>, announced: u32, last: u32, end: Option<u32>) -> bool
-    ensures { result ≡ (is_beyond ended last || is_other_end ended announced end) }
-{
-    match (ended, end) {
-        (Some(count), Some(other)) => last > count || other != count,
-        (Some(count), None) => last > count,
-        (None, Some(count)) => count < announced,
-        (None, None) => false,
-    }
+    Ok(slots)
 }

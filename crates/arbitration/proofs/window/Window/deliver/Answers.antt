@@ -1,13 +1,16 @@
 use Rattle.std.proofs.Common.{◌+◌, ap, sym, subst, ◌∙◌, arith}
 use Rattle.std.specs.Prelude.{count_by, is_some}
 use Rattle.std.specs.Option.{option_or}
-use Rattle.arbitration.specs.declared.line.Taken.{Taken}
+use Rattle.arbitration.specs.declared.taken.Taken.{Taken}
 use Rattle.tape_frames.specs.Packets.{entries_of, end_of}
-use Rattle.arbitration.specs.Windows.{WindowState, IsWindow, taken_of, slots_after, brought_with, is_beyond, is_other_end}
+use Rattle.arbitration.specs.Windows.{WindowState, IsWindow}
+use Rattle.arbitration.specs.Counts.{taken_of, brought_with}
+use Rattle.arbitration.specs.Deliveries.{slots_after, is_beyond, is_other_end}
 use Rattle.arbitration.specs.Inside.{state_of}
 use Rattle.std.proofs.Common.{max, ◌||◌}
-use Rattle.arbitration.proofs.WindowLemmas.{IsWindow-window_after, brought_fits}
-use Rattle.arbitration.proofs.Settled.{row_numbers, few_taken}
+use Rattle.arbitration.proofs.Windows.{IsWindow-window_after, brought_fits}
+use Rattle.arbitration.proofs.Numbers.{row_numbers}
+use Rattle.arbitration.proofs.Counts.{few_taken}
 use Rattle.arbitration.proofs.window.Window.deliver.Goals as goal
 
 pub add-requires : goal.add-requires

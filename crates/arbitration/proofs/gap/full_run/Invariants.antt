@@ -1,6 +1,6 @@
 use Rattle.std.proofs.Common.{◌≡◌, ◌+◌, ◌-◌, ◌≤◌, length, drop}
 use Rattle.arbitration.specs.Windows.{ready_entries}
-use Rattle.arbitration.proofs.window.full_run.Given as goal
+use Rattle.arbitration.proofs.gap.full_run.Given as goal
 
 abbrev pub invariant-loop-full : goal.invariant-loop-full
 invariant-loop-full l = record {

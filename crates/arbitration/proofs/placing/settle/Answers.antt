@@ -1,10 +1,13 @@
 use Rattle.std.proofs.Common.{◌+◌, ◌∷◌, [], get_or, sym, ap, refl, ◌∙◌, arith}
 use Rattle.std.specs.Prelude.{count_by, is_some}
-use Rattle.arbitration.specs.declared.line.Taken.{Taken}
-use Rattle.arbitration.specs.Windows.{fresh_count, taken_with, placing_of, slots_after}
+use Rattle.arbitration.specs.declared.taken.Taken.{Taken}
+use Rattle.arbitration.specs.Counts.{fresh_count, taken_with, placing_of}
+use Rattle.arbitration.specs.Deliveries.{slots_after}
 use Rattle.tape_frames.specs.Rows.{first_number}
-use Rattle.arbitration.proofs.Settled.{row_numbers, slots_after-none, turn_slots, turn_taken, fresh_more}
-use Rattle.arbitration.proofs.window.settle.Goals as goal
+use Rattle.arbitration.proofs.Numbers.{row_numbers}
+use Rattle.arbitration.proofs.Slots.{slots_after-none, turn_slots}
+use Rattle.arbitration.proofs.Counts.{turn_taken, fresh_more}
+use Rattle.arbitration.proofs.placing.settle.Goals as goal
 
 pub loop-entry-init : goal.loop-entry-init
 loop-entry-init c = record { slots = sym (slots_after-none (c.args.base + 1) c.args.slots.now.items); taken = refl; count = omega arith }

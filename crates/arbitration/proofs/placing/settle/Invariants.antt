@@ -1,7 +1,8 @@
 use Rattle.std.proofs.Common.{◌≡◌, ◌+◌, take}
 use Rattle.std.specs.Prelude.{count_by, is_some}
-use Rattle.arbitration.specs.Windows.{slots_after, taken_of}
-use Rattle.arbitration.proofs.window.settle.Given as goal
+use Rattle.arbitration.specs.Deliveries.{slots_after}
+use Rattle.arbitration.specs.Counts.{taken_of}
+use Rattle.arbitration.proofs.placing.settle.Given as goal
 
 abbrev pub invariant-loop-entry : goal.invariant-loop-entry
 invariant-loop-entry l = record {

@@ -1,0 +1,59 @@
+//! What a window refuses a packet for.
+ghost use Rattle.std.specs.Prelude.{◌≡◌, ◌+◌, ◌≤◌, ◌↔◌, ◌||◌, length, IsTrue, MatchOption, All};
+ghost use Rattle.tape_frames.specs.Limits.{longest_tape};
+ghost use Rattle.tape_frames.specs.Rows.{IsEmptyOrRow};
+ghost use Rattle.arbitration.specs.Deliveries.{Agrees, IsLeastConflict, is_beyond, is_other_end};
+
+use std::collections::VecDeque;
+use tape_core::Entry;
+use tape_types::TapeNumber;
+
+/// The least number of an entry under which another one is known.
+pub(crate) fn find_conflict(
+    held: &[Entry],
+    base: u32,
+    slots: &VecDeque<Option<Entry>>,
+    entries: &[Entry],
+) -> Option<TapeNumber>
+    requires base { length held.now ≡ base }
+    requires within { base ≤ longest_tape }
+    requires row { IsEmptyOrRow entries.now }
+    ensures { MatchOption result
+        (All (Agrees held.now (base + 1) slots.now.items) entries.now)
+        (IsLeastConflict held.now (base + 1) slots.now.items entries.now) }
+{
+    for entry in entries {
+        if !agrees(held, base, slots, entry) {
+            return Some(entry.number);
+        }
+    }
+    None
+}
+
+/// Whether no other entry is known under the entry's number. It looks at one entry and copies none.
+fn agrees(held: &[Entry], base: u32, slots: &VecDeque<Option<Entry>>, entry: &Entry) -> bool
+    requires base { length held.now ≡ base }
+    requires within { base ≤ longest_tape }
+    ensures { IsTrue result ↔ Agrees held.now (base + 1) slots.now.items entry.now }
+{
+    let number = entry.number.value();
+    if number <= base {
+        return held[number as usize - 1] == *entry;
+    }
+    match slots.get((number - base - 1) as usize) {
+        Some(Some(waiting)) => waiting == entry,
+        Some(None) | None => true,
+    }
+}
+
+/// Whether the last number or the end that a packet tells of does not fit what is known of the end.
+pub(crate) fn is_past_end(ended: Option<u32>, announced: u32, last: u32, end: Option<u32>) -> bool
+    ensures { result ≡ (is_beyond ended last || is_other_end ended announced end) }
+{
+    match (ended, end) {
+        (Some(count), Some(other)) => last > count || other != count,
+        (Some(count), None) => last > count,
+        (None, Some(count)) => count < announced,
+        (None, None) => false,
+    }
+}
