@@ -12,22 +12,26 @@ FromDue [] due = Unit {0}
 FromDue (slot ∷ slots) [] = (slot ≡ None) × FromDue slots []
 FromDue (slot ∷ slots) (e ∷ due) = IfSome slot (λ other. other ≡ e) × FromDue slots due
 
+-- empty slots are of any list
 pub FromDue-replicate : (n : ℕ) (due : List Entry) → FromDue (replicate n None) due
 FromDue-replicate zero due = tt
 FromDue-replicate (suc n) [] = (refl, FromDue-replicate n [])
 FromDue-replicate (suc n) (e ∷ due) = (tt, FromDue-replicate n due)
 
+-- and stay so when the list goes on
 pub FromDue-grow : (slots : List (Option Entry)) (due more : List Entry) → FromDue slots due → FromDue slots (due ++ more)
 FromDue-grow [] due more h = tt
 FromDue-grow (slot ∷ slots) [] [] h = h
 FromDue-grow (slot ∷ slots) [] (e ∷ more) h = (subst (λ o. IfSome o (λ other. other ≡ e)) (sym h.0) tt, FromDue-grow slots [] more h.1)
 FromDue-grow (slot ∷ slots) (e ∷ due) more h = (h.0, FromDue-grow slots due more h.1)
 
+-- and when empty slots are added
 pub FromDue-append : (slots : List (Option Entry)) (n : ℕ) (due : List Entry) → FromDue slots due → FromDue (slots ++ replicate n None) due
 FromDue-append [] n due h = FromDue-replicate n due
 FromDue-append (slot ∷ slots) n [] h = (h.0, FromDue-append slots n [] h.1)
 FromDue-append (slot ∷ slots) n (e ∷ due) h = (h.0, FromDue-append slots n due h.1)
 
+-- and when the first slots and entries are taken out
 pub FromDue-drop : (n : ℕ) (slots : List (Option Entry)) (due : List Entry) → FromDue slots due → FromDue (drop n slots) (drop n due)
 FromDue-drop zero slots due h = h
 FromDue-drop (suc n) [] due h = tt
@@ -44,17 +48,21 @@ ready_first (Some e ∷ slots) (x ∷ due) h =
     let rest = ready_first slots due h.1 in (rest.0, (λ i. sym h.0 i ∷ rest.1 i))
 
 -- a slot that takes what a packet has under its number
-slot_from : (slot found : Option Entry) (e : Entry) → IfSome slot (λ other. other ≡ e) → ((x : Entry) → found ≡ Some x → x ≡ e) → IfSome (option_or slot found) (λ other. other ≡ e)
+slot_from : (slot found : Option Entry) (e : Entry) → IfSome slot (λ other. other ≡ e) → ((x : Entry) → found ≡ Some x → x ≡ e)
+    → IfSome (option_or slot found) (λ other. other ≡ e)
 slot_from (Some y) found e h is = h
 slot_from None (Some x) e h is = is x refl
 slot_from None None e h is = tt
 
+-- a slot stays empty where the packet has nothing under its number
 slot_none : (slot found : Option Entry) → slot ≡ None → ((x : Entry) → found ≡ Some x → ⊥) → option_or slot found ≡ None
 slot_none (Some y) found h is = h
 slot_none None (Some x) h is = absurd (is x refl)
 slot_none None None h is = refl
 
-pub FromDue-slots_after : (next : ℕ) (slots : List (Option Entry)) (due es : List Entry) → FromDue slots due → ((k : ℕ) (e : Entry) → entry_numbered (next + k) es ≡ Some e → slice_get due k ≡ Some e) → FromDue (slots_after next slots es) due
+-- and after a packet whose entries are of the list
+pub FromDue-slots_after : (next : ℕ) (slots : List (Option Entry)) (due es : List Entry) → FromDue slots due
+    → ((k : ℕ) (e : Entry) → entry_numbered (next + k) es ≡ Some e → slice_get due k ≡ Some e) → FromDue (slots_after next slots es) due
 FromDue-slots_after next [] due es h is = tt
 FromDue-slots_after next (slot ∷ slots) [] es h is =
     let at_next : next ≡ next + 0 = omega arith in (
@@ -72,7 +80,8 @@ FromDue-slots_after next (slot ∷ slots) (d ∷ due) es h is =
     )
 
 -- what waits is of the list
-pub FromDue-at : (slots : List (Option Entry)) (due : List Entry) (k : ℕ) (e : Entry) → FromDue slots due → flat (slice_get slots k) ≡ Some e → slice_get due k ≡ Some e
+pub FromDue-at : (slots : List (Option Entry)) (due : List Entry) (k : ℕ) (e : Entry) → FromDue slots due
+    → flat (slice_get slots k) ≡ Some e → slice_get due k ≡ Some e
 FromDue-at [] due k e h found = absurd (none-some e found)
 FromDue-at (slot ∷ slots) [] zero e h found = absurd (none-some e (sym h.0 ∙ found))
 FromDue-at (slot ∷ slots) [] (suc k) e h found = FromDue-at slots [] k e h.1 found

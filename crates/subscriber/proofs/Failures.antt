@@ -6,9 +6,9 @@ use Rattle.tape_core.specs.declared.entry.Entry.{Entry}
 use Rattle.tape_core.specs.declared.refusal.Refusal.{Refusal}
 use Rattle.tape_core.specs.Tape.{refusal}
 use Rattle.arbitration.specs.Windows.{next_of}
-use Rattle.subscriber.specs.declared.fault.Stop.{Stop}
-use Rattle.subscriber.specs.declared.fault.Stop.TheVariants.{Refused, OtherSummary, Failed}
-use Rattle.subscriber.specs.declared.fault.DrainFault.{DrainFault}
+use Rattle.subscriber.specs.declared.drain_fault.Stop.{Stop}
+use Rattle.subscriber.specs.declared.drain_fault.Stop.TheVariants.{Refused, OtherSummary, Failed}
+use Rattle.subscriber.specs.declared.drain_fault.DrainFault.{DrainFault}
 use Rattle.subscriber.specs.Subscribers.{SubscriberState, own_entry, subscriber_after_entry, subscriber_after, NextIsOwn}
 use Rattle.subscriber.specs.Drains.{OwnFor, StopsFor, DrainsAll, DrainStops}
 use Rattle.subscriber.proofs.Turns.{after_entry-keeps, after_entry-refused, own_runs, length-with_entry}
@@ -25,6 +25,7 @@ runs_for (suc n) s running own =
     (λ e next _ _. own_runs s e (subst (λ o. IfSome o (λ x. own_entry s x.message ≡ x)) next here)))
     (λ k below. own (suc k) (omega arith))
 
+-- after a drain that is Ok it has not failed
 pub runs : (n : ℕ) (s after : SubscriberState) → DrainsAll n s after → after.failed ≡ false
 runs n s after all = ap (λ (t : SubscriberState). t.failed) all.state ∙ runs_for n s all.running all.own
 
@@ -32,6 +33,7 @@ runs n s after all = ap (λ (t : SubscriberState). t.failed) all.state ∙ runs_
 one_more : (s : SubscriberState) (o : Option Entry) → length (subscriber_after_entry o s).tape.entries ≤ length s.tape.entries + 1
 one_more s o = after_entry-keeps (λ t. length t.tape.entries ≤ length s.tape.entries + 1) s o (omega arith) (λ e _ _ _. let more = length-with_entry s e in omega arith)
 
+-- a drain of n entries holds at most n more
 at_most : (n : ℕ) (s : SubscriberState) → length (subscriber_after n s).tape.entries ≤ length s.tape.entries + n
 at_most zero s = omega arith
 at_most (suc n) s =
@@ -40,27 +42,33 @@ at_most (suc n) s =
     omega arith
 
 -- a turn that holds another entry than the feed's makes it fail
-other_fails : (t : SubscriberState) → t.failed ≡ false → ¬ (NextIsOwn t) → length (subscriber_after_entry (next_of t.window) t).tape.entries ≡ length t.tape.entries + 1
+other_fails : (t : SubscriberState) → t.failed ≡ false → ¬ (NextIsOwn t)
+    → length (subscriber_after_entry (next_of t.window) t).tape.entries ≡ length t.tape.entries + 1
     → (subscriber_after_entry (next_of t.window) t).failed ≡ true
 other_fails t running other more = by (next_of t.window) refl more
   where
-    taken : (e : Entry) → next_of t.window ≡ Some e → (r : Option Refusal) → refusal t.tape e.message ≡ r → length (subscriber_after_entry (Some e) t).tape.entries ≡ length t.tape.entries + 1
+    taken : (e : Entry) → next_of t.window ≡ Some e → (r : Option Refusal) → refusal t.tape e.message ≡ r
+        → length (subscriber_after_entry (Some e) t).tape.entries ≡ length t.tape.entries + 1
         → (subscriber_after_entry (Some e) t).failed ≡ true
     taken e next None free more = (fails_by_other t e running free).1 (λ own. other (subst (λ o. IfSome o (λ x. own_entry t x.message ≡ x)) (sym next) own))
     taken e next (Some r) refused more =
         let same : length (subscriber_after_entry (Some e) t).tape.entries ≡ length t.tape.entries = ap (λ (u : SubscriberState). length u.tape.entries) (after_entry-refused t e (ap is_some refused)) in
         absurd (omega arith)
 
-    by : (o : Option Entry) → next_of t.window ≡ o → length (subscriber_after_entry o t).tape.entries ≡ length t.tape.entries + 1 → (subscriber_after_entry o t).failed ≡ true
+    by : (o : Option Entry) → next_of t.window ≡ o → length (subscriber_after_entry o t).tape.entries ≡ length t.tape.entries + 1
+        → (subscriber_after_entry o t).failed ≡ true
     by None next more = absurd (omega arith)
     by (Some e) next more = taken e next (refusal t.tape e.message) refl more
 
+-- the stop is another summary
 abbrev is_other : Stop → Bool
 is_other (Refused why) = false
 is_other OtherSummary = true
 is_other Failed = false
 
-fails_for : (why : Stop) (n : ℕ) (s : SubscriberState) → s.failed ≡ false → StopsFor why n s → length (subscriber_after n s).tape.entries ≡ length s.tape.entries + n
+-- after a drain it has failed exactly where the stop is another summary
+fails_for : (why : Stop) (n : ℕ) (s : SubscriberState) → s.failed ≡ false → StopsFor why n s
+    → length (subscriber_after n s).tape.entries ≡ length s.tape.entries + n
     → (subscriber_after n s).failed ≡ is_other why
 fails_for (Refused why) n s running is held = runs_for n s running is.1
 fails_for Failed n s running is held = absurd (both_ways s.failed running is.0)
@@ -74,6 +82,7 @@ fails_for OtherSummary n s running is held =
     let size : length (subscriber_after_entry (next_of t.window) t).tape.entries ≡ length s.tape.entries + n = ap (λ (u : SubscriberState). length u.tape.entries) (sym last) ∙ held in
     ap (λ (u : SubscriberState). u.failed) last ∙ other_fails t (runs_for (n - 1) s running is.2) is.3 (omega arith)
 
+-- a drain that stops leaves it failed exactly where it answers "other summary"
 pub fails : (fault : DrainFault) (s after : SubscriberState) → DrainStops fault s after → s.failed ≡ false
     → (after.failed ≡ true → fault.why ≡ OtherSummary) × (fault.why ≡ OtherSummary → after.failed ≡ true)
 fails fault s after stops running =
@@ -86,3 +95,13 @@ fails fault s after stops running =
     the_other (Refused why) h = absurd (false≢true h)
     the_other OtherSummary h = refl
     the_other Failed h = absurd (false≢true h)
+
+-- and it answers that exactly where one of the entries that it counts is not its own
+pub other_summary : (fault : DrainFault) (s after : SubscriberState) → DrainStops fault s after → s.failed ≡ false
+    → (fault.why ≡ OtherSummary → ¬ (OwnFor fault.drained s)) × (¬ (OwnFor fault.drained s) → fault.why ≡ OtherSummary)
+other_summary fault s after stops running = by fault.why fault.drained stops.why
+  where
+    by : (why : Stop) (n : ℕ) → StopsFor why n s → (why ≡ OtherSummary → ¬ (OwnFor n s)) × (¬ (OwnFor n s) → why ≡ OtherSummary)
+    by (Refused why) n is = (λ other. absurd (false≢true (ap is_other other)), λ not_own. absurd (not_own is.1))
+    by OtherSummary n is = (λ other own. is.3 (own (n - 1) (let some : 1 ≤ n = is.1 in omega arith)), λ not_own. refl)
+    by Failed n is = absurd (both_ways s.failed running is.0)

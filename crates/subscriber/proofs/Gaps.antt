@@ -1,5 +1,5 @@
 -- What was brought stays, until it is held.
-use Rattle.std.proofs.Common.{◌≡◌, ℕ, zero, suc, ◌+◌, ◌-◌, ◌≤◌, ◌<◌, ◌⊎◌, true, false, List, [], ◌∷◌, ◌++◌, length, drop, get_or, Option, None, Some, refl, sym, ap, ◌∙◌, inl, inr, arith}
+use Rattle.std.proofs.Common.{◌≡◌, ℕ, zero, suc, ◌+◌, ◌-◌, ◌≤◌, ◌<◌, ◌⊎◌, true, false, List, [], ◌∷◌, ◌++◌, length, drop, get_or, Option, None, Some, refl, sym, ap, subst, ◌∙◌, inl, inr, arith}
 use Rattle.std.specs.Prelude.{slice_get, is_some, nat_lt}
 use Rattle.std.specs.Option.{option_or}
 use Rattle.std.proofs.lemmas.Bool.{cases_lt, cond-true, lt-ltb, false≢true}
@@ -10,6 +10,7 @@ use Rattle.tape_frames.proofs.Numbers.{slice_get-append-lt}
 use Rattle.arbitration.specs.Windows.{flat, entry_numbered, slots_after, waiting_entry, next_of, IsGap}
 use Rattle.arbitration.proofs.WindowLemmas.{reach-is, waiting_at}
 use Rattle.subscriber.specs.Subscribers.{SubscriberState, with_entry, subscriber_after_entry, subscriber_after}
+use Rattle.subscriber.specs.Drains.{DrainsAll}
 use Rattle.subscriber.specs.Schedules.{World, Event, Admits, Closes, Comes, Drains, Restarts, world_after, run, IsSchedule, is_restart, brings, HasNoRestart, Brings}
 use Rattle.subscriber.proofs.Turns.{after_entry-keeps, length-with_entry}
 use Rattle.subscriber.proofs.Sound.{IsSound, keeps, keeps_all}
@@ -18,7 +19,9 @@ use Rattle.subscriber.proofs.Sound.{IsSound, keeps, keeps_all}
 abbrev IsKept : SubscriberState → ℕ → Type 0
 IsKept s n = (n ≤ length s.tape.entries) ⊎ (is_some (waiting_entry (s.window.base + 1) s.window.slots n) ≡ true)
 
-settled_at : (next : ℕ) (slots : List (Option Entry)) (es : List Entry) (k : ℕ) (slot : Option Entry) → slice_get slots k ≡ Some slot → slice_get (slots_after next slots es) k ≡ Some (option_or slot (entry_numbered (next + k) es))
+-- what a slot has after a packet
+settled_at : (next : ℕ) (slots : List (Option Entry)) (es : List Entry) (k : ℕ) (slot : Option Entry) → slice_get slots k ≡ Some slot
+    → slice_get (slots_after next slots es) k ≡ Some (option_or slot (entry_numbered (next + k) es))
 settled_at next [] es k slot found = absurd (false≢true (ap is_some found))
 settled_at next (x ∷ slots) es zero slot found =
     let p : next ≡ next + 0 = omega arith in
@@ -27,16 +30,19 @@ settled_at next (x ∷ slots) es (suc k) slot found =
     let p : (next + 1) + k ≡ next + suc k = omega arith in
     settled_at (next + 1) slots es k slot found ∙ ap (λ n. Some (option_or slot (entry_numbered n es))) p
 
+-- what is there stays
 or_left_some : (o p : Option Entry) → is_some o ≡ true → is_some (option_or o p) ≡ true
 or_left_some None p h = absurd (false≢true h)
 or_left_some (Some x) p h = refl
 
+-- what comes is there
 or_right_some : (o p : Option Entry) → is_some p ≡ true → is_some (option_or o p) ≡ true
 or_right_some None p h = h
 or_right_some (Some x) p h = refl
 
 -- where a waiting entry is
-waits_where : (next : ℕ) (slots : List (Option Entry)) (n : ℕ) → is_some (waiting_entry next slots n) ≡ true → (k : ℕ) × (n ≡ next + k) × (k < length slots) × (is_some (flat (slice_get slots k)) ≡ true)
+waits_where : (next : ℕ) (slots : List (Option Entry)) (n : ℕ) → is_some (waiting_entry next slots n) ≡ true
+    → (k : ℕ) × (n ≡ next + k) × (k < length slots) × (is_some (flat (slice_get slots k)) ≡ true)
 waits_where next slots n h = elim (cases_lt n next) [
   | inl below ↦ absurd (false≢true (sym (ap is_some (cond-true (nat_lt n next) _ _ (lt-ltb _ _ below))) ∙ h))
   | inr above ↦
@@ -52,7 +58,10 @@ waits_where next slots n h = elim (cases_lt n next) [
       )
 ]
 
-settled_waits : (next : ℕ) (slots : List (Option Entry)) (es : List Entry) (n k : ℕ) → n ≡ next + k → k < length slots → (is_some (flat (slice_get slots k)) ≡ true) ⊎ (is_some (entry_numbered n es) ≡ true) → is_some (waiting_entry next (slots_after next slots es) n) ≡ true
+-- what waited, or is in the packet, waits after it
+settled_waits : (next : ℕ) (slots : List (Option Entry)) (es : List Entry) (n k : ℕ) → n ≡ next + k → k < length slots
+    → (is_some (flat (slice_get slots k)) ≡ true) ⊎ (is_some (entry_numbered n es) ≡ true)
+    → is_some (waiting_entry next (slots_after next slots es) n) ≡ true
 settled_waits next slots es n k p within h =
     let slot = get_or slots k None in
     let at_k = slice_get-get_or slots k None within in
@@ -62,6 +71,7 @@ settled_waits next slots es n k p within h =
       | inr new ↦ or_right_some slot (entry_numbered (next + k) es) (ap (λ i. is_some (entry_numbered i es)) (sym p) ∙ new)
     ]
 
+-- a number stays kept when the next entry is taken out and replayed
 kept_taken : (s : SubscriberState) (e : Entry) (n : ℕ) → s.window.base ≡ length s.tape.entries → IsKept s n → IsKept (with_entry e s) n
 kept_taken s e n base (inl held) = inl (let more = length-with_entry s e in omega arith)
 kept_taken s e n base (inr waits) =
@@ -76,21 +86,28 @@ kept_taken s e n base (inr waits) =
         let q : n ≡ (s.window.base + 1 + 1) + k = omega arith in
         inr (ap is_some (waiting_at (s.window.base + 1 + 1) (slots ++ None ∷ []) n k q ∙ ap flat (slice_get-append-lt slots (None ∷ []) k (omega arith))) ∙ found)
 
+-- a number stays kept over one turn of a drain
 kept_replayed : (s : SubscriberState) (o : Option Entry) (n : ℕ) → s.window.base ≡ length s.tape.entries → IsKept s n → IsKept (subscriber_after_entry o s) n
 kept_replayed s o n base kept = after_entry-keeps (λ t. IsKept t n) s o kept (λ e _ _ _. kept_taken s e n base kept)
 
-based_replayed : (s : SubscriberState) (o : Option Entry) → s.window.base ≡ length s.tape.entries → (subscriber_after_entry o s).window.base ≡ length (subscriber_after_entry o s).tape.entries
+-- one turn of a drain keeps the window's base at the number held
+based_replayed : (s : SubscriberState) (o : Option Entry) → s.window.base ≡ length s.tape.entries
+    → (subscriber_after_entry o s).window.base ≡ length (subscriber_after_entry o s).tape.entries
 based_replayed s o base =
     after_entry-keeps (λ t. t.window.base ≡ length t.tape.entries) s o base (λ e _ _ _. ap (λ n. n + 1) base ∙ sym (length-with_entry s e))
 
+-- a number stays kept over a drain
 kept_drained : (m : ℕ) (s : SubscriberState) (n : ℕ) → s.window.base ≡ length s.tape.entries → IsKept s n → IsKept (subscriber_after m s) n
 kept_drained zero s n base kept = kept
 kept_drained (suc m) s n base kept = kept_drained m (subscriber_after_entry (next_of s.window) s) n (based_replayed s (next_of s.window) base) (kept_replayed s (next_of s.window) n base kept)
 
-based_drained : (m : ℕ) (s : SubscriberState) → s.window.base ≡ length s.tape.entries → (subscriber_after m s).window.base ≡ length (subscriber_after m s).tape.entries
+-- a drain keeps the window's base at the number held
+based_drained : (m : ℕ) (s : SubscriberState) → s.window.base ≡ length s.tape.entries
+    → (subscriber_after m s).window.base ≡ length (subscriber_after m s).tape.entries
 based_drained zero s base = base
 based_drained (suc m) s base = based_drained m (subscriber_after_entry (next_of s.window) s) (based_replayed s (next_of s.window) base)
 
+-- a drain gives nothing up
 grows_drained : (m : ℕ) (s : SubscriberState) → length s.tape.entries ≤ length (subscriber_after m s).tape.entries
 grows_drained zero s = omega arith
 grows_drained (suc m) s =
@@ -99,6 +116,7 @@ grows_drained (suc m) s =
     after_entry-keeps (λ t. length s.tape.entries ≤ length t.tape.entries) s (next_of s.window) (omega arith) (λ e _ _ _. let more = length-with_entry s e in omega arith) in
     omega arith
 
+-- a number stays kept over an event
 kept_step : (w : World) (event : Event) (n : ℕ) → IsSound w → is_restart event ≡ false → IsKept w.subscriber n → IsKept (world_after w event).subscriber n
 kept_step w (Admits message) n s stays kept = kept
 kept_step w Closes n s stays kept = kept
@@ -110,6 +128,7 @@ kept_step w (Comes line packet) n s stays (inr waits) =
 kept_step w (Drains count) n s stays kept = kept_drained count w.subscriber n s.base kept
 kept_step w Restarts n s stays kept = absurd (false≢true (sym stays))
 
+-- no event but a restart gives anything up
 grows_step : (w : World) (event : Event) → is_restart event ≡ false → length w.subscriber.tape.entries ≤ length (world_after w event).subscriber.tape.entries
 grows_step w (Admits message) stays = omega arith
 grows_step w Closes stays = omega arith
@@ -117,7 +136,9 @@ grows_step w (Comes line packet) stays = omega arith
 grows_step w (Drains count) stays = grows_drained count w.subscriber
 grows_step w Restarts stays = absurd (false≢true (sym stays))
 
-brought_step : (w : World) (event : Event) (n : ℕ) → IsSound w → n ≤ length w.subscriber.tape.entries + 1024 → brings n event ≡ true → IsKept (world_after w event).subscriber n
+-- a number that is brought from the reach of the window is kept
+brought_step : (w : World) (event : Event) (n : ℕ) → IsSound w → n ≤ length w.subscriber.tape.entries + 1024 → brings n event ≡ true
+    → IsKept (world_after w event).subscriber n
 brought_step w (Admits message) n s near yes' = absurd (false≢true yes')
 brought_step w Closes n s near yes' = absurd (false≢true yes')
 brought_step w (Comes line packet) n s near yes' =
@@ -131,29 +152,36 @@ brought_step w (Comes line packet) n s near yes' =
 brought_step w (Drains count) n s near yes' = absurd (false≢true yes')
 brought_step w Restarts n s near yes' = absurd (false≢true yes')
 
-kept_run : (events : List Event) (w : World) (n : ℕ) → IsSound w → IsSchedule w events → HasNoRestart events → IsKept w.subscriber n → IsKept (run w events).subscriber n
+-- a number stays kept over a schedule without a restart
+kept_run : (events : List Event) (w : World) (n : ℕ) → IsSound w → IsSchedule w events → HasNoRestart events → IsKept w.subscriber n
+    → IsKept (run w events).subscriber n
 kept_run [] w n s ok stays kept = kept
 kept_run (event ∷ events) w n s ok stays kept = kept_run events (world_after w event) n (keeps w event s ok.0) ok.1 stays.1 (kept_step w event n s stays.0 kept)
 
+-- a schedule without a restart gives nothing up
 grows_run : (events : List Event) (w : World) → HasNoRestart events → length w.subscriber.tape.entries ≤ length (run w events).subscriber.tape.entries
 grows_run [] w stays = omega arith
 grows_run (event ∷ events) w stays = let one = grows_step w event stays.0 in let rest = grows_run events (world_after w event) stays.1 in omega arith
 
-brought_run : (events : List Event) (w : World) (n : ℕ) → IsSound w → IsSchedule w events → HasNoRestart events → n ≤ length w.subscriber.tape.entries + 1024 → Brings n events → IsKept (run w events).subscriber n
+-- a number that a schedule without a restart brings is kept after it
+brought_run : (events : List Event) (w : World) (n : ℕ) → IsSound w → IsSchedule w events → HasNoRestart events
+    → n ≤ length w.subscriber.tape.entries + 1024 → Brings n events → IsKept (run w events).subscriber n
 brought_run [] w n s ok stays near brought = absurd brought
 brought_run (event ∷ events) w n s ok stays near (inl now) = kept_run events (world_after w event) n (keeps w event s ok.0) ok.1 stays.1 (brought_step w event n s near now)
 brought_run (event ∷ events) w n s ok stays near (inr then') =
     let one = grows_step w event stays.0 in
     brought_run events (world_after w event) n (keeps w event s ok.0) ok.1 stays.1 (omega arith) then'
 
-pub gap_next : (w : World) (from count : ℕ) → IsSound w → next_of w.subscriber.window ≡ None → IsGap w.subscriber.window from count → from ≡ length w.subscriber.tape.entries + 1
+-- where nothing is ready, the first missing number is the number held plus 1
+pub gap_next : (w : World) (from count : ℕ) → IsSound w → next_of w.subscriber.window ≡ None → IsGap w.subscriber.window from count
+    → from ≡ length w.subscriber.tape.entries + 1
 gap_next w from count s empty gap =
     let window = w.subscriber.window in
     let base : window.base ≡ length w.subscriber.tape.entries = s.base in
     let some : 1 ≤ count = gap.some in
     let first = gap.all from (omega arith) (omega arith) in
     let above : window.base < from = first.0 in
-    let announced_by : from ≤ window.announced = first.1 in
+    let announced : from ≤ window.announced = first.1 in
     let place : window.base + 1 ≡ (window.base + 1) + 0 = omega arith in
     let least = gap.least (window.base + 1) (omega arith, omega arith, waiting_at (window.base + 1) window.slots (window.base + 1) 0 place ∙ empty) in
     omega arith
@@ -165,17 +193,24 @@ kept_held s n base empty p (inr waits) =
     let place : n ≡ (s.window.base + 1) + 0 = omega arith in
     false≢true (sym (ap is_some (waiting_at (s.window.base + 1) s.window.slots n 0 place ∙ empty)) ∙ waits)
 
-pub gap_filled : (w : World) (from count : ℕ) (more : List Event) → IsSound w → next_of w.subscriber.window ≡ None → IsGap w.subscriber.window from count
-    → IsSchedule w more → HasNoRestart more → ((n : ℕ) → from ≤ n → n < from + count → Brings n more) → next_of (run w more).subscriber.window ≡ None
-    → from + count ≤ length (run w more).subscriber.tape.entries + 1
-gap_filled w from count more s empty gap ok stays brought done =
+-- once each number of the gap was brought, a later drain that is Ok holds it
+pub gap_filled : (w : World) (from count : ℕ) (more : List Event) (later : ℕ) (last : SubscriberState)
+    → IsSound w → next_of w.subscriber.window ≡ None → IsGap w.subscriber.window from count
+    → IsSchedule w more → HasNoRestart more → ((n : ℕ) → from ≤ n → n < from + count → Brings n more)
+    → DrainsAll later (run w more).subscriber last → from + count ≤ length last.tape.entries + 1
+gap_filled w from count more later last s empty gap ok stays brought all =
     let end = (run w more).subscriber in
-    let n = length end.tape.entries + 1 in
+    let n = length last.tape.entries + 1 in
     let first : from ≡ length w.subscriber.tape.entries + 1 = gap_next w from count s empty gap in
     let few : count ≤ 64 = gap.few in
     let grown = grows_run more w stays in
+    let drained : length last.tape.entries ≡ length end.tape.entries + later = all.held in
+    let based = (keeps_all more w s ok).base in
+    let last_based = subst (λ (t : SubscriberState). t.window.base ≡ length t.tape.entries) (sym all.state) (based_drained later end based) in
     elim (cases_lt n (from + count)) [
       | inl below ↦
-          absurd (kept_held end n (keeps_all more w s ok).base done refl (brought_run more w n s ok stays (omega arith) (brought n (omega arith) below)))
+          let kept = brought_run more w n s ok stays (omega arith) (brought n (omega arith) below) in
+          let last_kept = subst (λ (t : SubscriberState). IsKept t n) (sym all.state) (kept_drained later end n based kept) in
+          absurd (kept_held last n last_based all.nothing_ready refl last_kept)
       | inr held ↦ held
     ]

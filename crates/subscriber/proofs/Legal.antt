@@ -12,15 +12,18 @@ use Rattle.subscriber.specs.Subscribers.{SubscriberState, empty_tape, own_entry,
 use Rattle.subscriber.specs.Schedules.{World, Event, Admits, Closes, Comes, Drains, Restarts, world_after, run, start, EndsIn}
 use Rattle.subscriber.proofs.Turns.{after_entry-keeps, after_entry-admitted}
 
+-- an empty tape is legal
 pub IsLegal-empty : (listing : Names) (limit : ℕ) → IsLegal (empty_tape listing limit)
 IsLegal-empty listing limit k e at = absurd (cc)
 
+-- a drain keeps the own tape legal
 legal-after : (n : ℕ) (s : SubscriberState) → IsLegal s.tape → IsLegal (subscriber_after n s).tape
 legal-after zero s legal = legal
 legal-after (suc n) s legal =
     legal-after n (subscriber_after_entry (next_of s.window) s)
     (after_entry-keeps (λ t. IsLegal t.tape) s (next_of s.window) legal (λ e _ _ free. IsLegal-with_message s.tape e.message legal free))
 
+-- each event keeps the own tape legal
 legal-event : (w : World) (event : Event) → IsLegal w.subscriber.tape → IsLegal (world_after w event).subscriber.tape
 legal-event w (Admits message) legal = legal
 legal-event w Closes legal = legal
@@ -28,10 +31,12 @@ legal-event w (Comes line packet) legal = legal
 legal-event w (Drains count) legal = legal-after count w.subscriber legal
 legal-event w Restarts legal = IsLegal-empty w.tape.listing w.limit
 
+-- all the events keep the own tape legal
 legal-run : (events : List Event) (w : World) → IsLegal w.subscriber.tape → IsLegal (run w events).subscriber.tape
 legal-run [] w legal = legal
 legal-run (event ∷ events) w legal = legal-run events (world_after w event) (legal-event w event legal)
 
+-- whatever comes, the own tape is legal
 pub legal : (events : List Event) (w : World) → EndsIn events w → IsLegal w.subscriber.tape
 legal events w h = subst (λ v. IsLegal v.subscriber.tape) h.ends (legal-run events (start h.listing h.tape_limit h.limit h.session) (IsLegal-empty h.listing h.limit))
 
@@ -45,6 +50,7 @@ fails_by_other s e running free =
       λ other. is ∙ not_from_false _ (by (entry_eq (own_entry s e.message) e) refl decides.0 other),
     )
   where
-    by : (b : Bool) → entry_eq (own_entry s e.message) e ≡ b → (entry_eq (own_entry s e.message) e ≡ true → own_entry s e.message ≡ e) → ¬ (own_entry s e.message ≡ e) → entry_eq (own_entry s e.message) e ≡ false
+    by : (b : Bool) → entry_eq (own_entry s e.message) e ≡ b → (entry_eq (own_entry s e.message) e ≡ true → own_entry s e.message ≡ e)
+        → ¬ (own_entry s e.message ≡ e) → entry_eq (own_entry s e.message) e ≡ false
     by true is means other = absurd (other (means is))
     by false is means other = is

@@ -10,7 +10,8 @@ use Rattle.tape_frames.proofs.Numbers.{IsNumberedFrom-append, slice_get-append-a
 use Rattle.arbitration.proofs.Numbers.{numbered_place}
 
 -- an entry that a part has under a number is the tape's entry of that number
-pub part_at : (tape es : List Entry) → IsNumberedFrom 1 tape → IsPartOf es tape → (m : ℕ) (e : Entry) → entry_numbered (1 + m) es ≡ Some e → slice_get tape m ≡ Some e
+pub part_at : (tape es : List Entry) → IsNumberedFrom 1 tape → IsPartOf es tape → (m : ℕ) (e : Entry) → entry_numbered (1 + m) es ≡ Some e
+    → slice_get tape m ≡ Some e
 part_at tape es h part m e found =
     let numbers = subst (IsNumberedFrom 1) part.2 h in
     let of_rest = (IsNumberedFrom-append 1 part.0 (es ++ part.1) numbers).1 in
@@ -22,7 +23,8 @@ part_at tape es h part m e found =
     ∙ slice_get-append-lt es part.1 place.0 (slice_get_within es place.0 e place.2) ∙ place.2
 
 -- an entry of a part stands in the tape at the place of its number
-pub part_stands : (tape es : List Entry) → IsNumberedFrom 1 tape → IsPartOf es tape → (k : ℕ) (e : Entry) → slice_get es k ≡ Some e → (m : ℕ) × (e.number ≡ suc m) × (slice_get tape m ≡ Some e)
+pub part_stands : (tape es : List Entry) → IsNumberedFrom 1 tape → IsPartOf es tape → (k : ℕ) (e : Entry) → slice_get es k ≡ Some e
+    → (m : ℕ) × (e.number ≡ suc m) × (slice_get tape m ≡ Some e)
 part_stands tape es h part k e found =
     let before = part.0 in
     let numbers = subst (IsNumberedFrom 1) part.2 h in
@@ -35,7 +37,8 @@ part_stands tape es h part k e found =
     )
 
 -- the last number of a part is the place of its end in the tape
-pub part_last : (tape es : List Entry) → IsNumberedFrom 1 tape → IsPartOf es tape → (last_number es ≤ length tape) × ((k : ℕ) (e : Entry) → slice_get es k ≡ Some e → e.number ≤ last_number es)
+pub part_last : (tape es : List Entry) → IsNumberedFrom 1 tape → IsPartOf es tape
+    → (last_number es ≤ length tape) × ((k : ℕ) (e : Entry) → slice_get es k ≡ Some e → e.number ≤ last_number es)
 part_last tape [] h part = (omega arith, λ k e found. absurd (none-some e found))
 part_last tape (x ∷ es) h part =
     let before = part.0 in

@@ -10,7 +10,7 @@ use Rattle.tape_core.specs.declared.entry.Entry.{Entry}
 use Rattle.tape_core.specs.declared.refusal.Refusal.{Refusal}
 use Rattle.tape_core.specs.declared.refusal.Refusal.TheVariants.{Closed, Full, OutOfMemory}
 use Rattle.tape_core.specs.Laws.{limit_refusal}
-use Rattle.tape_core.specs.Tape.{TapeState, refusal, summary_at, participant_summary_at, tape_before}
+use Rattle.tape_core.specs.Tape.{TapeState, refusal, summary_at, participant_summary_at}
 use Rattle.tape_frames.specs.declared.packet.Packet.{Packet}
 use Rattle.tape_frames.specs.Packets.{entries_of, last_of, end_of}
 use Rattle.tape_frames.specs.declared.packet_fault.PacketFault.{PacketFault}
@@ -24,25 +24,28 @@ use Rattle.arbitration.specs.declared.line.Taken.{Taken}
 use Rattle.arbitration.specs.declared.line.DeliverFault.{DeliverFault}
 use Rattle.arbitration.specs.declared.line.DeliverFault.TheVariants.{Foreign, Conflict, PastEnd}
 use Rattle.arbitration.specs.Windows.{ready_entries, flat, known_entry, Agrees, Accepts, Refuses, window_after, is_beyond, is_other_end, is_past_end, next_of}
-use Rattle.subscriber.specs.declared.fault.DeliveryFault.{DeliveryFault}
-use Rattle.subscriber.specs.declared.fault.DeliveryFault.TheVariants as delivery
-use Rattle.subscriber.specs.declared.fault.Stop.{Stop}
-use Rattle.subscriber.specs.declared.fault.Stop.TheVariants.{Refused, OtherSummary, Failed}
-use Rattle.subscriber.specs.declared.fault.DrainFault.{DrainFault}
+use Rattle.subscriber.specs.declared.delivery_fault.DeliveryFault.{DeliveryFault}
+use Rattle.subscriber.specs.declared.delivery_fault.DeliveryFault.TheVariants as delivery
+use Rattle.subscriber.specs.declared.drain_fault.Stop.{Stop}
+use Rattle.subscriber.specs.declared.drain_fault.Stop.TheVariants.{Refused, OtherSummary, Failed}
+use Rattle.subscriber.specs.declared.drain_fault.DrainFault.{DrainFault}
 use Rattle.subscriber.specs.Subscribers.{SubscriberState, with_entry, subscriber_after_entry, subscriber_after}
 use Rattle.subscriber.specs.Drains.{Delivers, RefusesDelivery, DrainStops, StopsFor, IsRefused, IsHonestStop}
-use Rattle.subscriber.specs.Schedules.{World, Event, Admits, Closes, Comes, Drains, Restarts, world_after, run, start, IsCut, IsPartOf, announced_by, LeadsTo}
+use Rattle.subscriber.specs.Schedules.{World, Event, Admits, Closes, Comes, Drains, Restarts, world_after, run, start, IsCut, IsPartOf, announced_by, tape_held, LeadsTo}
 use Rattle.subscriber.proofs.Due.{FromDue-at}
 use Rattle.subscriber.proofs.Turns.{after_entry-keeps, after_entry-admitted, after_entry-refused}
 use Rattle.subscriber.proofs.Sound.{IsSound, tells, next_ready, next_own, takes, drains}
 
+-- a drain announces nothing
 pub announced-after : (n : ℕ) (s : SubscriberState) → (subscriber_after n s).window.announced ≡ s.window.announced
 announced-after zero s = refl
 announced-after (suc n) s =
     announced-after n (subscriber_after_entry (next_of s.window) s)
     ∙ after_entry-keeps (λ t. t.window.announced ≡ s.window.announced) s (next_of s.window) refl (λ e _ _ _. refl)
 
-pub announced_run : (events : List Event) (w : World) (most : ℕ) → w.subscriber.window.announced ≡ most → (run w events).subscriber.window.announced ≡ announced_by most events
+-- the events announce the greatest of what was announced and of their last numbers
+pub announced_run : (events : List Event) (w : World) (most : ℕ) → w.subscriber.window.announced ≡ most
+    → (run w events).subscriber.window.announced ≡ announced_by most events
 announced_run [] w most h = h
 announced_run (Admits message ∷ events) w most h = announced_run events (world_after w (Admits message)) most h
 announced_run (Closes ∷ events) w most h = announced_run events (world_after w Closes) most h
@@ -50,16 +53,20 @@ announced_run (Comes line packet ∷ events) w most h = announced_run events (wo
 announced_run (Drains count ∷ events) w most h = announced_run events (world_after w (Drains count)) most (announced-after count w.subscriber ∙ h)
 announced_run (Restarts ∷ events) w most h = announced_run events (world_after w Restarts) 0 refl
 
+-- what a window has announced is what its packets told since the last restart
 pub announced_told : (events : List Event) (w : World) → LeadsTo events w → w.subscriber.window.announced ≡ announced_by 0 events
 announced_told events w h =
     ap (λ (v : World). v.subscriber.window.announced) (sym h.ends) ∙ announced_run events (start h.listing h.tape_limit h.limit h.session) 0 refl
 
+-- what holds of each value there holds of the option
 if_some : {A : Type 0} (o : Option A) (P : A → Type 0) → ((x : A) → o ≡ Some x → P x) → IfSome o P
 if_some None P h = tt
 if_some (Some x) P h = h x refl
 
 -- what is known under a number is the tape's entry of that number
-pub known_stands : (w : World) → IsSound w → (m : ℕ) (e : Entry) → known_entry w.subscriber.tape.entries (w.subscriber.window.base + 1) w.subscriber.window.slots (suc m) ≡ Some e → slice_get w.tape.entries m ≡ Some e
+pub known_stands : (w : World) → IsSound w → (m : ℕ) (e : Entry)
+    → known_entry w.subscriber.tape.entries (w.subscriber.window.base + 1) w.subscriber.window.slots (suc m) ≡ Some e
+    → slice_get w.tape.entries m ≡ Some e
 known_stands w s m e found =
     let held = w.subscriber.tape.entries in
     let window = w.subscriber.window in
@@ -80,34 +87,39 @@ known_stands w s m e found =
           ∙ slice_get-append-lt s.due s.later k (slice_get_within s.due k e due) ∙ due
     ]
 
+-- no last number of the tape is past its end
 not_beyond : (o : Option ℕ) (n last : ℕ) → IfSome o (λ count. count ≡ n) → last ≤ n → is_beyond o last ≡ false
 not_beyond None n last h within = refl
 not_beyond (Some count) n last h within = le-ltb _ _ (omega arith)
 
-not_other : (ended end : Option ℕ) (n announced : ℕ) → IfSome ended (λ count. count ≡ n) → IfSome end (λ count. count ≡ n) → announced ≤ n → is_other_end ended announced end ≡ false
+-- no end of the tape is another end
+not_other : (ended end : Option ℕ) (n announced : ℕ) → IfSome ended (λ count. count ≡ n) → IfSome end (λ count. count ≡ n) → announced ≤ n
+    → is_other_end ended announced end ≡ false
 not_other ended None n announced h k within = refl
 not_other None (Some count) n announced h k within = le-ltb _ _ (omega arith)
 not_other (Some one) (Some count) n announced h k within = not_from_true _ (eq-eqb _ _ (omega arith))
 
+-- the end that is known is the length of the tape
 the_length : (o : Option ℕ) (b : Bool) (n : ℕ) → IfSome o (λ count. (b ≡ true) × (count ≡ n)) → IfSome o (λ count. count ≡ n)
 the_length None b n h = tt
 the_length (Some count) b n h = h.1
 
+-- a packet that was cut of the tape is taken
 pub accepts : (w : World) (packet : Packet) → IsSound w → IsCut w packet → Accepts w.subscriber.window w.subscriber.tape.entries packet
 accepts w packet s cut =
     let held = w.subscriber.tape.entries in
     let window = w.subscriber.window in
-    let told' = tells w packet s.legal cut in
+    let has = tells w packet s.legal cut in
     let size : length w.tape.entries ≡ length held + (length s.due + length s.later) = ap length s.tape ∙ length-append held _ ∙ ap (λ n. length held + n) (length-append s.due s.later) in
     let announced : window.announced ≡ length held + length s.due = s.announced in
-    let last : last_of packet ≤ length w.tape.entries = told'.last in
+    let last : last_of packet ≤ length w.tape.entries = has.last in
     let ended = the_length window.ended w.tape.closed (length w.tape.entries) s.ended in
-    let end = the_length (end_of packet) w.tape.closed (length w.tape.entries) told'.ended in
+    let end = the_length (end_of packet) w.tape.closed (length w.tape.entries) has.ended in
     record {
-      session = told'.session ∙ sym s.session;
+      session = has.session ∙ sym s.session;
       agrees = λ k d within.
           let e = get_or (entries_of packet) k d in
-          let stands = told'.stands k e (slice_get-get_or (entries_of packet) k d within) in
+          let stands = has.stands k e (slice_get-get_or (entries_of packet) k d within) in
           if_some (known_entry held (window.base + 1) window.slots e.number) _ (λ other found.
           let known_at = known_stands w s stands.0 other (ap (known_entry held (window.base + 1) window.slots) (sym stands.1) ∙ found) in
           same_Some other e (sym known_at ∙ stands.2));
@@ -119,7 +131,8 @@ pub one_packet : (bytes : List ℕ) (a b : Packet) → Spells bytes a → Spells
 one_packet bytes a b spells_a spells_b = (one_packet_spelling a b bytes bytes [] [] spells_a spells_b refl).0
 
 -- so its bytes are refused for no reason
-pub never_refused : (w : World) (packet : Packet) (bytes : List ℕ) (fault : DeliveryFault) → IsSound w → IsCut w packet → Spells bytes packet → ¬ (RefusesDelivery w.subscriber bytes fault)
+pub never_refused : (w : World) (packet : Packet) (bytes : List ℕ) (fault : DeliveryFault) → IsSound w → IsCut w packet
+    → Spells bytes packet → ¬ (RefusesDelivery w.subscriber bytes fault)
 never_refused w packet bytes fault s cut spelled = by fault
   where
     accepted : Accepts w.subscriber.window w.subscriber.tape.entries packet
@@ -152,18 +165,21 @@ bytes_come w line packet bytes taken after spelled is =
     ap (λ (s : SubscriberState). record w { subscriber = s })
     (ap (λ (q : Packet). record w.subscriber { window = window_after w.subscriber.window line q }) (one_packet bytes packet is.packet spelled is.spelled) ∙ sym is.state)
 
+-- where no entry is ready the first slot is empty
 none_ready : (slots : List (Option Entry)) → length (ready_entries slots) ≡ 0 → flat (slice_get slots 0) ≡ None
 none_ready [] h = refl
 none_ready (None ∷ slots) h = refl
 none_ready (Some e ∷ slots) h = absurd (omega arith)
 
+-- an empty slot at the end makes nothing ready
 ready-push : (slots : List (Option Entry)) → ready_entries (slots ++ None ∷ []) ≡ ready_entries slots
 ready-push [] = refl
 ready-push (None ∷ slots) = refl
 ready-push (Some e ∷ slots) = ap (λ es. e ∷ es) (ready-push slots)
 
 -- the first slot, where something is ready
-first_ready : (slots : List (Option Entry)) (n : ℕ) → length (ready_entries slots) ≡ suc n → (e : Entry) × (flat (slice_get slots 0) ≡ Some e) × (length (ready_entries (drop 1 slots ++ None ∷ [])) ≡ n)
+first_ready : (slots : List (Option Entry)) (n : ℕ) → length (ready_entries slots) ≡ suc n
+    → (e : Entry) × (flat (slice_get slots 0) ≡ Some e) × (length (ready_entries (drop 1 slots ++ None ∷ [])) ≡ n)
 first_ready [] n h = absurd (omega arith)
 first_ready (None ∷ slots) n h = absurd (omega arith)
 first_ready (Some e ∷ slots) n h = (e, refl, ap length (ready-push slots) ∙ omega arith)
@@ -208,7 +224,7 @@ honest_refusal w why s h =
       | inr room ↦ inl (h.first ∙ ap (λ o. unwrap_or o OutOfMemory) (refused ∙ limit-open own false s.unclosed room))
     ]
 
--- a drain on an honest feed stops for want of memory or at the subscriber's limit alone
+-- a drain on an honest feed stops out of memory or at the subscriber's limit alone
 pub honest_stop : (w : World) (fault : DrainFault) (after : SubscriberState) → IsSound w → DrainStops fault w.subscriber after → IsHonestStop fault.why after
 honest_stop w fault after s h = subst (IsHonestStop fault.why) (sym h.state) (by fault.why fault.drained h.why)
   where
@@ -221,18 +237,22 @@ honest_stop w fault after s h = subst (IsHonestStop fault.why) (sym h.state) (by
 summary-same : (t u : TapeState) (symbol : List ℕ) → t.listing ≡ u.listing → t.entries ≡ u.entries → summary_at t symbol ≡ summary_at u symbol
 summary-same t u symbol listing entries = λ i. summary_at (record { listing = listing i; limit = t.limit; closed = t.closed; entries = entries i }) symbol
 
-own_summary-same : (t u : TapeState) (symbol : List ℕ) (who : ℕ) → t.listing ≡ u.listing → t.entries ≡ u.entries → participant_summary_at t symbol who ≡ participant_summary_at u symbol who
+-- a participant's own summary is one of the listing and the entries
+own_summary-same : (t u : TapeState) (symbol : List ℕ) (who : ℕ) → t.listing ≡ u.listing → t.entries ≡ u.entries
+    → participant_summary_at t symbol who ≡ participant_summary_at u symbol who
 own_summary-same t u symbol who listing entries = λ i. participant_summary_at (record { listing = listing i; limit = t.limit; closed = t.closed; entries = entries i }) symbol who
 
+-- what is held is the first of the tape
 held_first : (w : World) → IsSound w → w.subscriber.tape.entries ≡ take (length w.subscriber.tape.entries) w.tape.entries
 held_first w s =
     let held = w.subscriber.tape.entries in
     sym (ap (take (length held)) s.tape ∙ take-append_seam held (s.due ++ s.later))
 
 -- the subscriber's summaries are those of the tape's first entries, as many as it holds
-pub prefix_summary : (w : World) (symbol : List ℕ) → IsSound w → summary_at w.subscriber.tape symbol ≡ summary_at (tape_before w.tape (length w.subscriber.tape.entries)) symbol
-prefix_summary w symbol s = summary-same w.subscriber.tape (tape_before w.tape (length w.subscriber.tape.entries)) symbol s.listing (held_first w s)
+pub prefix_summary : (w : World) (symbol : List ℕ) → IsSound w → summary_at w.subscriber.tape symbol ≡ summary_at (tape_held w) symbol
+prefix_summary w symbol s = summary-same w.subscriber.tape (tape_held w) symbol s.listing (held_first w s)
 
+-- and so are the participants' own summaries
 pub prefix_own_summary : (w : World) (symbol : List ℕ) (who : ℕ) → IsSound w
-    → participant_summary_at w.subscriber.tape symbol who ≡ participant_summary_at (tape_before w.tape (length w.subscriber.tape.entries)) symbol who
-prefix_own_summary w symbol who s = own_summary-same w.subscriber.tape (tape_before w.tape (length w.subscriber.tape.entries)) symbol who s.listing (held_first w s)
+    → participant_summary_at w.subscriber.tape symbol who ≡ participant_summary_at (tape_held w) symbol who
+prefix_own_summary w symbol who s = own_summary-same w.subscriber.tape (tape_held w) symbol who s.listing (held_first w s)

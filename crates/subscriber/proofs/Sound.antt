@@ -13,17 +13,19 @@ use Rattle.tape_core.specs.declared.refusal.Refusal.{Refusal}
 use Rattle.tape_core.specs.Laws.{limit_refusal}
 use Rattle.tape_core.specs.Tape.{TapeState, IsLegal, refusal, next_entry, with_message}
 use Rattle.tape_core.proofs.LegalNext.{IsLegal-with_message, admissible}
-use Rattle.tape_core.proofs.LegalPrefix.{number-next, refusal-next, entry-next}
+use Rattle.tape_core.proofs.LegalPrefix.{refusal-next, entry-next}
 use Rattle.tape_frames.specs.declared.packet.Packet.{Packet}
 use Rattle.tape_frames.specs.declared.packet.Packet.TheVariants.{Data, Beat, End}
-use Rattle.tape_frames.specs.Rows.{IsNumberedFrom, last_number}
+use Rattle.tape_frames.specs.Rows.{last_number}
 use Rattle.tape_frames.specs.Packets.{session_of, entries_of, last_of, end_of}
+use Rattle.tape_frames.proofs.Legal.{legal-IsPublished}
 use Rattle.tape_frames.proofs.Numbers.{slice_get-append-add, slice_get-append-lt}
 use Rattle.arbitration.specs.declared.line.Line.{Line}
 use Rattle.arbitration.specs.Windows.{entry_numbered, next_of, flat, reach}
 use Rattle.arbitration.proofs.Numbers.{find_place}
 use Rattle.arbitration.proofs.Settled.{length-slots_after}
-use Rattle.subscriber.specs.Subscribers.{NextIsOwn, own_entry, with_entry, subscriber_after_entry, subscriber_after}
+use Rattle.subscriber.specs.Drains.{DrainsAll}
+use Rattle.subscriber.specs.Subscribers.{SubscriberState, NextIsOwn, own_entry, with_entry, subscriber_after_entry, subscriber_after}
 use Rattle.subscriber.specs.Schedules.{World, Event, Admits, Closes, Comes, Drains, Restarts, world_after, run, start, IsCut, IsAllowed, IsSchedule, LeadsTo, tape_after}
 use Rattle.subscriber.proofs.Parts.{part_at, part_stands, part_last}
 use Rattle.subscriber.proofs.Due.{FromDue, FromDue-replicate, FromDue-grow, FromDue-append, FromDue-slots_after}
@@ -47,15 +49,7 @@ pub record IsSound (w : World) : Type 0 where
   pub ended : IfSome w.subscriber.window.ended (λ count. (w.tape.closed ≡ true) × (count ≡ length w.tape.entries))
   pub running : w.subscriber.failed ≡ false
 
--- a list whose entries have the numbers of their places
-numbered_places : (first : ℕ) (es : List Entry) → ((k : ℕ) (e : Entry) → slice_get es k ≡ Some e → e.number ≡ first + k) → IsNumberedFrom first es
-numbered_places first [] h = tt
-numbered_places first (e ∷ es) h =
-    (h 0 e refl ∙ omega arith, numbered_places (first + 1) es (λ k x found. h (suc k) x found ∙ omega arith))
-
-pub legal-numbered : (t : TapeState) → IsLegal t → IsNumberedFrom 1 t.entries
-legal-numbered t legal = numbered_places 1 t.entries (λ k e found. number-next t k e legal found ∙ omega arith)
-
+-- a new subscriber of an empty tape is sound
 pub start-sound : (listing : Names) (tape_limit limit session : ℕ) → IsSound (start listing tape_limit limit session)
 start-sound listing tape_limit limit session = record {
   due = [];
@@ -118,9 +112,10 @@ pub record Tells (w : World) (packet : Packet) : Type 0 where
   pub last : last_of packet ≤ length w.tape.entries
   pub ended : IfSome (end_of packet) (λ count. (w.tape.closed ≡ true) × (count ≡ length w.tape.entries))
 
+-- a packet that was cut of a legal tape tells what stands there
 pub tells : (w : World) (packet : Packet) → IsLegal w.tape → IsCut w packet → Tells w packet
 tells w (Data session row) legal cut =
-    let numbers = legal-numbered w.tape legal in
+    let numbers = (legal-IsPublished w.tape legal).numbered in
     let last = part_last w.tape.entries row numbers cut.1 in
     record {
       session = cut.0;
@@ -148,18 +143,20 @@ tells w (End session count) legal cut = record {
   ended = (cut.1, cut.2);
 }
 
+-- what holds of both ends holds of the one that is kept
 either_end : (P : ℕ → Type 0) (one other : Option ℕ) → IfSome one P → IfSome other P → IfSome (option_or one other) P
 either_end P None other h k = k
 either_end P (Some x) other h k = h
 
+-- a packet that comes keeps a world sound
 pub comes : (w : World) (line : Line) (packet : Packet) → IsSound w → Tells w packet → IsSound (world_after w (Comes line packet))
-comes w line packet s told' =
+comes w line packet s has =
     let held = w.subscriber.tape.entries in
     let window = w.subscriber.window in
     let more = last_of packet - window.announced in
     let size : length w.tape.entries ≡ length held + (length s.due + length s.later) = ap length s.tape ∙ length-append held _ ∙ ap (λ n. length held + n) (length-append s.due s.later) in
     let announced : window.announced ≡ length held + length s.due = s.announced in
-    let last : last_of packet ≤ length w.tape.entries = told'.last in
+    let last : last_of packet ≤ length w.tape.entries = has.last in
     let base : window.base ≡ length held = s.base in
     let fits : more ≤ length s.later = omega arith in
     let length_due : length (s.due ++ take more s.later) ≡ length s.due + more = length-append s.due _ ∙ ap (λ n. length s.due + n) (length-take-le more s.later fits) in
@@ -177,7 +174,7 @@ comes w line packet s told' =
       announced = omega arith;
       slots = FromDue-slots_after (window.base + 1) window.slots _ (entries_of packet) (FromDue-grow window.slots s.due _ s.slots) (λ k e found.
           let m : (window.base + 1) + k ≡ 1 + (window.base + k) = omega arith in
-          let at_tape = told'.part (window.base + k) e (ap (λ n. entry_numbered n (entries_of packet)) (sym m) ∙ found) in
+          let at_tape = has.part (window.base + k) e (ap (λ n. entry_numbered n (entries_of packet)) (sym m) ∙ found) in
           let reached : suc (window.base + k) ≤ last_of packet = at_tape.1 in
           let same_place : length held + k ≡ window.base + k = omega arith in
           sym (slice_get-append-lt _ (drop more s.later) k (omega arith))
@@ -186,17 +183,19 @@ comes w line packet s told' =
           ∙ ap (λ t. slice_get t (window.base + k)) (sym tape) ∙ at_tape.0);
       session = s.session;
       size = length-slots_after (window.base + 1) window.slots (entries_of packet) ∙ s.size;
-      ended = either_end _ (end_of packet) window.ended told'.ended s.ended;
+      ended = either_end _ (end_of packet) window.ended has.ended s.ended;
       running = s.running;
     }
 
 -- the next entry that is ready is the next that is due
-next_due : (slots : List (Option Entry)) (due : List Entry) (e : Entry) → FromDue slots due → flat (slice_get slots 0) ≡ Some e → (rest : List Entry) × (due ≡ e ∷ rest) × FromDue (drop 1 slots) rest
+next_due : (slots : List (Option Entry)) (due : List Entry) (e : Entry) → FromDue slots due → flat (slice_get slots 0) ≡ Some e
+    → (rest : List Entry) × (due ≡ e ∷ rest) × FromDue (drop 1 slots) rest
 next_due [] due e h next = absurd (none-some e next)
 next_due (slot ∷ slots) [] e h next = absurd (none-some e (sym h.0 ∙ next))
 next_due (None ∷ slots) (d ∷ due) e h next = absurd (none-some e next)
 next_due (Some x ∷ slots) (d ∷ due) e h next = (due, ap (λ y. y ∷ due) (sym h.0 ∙ same_Some x e next), h.1)
 
+-- taking the next entry out keeps the number of slots
 same_size : (slots : List (Option Entry)) (e : Entry) → flat (slice_get slots 0) ≡ Some e → length (drop 1 slots ++ None ∷ []) ≡ length slots
 same_size [] e next = absurd (none-some e next)
 same_size (x ∷ slots) e next = length_push slots None ∙ omega arith
@@ -206,6 +205,7 @@ pub record IsNext (w : World) (e : Entry) : Type 0 where
   pub own : own_entry w.subscriber e.message ≡ e
   pub refused : refusal w.subscriber.tape e.message ≡ limit_refusal w.subscriber.tape
 
+-- the next entry that is ready is the tape's next
 pub next_ready : (w : World) (e : Entry) → IsSound w → next_of w.subscriber.window ≡ Some e → IsNext w e
 next_ready w e s next =
     let held = w.subscriber.tape.entries in
@@ -220,6 +220,7 @@ next_ready w e s next =
       refused = refusal-next w.tape w.subscriber.tape (length held) e s.legal at s.listing front;
     }
 
+-- an entry that is taken out and replayed keeps a world sound
 pub takes : (w : World) (e : Entry) → IsSound w → next_of w.subscriber.window ≡ Some e → IsSound (record w { subscriber = with_entry e w.subscriber })
 takes w e s next =
     let held = w.subscriber.tape.entries in
@@ -248,7 +249,9 @@ takes w e s next =
       running = own_runs w.subscriber e own;
     }
 
-pub replays : (w : World) (o : Option Entry) → IsSound w → next_of w.subscriber.window ≡ o → IsSound (record w { subscriber = subscriber_after_entry o w.subscriber })
+-- one turn of a drain keeps a world sound
+pub replays : (w : World) (o : Option Entry) → IsSound w → next_of w.subscriber.window ≡ o
+    → IsSound (record w { subscriber = subscriber_after_entry o w.subscriber })
 replays w None s next = s
 replays w (Some e) s next = by (refusal w.subscriber.tape e.message) refl
   where
@@ -256,10 +259,12 @@ replays w (Some e) s next = by (refusal w.subscriber.tape e.message) refl
     by None free = subst (λ t. IsSound (record w { subscriber = t })) (sym (after_entry-admitted w.subscriber e s.running free)) (takes w e s next)
     by (Some r) refused = subst (λ t. IsSound (record w { subscriber = t })) (sym (after_entry-refused w.subscriber e (ap is_some refused))) s
 
+-- a drain keeps a world sound
 pub drains : (n : ℕ) (w : World) → IsSound w → IsSound (record w { subscriber = subscriber_after n w.subscriber })
 drains zero w s = s
 drains (suc n) w s = drains n (record w { subscriber = subscriber_after_entry (next_of w.subscriber.window) w.subscriber }) (replays w (next_of w.subscriber.window) s refl)
 
+-- each event that is allowed keeps a world sound
 pub keeps : (w : World) (event : Event) → IsSound w → IsAllowed w event → IsSound (world_after w event)
 keeps w (Admits message) s ok = sends w message s
 keeps w Closes s ok = record {
@@ -279,7 +284,8 @@ keeps w Closes s ok = record {
   running = s.running;
 }
   where
-    shut : (o : Option ℕ) → IfSome o (λ count. (w.tape.closed ≡ true) × (count ≡ length w.tape.entries)) → IfSome o (λ count. (true ≡ true) × (count ≡ length w.tape.entries))
+    shut : (o : Option ℕ) → IfSome o (λ count. (w.tape.closed ≡ true) × (count ≡ length w.tape.entries))
+        → IfSome o (λ count. (true ≡ true) × (count ≡ length w.tape.entries))
     shut None h = tt
     shut (Some count) h = (refl, h.1)
 keeps w (Comes line packet) s ok = comes w line packet s (tells w packet s.legal ok)
@@ -301,13 +307,20 @@ keeps w Restarts s ok = record {
   running = refl;
 }
 
+-- a schedule keeps a world sound
 pub keeps_all : (events : List Event) (w : World) → IsSound w → IsSchedule w events → IsSound (run w events)
 keeps_all [] w s ok = s
 keeps_all (event ∷ events) w s ok = keeps_all events (world_after w event) (keeps w event s ok.0) ok.1
 
+-- each world that a schedule leads to is sound
 pub sound : (events : List Event) (w : World) → LeadsTo events w → IsSound w
 sound events w h =
     subst IsSound h.ends (keeps_all events (start h.listing h.tape_limit h.limit h.session) (start-sound h.listing h.tape_limit h.limit h.session) h.allowed)
+
+-- the world after a drain that is Ok is sound
+pub after_drain : (w : World) (n : ℕ) (after : SubscriberState) → IsSound w → DrainsAll n w.subscriber after
+    → IsSound (record w { subscriber = after })
+after_drain w n after s all = subst (λ (t : SubscriberState). IsSound (record w { subscriber = t })) (sym all.state) (drains n w s)
 
 -- the next entry that is ready is the own tape's
 pub next_own : (w : World) → IsSound w → NextIsOwn w.subscriber

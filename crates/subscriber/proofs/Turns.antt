@@ -10,7 +10,8 @@ use Rattle.tape_core.proofs.Equality.{entry-Decides}
 use Rattle.subscriber.specs.Subscribers.{SubscriberState, own_entry, with_entry, subscriber_after_entry}
 
 -- the next entry's message is admitted by the own tape of a subscriber that runs
-pub after_entry-admitted : (s : SubscriberState) (e : Entry) → s.failed ≡ false → refusal s.tape e.message ≡ None → subscriber_after_entry (Some e) s ≡ with_entry e s
+pub after_entry-admitted : (s : SubscriberState) (e : Entry) → s.failed ≡ false → refusal s.tape e.message ≡ None
+    → subscriber_after_entry (Some e) s ≡ with_entry e s
 after_entry-admitted s e running free =
     cond-false (s.failed || is_some (refusal s.tape e.message)) s (with_entry e s) (or_from _ _ running (ap is_some free))
 
@@ -43,5 +44,6 @@ after_entry-keeps P s (Some e) h step = by (s.failed || is_some (refusal s.tape 
 pub own_runs : (s : SubscriberState) (e : Entry) → own_entry s e.message ≡ e → (with_entry e s).failed ≡ false
 own_runs s e own = not_from_true _ ((entry-Decides (own_entry s e.message) e).1 own)
 
+-- an entry that stands is one more
 pub length-with_entry : (s : SubscriberState) (e : Entry) → length (with_entry e s).tape.entries ≡ length s.tape.entries + 1
 length-with_entry s e = length_push s.tape.entries (next_entry s.tape.entries e.message)

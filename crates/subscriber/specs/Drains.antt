@@ -11,11 +11,11 @@ use Rattle.tape_frames.specs.Spelling.{Spells}
 use Rattle.arbitration.specs.declared.line.Line.{Line}
 use Rattle.arbitration.specs.declared.line.Taken.{Taken}
 use Rattle.arbitration.specs.Windows.{Accepts, Refuses, window_after, taken_of, next_of}
-use Rattle.subscriber.specs.declared.fault.DeliveryFault.{DeliveryFault}
-use Rattle.subscriber.specs.declared.fault.DeliveryFault.TheVariants as delivery
-use Rattle.subscriber.specs.declared.fault.Stop.{Stop}
-use Rattle.subscriber.specs.declared.fault.Stop.TheVariants.{Refused, OtherSummary, Failed}
-use Rattle.subscriber.specs.declared.fault.DrainFault.{DrainFault}
+use Rattle.subscriber.specs.declared.delivery_fault.DeliveryFault.{DeliveryFault}
+use Rattle.subscriber.specs.declared.delivery_fault.DeliveryFault.TheVariants as delivery
+use Rattle.subscriber.specs.declared.drain_fault.Stop.{Stop}
+use Rattle.subscriber.specs.declared.drain_fault.Stop.TheVariants.{Refused, OtherSummary, Failed}
+use Rattle.subscriber.specs.declared.drain_fault.DrainFault.{DrainFault}
 use Rattle.subscriber.specs.Subscribers.{SubscriberState, subscriber_after, NextIsOwn}
 
 -- bytes are taken as the packet that they spell, with these counts
@@ -46,7 +46,7 @@ pub record DrainsAll (n : ℕ) (old new : SubscriberState) : Type 0 where
   pub state : new ≡ subscriber_after n old
   pub nothing_ready : next_of new.window ≡ None
 
--- its own tape refuses the next entry's message for this reason, or for want of memory
+-- its own tape refuses the next entry's message for this reason, or is out of memory
 pub record IsRefused (why : Refusal) (s : SubscriberState) : Type 0 where
   pub entry : Entry
   pub ready : next_of s.window ≡ Some entry
@@ -64,7 +64,7 @@ pub record DrainStops (fault : DrainFault) (old new : SubscriberState) : Type 0 
   pub held : length new.tape.entries ≡ length old.tape.entries + fault.drained
   pub state : new ≡ subscriber_after fault.drained old
 
--- a stop that an honest feed lets come: for want of memory, or at the subscriber's own limit
+-- a stop that an honest feed lets come: out of memory, or at the subscriber's own limit
 abbrev pub IsHonestStop : Stop → SubscriberState → Type 0
 IsHonestStop (Refused why) s = (why ≡ refused.OutOfMemory) ⊎ ((why ≡ refused.Full) × (length s.tape.entries ≡ s.tape.limit))
 IsHonestStop OtherSummary s = ⊥

@@ -3,7 +3,7 @@ use Rattle.std.specs.Prelude.{◌≡◌, ℕ, ◌≤◌, Bool, true, false, if�
 use Rattle.tape_types.specs.Names.{Names}
 use Rattle.reports.specs.declared.message.Message.{Message}
 use Rattle.tape_core.specs.declared.entry.Entry.{Entry}
-use Rattle.tape_core.specs.Tape.{TapeState, refusal, with_message}
+use Rattle.tape_core.specs.Tape.{TapeState, refusal, tape_before, with_message}
 use Rattle.tape_frames.specs.declared.packet.Packet.{Packet}
 use Rattle.tape_frames.specs.declared.packet.Packet.TheVariants.{Data, Beat, End}
 use Rattle.tape_frames.specs.Packets.{entries_of, last_of}
@@ -31,10 +31,13 @@ start listing tape_limit limit session = record {
 pub data Event : Type 0 where
   -- the tape is sent a message, which it admits or refuses
   Admits : (message : Message) → Event
+  -- the tape is closed
   Closes : Event
+  -- a packet comes by a line and is taken
   Comes : (line : Line) → (packet : Packet) → Event
-  -- the subscriber drains, and stops after so many entries, for want of memory or for none
+  -- the subscriber drains, and ends after so many entries: nothing more is ready, it is out of memory, or it stops otherwise
   Drains : (count : ℕ) → Event
+  -- the subscriber starts anew
   Restarts : Event
 
 -- the tape after it was sent a message
@@ -62,7 +65,11 @@ IsPrefixOf xs ys = (rest : List Entry) × (ys ≡ xs ++ rest)
 abbrev pub IsPartOf : List Entry → List Entry → Type 0
 IsPartOf row tape = (before : List Entry) × (after : List Entry) × (tape ≡ before ++ (row ++ after))
 
--- a packet that was cut of the tape
+-- the tape as far as the subscriber holds it
+abbrev pub tape_held : World → TapeState
+tape_held w = tape_before w.tape (length w.subscriber.tape.entries)
+
+-- a packet that was cut of the tape: some of its entries, or its length at some time, or its length once it is closed
 abbrev pub IsCut : World → Packet → Type 0
 IsCut w (Data session row) = (session ≡ w.session) × IsPartOf row w.tape.entries
 IsCut w (Beat session last) = (session ≡ w.session) × (last ≤ length w.tape.entries)
@@ -76,6 +83,7 @@ IsAllowed w (Comes line packet) = IsCut w packet
 IsAllowed w (Drains count) = Unit {0}
 IsAllowed w Restarts = Unit {0}
 
+-- each of the events is allowed in its turn
 abbrev pub IsSchedule : World → List Event → Type 0
 IsSchedule w [] = Unit {0}
 IsSchedule w (event ∷ events) = IsAllowed w event × IsSchedule (world_after w event) events
@@ -106,6 +114,7 @@ announced_by most (Comes line packet ∷ events) = announced_by (max most (last_
 announced_by most (Drains count ∷ events) = announced_by most events
 announced_by most (Restarts ∷ events) = announced_by 0 events
 
+-- the event is a restart
 abbrev pub is_restart : Event → Bool
 is_restart (Admits message) = false
 is_restart Closes = false
@@ -121,6 +130,7 @@ brings n (Comes line packet) = is_some (entry_numbered n (entries_of packet))
 brings n (Drains count) = false
 brings n Restarts = false
 
+-- none of the events is a restart
 abbrev pub HasNoRestart : List Event → Type 0
 HasNoRestart [] = Unit {0}
 HasNoRestart (event ∷ events) = (is_restart event ≡ false) × HasNoRestart events

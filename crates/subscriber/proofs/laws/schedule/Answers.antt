@@ -1,9 +1,11 @@
-use Rattle.std.proofs.Common.{◌++◌, length, refl, arith}
-use Rattle.std.proofs.lemmas.Bool.{lt-ltb, ltb-true}
+use Rattle.std.proofs.Common.{◌≡◌, ◌+◌, ◌++◌, length, refl, inl, inr, arith}
+use Rattle.std.proofs.lemmas.Bool.{both_ways, cases_lt, lt-ltb, ltb-true}
 use Rattle.arbitration.specs.Windows.{ready_entries}
-use Rattle.subscriber.proofs.Sound.{sound, next_own}
+use Rattle.subscriber.specs.Schedules.{announced_by}
+use Rattle.subscriber.proofs.Sound.{sound, next_own, after_drain}
 use Rattle.subscriber.proofs.Schedule.{announced_told, accepts, never_refused, cut_is_part, bytes_come, empties, honest_stop, prefix_summary, prefix_own_summary}
-use Rattle.subscriber.proofs.Failures.{runs, fails}
+use Rattle.subscriber.proofs.Failures.{runs, fails, other_summary}
+use Rattle.subscriber.proofs.Events.{admits, drained, stopped}
 use Rattle.subscriber.proofs.Gaps.{gap_next, gap_filled}
 use Rattle.subscriber.proofs.Legal.{legal, fails_by_other}
 use Rattle.subscriber.proofs.laws.schedule.Goals as goal
@@ -25,13 +27,13 @@ returns-clause-announced c = announced_told
 
 pub returns-clause-gap : goal.returns-clause-gap
 returns-clause-gap c events w h =
-    let told' = announced_told events w h in
+    let announced = announced_told events w h in
     (λ gap. let below = ltb-true _ _ gap in omega arith, λ below. lt-ltb _ _ (omega arith))
 
 pub returns-clause-no_more : goal.returns-clause-no_more
 returns-clause-no_more c events w h =
-    let told' = announced_told events w h in
-    let announced = (sound events w h).announced in
+    let announced = announced_told events w h in
+    let reached = (sound events w h).announced in
     omega arith
 
 pub returns-clause-accepted : goal.returns-clause-accepted
@@ -62,10 +64,12 @@ pub returns-clause-nothing_ready : goal.returns-clause-nothing_ready
 returns-clause-nothing_ready c n s after all = all.nothing_ready
 
 pub returns-clause-gap_next : goal.returns-clause-gap_next
-returns-clause-gap_next c events w h empty from count gap = gap_next w from count (sound events w h) empty gap
+returns-clause-gap_next c events w h n after all from count gap =
+    gap_next (record w { subscriber = after }) from count (after_drain w n after (sound events w h) all) all.nothing_ready gap
 
 pub returns-clause-gap_filled : goal.returns-clause-gap_filled
-returns-clause-gap_filled c events w h empty from count gap more ok stays brought done = gap_filled w from count more (sound events w h) empty gap ok stays brought done
+returns-clause-gap_filled c events w h n after all from count gap more ok stays brought later last again =
+    gap_filled (record w { subscriber = after }) from count more later last (after_drain w n after (sound events w h) all) all.nothing_ready gap ok stays brought again
 
 pub returns-clause-legal : goal.returns-clause-legal
 returns-clause-legal c = legal
@@ -78,3 +82,26 @@ returns-clause-cut c w from = (refl, cut_is_part w.tape.entries from)
 
 pub returns-clause-comes : goal.returns-clause-comes
 returns-clause-comes c = bytes_come
+
+pub returns-clause-no_gap : goal.returns-clause-no_gap
+returns-clause-no_gap c events w h closed =
+    let s = sound events w h in
+    let held = w.subscriber.tape.entries in
+    let announced : w.subscriber.window.announced ≡ announced_by 0 events = announced_told events w h in
+    let reached : w.subscriber.window.announced ≡ length held + length s.due = s.announced in
+    elim (cases_lt (length held) w.subscriber.window.announced) [
+      | inl below ↦ absurd (both_ways _ closed (lt-ltb _ _ below))
+      | inr above ↦ omega arith
+    ]
+
+pub returns-clause-other_summary : goal.returns-clause-other_summary
+returns-clause-other_summary c = other_summary
+
+pub returns-clause-admits : goal.returns-clause-admits
+returns-clause-admits c = admits
+
+pub returns-clause-drained : goal.returns-clause-drained
+returns-clause-drained c = drained
+
+pub returns-clause-stopped : goal.returns-clause-stopped
+returns-clause-stopped c = stopped

@@ -1,0 +1,43 @@
+//! Why bytes are not taken.
+ghost use Rattle.std.specs.Prelude.{◌≡◌};
+ghost use Rattle.subscriber.specs.Faults.{delivery_fault_code, delivery_fault_name};
+
+use arbitration::DeliverFault;
+use tape_frames::PacketFault;
+use thiserror::Error;
+
+/// Why bytes that came by a line are not taken, the first reason that applies. The subscriber is unchanged.
+#[derive(Clone, Copy, Debug, PartialEq, Eq, Error)]
+#[error("{}", self.name())]
+pub enum DeliveryFault {
+    /// 64 Failed: a drain has met another summary, and the subscriber takes nothing any more, not even a good packet.
+    Failed,
+    /// 51 to 57: the bytes are no packet; the packet's own fault, the first from the front.
+    NoPacket(PacketFault),
+    /// 61 to 63: the window refuses the packet; its own fault.
+    Refused(DeliverFault),
+}
+
+impl DeliveryFault {
+    /// The number of the fault: 64, or that of the packet's or the window's fault.
+    pub fn code(self) -> u8
+        ensures code { result ≡ delivery_fault_code self }
+    {
+        match self {
+            DeliveryFault::Failed => 64,
+            DeliveryFault::NoPacket(fault) => fault.code(),
+            DeliveryFault::Refused(fault) => fault.code(),
+        }
+    }
+
+    /// The name of the fault, as it is printed.
+    pub fn name(self) -> &'static str
+        ensures name { result.now ≡ delivery_fault_name self }
+    {
+        match self {
+            DeliveryFault::Failed => "Failed",
+            DeliveryFault::NoPacket(fault) => fault.name(),
+            DeliveryFault::Refused(fault) => fault.name(),
+        }
+    }
+}

@@ -1,0 +1,55 @@
+//! Why a drain stops.
+ghost use Rattle.std.specs.Prelude.{◌≡◌};
+ghost use Rattle.subscriber.specs.Faults.{stop_code, stop_name};
+
+use tape_core::Refusal;
+use thiserror::Error;
+
+/// Why a drain stops before nothing is ready.
+#[derive(Clone, Copy, Debug, PartialEq, Eq, Error)]
+#[error("{}", self.name())]
+pub enum Stop {
+    /// The subscriber's own tape refuses the next entry's message: the tape's refusal, 32 where the subscriber's limit is
+    /// reached, 34 to 39 by a feed that is no tape, 40 out of memory. The entry stays in the window, and the next drain
+    /// tries it again.
+    Refused(Refusal),
+    /// 42 OtherSummary: the subscriber's own entry is not the feed's. The own one is held and counted as drained, the
+    /// feed's is taken out of the window, and from then on each delivery and drain answers 64.
+    OtherSummary,
+    /// 64 Failed: an earlier drain has answered 42. Nothing is drained.
+    Failed,
+}
+
+/// A drain that stopped: the entries that it counts are held, and the rest stays in the window.
+#[derive(Clone, Copy, Debug, PartialEq, Eq, Error)]
+#[error("{}", self.why.name())]
+pub struct DrainFault {
+    /// How many entries this drain has put on the subscriber's own tape, from 0 to 1,048,576.
+    pub drained: u32,
+    /// Why it stopped.
+    pub why: Stop,
+}
+
+impl Stop {
+    /// The number of the stop: 42, 64, or that of the tape's refusal.
+    pub fn code(self) -> u8
+        ensures code { result ≡ stop_code self }
+    {
+        match self {
+            Stop::Refused(refusal) => refusal.code(),
+            Stop::OtherSummary => 42,
+            Stop::Failed => 64,
+        }
+    }
+
+    /// The name of the stop, as it is printed.
+    pub fn name(self) -> &'static str
+        ensures name { result.now ≡ stop_name self }
+    {
+        match self {
+            Stop::Refused(refusal) => refusal.name(),
+            Stop::OtherSummary => "OtherSummary",
+            Stop::Failed => "Failed",
+        }
+    }
+}
