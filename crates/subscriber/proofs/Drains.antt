@@ -11,8 +11,8 @@ use Rattle.tape_core.specs.Laws.{entry_eq}
 use Rattle.tape_core.specs.Tape.{TapeState, refusal, replay_refusal, next_entry, with_message}
 use Rattle.tape_core.proofs.Equality.{entry-Decides}
 use Rattle.arbitration.specs.Windows.{WindowState, IsWindow, ArePlaced, flat, next_of, window_past}
-use Rattle.arbitration.proofs.Settled.{count_push_no}
-use Rattle.arbitration.proofs.WindowLemmas.{count_full}
+use Rattle.arbitration.proofs.Counts.{count_push_no}
+use Rattle.arbitration.proofs.Counts.{count_full}
 use Rattle.subscriber.specs.declared.drain_fault.Stop.TheVariants.{Refused, OtherSummary}
 use Rattle.subscriber.specs.Subscribers.{SubscriberState, own_entry, with_entry, subscriber_after_entry, subscriber_after, NextIsOwn}
 use Rattle.subscriber.specs.Drains.{OwnFor, StopsFor, IsRefused}

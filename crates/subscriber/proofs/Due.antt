@@ -4,7 +4,8 @@ use Rattle.std.specs.Prelude.{slice_get, replicate, IfSome}
 use Rattle.std.specs.Option.{option_or}
 use Rattle.std.proofs.lemmas.Option.{none-some, same_Some}
 use Rattle.tape_core.specs.declared.entry.Entry.{Entry}
-use Rattle.arbitration.specs.Windows.{entry_numbered, slots_after, flat, ready_entries}
+use Rattle.arbitration.specs.Deliveries.{entry_numbered, slots_after}
+use Rattle.arbitration.specs.Windows.{flat, ready_entries}
 
 -- each slot is empty or has the entry of the list at its place
 abbrev pub FromDue : List (Option Entry) → List Entry → Type 0

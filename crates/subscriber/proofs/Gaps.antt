@@ -7,8 +7,11 @@ use Rattle.std.proofs.lemmas.Option.{same_Some, slice_get-get_or, slice_get_past
 use Rattle.tape_core.specs.declared.entry.Entry.{Entry}
 use Rattle.tape_frames.specs.Packets.{entries_of}
 use Rattle.tape_frames.proofs.Numbers.{slice_get-append-lt}
-use Rattle.arbitration.specs.Windows.{flat, entry_numbered, slots_after, waiting_entry, next_of, IsGap}
-use Rattle.arbitration.proofs.WindowLemmas.{reach-is, waiting_at}
+use Rattle.arbitration.specs.Windows.{flat, next_of}
+use Rattle.arbitration.specs.Deliveries.{entry_numbered, slots_after}
+use Rattle.arbitration.specs.Gaps.{waiting_entry, IsGap}
+use Rattle.arbitration.proofs.Windows.{reach-is}
+use Rattle.arbitration.proofs.Gaps.{waiting_at}
 use Rattle.subscriber.specs.Subscribers.{SubscriberState, with_entry, subscriber_after_entry, subscriber_after}
 use Rattle.subscriber.specs.Drains.{DrainsAll}
 use Rattle.subscriber.specs.Schedules.{World, Event, Admits, Closes, Comes, Drains, Restarts, world_after, run, IsSchedule, is_restart, brings, HasNoRestart, Brings}

@@ -20,10 +20,11 @@ use Rattle.tape_frames.specs.Spelling.{Spells}
 use Rattle.tape_frames.proofs.Packets.{one_packet_spelling, packet_again}
 use Rattle.tape_frames.proofs.Numbers.{slice_get-append-add, slice_get-append-lt}
 use Rattle.arbitration.specs.declared.line.Line.{Line}
-use Rattle.arbitration.specs.declared.line.Taken.{Taken}
-use Rattle.arbitration.specs.declared.line.DeliverFault.{DeliverFault}
-use Rattle.arbitration.specs.declared.line.DeliverFault.TheVariants.{Foreign, Conflict, PastEnd}
-use Rattle.arbitration.specs.Windows.{ready_entries, flat, known_entry, Agrees, Accepts, Refuses, window_after, is_beyond, is_other_end, is_past_end, next_of}
+use Rattle.arbitration.specs.declared.taken.Taken.{Taken}
+use Rattle.arbitration.specs.declared.deliver_fault.DeliverFault.{DeliverFault}
+use Rattle.arbitration.specs.declared.deliver_fault.DeliverFault.TheVariants.{Foreign, Conflict, PastEnd}
+use Rattle.arbitration.specs.Windows.{ready_entries, flat, next_of}
+use Rattle.arbitration.specs.Deliveries.{known_entry, Agrees, Accepts, Refuses, window_after, is_beyond, is_other_end, is_past_end}
 use Rattle.subscriber.specs.declared.delivery_fault.DeliveryFault.{DeliveryFault}
 use Rattle.subscriber.specs.declared.delivery_fault.DeliveryFault.TheVariants as delivery
 use Rattle.subscriber.specs.declared.drain_fault.Stop.{Stop}

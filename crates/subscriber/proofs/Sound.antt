@@ -21,9 +21,10 @@ use Rattle.tape_frames.specs.Packets.{session_of, entries_of, last_of, end_of}
 use Rattle.tape_frames.proofs.Legal.{legal-IsPublished}
 use Rattle.tape_frames.proofs.Numbers.{slice_get-append-add, slice_get-append-lt}
 use Rattle.arbitration.specs.declared.line.Line.{Line}
-use Rattle.arbitration.specs.Windows.{entry_numbered, next_of, flat, reach}
+use Rattle.arbitration.specs.Deliveries.{entry_numbered}
+use Rattle.arbitration.specs.Windows.{next_of, flat, reach}
 use Rattle.arbitration.proofs.Numbers.{find_place}
-use Rattle.arbitration.proofs.Settled.{length-slots_after}
+use Rattle.arbitration.proofs.Slots.{length-slots_after}
 use Rattle.subscriber.specs.Drains.{DrainsAll}
 use Rattle.subscriber.specs.Subscribers.{SubscriberState, NextIsOwn, own_entry, with_entry, subscriber_after_entry, subscriber_after}
 use Rattle.subscriber.specs.Schedules.{World, Event, Admits, Closes, Comes, Drains, Restarts, world_after, run, start, IsCut, IsAllowed, IsSchedule, LeadsTo, tape_after}

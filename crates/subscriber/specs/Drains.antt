@@ -9,8 +9,10 @@ use Rattle.tape_frames.specs.Packets.{entries_of}
 use Rattle.tape_frames.specs.Reading.{packet_of}
 use Rattle.tape_frames.specs.Spelling.{Spells}
 use Rattle.arbitration.specs.declared.line.Line.{Line}
-use Rattle.arbitration.specs.declared.line.Taken.{Taken}
-use Rattle.arbitration.specs.Windows.{Accepts, Refuses, window_after, taken_of, next_of}
+use Rattle.arbitration.specs.declared.taken.Taken.{Taken}
+use Rattle.arbitration.specs.Deliveries.{Accepts, Refuses, window_after}
+use Rattle.arbitration.specs.Counts.{taken_of}
+use Rattle.arbitration.specs.Windows.{next_of}
 use Rattle.subscriber.specs.declared.delivery_fault.DeliveryFault.{DeliveryFault}
 use Rattle.subscriber.specs.declared.delivery_fault.DeliveryFault.TheVariants as delivery
 use Rattle.subscriber.specs.declared.drain_fault.Stop.{Stop}

@@ -8,7 +8,7 @@ use Rattle.tape_frames.specs.declared.packet.Packet.{Packet}
 use Rattle.tape_frames.specs.declared.packet.Packet.TheVariants.{Data, Beat, End}
 use Rattle.tape_frames.specs.Packets.{entries_of, last_of}
 use Rattle.arbitration.specs.declared.line.Line.{Line}
-use Rattle.arbitration.specs.Windows.{window_after, entry_numbered}
+use Rattle.arbitration.specs.Deliveries.{window_after, entry_numbered}
 use Rattle.subscriber.specs.Subscribers.{SubscriberState, empty_tape, new_subscriber, subscriber_after}
 
 -- a tape, the session under which it is sent, and a subscriber with a limit of its own
