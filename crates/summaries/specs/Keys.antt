@@ -1,7 +1,7 @@
 -- The keys that an effect has in the indexes, and which of them another effect at its place does not have.
 use Rattle.std.specs.Prelude.{ℕ, Bool, false, not, ◌&&◌, ◌==◌, Option, Some, None}
 use Rattle.scratch_fold.specs.declared.summary.Effect.{Effect}
-use Rattle.summaries.specs.Last.{is_always, is_same_market, is_setter}
+use Rattle.summaries.specs.Last.{is_always, is_same_market, is_conditional}
 use Rattle.summaries.specs.declared.keys.Fresh.{Fresh}
 
 -- whether there is an effect that passes
@@ -13,9 +13,9 @@ passes p (Some e) = p e
 abbrev pub is_always_effect : Effect → Bool
 is_always_effect e = is_always e.last
 
--- whether the effect can set the last at all
-abbrev pub is_setting_effect : Effect → Bool
-is_setting_effect e = is_setter e.last
+-- whether the effect sets the last under a condition alone
+abbrev pub is_conditional_effect : Effect → Bool
+is_conditional_effect e = is_conditional e.last
 
 -- whether the effect is of `who` and sets the last behind its own participant
 abbrev pub is_same_market_of : ℕ → Effect → Bool
@@ -34,6 +34,6 @@ abbrev pub fresh_keys : Effect → Option Effect → Fresh
 fresh_keys e beside = record {
   price = is_fresh (is_priced_at e.price) e beside;
   always = is_fresh is_always_effect e beside;
-  setter = is_fresh is_setting_effect e beside;
+  setter = is_fresh is_conditional_effect e beside;
   same = is_fresh (is_same_market_of e.who) e beside;
 }
