@@ -1,0 +1,12 @@
+//! A stored day through two lossy lines.
+
+#[test]
+fn what_both_lines_lose_comes_again() {
+    let figures = bench::feed(include_bytes!("../../samples/stored-day.txt")).unwrap();
+    assert_eq!(
+        (figures.entries, figures.packets, figures.held),
+        (20_000, 2_500, 20_000)
+    );
+    // Every fifteenth packet of eight entries is lost on both.
+    assert_eq!(figures.retransmitted, 166 * 8);
+}
