@@ -27,7 +27,7 @@ pub struct Brought {
 impl Brought {
     /// How many fresh entries one line has brought.
     pub fn by(self, line: Line) -> u32
-        ensures { result ≡ brought_by self line }
+        ensures count { result ≡ brought_by self line }
     {
         match line {
             Line::A => self.a,

@@ -21,7 +21,7 @@ pub const REACH: usize = 1_024;
 
 /// The entries of a tape that wait for their turn, with what was announced of the tape.
 ///
-/// It has one slot for each of the `REACH` numbers above its base, and they are a ring: taking an entry out moves none.
+/// It has one slot for each of the `REACH` numbers above its base, and they are a ring: taking an entry out moves no other.
 /// All memory is taken by `new`, and no other call takes any.
 #[derive(Debug, Drop)]
 pub struct Window {
