@@ -23,10 +23,10 @@ admits t after m (Err r) is = by (refusal t m) refl
     by (Some x) refused = inl (is.1 ∙ sym (cond-true (is_some (refusal t m)) t (with_message t m) (ap is_some refused)))
 
 -- a drain of all that is ready is the event of as many entries
-pub drained : (w : World) (n : ℕ) (after : SubscriberState) → DrainsAll n w.subscriber after → world_after w (Drains n) ≡ record w { subscriber = after }
-drained w n after all = ap (λ (s : SubscriberState). record w { subscriber = s }) (sym all.state)
+pub drain_event : (w : World) (n : ℕ) (after : SubscriberState) → DrainsAll n w.subscriber after → world_after w (Drains n) ≡ record w { subscriber = after }
+drain_event w n after all = ap (λ (s : SubscriberState). record w { subscriber = s }) (sym all.state)
 
 -- so is a drain that stops
-pub stopped : (w : World) (fault : DrainFault) (after : SubscriberState) → DrainStops fault w.subscriber after
+pub stop_event : (w : World) (fault : DrainFault) (after : SubscriberState) → DrainStops fault w.subscriber after
     → world_after w (Drains fault.drained) ≡ record w { subscriber = after }
-stopped w fault after stops = ap (λ (s : SubscriberState). record w { subscriber = s }) (sym stops.state)
+stop_event w fault after stops = ap (λ (s : SubscriberState). record w { subscriber = s }) (sym stops.state)

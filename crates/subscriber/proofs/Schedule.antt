@@ -32,7 +32,7 @@ use Rattle.subscriber.specs.declared.drain_fault.Stop.TheVariants.{Refused, Othe
 use Rattle.subscriber.specs.declared.drain_fault.DrainFault.{DrainFault}
 use Rattle.subscriber.specs.Subscribers.{SubscriberState, with_entry, subscriber_after_entry, subscriber_after}
 use Rattle.subscriber.specs.Drains.{Delivers, RefusesDelivery, DrainStops, StopsFor, IsRefused, IsHonestStop}
-use Rattle.subscriber.specs.Schedules.{World, Event, Admits, Closes, Comes, Drains, Restarts, world_after, run, start, IsCut, IsPartOf, announced_by, tape_held, LeadsTo}
+use Rattle.subscriber.specs.Schedules.{World, Event, Admits, Closes, Comes, Drains, Restarts, world_after, run, start, IsCut, IsPartOf, announced_by, held_prefix, LeadsTo}
 use Rattle.subscriber.proofs.Due.{FromDue-at}
 use Rattle.subscriber.proofs.Turns.{after_entry-keeps, after_entry-admitted, after_entry-refused}
 use Rattle.subscriber.proofs.Sound.{IsSound, tells, next_ready, next_own, takes, drains}
@@ -250,10 +250,10 @@ held_first w s =
     sym (ap (take (length held)) s.tape ∙ take-append_seam held (s.due ++ s.later))
 
 -- the subscriber's summaries are those of the tape's first entries, as many as it holds
-pub prefix_summary : (w : World) (symbol : List ℕ) → IsSound w → summary_at w.subscriber.tape symbol ≡ summary_at (tape_held w) symbol
-prefix_summary w symbol s = summary-same w.subscriber.tape (tape_held w) symbol s.listing (held_first w s)
+pub prefix_summary : (w : World) (symbol : List ℕ) → IsSound w → summary_at w.subscriber.tape symbol ≡ summary_at (held_prefix w) symbol
+prefix_summary w symbol s = summary-same w.subscriber.tape (held_prefix w) symbol s.listing (held_first w s)
 
 -- and so are the participants' own summaries
 pub prefix_own_summary : (w : World) (symbol : List ℕ) (who : ℕ) → IsSound w
-    → participant_summary_at w.subscriber.tape symbol who ≡ participant_summary_at (tape_held w) symbol who
-prefix_own_summary w symbol who s = own_summary-same w.subscriber.tape (tape_held w) symbol who s.listing (held_first w s)
+    → participant_summary_at w.subscriber.tape symbol who ≡ participant_summary_at (held_prefix w) symbol who
+prefix_own_summary w symbol who s = own_summary-same w.subscriber.tape (held_prefix w) symbol who s.listing (held_first w s)

@@ -66,8 +66,8 @@ abbrev pub IsPartOf : List Entry → List Entry → Type 0
 IsPartOf row tape = (before : List Entry) × (after : List Entry) × (tape ≡ before ++ (row ++ after))
 
 -- the tape as far as the subscriber holds it
-abbrev pub tape_held : World → TapeState
-tape_held w = tape_before w.tape (length w.subscriber.tape.entries)
+abbrev pub held_prefix : World → TapeState
+held_prefix w = tape_before w.tape (length w.subscriber.tape.entries)
 
 -- a packet that was cut of the tape: some of its entries, or its length at some time, or its length once it is closed
 abbrev pub IsCut : World → Packet → Type 0

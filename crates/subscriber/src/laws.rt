@@ -19,7 +19,7 @@ ghost use Rattle.subscriber.specs.declared.drain_fault.DrainFault.{DrainFault};
 ghost use Rattle.subscriber.specs.declared.drain_fault.Stop.TheVariants.{OtherSummary};
 ghost use Rattle.subscriber.specs.Subscribers.{SubscriberState, subscriber_after, subscriber_after_entry, own_entry, has_gap, NextIsOwn};
 ghost use Rattle.subscriber.specs.Drains.{Delivers, RefusesDelivery, DrainsAll, DrainStops, OwnFor, IsHonestStop};
-ghost use Rattle.subscriber.specs.Schedules.{World, Event, Comes, Drains, tape_after, world_after, tape_held, LeadsTo, EndsIn, IsCut, IsPrefixOf};
+ghost use Rattle.subscriber.specs.Schedules.{World, Event, Comes, Drains, tape_after, world_after, held_prefix, LeadsTo, EndsIn, IsCut, IsPrefixOf};
 ghost use Rattle.subscriber.specs.Schedules.{announced_by, IsSchedule, HasNoRestart, Brings, run};
 
 /// What holds after every schedule of a tape and a subscriber. The clauses up to `gap_filled` are of an honest feed, whose
@@ -30,9 +30,9 @@ pub fn schedule()
     // What is held is a prefix of it, with that prefix's summaries.
     ensures prefix { (events : List Event) (w : World) → LeadsTo events w → IsPrefixOf w.subscriber.tape.entries w.tape.entries }
     ensures summaries { (events : List Event) (w : World) → LeadsTo events w → (symbol : List ℕ)
-        → summary_at w.subscriber.tape symbol ≡ summary_at (tape_held w) symbol }
+        → summary_at w.subscriber.tape symbol ≡ summary_at (held_prefix w) symbol }
     ensures own_summaries { (events : List Event) (w : World) → LeadsTo events w → (symbol : List ℕ) (who : ℕ)
-        → participant_summary_at w.subscriber.tape symbol who ≡ participant_summary_at (tape_held w) symbol who }
+        → participant_summary_at w.subscriber.tape symbol who ≡ participant_summary_at (held_prefix w) symbol who }
     // The gap is open exactly where more was announced since the last restart than is held, and else all that was is held.
     ensures announced { (events : List Event) (w : World) → LeadsTo events w → w.subscriber.window.announced ≡ announced_by 0 events }
     ensures gap { (events : List Event) (w : World) → LeadsTo events w

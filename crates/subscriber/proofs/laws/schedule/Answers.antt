@@ -5,7 +5,7 @@ use Rattle.subscriber.specs.Schedules.{announced_by}
 use Rattle.subscriber.proofs.Sound.{sound, next_own, after_drain}
 use Rattle.subscriber.proofs.Schedule.{announced_told, accepts, never_refused, cut_is_part, bytes_come, empties, honest_stop, prefix_summary, prefix_own_summary}
 use Rattle.subscriber.proofs.Failures.{runs, fails, other_summary}
-use Rattle.subscriber.proofs.Events.{admits, drained, stopped}
+use Rattle.subscriber.proofs.Events.{admits, drain_event, stop_event}
 use Rattle.subscriber.proofs.Gaps.{gap_next, gap_filled}
 use Rattle.subscriber.proofs.Legal.{legal, fails_by_other}
 use Rattle.subscriber.proofs.laws.schedule.Goals as goal
@@ -101,7 +101,7 @@ pub returns-clause-admits : goal.returns-clause-admits
 returns-clause-admits c = admits
 
 pub returns-clause-drained : goal.returns-clause-drained
-returns-clause-drained c = drained
+returns-clause-drained c = drain_event
 
 pub returns-clause-stopped : goal.returns-clause-stopped
-returns-clause-stopped c = stopped
+returns-clause-stopped c = stop_event
