@@ -91,6 +91,7 @@ request_span bytes r read =
     let is : number.0.0 ≡ r.count = ap (λ (x : ℕ × List ℕ). x.0) good.1 ∙ ap (λ (x : Request × List ℕ). x.0.count) (ok_is request.BadSpan _ all.0 count.2) ∙ ap (λ (x : Request). x.count) (ok_is request.BadSpan all.0.0 r all.2) in
     (omega (arith, leb-true _ _ range.0, is), omega (arith, leb-true _ _ range.1, is))
 
+-- neither of two tests held
 either_false : (a b : Bool) → (a || b) ≡ false → (a ≡ false) × (b ≡ false)
 either_false true b e = absurd cc
 either_false false b e = (refl, e)
@@ -117,11 +118,13 @@ answer_short es session (Range from to) all =
     (λ k lt. data_short session (take 8 (drop ((from + 8 * k) - 1) (take to es))) (All-take IsEntry 8 _ (All-drop IsEntry ((from + 8 * k) - 1) (take to es) (All-take IsEntry to es all)))
     (omega (arith, length-take 8 (drop ((from + 8 * k) - 1) (take to es)))))
 
+-- whatever was read of a request, the answer is read again
 read_cases : (es : List Entry) (session : ℕ) (bytes : List ℕ) (read : Result Request RequestFault) → request_of bytes ≡ read → All IsEntry es → IsReadAgain es session bytes
 read_cases es session bytes (Ok r) is all =
     let a = answer_of es session r in
     answer_is_read es session bytes r a is refl (answer_within es session r (request_span bytes r is)) (answer_short es session a all)
 read_cases es session bytes (Err bad) is all = fault_is_read es session bytes bad is
 
+-- the answer to any request is read again
 pub each_answer_is_read : EachAnswerIsRead
 each_answer_is_read es session bytes all = read_cases es session bytes (request_of bytes) refl all

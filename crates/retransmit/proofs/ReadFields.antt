@@ -69,6 +69,7 @@ Follows-ranged w low high x a b above below number =
     Follows-then as_is as_is x (Ok x) a b b (number_at ReadFault w) (tested low high) number
     (Follows-here as_is x b (λ bytes. tested low high (x, bytes)) (λ bytes. rw (le-leb low x above, le-leb x high below) refl))
 
+-- the test of a range fails outside it
 out_of_range : (low high x : ℕ) → ((low ≤ x) × (x ≤ high) → ⊥) → (nat_le low x && nat_le x high) ≡ false
 out_of_range low high x beside = elim (cases_Bool (nat_le low x && nat_le x high)) [
   | inl inside ↦ let both = both_true (nat_le low x) (nat_le x high) inside in absurd (beside (leb-true low x both.0, leb-true x high both.1))
@@ -91,10 +92,12 @@ Follows-number-stops w low high fault a b number = Follows-stops as_is as_is fau
 
 -- ---- the first byte
 
+-- of two faults that tell, each tells
 cond_tells : (b : Bool) (x y : AskFault) → Tells x → Tells y → Tells (cond b x y)
 cond_tells true x y p q = p
 cond_tells false x y p q = q
 
+-- what is wrong with a first byte tells
 first_tells : (first : ℕ) → Tells (first_fault first)
 first_tells first = cond_tells (first == 71) _ _ tt (cond_tells (first == 72) _ _ tt (cond_tells (first == 73) _ _ tt tt))
 

@@ -27,18 +27,22 @@ more_at m x = packets_at m x.1 >>= behind x
 abbrev first_at : ℕ → List ℕ × List ℕ → Result Texts AskFault
 first_at n first = packets_at n first.1 >>= before first
 
+-- behind no packets, the others are all
 same_value : (r : Result Texts AskFault) → r ≡ (r >>= behind ([], []))
 same_value (Ok y) = refl
 same_value (Err fault) = refl
 
+-- a packet in front of those that are put behind others
 third : (first : List ℕ × List ℕ) (x : Texts) (r : Result Texts AskFault) → ((r >>= behind x) >>= before first) ≡ (r >>= behind (first.0 ∷ x.0, x.1))
 third first x (Ok y) = refl
 third first x (Err fault) = refl
 
+-- a packet in front of the first of two readings
 second : (m : ℕ) (first : List ℕ × List ℕ) (r : Result Texts AskFault) → ((r >>= more_at m) >>= before first) ≡ ((r >>= before first) >>= more_at m)
 second m first (Ok x) = third first x (packets_at m x.1)
 second m first (Err fault) = refl
 
+-- a packet, and two readings behind it
 first_step : (n m : ℕ) (r : Read (List ℕ)) → ((bytes : List ℕ) → packets_at (n + m) bytes ≡ (packets_at n bytes >>= more_at m)) → (r >>= first_at (n + m)) ≡ ((r >>= first_at n) >>= more_at m)
 first_step n m (Ok first) rest = ap (λ (r : Result Texts AskFault). r >>= before first) (rest first.1) ∙ second m first (packets_at n first.1)
 first_step n m (Err fault) rest = refl

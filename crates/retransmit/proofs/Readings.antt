@@ -27,6 +27,7 @@ Tells OutOfMemory = Unit {0}
 pub Follows-here : {A B : Type 0} (view : A → B) (x : A) (a : Option (List ℕ)) (read : List ℕ → Read B) → ((bytes : List ℕ) → read bytes ≡ Ok (view x, bytes)) → Follows view (Ok x) a a read
 Follows-here view x a read always = record { text = []; taken = Consumes-nil a; least = λ len lt. absurd (omega (arith, lt)); says = always }
 
+-- a fault that all bytes give is one of none of them
 always_fault : {B : Type 0} (fault : AskFault) (read : List ℕ → Read B) → Tells fault → ((bytes : List ℕ) → read bytes ≡ Err fault) → IsFaultOf fault read []
 always_fault ReadFault read tells always = absurd tells
 always_fault WriteFault read tells always = absurd tells
@@ -52,6 +53,7 @@ Follows-viewed {B = B} view x y a b read is f =
 pub Follows-refused : {A B C : Type 0} (view : A → B) (other : C → B) (fault : AskFault) (a b : Option (List ℕ)) (read : List ℕ → Read B) → Follows other (Err fault) a b read → Follows view (Err fault) a b read
 Follows-refused view other fault a b read f = record { text = f.text; taken = f.taken; least = f.least; says = f.says }
 
+-- readings that agree on all bytes have one fault
 same_fault : {B : Type 0} (fault : AskFault) (read other : List ℕ → Read B) (text : List ℕ) → ((bytes : List ℕ) → other bytes ≡ read bytes) → IsFaultOf fault read text → IsFaultOf fault other text
 same_fault ReadFault read other text same is = same text ∙ is
 same_fault WriteFault read other text same is = absurd is
@@ -59,6 +61,7 @@ same_fault BadAnswer read other text same is = λ rest. same (text ++ rest) ∙ 
 same_fault (Refused refusal) read other text same is = λ rest. same (text ++ rest) ∙ is rest
 same_fault OutOfMemory read other text same is = tt
 
+-- readings that agree on all bytes say the same
 same_says : {A B : Type 0} (view : A → B) (result : Result A AskFault) (read other : List ℕ → Read B) (text : List ℕ) → ((bytes : List ℕ) → other bytes ≡ read bytes) → IsReadAs view result read text
     → IsReadAs view result other text
 same_says view (Ok x) read other text same is = λ rest. same (text ++ rest) ∙ is rest
@@ -72,6 +75,7 @@ Follows-same view result a b read other same f =
 
 -- ---- two readings, one behind the other
 
+-- a fault of the first is one of both
 stopped : {B D : Type 0} (fault : AskFault) (read : List ℕ → Read B) (next : B × List ℕ → Read D) (text : List ℕ) → IsFaultOf fault read text → IsFaultOf fault (λ bytes. read bytes >>= next) text
 stopped {B = B} ReadFault read next text is = ap (λ (r : Read B). r >>= next) is
 stopped WriteFault read next text is = absurd is
@@ -95,9 +99,11 @@ module _ {B D : Type 0} (v : B) (one two : List ℕ) (read : List ℕ → Read B
   joined : (rest : List ℕ) → (read ((one ++ two) ++ rest) >>= next) ≡ next (v, two ++ rest)
   joined rest = ap (λ (bytes : List ℕ). read bytes >>= next) (append_assoc one two rest) ∙ ap (λ (r : Read B). r >>= next) (first (two ++ rest))
 
+  -- behind the first, the second reads to the end
   joined_end : (read (one ++ two) >>= next) ≡ next (v, two)
   joined_end = ap (λ (r : Read B). r >>= next) (first two)
 
+  -- a fault of the second, behind the first, is one of both
   joined_fault : (fault : AskFault) → IsFaultOf fault (λ bytes. next (v, bytes)) two → IsFaultOf fault (λ bytes. read bytes >>= next) (one ++ two)
   joined_fault ReadFault is = joined_end ∙ is
   joined_fault WriteFault is = absurd is
@@ -105,10 +111,12 @@ module _ {B D : Type 0} (v : B) (one two : List ℕ) (read : List ℕ → Read B
   joined_fault (Refused refusal) is = λ rest. joined rest ∙ is rest
   joined_fault OutOfMemory is = tt
 
+  -- what the second says, behind the first, both say
   joined_says : {C : Type 0} (view : C → D) (result : Result C AskFault) → IsReadAs view result (λ bytes. next (v, bytes)) two → IsReadAs view result (λ bytes. read bytes >>= next) (one ++ two)
   joined_says view (Ok y) is = λ rest. joined rest ∙ is rest
   joined_says view (Err fault) is = joined_fault fault is
 
+  -- no front of both texts would do
   joined_least : ((len : ℕ) → len < length one → read (take len one) ≡ Err ReadFault) → ((len : ℕ) → len < length two → next (v, take len two) ≡ Err ReadFault)
       → (len : ℕ) → len < length (one ++ two) → (read (take len (one ++ two)) >>= next) ≡ Err ReadFault
   joined_least least_one least_two len lt = elim (cases_lt len (length one)) [
