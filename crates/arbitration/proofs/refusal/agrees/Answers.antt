@@ -1,10 +1,10 @@
-use Rattle.std.proofs.Common.{◌≡◌, ◌+◌, arith, sym, ap, ◌∙◌, Option, None, Some}
+use Rattle.std.proofs.Common.{◌+◌, arith, sym, ap, ◌∙◌, Option}
 use Rattle.std.specs.Borrow.{Bor}
 use Rattle.std.specs.Option.{option_map}
 use Rattle.tape_core.specs.declared.entry.Entry.{Entry}
 use Rattle.arbitration.specs.Windows.{flat}
 use Rattle.arbitration.specs.Deliveries.{known_entry}
-use Rattle.arbitration.proofs.Conflicts.{agrees_known, agrees_unknown, known_held, known_waiting, slot_got}
+use Rattle.arbitration.proofs.Conflicts.{agrees_known, known_held, known_waiting, slot_got}
 use Rattle.arbitration.proofs.refusal.agrees.Goals as goal
 
 pub returns-then-number-base : goal.returns-then-number-base
