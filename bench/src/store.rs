@@ -57,7 +57,8 @@ pub struct Store {
     prices: BTreeSet<(u64, NonZeroU32)>,
     /// The places of the effects that always become the last.
     always: BTreeSet<NonZeroU32>,
-    /// The places of the effects that can become the last at all.
+    /// The places of the effects that become the last only under a condition: where there is none, or after their own
+    /// participant's.
     setters: BTreeSet<NonZeroU32>,
     /// The places of the effects that become the last behind their own participant's, by participant.
     same: BTreeSet<(u8, NonZeroU32)>,
@@ -81,7 +82,9 @@ impl Store {
     fn change(&mut self, place: NonZeroU32, old: Option<Effect>, new: Option<Effect>) {
         let price = |effect: Effect| effect.high_low.then_some((effect.price, place));
         let always = |effect: Effect| (effect.last == LastRule::Always).then_some(place);
-        let setter = |effect: Effect| (effect.last != LastRule::Never).then_some(place);
+        let setter = |effect: Effect| {
+            matches!(effect.last, LastRule::SameMarket | LastRule::FirstOnly).then_some(place)
+        };
         let same = |effect: Effect| {
             (effect.last == LastRule::SameMarket).then_some((effect.participant, place))
         };
@@ -100,7 +103,7 @@ impl Store {
     /// The summary of the effects by rising place.
     pub fn summary(&self) -> Summary {
         Summary {
-            open: self.setters.first().and_then(|place| self.mark(*place)),
+            open: self.open(),
             high: self.high(),
             low: self.prices.first().and_then(|(_, place)| self.mark(*place)),
             last: self.last(),
@@ -111,6 +114,12 @@ impl Store {
 
     fn mark(&self, place: NonZeroU32) -> Option<Mark> {
         Some(self.effects.get(&place)?.mark(place))
+    }
+
+    /// The first that becomes the last, always or under a condition.
+    fn open(&self) -> Option<Mark> {
+        let firsts = [self.always.first(), self.setters.first()];
+        self.mark(*firsts.into_iter().flatten().min()?)
     }
 
     /// The highest price, the earliest among equals.

@@ -13,7 +13,7 @@ passes p (Some e) = p e
 abbrev pub is_always_effect : Effect → Bool
 is_always_effect e = is_always e.last
 
--- whether the effect sets the last under a condition alone
+-- whether the effect sets the last only under a condition
 abbrev pub is_conditional_effect : Effect → Bool
 is_conditional_effect e = is_conditional e.last
 
