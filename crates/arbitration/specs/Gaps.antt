@@ -1,11 +1,12 @@
 -- What is missing of a window, and what is asked for.
 use Rattle.std.specs.Prelude.{◌≡◌, ℕ, ◌+◌, ◌-◌, ◌≤◌, ◌<◌, nat_lt, if◌then◌else◌, List, Option, None, slice_get}
 use Rattle.tape_core.specs.declared.entry.Entry.{Entry}
+use Rattle.tape_frames.specs.Limits.{longest_span}
 use Rattle.arbitration.specs.Windows.{WindowState, flat}
 
 -- the most numbers that one request asks for
 abbrev pub most_asked : ℕ
-most_asked = 64
+most_asked = longest_span
 
 -- the entry that waits under a number, where the first slot is of the number next
 abbrev pub waiting_entry : ℕ → List (Option Entry) → ℕ → Option Entry

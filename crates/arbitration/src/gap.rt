@@ -5,10 +5,10 @@ ghost use Rattle.arbitration.specs.Windows.{flat, reach, ready_entries};
 
 use std::collections::VecDeque;
 use tape_core::Entry;
-use tape_frames::Span;
+use tape_frames::{LONGEST_SPAN, Span};
 
 /// The most numbers that one request asks for.
-pub const MOST_ASKED: u32 = 64;
+pub const MOST_ASKED: u32 = LONGEST_SPAN as u32;
 
 /// How many slots are full before the first empty one.
 pub(crate) fn full_run(slots: &VecDeque<Option<Entry>>) -> u32

@@ -1,0 +1,76 @@
+//! A day's input, read into a tape.
+
+use anyhow::Context;
+use bstr::ByteSlice;
+use reports::{Message, decode};
+use std::alloc::Global;
+use subscriber::Subscriber;
+use summaries::IndexStore;
+use tape_core::Tape;
+use tape_types::{Listing, Participant, Symbol};
+
+/// The limit of each tape, in entries.
+const TAPE_LIMIT: u32 = 1_048_576;
+
+/// The session under which the tape is sent.
+pub const SESSION: u64 = 1;
+
+/// The symbol of a name.
+fn symbol_named(name: &[u8]) -> Option<Symbol> {
+    let mut bytes = [b' '; 8];
+    bytes.get_mut(..name.len())?.copy_from_slice(name);
+    Symbol::try_new(bytes)
+}
+
+/// The participant of a name.
+fn participant_named(name: &[u8]) -> Option<Participant> {
+    match name {
+        [letter] => Participant::try_new(*letter),
+        _ => None,
+    }
+}
+
+/// The listing of a day's first two lines: symbols, and the letters of participants.
+fn read_listing(alloc: Global, input: &[u8]) -> anyhow::Result<Listing> {
+    let mut lines = input.lines();
+    let mut symbols = Vec::new(alloc);
+    for name in lines.next().unwrap_or(&[]).split_str(b" ") {
+        symbols.push(symbol_named(name).context("a name is no symbol")?)?;
+    }
+    let mut participants = Vec::new(alloc);
+    for name in lines.next().unwrap_or(&[]).split_str(b" ") {
+        participants.push(participant_named(name).context("a name is no participant")?)?;
+    }
+    Ok(Listing::new(alloc, &symbols, &participants)?)
+}
+
+/// The message of a line: its participant's letter, a space, and the message's bytes in hexadecimal digits.
+fn read_message(line: &[u8]) -> Option<Message> {
+    let [letter, b' ', digits @ ..] = line else {
+        return None;
+    };
+    let mut row = [0; 44];
+    let bytes = row.get_mut(..digits.len() / 2)?;
+    hex::decode_to_slice(digits, bytes).ok()?;
+    let (message, taken) = decode(bytes).ok()?;
+    if taken != bytes.len() || message.header().participant.value() != *letter {
+        return None;
+    }
+    Some(message)
+}
+
+/// The tape of a day. A line that is no message and a message that is refused are passed over.
+pub fn read_tape(alloc: Global, input: &[u8]) -> anyhow::Result<Tape<IndexStore>> {
+    let mut tape = Tape::new(alloc, read_listing(alloc, input)?, TAPE_LIMIT)?;
+    for line in input.lines().skip(2) {
+        if let Some(message) = read_message(line) {
+            let _answer = tape.admit(message);
+        }
+    }
+    Ok(tape)
+}
+
+/// A subscriber to the tape of a day.
+pub fn new_subscriber(alloc: Global, input: &[u8]) -> anyhow::Result<Subscriber> {
+    Ok(Subscriber::new(alloc, read_listing(alloc, input)?, TAPE_LIMIT, SESSION)?)
+}

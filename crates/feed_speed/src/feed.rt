@@ -1,0 +1,119 @@
+//! A tape sent on two lossy lines, and what both of them lose asked for.
+ghost use Rattle.std.specs.Prelude.{◌≡◌};
+ghost use Rattle.feed_speed.specs.Losses.{is_lost};
+
+use crate::day::SESSION;
+use anyhow::Context;
+use arbitration::{DeliverFault, Line};
+use retransmit::{ask, serve};
+use std::alloc::Global;
+use subscriber::{DeliveryFault, Subscriber};
+use summaries::IndexStore;
+use tape_core::Tape;
+use tape_frames::{
+    EntryCount, Packet, Request, SliceSource, Source, cut, write_packet, write_request,
+};
+
+/// Sends a tape whole and then its end, and answers how many packets of entries it took. Whenever the subscriber tells
+/// a gap, what is missing is asked for before the next packet.
+pub fn send_all(
+    alloc: Global,
+    tape: &Tape<IndexStore>,
+    subscriber: &mut Subscriber,
+) -> anyhow::Result<u32> {
+    let source = SliceSource::of(tape);
+    let published = source.published();
+    let packets = published.div_ceil(8);
+    let mut text = Vec::new(alloc);
+    for place in 0..packets {
+        text.clear();
+        write_packet(&cut(SESSION, 8 * place + 1, &source), &mut text)?;
+        deliver(subscriber, place + 1, &text)?;
+        catch_up(alloc, tape, subscriber)?;
+    }
+    text.clear();
+    write_packet(&end_after(published)?, &mut text)?;
+    deliver_by(subscriber, Line::A, &text)?;
+    catch_up(alloc, tape, subscriber)?;
+    Ok(packets)
+}
+
+/// The end of a tape of so many entries.
+fn end_after(published: u32) -> anyhow::Result<Packet> {
+    let count = EntryCount::try_new(published).context("a tape has at most 1,048,576 entries")?;
+    Ok(Packet::End {
+        session: SESSION,
+        count,
+    })
+}
+
+/// Whether a line loses the packet of this number: A every third, B every fifth, a retransmission none.
+fn is_lost(line: Line, packet: u32) -> bool
+    ensures { result ≡ is_lost line packet }
+{
+    match line {
+        Line::A => packet % 3 == 0,
+        Line::B => packet % 5 == 0,
+        Line::R => false,
+    }
+}
+
+/// Delivers a packet by both lines, where they do not lose it.
+fn deliver(subscriber: &mut Subscriber, packet: u32, bytes: &[u8]) -> anyhow::Result<()> {
+    for line in [Line::A, Line::B] {
+        if !is_lost(line, packet) {
+            deliver_by(subscriber, line, bytes)?;
+        }
+    }
+    Ok(())
+}
+
+/// Delivers bytes by a line. No packet of the tape is refused, so a fault ends the measurement.
+fn deliver_by(subscriber: &mut Subscriber, line: Line, bytes: &[u8]) -> anyhow::Result<()> {
+    match subscriber.deliver(line, bytes) {
+        Ok(_) => Ok(()),
+        Err(DeliveryFault::Refused(fault)) => Err(error_of(fault)),
+        Err(fault) => Err(fault.into()),
+    }
+}
+
+/// A fault of the window as an error.
+fn error_of(fault: DeliverFault) -> anyhow::Error {
+    fault.into()
+}
+
+/// Drains the subscriber, and closes the gap that it tells then.
+fn catch_up(
+    alloc: Global,
+    tape: &Tape<IndexStore>,
+    subscriber: &mut Subscriber,
+) -> anyhow::Result<()> {
+    subscriber.drain()?;
+    if let Some(request) = subscriber.missing() {
+        for packet in &retransmitted(alloc, tape, &request)? {
+            deliver_by(subscriber, Line::R, packet)?;
+        }
+        subscriber.drain()?;
+    }
+    Ok(())
+}
+
+/// The packets that a request is answered with, over memory.
+fn retransmitted(
+    alloc: Global,
+    tape: &Tape<IndexStore>,
+    request: &Request,
+) -> anyhow::Result<Vec<Vec<u8>>> {
+    let row = write_request(request);
+    let mut requests = row.as_slice();
+    let mut answer = Vec::new(alloc);
+    serve(
+        alloc,
+        &mut SliceSource::of(tape),
+        SESSION,
+        &mut requests,
+        &mut answer,
+    );
+    let mut sent = Vec::new(alloc);
+    Ok(ask(alloc, request, &mut answer.as_slice(), &mut sent)?)
+}

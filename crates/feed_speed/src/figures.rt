@@ -1,0 +1,52 @@
+//! The figures of a measurement.
+
+use std::time::Duration;
+use std::{fmt, io};
+
+/// What was measured of a tape.
+#[derive(Clone, Copy)]
+pub struct Figures {
+    /// The entries of the tape.
+    pub entries: usize,
+    /// The packets of entries that were sent, each counted once.
+    pub packets: u32,
+    /// The time for all: the day read into its tape, and the tape sent until all is held.
+    pub total: Duration,
+    /// The time for the packets alone: cut, written, delivered, drained, and what was lost asked for.
+    pub sending: Duration,
+    /// The entries that came by retransmission.
+    pub retransmitted: u32,
+    /// The entries that the subscriber holds at the end.
+    pub held: usize,
+}
+
+impl Figures {
+    /// Prints the figures, one a line.
+    pub fn print(&self, rt: &impl Print) -> io::Result<()> {
+        println!(rt; "entries {}", self.entries)?;
+        println!(rt; "packets {}", self.packets)?;
+        println!(rt; "seconds_total {}", Seconds(self.total))?;
+        println!(rt; "seconds_packets {}", Seconds(self.sending))?;
+        println!(rt;
+            "entries_per_second {}",
+            per_second(self.entries, self.sending)
+        )?;
+        println!(rt; "retransmitted {}", self.retransmitted)?;
+        println!(rt; "held {}", self.held)
+    }
+}
+
+/// So many in this time, a second.
+fn per_second(count: usize, time: Duration) -> u128 {
+    count as u128 * 1_000_000_000 / time.as_nanos().max(1)
+}
+
+/// A time in seconds, with six digits behind the point.
+#[derive(Clone, Copy)]
+struct Seconds(Duration);
+
+impl fmt::Display for Seconds {
+    fn fmt<W: fmt::Write>(&self, f: &mut fmt::Formatter<W>) -> fmt::Result {
+        write!(f, "{}.{:06}", self.0.as_secs(), self.0.subsec_micros())
+    }
+}

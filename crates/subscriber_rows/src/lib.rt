@@ -1,0 +1,5 @@
+//! The worked rows of a subscriber, and seeded schedules.
+#![tactic(auto)]
+
+#[cfg(test)]
+mod tests;

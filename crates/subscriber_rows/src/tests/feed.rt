@@ -1,0 +1,153 @@
+//! A tape that is sent, and the bytes of its packets.
+
+use reports::{Content, Header, Message, Moment};
+use sale_matrix::Condition;
+use std::alloc::Global;
+use summaries::IndexStore;
+use tape_core::Tape;
+use tape_frames::{EntryCount, Packet, SliceSource, cut, write_packet};
+use tape_types::{Listing, MsgNumber, Participant, Price, Size, Symbol};
+
+/// The session under which the tapes are sent.
+pub(super) const SESSION: u64 = 7;
+
+/// A tape over indexes, as the subscriber's own is.
+pub(super) type Feed = Tape<IndexStore>;
+
+pub(super) fn symbol() -> Option<Symbol> {
+    Symbol::try_new(*b"AB      ")
+}
+
+pub(super) fn participant() -> Option<Participant> {
+    Participant::try_new(b'N')
+}
+
+pub(super) fn listing(alloc: Global) -> Option<Listing> {
+    let symbols = [symbol()?];
+    let participants = [participant()?];
+    Listing::new(alloc, &symbols, &participants).ok()
+}
+
+fn header(number: u32) -> Option<Header> {
+    Some(Header {
+        participant: participant()?,
+        number: MsgNumber::try_new(number)?,
+        moment: Moment::new(0),
+        symbol: symbol()?,
+    })
+}
+
+/// A hundred shares.
+fn content(price: u64) -> Option<Content> {
+    Some(Content {
+        price: Price::try_new(price)?,
+        size: Size::try_new(100)?,
+        condition: Condition::try_new(*b"@   ")?,
+    })
+}
+
+pub(super) fn report(number: u32, price: u64) -> Option<Message> {
+    Some(Message::Report {
+        header: header(number)?,
+        content: content(price)?,
+    })
+}
+
+pub(super) fn cancel(number: u32, target: u32) -> Option<Message> {
+    Some(Message::Cancel {
+        header: header(number)?,
+        target: MsgNumber::try_new(target)?,
+    })
+}
+
+pub(super) fn correction(number: u32, target: u32, price: u64) -> Option<Message> {
+    Some(Message::Correct {
+        header: header(number)?,
+        target: MsgNumber::try_new(target)?,
+        content: content(price)?,
+    })
+}
+
+pub(super) fn feed(alloc: Global, limit: u32) -> Option<Feed> {
+    Tape::new(alloc, listing(alloc)?, limit).ok()
+}
+
+/// Admits a message, and tells whether the tape took it.
+pub(super) fn admits(tape: &mut Feed, message: Option<Message>) -> bool {
+    match message {
+        Some(message) => tape.admit(message).is_ok(),
+        None => false,
+    }
+}
+
+/// Admits reports up to a number, each at a hundredth of a cent more than the one before.
+fn admits_reports(tape: &mut Feed, count: u32, price: u64) -> bool {
+    for number in 1..=count {
+        if !admits(tape, report(number, price.wrapping_add(u64::from(number)))) {
+            return false;
+        }
+    }
+    true
+}
+
+/// A tape of so many reports.
+pub(super) fn reports(alloc: Global, count: u32, price: u64) -> Option<Feed> {
+    let mut tape = feed(alloc, 2_000)?;
+    admits_reports(&mut tape, count, price).then_some(tape)
+}
+
+/// A report and its cancel.
+pub(super) fn cancelled(alloc: Global) -> Option<Feed> {
+    let mut tape = reports(alloc, 1, 100_000)?;
+    admits(&mut tape, cancel(2, 1)).then_some(tape)
+}
+
+fn admits_a_correction(tape: &mut Feed) -> bool {
+    admits(tape, report(1, 100_000))
+        && admits(tape, report(2, 102_000))
+        && admits(tape, report(3, 102_000))
+        && admits(tape, correction(4, 2, 99_000))
+}
+
+/// Three reports, of which a correction makes the second the lowest.
+pub(super) fn corrected(alloc: Global) -> Option<Feed> {
+    let mut tape = feed(alloc, 100)?;
+    admits_a_correction(&mut tape).then_some(tape)
+}
+
+fn bytes_of(alloc: Global, packet: &Packet) -> Option<Vec<u8>> {
+    let mut text = Vec::new(alloc);
+    write_packet(packet, &mut text).is_ok().then_some(text)
+}
+
+/// The bytes of the packet that is cut of the tape from a number on: eight entries at most.
+pub(super) fn packet(alloc: Global, tape: &Feed, session: u64, from: u32) -> Option<Vec<u8>> {
+    if from == 0 || from as usize > tape.entries().len() {
+        return None;
+    }
+    bytes_of(alloc, &cut(session, from, &SliceSource::of(tape)))
+}
+
+/// The bytes of a beat that gives a number.
+pub(super) fn beat(alloc: Global, last: u32) -> Option<Vec<u8>> {
+    let last = EntryCount::try_new(last)?;
+    bytes_of(
+        alloc,
+        &Packet::Beat {
+            session: SESSION,
+            last,
+        },
+    )
+}
+
+/// The bytes of an end that gives a number.
+pub(super) fn end(alloc: Global, count: u32) -> Option<Vec<u8>> {
+    let count = EntryCount::try_new(count)?;
+    bytes_of(
+        alloc,
+        &Packet::End {
+            session: SESSION,
+            count,
+        },
+    )
+}

@@ -1,0 +1,212 @@
+//! The worked rows of a subscriber.
+
+use super::feed::{self, SESSION};
+use super::steps::Sent::{Beat, End, Front, OtherPrices, OtherSession, OtherVolume, Reports};
+use super::steps::Step::{Announced, By, Drain, IsGapOpen, Missing};
+use super::steps::Told::{Drained, Gap, Is, Number, Refused, Took};
+use super::steps::{Step, Told, deliver, holds, subscriber, told_so};
+use arbitration::Line::{A, B, R};
+use std::alloc::Global;
+use subscriber::Subscriber;
+
+/// The packet of session 7 with entry 4 of a tape: N corrects its message 2, and the summary after it has four marks.
+const CORRECTION_PACKET: [u8; 128] = [
+    0x01, 0x44, 0x00, 0x00, 0x00, 0x00, 0x00, 0x00, 0x00, 0x07, // version, kind, session
+    0x00, 0x00, 0x00, 0x04, 0x01, // number, count
+    0x00, 0x00, 0x00, 0x04, // tape number
+    0x00, 0x2a, 0x43, 0x4e, 0x00, 0x00, 0x00, 0x04, // len, kind, participant, number
+    0x00, 0x00, 0x00, 0x00, 0x00, 0x00, 0x00, 0x00, // moment
+    0x41, 0x42, 0x20, 0x20, 0x20, 0x20, 0x20, 0x20, // symbol
+    0x00, 0x00, 0x00, 0x02, // target
+    0x00, 0x00, 0x00, 0x00, 0x00, 0x01, 0x82, 0xb8, // price
+    0x00, 0x00, 0x00, 0x64, 0x40, 0x20, 0x20, 0x20, // size, condition
+    0x0f, // all four marks are there
+    0x00, 0x00, 0x00, 0x00, 0x00, 0x01, 0x86, 0xa0, 0x00, 0x00, 0x00, 0x01, 0x4e, // open
+    0x00, 0x00, 0x00, 0x00, 0x00, 0x01, 0x8e, 0x70, 0x00, 0x00, 0x00, 0x03, 0x4e, // high
+    0x00, 0x00, 0x00, 0x00, 0x00, 0x01, 0x82, 0xb8, 0x00, 0x00, 0x00, 0x02, 0x4e, // low
+    0x00, 0x00, 0x00, 0x00, 0x00, 0x01, 0x8e, 0x70, 0x00, 0x00, 0x00, 0x03, 0x4e, // last
+    0x00, 0x00, 0x00, 0x00, 0x00, 0x00, 0x01, 0x2c, 0x00, 0x00, 0x00, 0x03, // volume, trades
+];
+
+/// What line A brings of eight entries, and line B backwards and once more.
+const TWO_LOSSY_LINES: [(Step, Told); 17] = [
+    (By(A, Reports(1, 1)), Took(1, 0, 0)),
+    (By(A, Reports(3, 3)), Took(1, 0, 0)),
+    (By(A, Reports(4, 4)), Took(1, 0, 0)),
+    (By(A, Reports(6, 6)), Took(1, 0, 0)),
+    (By(A, Reports(7, 7)), Took(1, 0, 0)),
+    (By(A, Reports(8, 8)), Took(1, 0, 0)),
+    (By(B, Reports(8, 8)), Took(0, 1, 0)),
+    (By(B, Reports(7, 7)), Took(0, 1, 0)),
+    (By(B, Reports(6, 6)), Took(0, 1, 0)),
+    (By(B, Reports(5, 5)), Took(1, 0, 0)),
+    (By(B, Reports(4, 4)), Took(0, 1, 0)),
+    (By(B, Reports(3, 3)), Took(0, 1, 0)),
+    (By(B, Reports(2, 2)), Took(1, 0, 0)),
+    (By(B, Reports(2, 8)), Took(0, 7, 0)),
+    (Missing, Gap(0, 0)),
+    (Drain, Drained(8, 0)),
+    (IsGapOpen, Is(false)),
+];
+
+const A_GAP_AND_ITS_RETRANSMISSION: [(Step, Told); 10] = [
+    (By(A, Reports(1, 1)), Took(1, 0, 0)),
+    (By(A, Reports(2, 2)), Took(1, 0, 0)),
+    (By(A, Beat(4)), Took(0, 0, 0)),
+    (Drain, Drained(2, 0)),
+    (IsGapOpen, Is(true)),
+    (Missing, Gap(3, 2)),
+    (By(R, Reports(3, 4)), Took(2, 0, 0)),
+    (Drain, Drained(2, 0)),
+    (IsGapOpen, Is(false)),
+    (Missing, Gap(0, 0)),
+];
+
+const THE_EDGE_OF_THE_WINDOW: [(Step, Told); 6] = [
+    (By(A, Reports(1_024, 1_024)), Took(1, 0, 0)),
+    (By(A, Reports(1_025, 1_025)), Took(0, 0, 1)),
+    (Announced, Number(1_025)),
+    (Missing, Gap(1, 64)),
+    (Drain, Drained(0, 0)),
+    (IsGapOpen, Is(true)),
+];
+
+const CONFLICT_AND_PAST_THE_END: [(Step, Told); 9] = [
+    (By(A, Reports(1, 2)), Took(2, 0, 0)),
+    (By(B, OtherPrices(2, 2)), Refused(62)),
+    (By(B, OtherPrices(1, 2)), Refused(62)),
+    (By(B, OtherSession(3)), Refused(61)),
+    (By(A, End(8)), Took(0, 0, 0)),
+    (By(A, Reports(9, 9)), Refused(63)),
+    (By(A, End(7)), Refused(63)),
+    (By(B, End(8)), Took(0, 0, 0)),
+    (By(A, Beat(8)), Took(0, 0, 0)),
+];
+
+const ANOTHER_SUMMARY: [(Step, Told); 6] = [
+    (By(A, Reports(1, 1)), Took(1, 0, 0)),
+    (By(B, OtherVolume), Took(1, 0, 0)),
+    (Drain, Drained(2, 42)),
+    (By(A, Reports(1, 1)), Refused(64)),
+    (By(A, Front(0)), Refused(64)),
+    (Drain, Drained(0, 64)),
+];
+
+const ITS_OWN_LIMIT: [(Step, Told); 5] = [
+    (By(A, Reports(1, 3)), Took(3, 0, 0)),
+    (Drain, Drained(2, 32)),
+    (Drain, Drained(0, 32)),
+    (IsGapOpen, Is(true)),
+    (Missing, Gap(0, 0)),
+];
+
+const BYTES_THAT_ARE_NO_PACKET: [(Step, Told); 4] = [
+    (By(R, Front(0)), Refused(51)),
+    (By(R, Front(14)), Refused(51)),
+    (By(A, Front(58)), Refused(51)),
+    (Announced, Number(0)),
+];
+
+/// How many steps of a row a new subscriber with a limit answers as it has to.
+fn row(alloc: Global, limit: u32, steps: &[(Step, Told)]) -> Option<usize> {
+    let mut subscriber = subscriber(alloc, limit)?;
+    Some(told_so(alloc, &mut subscriber, steps))
+}
+
+/// Whether the subscriber answers the steps as it has to, and then holds the whole tape.
+fn comes_to(
+    alloc: Global,
+    subscriber: &mut Subscriber,
+    steps: &[(Step, Told)],
+    tape: Option<feed::Feed>,
+) -> Option<bool> {
+    let tape = tape?;
+    Some(told_so(alloc, subscriber, steps) == steps.len() && holds(subscriber, &tape)?)
+}
+
+/// How many entries each line brought in the row of two lossy lines.
+fn two_lossy_lines(alloc: Global) -> Option<(u32, u32)> {
+    let mut subscriber = subscriber(alloc, 100)?;
+    let tape = feed::reports(alloc, 8, 100_000);
+    let held = comes_to(alloc, &mut subscriber, &TWO_LOSSY_LINES, tape) == Some(true);
+    held.then_some((subscriber.brought(A), subscriber.brought(B)))
+}
+
+/// How many entries the retransmission brought.
+fn retransmitted(alloc: Global) -> Option<u32> {
+    let mut subscriber = subscriber(alloc, 100)?;
+    let tape = feed::reports(alloc, 4, 100_000);
+    let held = comes_to(alloc, &mut subscriber, &A_GAP_AND_ITS_RETRANSMISSION, tape) == Some(true);
+    held.then_some(subscriber.brought(R))
+}
+
+fn another_summary(alloc: Global) -> Option<bool> {
+    let mut subscriber = subscriber(alloc, 100)?;
+    let tape = feed::cancelled(alloc);
+    comes_to(alloc, &mut subscriber, &ANOTHER_SUMMARY, tape)
+}
+
+#[test]
+fn what_two_lossy_lines_bring_between_them_is_held(rt: HostRuntime) {
+    assert_eq!(rt; two_lossy_lines(rt.alloc()), Some((6, 2)));
+}
+
+#[test]
+fn a_gap_is_filled_by_its_retransmission(rt: HostRuntime) {
+    assert_eq!(rt; retransmitted(rt.alloc()), Some(2));
+}
+
+#[test]
+fn another_summary_is_not_believed(rt: HostRuntime) {
+    assert_eq!(rt; another_summary(rt.alloc()), Some(true));
+}
+
+#[test]
+fn conflicts_and_numbers_past_the_end_are_refused(rt: HostRuntime) {
+    assert_eq!(rt; row(rt.alloc(), 100, &CONFLICT_AND_PAST_THE_END), Some(9));
+}
+
+#[test]
+fn what_is_beyond_the_window_is_announced_alone(rt: HostRuntime) {
+    assert_eq!(rt; row(rt.alloc(), 2_000, &THE_EDGE_OF_THE_WINDOW), Some(6));
+}
+
+#[test]
+fn bytes_that_are_no_packet_change_nothing(rt: HostRuntime) {
+    assert_eq!(rt; row(rt.alloc(), 100, &BYTES_THAT_ARE_NO_PACKET), Some(4));
+}
+
+#[test]
+fn a_drain_stops_at_the_subscribers_own_limit(rt: HostRuntime) {
+    assert_eq!(rt; row(rt.alloc(), 2, &ITS_OWN_LIMIT), Some(5));
+}
+
+/// Whether the vector comes before the three reports, and all four are held.
+fn takes_the_vector(alloc: Global, subscriber: &mut Subscriber, tape: &feed::Feed) -> Option<bool> {
+    let text = feed::packet(alloc, tape, SESSION, 1)?;
+    Some(
+        deliver(subscriber, B, &CORRECTION_PACKET) == Took(1, 0, 0)
+            && deliver(subscriber, A, text.as_slice()) == Took(3, 1, 0)
+            && subscriber.drain() == Ok(4)
+            && holds(subscriber, tape)?,
+    )
+}
+
+/// Whether the subscriber's own tape gives the vector of entry 4.
+fn gives_the_vector(alloc: Global, subscriber: &Subscriber) -> Option<bool> {
+    let text = feed::packet(alloc, subscriber.tape(), SESSION, 4)?;
+    Some(text.as_slice() == CORRECTION_PACKET.as_slice())
+}
+
+fn correction_and_its_vector(alloc: Global) -> Option<(bool, bool)> {
+    let tape = feed::corrected(alloc)?;
+    let mut subscriber = subscriber(alloc, 100)?;
+    let taken = takes_the_vector(alloc, &mut subscriber, &tape) == Some(true);
+    let given = gives_the_vector(alloc, &subscriber) == Some(true);
+    Some((taken, given))
+}
+
+#[test]
+fn a_correction_is_read_and_written_as_its_vector(rt: HostRuntime) {
+    assert_eq!(rt; correction_and_its_vector(rt.alloc()), Some((true, true)));
+}

@@ -1,0 +1,261 @@
+//! Seeded schedules in which packets are lost, doubled, reordered and cut short, and the subscriber starts anew.
+ghost use Rattle.std.specs.Prelude.{◌≤◌, ◌<◌};
+
+use super::feed::{self, Feed, SESSION};
+use super::steps::{holds, subscriber};
+use arbitration::Line;
+use reports::Message;
+use scratch_fold::Summary;
+use std::alloc::Global;
+use subscriber::{DeliveryFault, Subscriber};
+use tape_frames::PacketFault;
+
+/// How many entries the tape of a schedule has at most.
+const LIMIT: u32 = 60;
+
+/// Numbers that look random, the same from the same seed.
+#[derive(Drop)]
+struct Dice {
+    state: u64,
+}
+
+impl Dice {
+    /// A number below this one.
+    fn below(&mut self, bound: u32) -> u32
+        requires { 1 ≤ bound }
+        ensures { result < bound }
+    {
+        self.state = self
+            .state
+            .wrapping_mul(6_364_136_223_846_793_005)
+            .wrapping_add(1_442_695_040_888_963_407);
+        (self.state / 8_589_934_592 % u64::from(bound)) as u32
+    }
+
+    /// The line that a packet comes by.
+    fn line(&mut self) -> Line {
+        match self.below(3) {
+            0 => Line::A,
+            1 => Line::B,
+            _ => Line::R,
+        }
+    }
+
+    /// What is sent to the tape under a number: a report, a cancel or a correction.
+    fn message(&mut self, number: u32) -> Option<Message> {
+        let price = 100_000 + u64::from(self.below(50));
+        let target = self.below(number.max(1)).saturating_add(1);
+        match self.below(4) {
+            0 => feed::cancel(number, target),
+            1 => feed::correction(number, target, price),
+            _ => feed::report(number, price),
+        }
+    }
+}
+
+/// The summaries of a prefix of the tape: the consolidated one, and the participant's own.
+#[derive(Clone, Copy, PartialEq, Eq)]
+struct Figures {
+    consolidated: Option<Summary>,
+    own: Option<Summary>,
+}
+
+fn figures_of(tape: &Feed) -> Option<Figures> {
+    let symbol = feed::symbol()?;
+    let participant = feed::participant()?;
+    Some(Figures {
+        consolidated: tape.summary(symbol),
+        own: tape.summary_of(symbol, participant),
+    })
+}
+
+/// A tape and a subscriber in the middle of a schedule. Each step answers `None` where something is not as it has to be.
+#[derive(Drop)]
+struct Schedule {
+    tape: Feed,
+    subscriber: Subscriber,
+    dice: Dice,
+    /// The figures of each prefix of the tape, from that of nothing on.
+    figures: Vec<Figures>,
+    /// The number of the participant's next message.
+    next: u32,
+}
+
+impl Schedule {
+    fn new(alloc: Global, seed: u32) -> Option<Schedule> {
+        let tape = feed::feed(alloc, LIMIT)?;
+        let subscriber = subscriber(alloc, LIMIT)?;
+        Some(Schedule {
+            tape,
+            subscriber,
+            dice: Dice {
+                state: u64::from(seed),
+            },
+            figures: Vec::new(alloc),
+            next: 1,
+        })
+    }
+
+    /// The figures of the tape as it is now are kept.
+    fn keeps_figures(&mut self) -> Option<()> {
+        let figures = figures_of(&self.tape)?;
+        self.figures.push(figures).ok()
+    }
+
+    /// The tape is sent a message, which it may refuse.
+    fn admits(&mut self) -> Option<()> {
+        let message = self.dice.message(self.next);
+        self.next = self.next.saturating_add(1);
+        if feed::admits(&mut self.tape, message) {
+            self.keeps_figures()?;
+        }
+        Some(())
+    }
+
+    /// A packet comes.
+    fn is_taken(&mut self, text: &[u8]) -> bool {
+        let line = self.dice.line();
+        self.subscriber.deliver(line, text).is_ok()
+    }
+
+    /// A packet comes that is cut short.
+    fn is_short(&mut self, text: &[u8]) -> bool {
+        let line = self.dice.line();
+        let end = self.dice.below(15) as usize;
+        match text.get(..end) {
+            Some(front) => {
+                self.subscriber.deliver(line, front)
+                    == Err(DeliveryFault::NoPacket(PacketFault::Short))
+            }
+            None => false,
+        }
+    }
+
+    /// A packet comes, one time in four cut short.
+    fn comes(&mut self, text: &[u8]) -> Option<()> {
+        let is_well = if self.dice.below(4) > 0 {
+            self.is_taken(text)
+        } else {
+            self.is_short(text)
+        };
+        is_well.then_some(())
+    }
+
+    /// How many entries the tape has.
+    fn length(&self) -> u32
+        ensures { result ≤ 1048576 }
+    {
+        match self.tape.entries().last() {
+            None => 0,
+            Some(entry) => entry.number.value(),
+        }
+    }
+
+    /// A packet of entries from anywhere comes.
+    fn comes_from_anywhere(&mut self, alloc: Global) -> Option<()> {
+        let length = self.length();
+        if length == 0 {
+            return Some(());
+        }
+        let from = 1 + self.dice.below(length);
+        let text = feed::packet(alloc, &self.tape, SESSION, from)?;
+        self.comes(text.as_slice())
+    }
+
+    /// A beat comes, as the tape gave it at some time.
+    fn beats(&mut self, alloc: Global) -> Option<()> {
+        let length = self.length();
+        let last = self.dice.below(length + 1);
+        let text = feed::beat(alloc, last)?;
+        self.comes(text.as_slice())
+    }
+
+    /// Whether what is held is a prefix of the tape, with that prefix's figures.
+    fn holds_a_prefix(&self) -> Option<bool> {
+        let held = self.subscriber.held();
+        let front = self.tape.entries().get(..held.len())?;
+        let figures = self.figures.get(held.len())?;
+        Some(held == front && figures_of(self.subscriber.tape())? == *figures)
+    }
+
+    fn drains(&mut self) -> Option<()> {
+        self.subscriber.drain().ok()?;
+        self.holds_a_prefix()?.then_some(())
+    }
+
+    /// One time in eight the subscriber starts anew.
+    fn restarts(&mut self, alloc: Global) -> Option<()> {
+        if self.dice.below(8) == 0 {
+            self.subscriber = subscriber(alloc, LIMIT)?;
+        }
+        Some(())
+    }
+
+    /// Whatever comes next.
+    fn goes_on(&mut self, alloc: Global) -> Option<()> {
+        match self.dice.below(12) {
+            0..=2 => self.admits(),
+            3..=7 => self.comes_from_anywhere(alloc),
+            8 => self.beats(alloc),
+            9 => self.restarts(alloc),
+            _ => self.drains(),
+        }
+    }
+
+    /// What is missing comes by retransmission. Answers whether something was missing.
+    fn fills(&mut self, alloc: Global) -> Option<bool> {
+        let asked = match self.subscriber.missing() {
+            None => return Some(false),
+            Some(asked) => asked,
+        };
+        let text = feed::packet(alloc, &self.tape, SESSION, asked.from)?;
+        self.subscriber.deliver(Line::R, text.as_slice()).ok()?;
+        self.drains()?;
+        Some(true)
+    }
+
+    /// The tape is closed, and its end comes.
+    fn closes(&mut self, alloc: Global) -> Option<()> {
+        self.tape.close();
+        let text = feed::end(alloc, self.length())?;
+        self.subscriber.deliver(Line::B, text.as_slice()).ok()?;
+        self.drains()
+    }
+
+    /// What is missing is asked for until all is held.
+    fn catches_up(&mut self, alloc: Global) -> Option<bool> {
+        for _turn in 0..LIMIT {
+            if !self.fills(alloc)? {
+                break;
+            }
+        }
+        Some(holds(&self.subscriber, &self.tape)? && !self.subscriber.open_gap())
+    }
+
+    /// So many events, the tape's end, and what is then missing.
+    fn runs(&mut self, alloc: Global, events: u32) -> Option<bool> {
+        self.keeps_figures()?;
+        for _event in 0..events {
+            self.goes_on(alloc)?;
+        }
+        self.closes(alloc)?;
+        self.catches_up(alloc)
+    }
+}
+
+/// How many entries the tape of a schedule has that the subscriber holds all of at its end.
+fn entries_after(alloc: Global, seed: u32) -> Option<u32> {
+    let mut schedule = Schedule::new(alloc, seed)?;
+    let holds_all = schedule.runs(alloc, 300) == Some(true);
+    holds_all.then_some(schedule.length())
+}
+
+#[test]
+fn what_is_held_is_a_prefix_after_every_drain(rt: HostRuntime) {
+    for seed in 1..=12 {
+        assert!(rt;
+            entries_after(rt.alloc(), seed).unwrap_or(0) > 15,
+            "seed {seed}"
+        );
+    }
+}

@@ -1,0 +1,168 @@
+//! The steps of a row: what comes, what is asked of the subscriber, and what it answers.
+
+use super::feed::{self, Feed, SESSION};
+use arbitration::{Line, Taken};
+use std::alloc::Global;
+use subscriber::{DeliveryFault, DrainFault, Subscriber};
+use tape_frames::Request;
+
+/// What a line brings: a packet of session 7 where nothing else is said.
+#[derive(Clone, Copy)]
+pub(super) enum Sent {
+    /// The reports from one number to another, eight at most.
+    Reports(u32, u32),
+    /// The same of a tape with other prices.
+    OtherPrices(u32, u32),
+    /// One report, of session 8.
+    OtherSession(u32),
+    /// Entry 2, the cancel of entry 1, with a volume of 100.
+    OtherVolume,
+    /// A beat with this number.
+    Beat(u32),
+    /// An end with this number.
+    End(u32),
+    /// The first so many bytes of a packet of entry 1.
+    Front(u32),
+}
+
+/// What is done next.
+#[derive(Clone, Copy)]
+pub(super) enum Step {
+    /// A line brings bytes.
+    By(Line, Sent),
+    /// The subscriber drains.
+    Drain,
+    /// The subscriber is asked for what is missing.
+    Missing,
+    /// The subscriber is asked whether its gap is open.
+    IsGapOpen,
+    /// The subscriber is asked for the last number that was announced.
+    Announced,
+}
+
+/// What the subscriber answers, each fault by its number.
+#[derive(Clone, Copy, PartialEq, Eq)]
+pub(super) enum Told {
+    /// So many entries were fresh, repeated, and beyond.
+    Took(u32, u32, u32),
+    /// The packet was refused.
+    Refused(u8),
+    /// So many entries were drained, and the number of the fault that stopped the drain, 0 for none.
+    Drained(u32, u8),
+    /// So many numbers from this one on are missing: 0 from 0 where none is.
+    Gap(u32, u32),
+    /// Yes or no.
+    Is(bool),
+    /// A number.
+    Number(u32),
+}
+
+fn told_delivery(answer: Result<Taken, DeliveryFault>) -> Told {
+    match answer {
+        Ok(taken) => Told::Took(taken.fresh, taken.repeated, taken.beyond),
+        Err(fault) => Told::Refused(fault.code()),
+    }
+}
+
+fn told_drain(answer: Result<u32, DrainFault>) -> Told {
+    match answer {
+        Ok(drained) => Told::Drained(drained, 0),
+        Err(fault) => Told::Drained(fault.drained, fault.why.code()),
+    }
+}
+
+fn told_missing(missing: Option<Request>) -> Told {
+    match missing {
+        Some(asked) => Told::Gap(asked.from, asked.count.value() as u32),
+        None => Told::Gap(0, 0),
+    }
+}
+
+/// The bytes with the lowest byte of the last entry's volume replaced, which stands before four bytes of trades.
+fn with_volume(text: Vec<u8>, volume: u8) -> Vec<u8> {
+    let mut text = text;
+    let at = text.len().saturating_sub(5);
+    if at < text.len() {
+        text[at] = volume;
+    }
+    text
+}
+
+/// The first bytes.
+fn front(text: Vec<u8>, length: u32) -> Vec<u8> {
+    let mut text = text;
+    text.truncate(length as usize);
+    text
+}
+
+/// The packet of the reports from one number to another.
+fn reports(alloc: Global, from: u32, to: u32, price: u64, session: u64) -> Option<Vec<u8>> {
+    let tape = feed::reports(alloc, to, price)?;
+    feed::packet(alloc, &tape, session, from)
+}
+
+/// The packet of the cancel of entry 1.
+fn cancelling(alloc: Global) -> Option<Vec<u8>> {
+    let tape = feed::cancelled(alloc)?;
+    feed::packet(alloc, &tape, SESSION, 2)
+}
+
+/// The bytes of what a line brings.
+fn bytes(alloc: Global, sent: Sent) -> Option<Vec<u8>> {
+    match sent {
+        Sent::Reports(from, to) => reports(alloc, from, to, 100_000, SESSION),
+        Sent::OtherPrices(from, to) => reports(alloc, from, to, 200_000, SESSION),
+        Sent::OtherSession(number) => reports(alloc, number, number, 100_000, 8),
+        Sent::OtherVolume => Some(with_volume(cancelling(alloc)?, 100)),
+        Sent::Beat(last) => feed::beat(alloc, last),
+        Sent::End(count) => feed::end(alloc, count),
+        Sent::Front(length) => Some(front(reports(alloc, 1, 1, 100_000, SESSION)?, length)),
+    }
+}
+
+/// A line brings bytes.
+pub(super) fn deliver(subscriber: &mut Subscriber, line: Line, text: &[u8]) -> Told {
+    told_delivery(subscriber.deliver(line, text))
+}
+
+fn brings(alloc: Global, subscriber: &mut Subscriber, line: Line, sent: Sent) -> Option<Told> {
+    let text = bytes(alloc, sent)?;
+    Some(deliver(subscriber, line, text.as_slice()))
+}
+
+fn take(alloc: Global, subscriber: &mut Subscriber, step: Step) -> Option<Told> {
+    match step {
+        Step::By(line, sent) => brings(alloc, subscriber, line, sent),
+        Step::Drain => Some(told_drain(subscriber.drain())),
+        Step::Missing => Some(told_missing(subscriber.missing())),
+        Step::IsGapOpen => Some(Told::Is(subscriber.open_gap())),
+        Step::Announced => Some(Told::Number(subscriber.announced())),
+    }
+}
+
+/// Takes the steps until one is told otherwise than it has to be, and tells how many were told so.
+pub(super) fn told_so(alloc: Global, subscriber: &mut Subscriber, steps: &[(Step, Told)]) -> usize {
+    for at in 0..steps.len() {
+        let (step, wanted) = steps[at];
+        if take(alloc, subscriber, step) != Some(wanted) {
+            return at;
+        }
+    }
+    steps.len()
+}
+
+/// A subscriber of session 7 with a limit.
+pub(super) fn subscriber(alloc: Global, limit: u32) -> Option<Subscriber> {
+    Subscriber::new(alloc, feed::listing(alloc)?, limit, SESSION).ok()
+}
+
+/// Whether the subscriber holds the whole tape, with its summaries.
+pub(super) fn holds(subscriber: &Subscriber, tape: &Feed) -> Option<bool> {
+    let symbol = feed::symbol()?;
+    let participant = feed::participant()?;
+    Some(
+        subscriber.held() == tape.entries()
+            && subscriber.summary(symbol) == tape.summary(symbol)
+            && subscriber.summary_of(symbol, participant) == tape.summary_of(symbol, participant),
+    )
+}
