@@ -53,7 +53,7 @@ impl Dice {
     }
 }
 
-/// The summaries of a prefix of the tape: the consolidated one, and the participant's own.
+/// The summaries of a tape: the consolidated one, and the participant's own.
 #[derive(Clone, Copy, PartialEq, Eq)]
 struct Figures {
     consolidated: Option<Summary>,
@@ -69,14 +69,29 @@ fn figures_of(tape: &Feed) -> Option<Figures> {
     })
 }
 
+/// Admits the messages of the first entries of another tape, and answers whether all were admitted.
+fn fill(front: &mut Feed, tape: &Feed, len: usize) -> bool {
+    let mut is_filled = true;
+    for entry in tape.entries().iter().take(len) {
+        is_filled = feed::admits(front, Some(entry.message)) && is_filled;
+    }
+    is_filled
+}
+
+/// The figures of the tape of another's first entries, made anew.
+fn front_figures(alloc: Global, tape: &Feed, len: usize) -> Option<Figures> {
+    let mut front = feed::feed(alloc, LIMIT)?;
+    let is_filled = fill(&mut front, tape, len);
+    let figures = figures_of(&front);
+    if is_filled { figures } else { None }
+}
+
 /// A tape and a subscriber in the middle of a schedule. Each step answers `None` where something is not as it has to be.
 #[derive(Drop)]
 struct Schedule {
     tape: Feed,
     subscriber: Subscriber,
     dice: Dice,
-    /// The figures of each prefix of the tape, from that of nothing on.
-    figures: Vec<Figures>,
     /// The number of the participant's next message.
     next: u32,
 }
@@ -91,30 +106,26 @@ impl Schedule {
             dice: Dice {
                 state: u64::from(seed),
             },
-            figures: Vec::new(alloc),
             next: 1,
         })
-    }
-
-    /// The figures of the tape as it is now are kept.
-    fn keeps_figures(&mut self) -> Option<()> {
-        let figures = figures_of(&self.tape)?;
-        self.figures.push(figures).ok()
     }
 
     /// The tape is sent a message, which it may refuse.
     fn admits(&mut self) -> Option<()> {
         let message = self.dice.message(self.next);
         self.next = self.next.saturating_add(1);
-        if feed::admits(&mut self.tape, message) {
-            self.keeps_figures()?;
-        }
+        let _is_admitted = feed::admits(&mut self.tape, message);
         Some(())
     }
 
     /// A packet comes.
     fn is_taken(&mut self, text: &[u8]) -> bool {
         let line = self.dice.line();
+        self.is_taken_by(line, text)
+    }
+
+    /// A packet comes by this line.
+    fn is_taken_by(&mut self, line: Line, text: &[u8]) -> bool {
         self.subscriber.deliver(line, text).is_ok()
     }
 
@@ -171,16 +182,16 @@ impl Schedule {
     }
 
     /// Whether what is held is a prefix of the tape, with that prefix's figures.
-    fn holds_a_prefix(&self) -> Option<bool> {
+    fn holds_a_prefix(&self, alloc: Global) -> Option<bool> {
         let held = self.subscriber.held();
         let front = self.tape.entries().get(..held.len())?;
-        let figures = self.figures.get(held.len())?;
-        Some(held == front && figures_of(self.subscriber.tape())? == *figures)
+        let figures = front_figures(alloc, &self.tape, held.len())?;
+        Some(held == front && figures_of(self.subscriber.tape())? == figures)
     }
 
-    fn drains(&mut self) -> Option<()> {
+    fn drains(&mut self, alloc: Global) -> Option<()> {
         self.subscriber.drain().ok()?;
-        self.holds_a_prefix()?.then_some(())
+        self.holds_a_prefix(alloc)?.then_some(())
     }
 
     /// One time in eight the subscriber starts anew.
@@ -198,7 +209,7 @@ impl Schedule {
             3..=7 => self.comes_from_anywhere(alloc),
             8 => self.beats(alloc),
             9 => self.restarts(alloc),
-            _ => self.drains(),
+            _ => self.drains(alloc),
         }
     }
 
@@ -209,8 +220,10 @@ impl Schedule {
             Some(asked) => asked,
         };
         let text = feed::packet(alloc, &self.tape, SESSION, asked.from)?;
-        self.subscriber.deliver(Line::R, text.as_slice()).ok()?;
-        self.drains()?;
+        if !self.is_taken_by(Line::R, text.as_slice()) {
+            return None;
+        }
+        self.drains(alloc)?;
         Some(true)
     }
 
@@ -218,8 +231,10 @@ impl Schedule {
     fn closes(&mut self, alloc: Global) -> Option<()> {
         self.tape.close();
         let text = feed::end(alloc, self.length())?;
-        self.subscriber.deliver(Line::B, text.as_slice()).ok()?;
-        self.drains()
+        if !self.is_taken_by(Line::B, text.as_slice()) {
+            return None;
+        }
+        self.drains(alloc)
     }
 
     /// What is missing is asked for until all is held.
@@ -234,7 +249,6 @@ impl Schedule {
 
     /// So many events, the tape's end, and what is then missing.
     fn runs(&mut self, alloc: Global, events: u32) -> Option<bool> {
-        self.keeps_figures()?;
         for _event in 0..events {
             self.goes_on(alloc)?;
         }
