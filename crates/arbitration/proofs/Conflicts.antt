@@ -26,7 +26,8 @@ agrees_known held next slots e other known =
     )
 
 -- where none is known under its number, an entry agrees
-pub agrees_unknown : (held : List Entry) (next : ℕ) (slots : List (Option Entry)) (e : Entry) → known_entry held next slots e.number ≡ None → Agrees held next slots e
+pub agrees_unknown : (held : List Entry) (next : ℕ) (slots : List (Option Entry)) (e : Entry) → known_entry held next slots e.number ≡ None
+    → Agrees held next slots e
 agrees_unknown held next slots e none = subst (λ o. IfSome o (λ x. x ≡ e)) (sym none) tt
 
 -- what is known under a number that was taken out
@@ -49,7 +50,9 @@ slot_got slots i None h = ap flat (slice_get_past slots i h.3)
 slot_got slots i (Some x) h = ap flat (slice_get_read slots (length slots) i x.now refl h.3.0 h.1)
 
 -- the first entry that does not agree has the least such number
-pub least_conflict : (held : List Entry) (next first : ℕ) (slots : List (Option Entry)) (es : List Entry) (i : ℕ) (d : Entry) → IsNumberedFrom first es → i < length es → All (Agrees held next slots) (take i es) → (Agrees held next slots (get_or es i d) → ⊥) → IsLeastConflict held next slots es (get_or es i d).number
+pub least_conflict : (held : List Entry) (next first : ℕ) (slots : List (Option Entry)) (es : List Entry) (i : ℕ) (d : Entry)
+    → IsNumberedFrom first es → i < length es → All (Agrees held next slots) (take i es) → (Agrees held next slots (get_or es i d) → ⊥)
+    → IsLeastConflict held next slots es (get_or es i d).number
 least_conflict held next first slots es i d numbers within so_far differs = record {
   entry = get_or es i d;
   sent = (i, within, get_or_default es i _ d within);

@@ -36,7 +36,7 @@ missing_from w n missing = elim (cases_lt n (w.base + 1 + length (ready_entries 
   | inr from ↦ from
 ]
 
--- the empty slots behind the ready ones are the gap, as far as it was announced
+-- the empty slots after the ready ones are the gap, as far as it was announced
 pub the_gap : (w : WindowState) (full most count : ℕ) → full ≡ length (ready_entries w.slots) → w.base + 1 + full ≤ w.announced
     → most ≡ min (w.announced - (w.base + 1 + full) + 1) most_asked → count ≤ most
     → ((k : ℕ) → k < count → flat (slice_get w.slots (full + k)) ≡ None)

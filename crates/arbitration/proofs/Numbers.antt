@@ -1,5 +1,6 @@
 -- The numbers of entries, in a list and in a packet.
-use Rattle.std.proofs.Common.{◌≡◌, ℕ, zero, suc, ◌+◌, ◌-◌, ◌≤◌, ◌<◌, ◌==◌, List, [], ◌∷◌, length, take, drop, get_or, length-take, None, Some, refl, sym, ap, subst, ◌∙◌, inl, inr, arith, eq-eqb}
+use Rattle.std.proofs.Common.{◌≡◌, ℕ, zero, suc, ◌+◌, ◌-◌, ◌≤◌, ◌<◌, ◌==◌, List, [], ◌∷◌, length, take, drop}
+use Rattle.std.proofs.Common.{get_or, length-take, None, Some, refl, sym, ap, subst, ◌∙◌, inl, inr, arith, eq-eqb}
 use Rattle.std.proofs.lemmas.Bool.{cases_lt, cond-true, cond-false, ne_eqb, eqb-true, cases_Bool}
 use Rattle.std.proofs.lemmas.List.{take-append-drop}
 use Rattle.std.proofs.lemmas.List.Elements.{All-nil}
@@ -30,7 +31,8 @@ numbered_below first (e ∷ es) n h below =
     cond-false (e.number == n) _ _ (ne_eqb _ _ (λ p. omega arith)) ∙ numbered_below (first + 1) es n h.1 (omega arith)
 
 -- the entry of a number in consecutive entries, and its place
-pub numbered_place : (first : ℕ) (es : List Entry) (n : ℕ) (e : Entry) → IsNumberedFrom first es → entry_numbered n es ≡ Some e → (k : ℕ) × (n ≡ first + k) × (slice_get es k ≡ Some e)
+pub numbered_place : (first : ℕ) (es : List Entry) (n : ℕ) (e : Entry) → IsNumberedFrom first es → entry_numbered n es ≡ Some e
+    → (k : ℕ) × (n ≡ first + k) × (slice_get es k ≡ Some e)
 numbered_place first es n e h found = elim (cases_lt n first) [
   | inl below ↦ absurd (none-some e (sym (numbered_below first es n h below) ∙ found))
   | inr above ↦
@@ -51,7 +53,8 @@ find_place (x ∷ es) n e found = elim (cases_Bool (x.number == n)) [
 ]
 
 -- no two entries of a row have one number
-pub number_is_new : (first : ℕ) (es : List Entry) (k : ℕ) (d : Entry) → IsNumberedFrom first es → k < length es → entry_numbered (get_or es k d).number (take k es) ≡ None
+pub number_is_new : (first : ℕ) (es : List Entry) (k : ℕ) (d : Entry) → IsNumberedFrom first es → k < length es
+    → entry_numbered (get_or es k d).number (take k es) ≡ None
 number_is_new first es k d h within =
     let number = number_at first es k (get_or es k d) h (slice_get-get_or es k d within) in
     let front = (IsNumberedFrom-append first (take k es) (drop k es) (subst (IsNumberedFrom first) (sym (take-append-drop k es)) h)).0 in

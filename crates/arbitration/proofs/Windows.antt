@@ -1,5 +1,6 @@
 -- What keeps the invariant of a window.
-use Rattle.std.proofs.Common.{◌≡◌, ℕ, zero, suc, ◌+◌, ◌≤◌, ◌==◌, true, false, List, [], ◌∷◌, ◌++◌, length, set, take, drop, Option, None, Some, refl, sym, ap, subst, ◌∙◌, arith, ◌||◌, max, not}
+use Rattle.std.proofs.Common.{◌≡◌, ℕ, zero, suc, ◌+◌, ◌≤◌, ◌==◌, true, false, List, [], ◌∷◌, ◌++◌, length, set}
+use Rattle.std.proofs.Common.{take, drop, Option, None, Some, refl, sym, ap, subst, ◌∙◌, arith, ◌||◌, max, not}
 use Rattle.std.proofs.lemmas.Bool.{false≢true, or_parts, ltb-false, not-false, eqb-true}
 use Rattle.std.proofs.lemmas.List.{length_push, length-replicate}
 use Rattle.std.proofs.lemmas.List.Sums.{count_by-le-length}
@@ -23,33 +24,38 @@ unfolding reach
 reach-is = refl
 
 -- a slot that got the entry of its number is placed
-placed_found : (next more : ℕ) (o : Option Entry) (slots : List (Option Entry)) → ((e : Entry) → o ≡ Some e → (e.number ≡ next) × (next ≤ more)) → ArePlaced (next + 1) more slots → ArePlaced next more (o ∷ slots)
+placed_found : (next more : ℕ) (o : Option Entry) (slots : List (Option Entry)) → ((e : Entry) → o ≡ Some e → (e.number ≡ next) × (next ≤ more))
+    → ArePlaced (next + 1) more slots → ArePlaced next more (o ∷ slots)
 placed_found next more None slots has h = h
 placed_found next more (Some e) slots has h = let found = has e refl in (found.0, found.1, h)
 
 -- slots stay placed when a packet fills some, and more is announced
-pub ArePlaced-slots_after : (next announced more : ℕ) (slots : List (Option Entry)) (es : List Entry) → ArePlaced next announced slots → announced ≤ more → ((n : ℕ) (e : Entry) → entry_numbered n es ≡ Some e → (e.number ≡ n) × (n ≤ more)) → ArePlaced next more (slots_after next slots es)
+pub ArePlaced-slots_after : (next announced more : ℕ) (slots : List (Option Entry)) (es : List Entry) → ArePlaced next announced slots
+    → announced ≤ more → ((n : ℕ) (e : Entry) → entry_numbered n es ≡ Some e → (e.number ≡ n) × (n ≤ more)) → ArePlaced next more (slots_after next slots es)
 ArePlaced-slots_after next announced more [] es h le has = tt
 ArePlaced-slots_after next announced more (Some e ∷ slots) es h le has = (h.0, omega arith, ArePlaced-slots_after (next + 1) announced more slots es h.2 le has)
 ArePlaced-slots_after next announced more (None ∷ slots) es h le has =
-    placed_found next more (entry_numbered next es) (slots_after (next + 1) slots es) (has next) (ArePlaced-slots_after (next + 1) announced more slots es h le has)
+    placed_found next more (entry_numbered next es) (slots_after (next + 1) slots es) (has next)
+    (ArePlaced-slots_after (next + 1) announced more slots es h le has)
 
 -- empty slots are placed
 pub ArePlaced-empty : (n next announced : ℕ) → ArePlaced next announced (replicate n None)
 ArePlaced-empty zero next announced = tt
 ArePlaced-empty (suc n) next announced = ArePlaced-empty n (next + 1) announced
 
--- slots stay placed with an empty one behind them
+-- slots stay placed with an empty one after them
 pub ArePlaced-push : (next announced : ℕ) (slots : List (Option Entry)) → ArePlaced next announced slots → ArePlaced next announced (slots ++ None ∷ [])
 ArePlaced-push next announced [] h = tt
 ArePlaced-push next announced (None ∷ slots) h = ArePlaced-push (next + 1) announced slots h
 ArePlaced-push next announced (Some e ∷ slots) h = (h.0, h.1, ArePlaced-push (next + 1) announced slots h.2)
 
 -- the end that is known after a packet is not below what was announced then
-pub end_after : (ended end : Option ℕ) (announced last : ℕ) → (is_beyond ended last || is_other_end ended announced end) ≡ false → IfSome ended (λ count. announced ≤ count) → IfSome end (λ count. last ≡ count) → IfSome (option_or end ended) (λ count. max announced last ≤ count)
+pub end_after : (ended end : Option ℕ) (announced last : ℕ) → (is_beyond ended last || is_other_end ended announced end) ≡ false
+    → IfSome ended (λ count. announced ≤ count) → IfSome end (λ count. last ≡ count) → IfSome (option_or end ended) (λ count. max announced last ≤ count)
 end_after None None announced last ok h k = tt
 end_after None (Some count) announced last ok h k = let le : announced ≤ count = ltb-false count announced ok in omega arith
-end_after (Some known) None announced last ok h k = let le : last ≤ known = ltb-false known last (or_parts (is_beyond (Some known) last) (is_other_end (Some known) announced None) ok).0 in omega arith
+end_after (Some known) None announced last ok h k =
+    let le : last ≤ known = ltb-false known last (or_parts (is_beyond (Some known) last) (is_other_end (Some known) announced None) ok).0 in omega arith
 end_after (Some known) (Some count) announced last ok h k =
     let le : last ≤ known = ltb-false known last (or_parts (is_beyond (Some known) last) (not (count == known)) ok).0 in
     let same : count ≡ known = eqb-true count known (not-false (count == known) (or_parts (is_beyond (Some known) last) (not (count == known)) ok).1) in
@@ -106,7 +112,8 @@ IsWindow-window_past w h ready = go w.slots refl
           reached = next;
           within = h.within;
           end = h.end;
-          counted = counted ∙ ap (λ n. w.base + n) (counts ∙ count_full e slots) ∙ omega arith ∙ ap (λ n. (w.base + 1) + n) (sym (ap (count_by is_some) (sym same) ∙ count_push_no is_some slots None refl));
+          counted = counted ∙ ap (λ n. w.base + n) (counts ∙ count_full e slots) ∙ omega arith
+              ∙ ap (λ n. (w.base + 1) + n) (sym (ap (count_by is_some) (sym same) ∙ count_push_no is_some slots None refl));
         }
 
 -- the counts of a window fit a word

@@ -22,7 +22,7 @@ pub(crate) fn full_run(slots: &VecDeque<Option<Entry>>) -> u32
     full
 }
 
-/// How many slots are empty from one on, those past the last one counted as empty, and at most so many.
+/// How many slots are empty from one on, those past the last one counted as empty, and at most `most`.
 pub(crate) fn empty_run<T: Copy>(slots: &VecDeque<Option<T>>, from: u32, most: u32) -> u32
     requires { from ≤ reach }
     ensures within { result ≤ most }
@@ -42,7 +42,7 @@ pub(crate) fn empty_run<T: Copy>(slots: &VecDeque<Option<T>>, from: u32, most: u
     most
 }
 
-/// So many numbers, as a request asks for them.
+/// A count of numbers, as a request asks for them.
 pub(crate) fn span(count: u32) -> Span
     requires { IsSpan count }
     ensures { result ≡ count }

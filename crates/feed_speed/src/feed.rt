@@ -11,8 +11,12 @@ use subscriber::{DeliveryFault, Subscriber};
 use summaries::IndexStore;
 use tape_core::Tape;
 use tape_frames::{
-    EntryCount, Packet, Request, SliceSource, Source, cut, write_packet, write_request,
+    EntryCount, MOST_ENTRIES, Packet, Request, SliceSource, Source, cut, write_packet,
+    write_request,
 };
+
+/// How many entries a packet has at most.
+const PACKET_ENTRIES: u32 = MOST_ENTRIES as u32;
 
 /// Sends a tape whole and then its end, and answers how many packets of entries it took. Whenever the subscriber tells
 /// a gap, what is missing is asked for before the next packet.
@@ -23,11 +27,14 @@ pub fn send_all(
 ) -> anyhow::Result<u32> {
     let source = SliceSource::of(tape);
     let published = source.published();
-    let packets = published.div_ceil(8);
+    let packets = published.div_ceil(PACKET_ENTRIES);
     let mut text = Vec::new(alloc);
     for place in 0..packets {
         text.clear();
-        write_packet(&cut(SESSION, 8 * place + 1, &source), &mut text)?;
+        write_packet(
+            &cut(SESSION, PACKET_ENTRIES * place + 1, &source),
+            &mut text,
+        )?;
         deliver(subscriber, place + 1, &text)?;
         catch_up(alloc, tape, subscriber)?;
     }
@@ -38,7 +45,7 @@ pub fn send_all(
     Ok(packets)
 }
 
-/// The end of a tape of so many entries.
+/// The end of a tape of this many entries.
 fn end_after(published: u32) -> anyhow::Result<Packet> {
     let count = EntryCount::try_new(published).context("a tape has at most 1,048,576 entries")?;
     Ok(Packet::End {

@@ -36,12 +36,12 @@ impl Figures {
     }
 }
 
-/// So many in this time, a second.
+/// A count of things that took this time, as things a second.
 fn per_second(count: usize, time: Duration) -> u128 {
     count as u128 * 1_000_000_000 / time.as_nanos().max(1)
 }
 
-/// A time in seconds, with six digits behind the point.
+/// A time in seconds, with six digits after the point.
 #[derive(Clone, Copy)]
 struct Seconds(Duration);
 

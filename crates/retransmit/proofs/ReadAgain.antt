@@ -1,5 +1,6 @@
 -- An answer's bytes are read as that answer.
-use Rattle.std.proofs.Common.{◌≡◌, ℕ, ◌+◌, ◌-◌, ◌*◌, ◌≤◌, Bool, true, false, List, ◌∷◌, ◌++◌, Result, Ok, Err, length, lit<, take, drop, refl, sym, ap, ◌∙◌, arith, inl, inr}
+use Rattle.std.proofs.Common.{◌≡◌, ℕ, ◌+◌, ◌-◌, ◌*◌, ◌≤◌, ◌<◌, Bool, true, false, List, ◌∷◌, ◌++◌, Result}
+use Rattle.std.proofs.Common.{Ok, Err, length, lit<, take, drop, refl, sym, ap, ◌∙◌, arith, inl, inr}
 use Rattle.std.specs.Prelude.{All, OnOk, flat_map, nat_le, nat_lt, ◌==◌, ◌||◌, ◌&&◌}
 use Rattle.std.specs.Int.{w16, w32, w64}
 use Rattle.std.proofs.lemmas.Bool.{cases_Bool, eqb-false, leb-true, ltb-false}
@@ -11,11 +12,11 @@ use Rattle.tape_core.specs.declared.entry.Entry.{Entry}
 use Rattle.tape_frames.specs.declared.request.Request.{Request}
 use Rattle.tape_frames.specs.declared.request_fault.RequestFault.{RequestFault}
 use Rattle.tape_frames.specs.declared.request_fault.RequestFault.TheVariants as request
-use Rattle.tape_frames.specs.Limits.{IsSpan}
+use Rattle.tape_frames.specs.Limits.{IsSpan, longest_span, most_entries}
 use Rattle.tape_frames.specs.Requests.{request_at, request_of}
 use Rattle.tape_frames.specs.Spelling.{IsEntry}
 use Rattle.retransmit.specs.Answers.{IsAnswer, answer_of, framed, given_text, packet_count, range_packets, range_text}
-use Rattle.retransmit.specs.Asking.{answer_at, answered_at}
+use Rattle.retransmit.specs.Asking.{answer_at, answered_at, most_packets}
 use Rattle.retransmit.specs.Faults.{refusal_code}
 use Rattle.retransmit.specs.Laws.{ArePackets, EachAnswerIsRead}
 use Rattle.retransmit.specs.Replies.{IsReadAgain, given_packets}
@@ -27,7 +28,7 @@ use Rattle.retransmit.specs.declared.refusal.Refusal.{Refusal}
 use Rattle.retransmit.specs.declared.refusal.Refusal.TheVariants.{OtherSession, Beyond, BadSpan}
 use Rattle.retransmit.proofs.LawProofs.{answers_are_read}
 use Rattle.retransmit.proofs.PacketRuns.{ArePackets-short, length-packet_texts}
-use Rattle.retransmit.proofs.Lengths.{data_short}
+use Rattle.tape_frames.proofs.Lengths.{length-data_text}
 
 -- a fact that holds anyway
 pub OnOk-always : {A E P : Type 0} (r : Result A E) → P → OnOk r P
@@ -42,9 +43,12 @@ OnOk-then (Err e) f p = tt
 -- a refusal's byte is read as that refusal
 refusal_is_read : (refusal : Refusal) (rest : List ℕ) → answer_at (refusal_code refusal ∷ rest) ≡ Err (fault.Refused refusal)
 unfolding answer_at answered_at
-refusal_is_read OtherSession rest = ap (λ (r : Result (ℕ × List ℕ) AskFault). r >>= λ first. answered_at first.0 first.1) ((number_reader fault.ReadFault wide8).again 71 rest (lit< tt))
-refusal_is_read Beyond rest = ap (λ (r : Result (ℕ × List ℕ) AskFault). r >>= λ first. answered_at first.0 first.1) ((number_reader fault.ReadFault wide8).again 72 rest (lit< tt))
-refusal_is_read BadSpan rest = ap (λ (r : Result (ℕ × List ℕ) AskFault). r >>= λ first. answered_at first.0 first.1) ((number_reader fault.ReadFault wide8).again 73 rest (lit< tt))
+refusal_is_read OtherSession rest =
+    ap (λ (r : Result (ℕ × List ℕ) AskFault). r >>= λ first. answered_at first.0 first.1) ((number_reader fault.ReadFault wide8).again 71 rest (lit< tt))
+refusal_is_read Beyond rest = ap (λ (r : Result (ℕ × List ℕ) AskFault). r >>= λ first. answered_at first.0 first.1)
+    ((number_reader fault.ReadFault wide8).again 72 rest (lit< tt))
+refusal_is_read BadSpan rest =
+    ap (λ (r : Result (ℕ × List ℕ) AskFault). r >>= λ first. answered_at first.0 first.1) ((number_reader fault.ReadFault wide8).again 73 rest (lit< tt))
 
 -- the packets of an answer are as long as packets may be
 abbrev pub IsShort : List Entry → ℕ → Answer → Type 0
@@ -52,12 +56,12 @@ IsShort es session (Refused refusal) = Unit {0}
 IsShort es session (Range from to) = ArePackets (range_packets es session from to)
 
 -- a range is read as its packets
-range_is_read : (es : List Entry) (session from to : ℕ) → from ≤ to → to ≤ from + 63 → ArePackets (range_packets es session from to) → (rest : List ℕ)
+range_is_read : (es : List Entry) (session from to : ℕ) → from ≤ to → to < from + longest_span → ArePackets (range_packets es session from to) → (rest : List ℕ)
     → answer_at (range_text es session from to ++ rest) ≡ Ok (range_packets es session from to, rest)
 range_is_read es session from to order few short rest =
     let texts = range_packets es session from to in
     let count : length texts ≡ packet_count from to = length-packet_texts (packet_count from to) session (take to es) from in
-    let below : packet_count from to ≤ 8 = omega (arith, few) in
+    let below : packet_count from to ≤ most_packets = omega (arith, few) in
     let read = answers_are_read texts rest (omega (arith, count)) (omega (arith, count, below)) short in
     ap (λ (n : ℕ). answer_at (0 ∷ n ∷ (flat_map framed texts ++ rest))) (sym count) ∙ read
 
@@ -68,7 +72,8 @@ given_is_read es session (Refused refusal) is short rest = refusal_is_read refus
 given_is_read es session (Range from to) is short rest = range_is_read es session from to is.1 is.2 short rest
 
 -- the answer to a request is read again
-pub answer_is_read : (es : List Entry) (session : ℕ) (bytes : List ℕ) (r : Request) (a : Answer) → request_of bytes ≡ Ok r → answer_of es session r ≡ a → IsAnswer es a → IsShort es session a → IsReadAgain es session bytes
+pub answer_is_read : (es : List Entry) (session : ℕ) (bytes : List ℕ) (r : Request) (a : Answer) → request_of bytes ≡ Ok r
+    → answer_of es session r ≡ a → IsAnswer es a → IsShort es session a → IsReadAgain es session bytes
 answer_is_read es session bytes r a read is within short rest = rw (read, is) (given_is_read es session a within short rest)
 
 -- the answer to bytes that are no request is read again
@@ -77,18 +82,19 @@ fault_is_read es session bytes request.BadSpan read rest = rw read (refusal_is_r
 
 -- ---- over any entries whose fields are in their ranges
 
--- a request asks for 1 to 64 entries
+-- a request asks for a span of entries
 request_span : (bytes : List ℕ) (r : Request) → request_of bytes ≡ Ok r → IsSpan r.count
 unfolding request_of request_at ranged_at
 request_span bytes r read =
     let all = bind_ok (request_at bytes) (λ (x : Request × List ℕ). Ok x.0) r read in
     let session = bind_ok (number_at request.BadSpan w64 bytes) _ all.0 all.1 in
     let from = bind_ok (number_at request.BadSpan w32 session.0.1) _ all.0 session.2 in
-    let count = bind_ok (ranged_at request.BadSpan w16 1 64 request.BadSpan from.0.1) _ all.0 from.2 in
+    let count = bind_ok (ranged_at request.BadSpan w16 1 longest_span request.BadSpan from.0.1) _ all.0 from.2 in
     let number = bind_ok (number_at request.BadSpan w16 from.0.1) _ count.0 count.1 in
-    let good = chosen (nat_le 1 number.0.0 && nat_le number.0.0 64) request.BadSpan number.0 count.0 number.2 in
-    let range = both_true (nat_le 1 number.0.0) (nat_le number.0.0 64) good.0 in
-    let is : number.0.0 ≡ r.count = ap (λ (x : ℕ × List ℕ). x.0) good.1 ∙ ap (λ (x : Request × List ℕ). x.0.count) (ok_is request.BadSpan _ all.0 count.2) ∙ ap (λ (x : Request). x.count) (ok_is request.BadSpan all.0.0 r all.2) in
+    let good = chosen (nat_le 1 number.0.0 && nat_le number.0.0 longest_span) request.BadSpan number.0 count.0 number.2 in
+    let range = both_true (nat_le 1 number.0.0) (nat_le number.0.0 longest_span) good.0 in
+    let is : number.0.0 ≡ r.count = ap (λ (x : ℕ × List ℕ). x.0) good.1 ∙ ap (λ (x : Request × List ℕ). x.0.count) (ok_is request.BadSpan _ all.0 count.2)
+    ∙ ap (λ (x : Request). x.count) (ok_is request.BadSpan all.0.0 r all.2) in
     (omega (arith, leb-true _ _ range.0, is), omega (arith, leb-true _ _ range.1, is))
 
 -- neither of two tests held
@@ -115,11 +121,13 @@ answer_short : (es : List Entry) (session : ℕ) (a : Answer) → All IsEntry es
 answer_short es session (Refused refusal) all = tt
 answer_short es session (Range from to) all =
     ArePackets-short (packet_count from to) session (take to es) from
-    (λ k lt. data_short session (take 8 (drop ((from + 8 * k) - 1) (take to es))) (All-take IsEntry 8 _ (All-drop IsEntry ((from + 8 * k) - 1) (take to es) (All-take IsEntry to es all)))
-    (omega (arith, length-take 8 (drop ((from + 8 * k) - 1) (take to es)))))
+    (λ k lt. length-data_text session (take most_entries (drop ((from + most_entries * k) - 1) (take to es)))
+    (All-take IsEntry most_entries _ (All-drop IsEntry ((from + most_entries * k) - 1) (take to es) (All-take IsEntry to es all)))
+    (omega (arith, length-take most_entries (drop ((from + most_entries * k) - 1) (take to es)))))
 
 -- whatever was read of a request, the answer is read again
-read_cases : (es : List Entry) (session : ℕ) (bytes : List ℕ) (read : Result Request RequestFault) → request_of bytes ≡ read → All IsEntry es → IsReadAgain es session bytes
+read_cases : (es : List Entry) (session : ℕ) (bytes : List ℕ) (read : Result Request RequestFault) → request_of bytes ≡ read → All IsEntry es
+    → IsReadAgain es session bytes
 read_cases es session bytes (Ok r) is all =
     let a = answer_of es session r in
     answer_is_read es session bytes r a is refl (answer_within es session r (request_span bytes r is)) (answer_short es session a all)

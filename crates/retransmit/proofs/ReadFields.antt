@@ -1,5 +1,6 @@
 -- The fields of an answer, read of a reader.
-use Rattle.std.proofs.Common.{◌≡◌, ℕ, ◌<◌, ◌≤◌, Bool, true, false, cond, ltb, List, ◌++◌, Option, Result, Ok, Err, length, length-append, take, refl, sym, ap, arith, inl, inr}
+use Rattle.std.proofs.Common.{◌≡◌, ℕ, ◌<◌, ◌≤◌, Bool, true, false, cond, ltb, List, ◌++◌, Option, Result}
+use Rattle.std.proofs.Common.{Ok, Err, length, length-append, take, refl, sym, ap, arith, inl, inr}
 use Rattle.std.specs.Prelude.{nat_le, ◌&&◌, ◌==◌}
 use Rattle.std.specs.Global.{Vec}
 use Rattle.std.specs.Int.{Width, byte_len, from_be_bytes}
@@ -14,7 +15,7 @@ use Rattle.retransmit.specs.declared.ask_fault.AskFault.{AskFault}
 use Rattle.retransmit.specs.declared.ask_fault.AskFault.TheVariants.{ReadFault, BadAnswer}
 use Rattle.retransmit.proofs.Readings.{Follows-fault, Follows-here, Follows-same, Follows-stops, Follows-then, Tells}
 
--- so many bytes at the front are read
+-- bytes at the front, as many as asked for, are read
 pub bytes_read : (n : ℕ) (row left : List ℕ) → length row ≡ n → bytes_at {F = AskFault} ReadFault n (row ++ left) ≡ Ok (row, left)
 unfolding bytes_at
 bytes_read n row left size =
@@ -26,8 +27,9 @@ bytes_short : (n : ℕ) (part : List ℕ) → length part < n → bytes_at {F = 
 unfolding bytes_at
 bytes_short n part lt = rw (lt-ltb _ _ lt) refl
 
--- so many bytes
-pub Follows-bytes : {A : Type 0} (view : A → List ℕ) (x : A) (n : ℕ) (a b : Option (List ℕ)) → length (view x) ≡ n → Consumes a b (view x) → Follows view (Ok x) a b (bytes_at ReadFault n)
+-- as many bytes as asked for
+pub Follows-bytes : {A : Type 0} (view : A → List ℕ) (x : A) (n : ℕ) (a b : Option (List ℕ)) → length (view x) ≡ n → Consumes a b (view x)
+    → Follows view (Ok x) a b (bytes_at ReadFault n)
 Follows-bytes view x n a b size taken = record {
   text = view x;
   taken = taken;
@@ -36,7 +38,8 @@ Follows-bytes view x n a b size taken = record {
 }
 
 -- fewer bytes than that
-pub Follows-short : {A : Type 0} (view : A → List ℕ) (n : ℕ) (a b : Option (List ℕ)) → ReadsFewer a b n → Follows view (Err ReadFault) a b (bytes_at ReadFault n)
+pub Follows-short : {A : Type 0} (view : A → List ℕ) (n : ℕ) (a b : Option (List ℕ)) → ReadsFewer a b n
+    → Follows view (Err ReadFault) a b (bytes_at ReadFault n)
 Follows-short view n a b part = record {
   text = part.0;
   taken = part.1;
@@ -45,17 +48,20 @@ Follows-short view n a b part = record {
 }
 
 -- a number
-pub Follows-number : (w : Width) (x : ℕ) (row : List ℕ) (a b : Option (List ℕ)) → x ≡ from_be_bytes w row → length row ≡ byte_len w → Consumes a b row → Follows as_is (Ok x) a b (number_at ReadFault w)
+pub Follows-number : (w : Width) (x : ℕ) (row : List ℕ) (a b : Option (List ℕ)) → x ≡ from_be_bytes w row → length row ≡ byte_len w → Consumes a b row
+    → Follows as_is (Ok x) a b (number_at ReadFault w)
 unfolding number_at
 Follows-number w x row a b is size taken =
-    Follows-then as_is as_is row (Ok x) a b b (bytes_at ReadFault (byte_len w)) (λ (text : List ℕ × List ℕ). Ok (from_be_bytes w text.0, text.1)) (Follows-bytes as_is row (byte_len w) a b size taken)
+    Follows-then as_is as_is row (Ok x) a b b (bytes_at ReadFault (byte_len w)) (λ (text : List ℕ × List ℕ). Ok (from_be_bytes w text.0, text.1))
+    (Follows-bytes as_is row (byte_len w) a b size taken)
     (Follows-here as_is x b (λ bytes. Ok (from_be_bytes w row, bytes)) (λ bytes. ap (λ (n : ℕ). Ok (n, bytes)) (sym is)))
 
 -- a number of which bytes are missing
 pub Follows-number-short : (w : Width) (a b : Option (List ℕ)) → ReadsFewer a b (byte_len w) → Follows {A = ℕ} as_is (Err ReadFault) a b (number_at ReadFault w)
 unfolding number_at
 Follows-number-short w a b part =
-    Follows-stops as_is as_is ReadFault a b (bytes_at ReadFault (byte_len w)) (λ (text : List ℕ × List ℕ). Ok (from_be_bytes w text.0, text.1)) (Follows-short as_is (byte_len w) a b part)
+    Follows-stops as_is as_is ReadFault a b (bytes_at ReadFault (byte_len w)) (λ (text : List ℕ × List ℕ). Ok (from_be_bytes w text.0, text.1))
+    (Follows-short as_is (byte_len w) a b part)
 
 -- the test of a range
 abbrev tested : ℕ → ℕ → ℕ × List ℕ → Result (ℕ × List ℕ) AskFault
@@ -102,11 +108,14 @@ first_tells : (first : ℕ) → Tells (first_fault first)
 first_tells first = cond_tells (first == 71) _ _ tt (cond_tells (first == 72) _ _ tt (cond_tells (first == 73) _ _ tt tt))
 
 -- a first byte of no range
-pub Follows-first : (first : ℕ) (fault : AskFault) (a : Option (List ℕ)) → (first ≡ 0 → ⊥) → fault ≡ first_fault first → Follows texts_of (Err fault) a a (answered_at first)
+pub Follows-first : (first : ℕ) (fault : AskFault) (a : Option (List ℕ)) → (first ≡ 0 → ⊥) → fault ≡ first_fault first
+    → Follows texts_of (Err fault) a a (answered_at first)
 unfolding answered_at
-Follows-first first fault a some is = rw is (Follows-fault texts_of (first_fault first) a (answered_at first) (first_tells first) (λ bytes. rw (ne_eqb first 0 some) refl))
+Follows-first first fault a some is =
+    rw is (Follows-fault texts_of (first_fault first) a (answered_at first) (first_tells first) (λ bytes. rw (ne_eqb first 0 some) refl))
 
 -- the first byte of a range
-pub Follows-range : (first : ℕ) (result : Result (Vec (Vec ℕ)) AskFault) (a b : Option (List ℕ)) → first ≡ 0 → Follows texts_of result a b range_at → Follows texts_of result a b (answered_at first)
+pub Follows-range : (first : ℕ) (result : Result (Vec (Vec ℕ)) AskFault) (a b : Option (List ℕ)) → first ≡ 0 → Follows texts_of result a b range_at
+    → Follows texts_of result a b (answered_at first)
 unfolding answered_at
 Follows-range first result a b is f = Follows-same texts_of result a b range_at (answered_at first) (λ bytes. rw is refl) f

@@ -27,6 +27,6 @@ reply_packets es session (Err bad) = Err (fault.Refused BadSpan)
 abbrev pub answer_packets : List Entry → ℕ → List ℕ → Result (List (List ℕ)) AskFault
 answer_packets es session bytes = reply_packets es session (request_of bytes)
 
--- an answer's bytes, whatever stands behind them, are read as that answer
+-- an answer's bytes, whatever follows them, are read as that answer
 abbrev pub IsReadAgain : List Entry → ℕ → List ℕ → Type 0
 IsReadAgain es session bytes = (rest : List ℕ) → Reads (answer_packets es session bytes) rest (answer_at (answer_text es session bytes ++ rest))

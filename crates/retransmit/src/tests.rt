@@ -76,7 +76,7 @@ fn admit(tape: &mut Tape<ScratchStore>, number: u32) -> Result<(), Fail> {
     Ok(())
 }
 
-/// A tape of so many reports.
+/// A tape of this many reports.
 fn tape_of(alloc: Global, count: u32) -> Result<Tape<ScratchStore>, Fail> {
     let symbol = Symbol::try_new(*b"AB      ").ok_or("symbol")?;
     let participant = Participant::try_new(b'N').ok_or("participant")?;
@@ -109,7 +109,7 @@ fn put_request(text: &mut Vec<u8>, session: u64, from: u32, count: u16) -> Resul
     text.extend_from_slice(&count.to_be_bytes())
 }
 
-/// How serving these requests over so many entries ends. The answers are appended to the output.
+/// How serving these requests over this many entries ends. The answers are appended to the output.
 fn end_of(alloc: Global, count: u32, input: &[u8], output: &mut Vec<u8>) -> Result<ServeEnd, Fail> {
     let tape = tape_of(alloc, count)?;
     let mut source = source_of(&tape);

@@ -1,5 +1,6 @@
 -- A drain, one entry after another.
-use Rattle.std.proofs.Common.{◌≡◌, ℕ, zero, suc, ◌+◌, ◌-◌, ◌≤◌, ◌<◌, ◌==◌, not, eq-eqb, Bool, true, false, List, [], ◌∷◌, ◌++◌, length, drop, Option, None, Some, refl, sym, ap, subst, ◌∙◌, inl, inr, arith, add-one}
+use Rattle.std.proofs.Common.{◌≡◌, ℕ, zero, suc, ◌+◌, ◌-◌, ◌≤◌, ◌<◌, ◌==◌, not, eq-eqb, Bool, true, false, List, [], ◌∷◌}
+use Rattle.std.proofs.Common.{◌++◌, length, drop, Option, None, Some, refl, sym, ap, subst, ◌∙◌, inl, inr, arith, add-one}
 use Rattle.std.specs.Prelude.{slice_get, IfSome, is_some, count_by, unwrap_or}
 use Rattle.std.proofs.lemmas.Bool.{cases_lt, cond-true, not-false, not-true, true≢false}
 use Rattle.std.proofs.lemmas.Option.{none-some, same_Some}
@@ -85,7 +86,8 @@ pub record IsTurn (n : ℕ) (s : SubscriberState) (window : WindowState) (tape :
 pub turn : (n : ℕ) (s : SubscriberState) (window : WindowState) (tape : TapeState) (failed : Bool) (e : Entry)
     → ◌≡◌ {A = SubscriberState} (record { window = window; tape = tape; failed = failed }) (subscriber_after n s)
     → next_of window ≡ Some e → IsWindow window → window.base ≡ length tape.entries → IsTurn n s window tape failed e
-turn n s window tape failed e so_far next is_window base = record { so_far = so_far; next = next; number = (next_number window e is_window next).0 ∙ ap (λ k. k + 1) base }
+turn n s window tape failed e so_far next is_window base =
+    record { so_far = so_far; next = next; number = (next_number window e is_window next).0 ∙ ap (λ k. k + 1) base }
 
 -- the state after a turn whose message is admitted
 pub after_turn : (n : ℕ) (s : SubscriberState) (window window' : WindowState) (tape tape' : TapeState) (failed failed' : Bool) (e own : Entry)
@@ -97,19 +99,26 @@ after_turn n s window window' tape tape' failed failed' e own is running free is
     let failed_now : failed' ≡ not (entry_eq (own_entry now e.message) e) = fails ∙ ap (λ x. not (entry_eq x e)) is_own in
     let step : ◌≡◌ {A = SubscriberState} (record { window = window'; tape = tape'; failed = failed' }) (with_entry e now) =
     λ i. record { window = taken i; tape = pushed i; failed = failed_now i } in
-    step ∙ sym (after_entry-admitted now e running (sym (replay_refusal-next tape e.number e.message is.number) ∙ free)) ∙ turn_after n s now e is.so_far is.next
+    step ∙ sym (after_entry-admitted now e running (sym (replay_refusal-next tape e.number e.message is.number) ∙ free))
+    ∙ turn_after n s now e is.so_far is.next
 
 -- a stop at a message that the own tape refuses
 pub stops_refused : (n : ℕ) (s : SubscriberState) (window : WindowState) (tape : TapeState) (failed : Bool) (e : Entry) (why : Refusal)
-    → s.failed ≡ false → OwnFor n s → IsTurn n s window tape failed e → why ≡ unwrap_or (replay_refusal tape e.number e.message) OutOfMemory → StopsFor (Refused why) n s
+    → s.failed ≡ false → OwnFor n s → IsTurn n s window tape failed e → why ≡ unwrap_or (replay_refusal tape e.number e.message) OutOfMemory
+    → StopsFor (Refused why) n s
 stops_refused n s window tape failed e why running own is refused =
     let now : SubscriberState = record { window = window; tape = tape; failed = failed } in
-    let here : IsRefused why now = record { entry = e; ready = is.next; first = refused ∙ ap (λ o. unwrap_or o OutOfMemory) (replay_refusal-next tape e.number e.message is.number) } in
+    let here : IsRefused why now = record {
+      entry = e;
+      ready = is.next;
+      first = refused ∙ ap (λ o. unwrap_or o OutOfMemory) (replay_refusal-next tape e.number e.message is.number);
+    } in
     (running, own, subst (IsRefused why) is.so_far here)
 
 -- a stop at an entry that is not the own one
 pub stops_other : (n : ℕ) (s : SubscriberState) (window : WindowState) (tape : TapeState) (failed : Bool) (e own : Entry)
-    → s.failed ≡ false → OwnFor n s → IsTurn n s window tape failed e → own ≡ next_entry tape.entries e.message → (own ≡ e → ⊥) → StopsFor OtherSummary (n + 1) s
+    → s.failed ≡ false → OwnFor n s → IsTurn n s window tape failed e → own ≡ next_entry tape.entries e.message → (own ≡ e → ⊥)
+    → StopsFor OtherSummary (n + 1) s
 stops_other n s window tape failed e own running own_so_far is is_own differs =
     let back : n ≡ n + 1 - 1 = omega arith in
     let now : SubscriberState = record { window = window; tape = tape; failed = failed } in (

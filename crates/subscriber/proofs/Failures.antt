@@ -31,7 +31,8 @@ runs n s after all = ap (λ (t : SubscriberState). t.failed) all.state ∙ runs_
 
 -- a turn holds at most one entry more
 one_more : (s : SubscriberState) (o : Option Entry) → length (subscriber_after_entry o s).tape.entries ≤ length s.tape.entries + 1
-one_more s o = after_entry-keeps (λ t. length t.tape.entries ≤ length s.tape.entries + 1) s o (omega arith) (λ e _ _ _. let more = length-with_entry s e in omega arith)
+one_more s o = after_entry-keeps (λ t. length t.tape.entries ≤ length s.tape.entries + 1) s o (omega arith)
+    (λ e _ _ _. let more = length-with_entry s e in omega arith)
 
 -- a drain of n entries holds at most n more
 at_most : (n : ℕ) (s : SubscriberState) → length (subscriber_after n s).tape.entries ≤ length s.tape.entries + n
@@ -52,7 +53,8 @@ other_fails t running other more = by (next_of t.window) refl more
         → (subscriber_after_entry (Some e) t).failed ≡ true
     taken e next None free more = (fails_by_other t e running free).1 (λ own. other (subst (λ o. IfSome o (λ x. own_entry t x.message ≡ x)) (sym next) own))
     taken e next (Some r) refused more =
-        let same : length (subscriber_after_entry (Some e) t).tape.entries ≡ length t.tape.entries = ap (λ (u : SubscriberState). length u.tape.entries) (after_entry-refused t e (ap is_some refused)) in
+        let same : length (subscriber_after_entry (Some e) t).tape.entries
+        ≡ length t.tape.entries = ap (λ (u : SubscriberState). length u.tape.entries) (after_entry-refused t e (ap is_some refused)) in
         absurd (omega arith)
 
     by : (o : Option Entry) → next_of t.window ≡ o → length (subscriber_after_entry o t).tape.entries ≡ length t.tape.entries + 1
@@ -79,7 +81,8 @@ fails_for OtherSummary n s running is held =
     let last : subscriber_after n s ≡ subscriber_after_entry (next_of t.window) t = ap (λ k. subscriber_after k s) back ∙ after-more (n - 1) s in
     let before = at_most (n - 1) s in
     let one = one_more t (next_of t.window) in
-    let size : length (subscriber_after_entry (next_of t.window) t).tape.entries ≡ length s.tape.entries + n = ap (λ (u : SubscriberState). length u.tape.entries) (sym last) ∙ held in
+    let size : length (subscriber_after_entry (next_of t.window) t).tape.entries
+    ≡ length s.tape.entries + n = ap (λ (u : SubscriberState). length u.tape.entries) (sym last) ∙ held in
     ap (λ (u : SubscriberState). u.failed) last ∙ other_fails t (runs_for (n - 1) s running is.2) is.3 (omega arith)
 
 -- a drain that stops leaves it failed exactly where it answers "other summary"

@@ -1,5 +1,6 @@
 -- What was brought stays, until it is held.
-use Rattle.std.proofs.Common.{◌≡◌, ℕ, zero, suc, ◌+◌, ◌-◌, ◌≤◌, ◌<◌, ◌⊎◌, true, false, List, [], ◌∷◌, ◌++◌, length, drop, get_or, Option, None, Some, refl, sym, ap, subst, ◌∙◌, inl, inr, arith}
+use Rattle.std.proofs.Common.{◌≡◌, ℕ, zero, suc, ◌+◌, ◌-◌, ◌≤◌, ◌<◌, ◌⊎◌, true, false, List, [], ◌∷◌, ◌++◌, length}
+use Rattle.std.proofs.Common.{drop, get_or, Option, None, Some, refl, sym, ap, subst, ◌∙◌, inl, inr, arith}
 use Rattle.std.specs.Prelude.{slice_get, is_some, nat_lt}
 use Rattle.std.specs.Option.{option_or}
 use Rattle.std.proofs.lemmas.Bool.{cases_lt, cond-true, lt-ltb, false≢true}
@@ -14,7 +15,8 @@ use Rattle.arbitration.proofs.Windows.{reach-is}
 use Rattle.arbitration.proofs.Gaps.{waiting_at}
 use Rattle.subscriber.specs.Subscribers.{SubscriberState, with_entry, subscriber_after_entry, subscriber_after}
 use Rattle.subscriber.specs.Drains.{DrainsAll}
-use Rattle.subscriber.specs.Schedules.{World, Event, Admits, Closes, Comes, Drains, Restarts, world_after, run, IsSchedule, is_restart, brings, HasNoRestart, Brings}
+use Rattle.subscriber.specs.Schedules.{World, Event, Admits, Closes, Comes, Drains, Restarts, world_after}
+use Rattle.subscriber.specs.Schedules.{run, IsSchedule, is_restart, brings, HasNoRestart, Brings}
 use Rattle.subscriber.proofs.Turns.{after_entry-keeps, length-with_entry}
 use Rattle.subscriber.proofs.Sound.{IsSound, keeps, keeps_all}
 
@@ -87,7 +89,8 @@ kept_taken s e n base (inr waits) =
     shifted [] (suc k) p within found = absurd (omega arith)
     shifted (x ∷ slots) (suc k) p within found =
         let q : n ≡ (s.window.base + 1 + 1) + k = omega arith in
-        inr (ap is_some (waiting_at (s.window.base + 1 + 1) (slots ++ None ∷ []) n k q ∙ ap flat (slice_get-append-lt slots (None ∷ []) k (omega arith))) ∙ found)
+        inr (ap is_some (waiting_at (s.window.base + 1 + 1) (slots ++ None ∷ []) n k q ∙ ap flat (slice_get-append-lt slots (None ∷ []) k (omega arith)))
+        ∙ found)
 
 -- a number stays kept over one turn of a drain
 kept_replayed : (s : SubscriberState) (o : Option Entry) (n : ℕ) → s.window.base ≡ length s.tape.entries → IsKept s n → IsKept (subscriber_after_entry o s) n
@@ -102,7 +105,8 @@ based_replayed s o base =
 -- a number stays kept over a drain
 kept_drained : (m : ℕ) (s : SubscriberState) (n : ℕ) → s.window.base ≡ length s.tape.entries → IsKept s n → IsKept (subscriber_after m s) n
 kept_drained zero s n base kept = kept
-kept_drained (suc m) s n base kept = kept_drained m (subscriber_after_entry (next_of s.window) s) n (based_replayed s (next_of s.window) base) (kept_replayed s (next_of s.window) n base kept)
+kept_drained (suc m) s n base kept =
+    kept_drained m (subscriber_after_entry (next_of s.window) s) n (based_replayed s (next_of s.window) base) (kept_replayed s (next_of s.window) n base kept)
 
 -- a drain keeps the window's base at the number held
 based_drained : (m : ℕ) (s : SubscriberState) → s.window.base ≡ length s.tape.entries
@@ -116,7 +120,8 @@ grows_drained zero s = omega arith
 grows_drained (suc m) s =
     let rest = grows_drained m (subscriber_after_entry (next_of s.window) s) in
     let one : length s.tape.entries ≤ length (subscriber_after_entry (next_of s.window) s).tape.entries =
-    after_entry-keeps (λ t. length s.tape.entries ≤ length t.tape.entries) s (next_of s.window) (omega arith) (λ e _ _ _. let more = length-with_entry s e in omega arith) in
+    after_entry-keeps (λ t. length s.tape.entries ≤ length t.tape.entries) s (next_of s.window) (omega arith)
+    (λ e _ _ _. let more = length-with_entry s e in omega arith) in
     omega arith
 
 -- a number stays kept over an event
@@ -170,7 +175,8 @@ grows_run (event ∷ events) w stays = let one = grows_step w event stays.0 in l
 brought_run : (events : List Event) (w : World) (n : ℕ) → IsSound w → IsSchedule w events → HasNoRestart events
     → n ≤ length w.subscriber.tape.entries + 1024 → Brings n events → IsKept (run w events).subscriber n
 brought_run [] w n s ok stays near brought = absurd brought
-brought_run (event ∷ events) w n s ok stays near (inl now) = kept_run events (world_after w event) n (keeps w event s ok.0) ok.1 stays.1 (brought_step w event n s near now)
+brought_run (event ∷ events) w n s ok stays near (inl now) =
+    kept_run events (world_after w event) n (keeps w event s ok.0) ok.1 stays.1 (brought_step w event n s near now)
 brought_run (event ∷ events) w n s ok stays near (inr then') =
     let one = grows_step w event stays.0 in
     brought_run events (world_after w event) n (keeps w event s ok.0) ok.1 stays.1 (omega arith) then'

@@ -38,13 +38,16 @@ legal-run (event ∷ events) w legal = legal-run events (world_after w event) (l
 
 -- whatever comes, the own tape is legal
 pub legal : (events : List Event) (w : World) → EndsIn events w → IsLegal w.subscriber.tape
-legal events w h = subst (λ v. IsLegal v.subscriber.tape) h.ends (legal-run events (start h.listing h.tape_limit h.limit h.session) (IsLegal-empty h.listing h.limit))
+legal events w h = subst (λ v. IsLegal v.subscriber.tape) h.ends
+    (legal-run events (start h.listing h.tape_limit h.limit h.session) (IsLegal-empty h.listing h.limit))
 
 -- one replay fails exactly where the own entry is another
 pub fails_by_other : (s : SubscriberState) (e : Entry) → s.failed ≡ false → refusal s.tape e.message ≡ None
-    → ((subscriber_after_entry (Some e) s).failed ≡ true → ¬ (own_entry s e.message ≡ e)) × (¬ (own_entry s e.message ≡ e) → (subscriber_after_entry (Some e) s).failed ≡ true)
+    → ((subscriber_after_entry (Some e) s).failed ≡ true → ¬ (own_entry s e.message ≡ e))
+    × (¬ (own_entry s e.message ≡ e) → (subscriber_after_entry (Some e) s).failed ≡ true)
 fails_by_other s e running free =
-    let is : (subscriber_after_entry (Some e) s).failed ≡ not (entry_eq (own_entry s e.message) e) = ap (λ (t : SubscriberState). t.failed) (after_entry-admitted s e running free) in
+    let is : (subscriber_after_entry (Some e) s).failed ≡ not (entry_eq (own_entry s e.message) e) = ap (λ (t : SubscriberState). t.failed)
+    (after_entry-admitted s e running free) in
     let decides = entry-Decides (own_entry s e.message) e in (
       λ fails. λ same. true≢false (sym (decides.1 same) ∙ not-true _ (sym is ∙ fails)),
       λ other. is ∙ not_from_false _ (by (entry_eq (own_entry s e.message) e) refl decides.0 other),

@@ -45,7 +45,8 @@ part_last tape (x ∷ es) h part =
     let numbers = subst (IsNumberedFrom 1) part.2 h in
     let of_rest = (IsNumberedFrom-append 1 before (x ∷ es ++ part.1) numbers).1 in
     let of_part = (IsNumberedFrom-append (1 + length before) (x ∷ es) part.1 of_rest).0 in
-    let size : length tape ≡ length before + (suc (length es) + length part.1) = ap length part.2 ∙ length-append before (x ∷ es ++ part.1) ∙ ap (λ n. length before + n) (length-append (x ∷ es) part.1) in
+    let size : length tape ≡ length before + (suc (length es) + length part.1) = ap length part.2 ∙ length-append before (x ∷ es ++ part.1)
+    ∙ ap (λ n. length before + n) (length-append (x ∷ es) part.1) in
     let first : x.number ≡ 1 + length before = of_part.0 in (
       omega arith,
       λ k e found.

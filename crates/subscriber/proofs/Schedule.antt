@@ -1,5 +1,6 @@
 -- What a sound world says of packets and drains.
-use Rattle.std.proofs.Common.{◌≡◌, ℕ, zero, suc, ◌+◌, ◌-◌, ◌≤◌, ◌==◌, ◌⊎◌, max, Bool, true, false, cond, List, [], ◌∷◌, ◌++◌, length, take, drop, get_or, Option, None, Some, refl, sym, ap, subst, ◌∙◌, inl, inr, arith, length-append, eq-eqb}
+use Rattle.std.proofs.Common.{◌≡◌, ℕ, zero, suc, ◌+◌, ◌-◌, ◌≤◌, ◌==◌, ◌⊎◌, max, Bool, true, false, cond, List, [], ◌∷◌, ◌++◌, length}
+use Rattle.std.proofs.Common.{take, drop, get_or, Option, None, Some, refl, sym, ap, subst, ◌∙◌, inl, inr, arith, length-append, eq-eqb}
 use Rattle.std.specs.Prelude.{slice_get, IfOk, IfSome, Result, is_some, unwrap_or, nat_lt}
 use Rattle.std.proofs.Math.Seq.{take-append_seam}
 use Rattle.std.proofs.lemmas.List.{take-append-drop}
@@ -32,7 +33,8 @@ use Rattle.subscriber.specs.declared.drain_fault.Stop.TheVariants.{Refused, Othe
 use Rattle.subscriber.specs.declared.drain_fault.DrainFault.{DrainFault}
 use Rattle.subscriber.specs.Subscribers.{SubscriberState, with_entry, subscriber_after_entry, subscriber_after}
 use Rattle.subscriber.specs.Drains.{Delivers, RefusesDelivery, DrainStops, StopsFor, IsRefused, IsHonestStop}
-use Rattle.subscriber.specs.Schedules.{World, Event, Admits, Closes, Comes, Drains, Restarts, world_after, run, start, IsCut, IsPartOf, announced_by, held_prefix, LeadsTo}
+use Rattle.subscriber.specs.Schedules.{World, Event, Admits, Closes, Comes, Drains, Restarts, world_after}
+use Rattle.subscriber.specs.Schedules.{run, start, IsCut, IsPartOf, announced_by, held_prefix, LeadsTo}
 use Rattle.subscriber.proofs.Due.{FromDue-at}
 use Rattle.subscriber.proofs.Turns.{after_entry-keeps, after_entry-admitted, after_entry-refused}
 use Rattle.subscriber.proofs.Sound.{IsSound, tells, next_ready, next_own, takes, drains}
@@ -50,7 +52,8 @@ pub announced_run : (events : List Event) (w : World) (most : ℕ) → w.subscri
 announced_run [] w most h = h
 announced_run (Admits message ∷ events) w most h = announced_run events (world_after w (Admits message)) most h
 announced_run (Closes ∷ events) w most h = announced_run events (world_after w Closes) most h
-announced_run (Comes line packet ∷ events) w most h = announced_run events (world_after w (Comes line packet)) (max most (last_of packet)) (ap (λ n. max n (last_of packet)) h)
+announced_run (Comes line packet ∷ events) w most h =
+    announced_run events (world_after w (Comes line packet)) (max most (last_of packet)) (ap (λ n. max n (last_of packet)) h)
 announced_run (Drains count ∷ events) w most h = announced_run events (world_after w (Drains count)) most (announced-after count w.subscriber ∙ h)
 announced_run (Restarts ∷ events) w most h = announced_run events (world_after w Restarts) 0 refl
 
@@ -111,7 +114,8 @@ accepts w packet s cut =
     let held = w.subscriber.tape.entries in
     let window = w.subscriber.window in
     let has = tells w packet s.legal cut in
-    let size : length w.tape.entries ≡ length held + (length s.due + length s.later) = ap length s.tape ∙ length-append held _ ∙ ap (λ n. length held + n) (length-append s.due s.later) in
+    let size : length w.tape.entries ≡ length held + (length s.due + length s.later) = ap length s.tape ∙ length-append held _
+    ∙ ap (λ n. length held + n) (length-append s.due s.later) in
     let announced : window.announced ≡ length held + length s.due = s.announced in
     let last : last_of packet ≤ length w.tape.entries = has.last in
     let ended = the_length window.ended w.tape.closed (length w.tape.entries) s.ended in
@@ -143,7 +147,8 @@ never_refused w packet bytes fault s cut spelled = by fault
     by_window Foreign refused = refused accepted.session
     by_window (Conflict n) refused =
         let conflict = refused.1 in
-        conflict.differs (All-contains (Agrees w.subscriber.tape.entries (w.subscriber.window.base + 1) w.subscriber.window.slots) (entries_of packet) conflict.entry accepted.agrees conflict.sent)
+        conflict.differs (All-contains (Agrees w.subscriber.tape.entries (w.subscriber.window.base + 1) w.subscriber.window.slots) (entries_of packet)
+        conflict.entry accepted.agrees conflict.sent)
     by_window PastEnd refused = both_ways (is_past_end w.subscriber.window packet) accepted.in_time refused.2
 
     by : (f : DeliveryFault) → RefusesDelivery w.subscriber bytes f → ⊥
@@ -151,7 +156,8 @@ never_refused w packet bytes fault s cut spelled = by fault
     by (delivery.NoPacket f) none =
         subst (λ (r : Result Packet PacketFault). IfOk r (λ q. ⊥)) (sym none.1 ∙ ap packet_of spelled.1 ∙ packet_again packet spelled.0) tt
     by (delivery.Refused f) refused =
-        by_window f (subst (λ (q : Packet). Refuses w.subscriber.window w.subscriber.tape.entries q f) (one_packet bytes refused.1 packet refused.2 spelled) refused.3)
+        by_window f (subst (λ (q : Packet). Refuses w.subscriber.window w.subscriber.tape.entries q f) (one_packet bytes refused.1 packet refused.2 spelled)
+        refused.3)
 
 -- what is cut of the tape from a number on is a part of it
 pub cut_is_part : (es : List Entry) (from : ℕ) → IsPartOf (cut_of es from) es
@@ -164,7 +170,8 @@ pub bytes_come : (w : World) (line : Line) (packet : Packet) (bytes : List ℕ) 
     → Delivers line bytes taken w.subscriber after → world_after w (Comes line packet) ≡ record w { subscriber = after }
 bytes_come w line packet bytes taken after spelled is =
     ap (λ (s : SubscriberState). record w { subscriber = s })
-    (ap (λ (q : Packet). record w.subscriber { window = window_after w.subscriber.window line q }) (one_packet bytes packet is.packet spelled is.spelled) ∙ sym is.state)
+    (ap (λ (q : Packet). record w.subscriber { window = window_after w.subscriber.window line q }) (one_packet bytes packet is.packet spelled is.spelled)
+    ∙ sym is.state)
 
 -- where no entry is ready the first slot is empty
 none_ready : (slots : List (Option Entry)) → length (ready_entries slots) ≡ 0 → flat (slice_get slots 0) ≡ None
@@ -241,7 +248,8 @@ summary-same t u symbol listing entries = λ i. summary_at (record { listing = l
 -- a participant's own summary is one of the listing and the entries
 own_summary-same : (t u : TapeState) (symbol : List ℕ) (who : ℕ) → t.listing ≡ u.listing → t.entries ≡ u.entries
     → participant_summary_at t symbol who ≡ participant_summary_at u symbol who
-own_summary-same t u symbol who listing entries = λ i. participant_summary_at (record { listing = listing i; limit = t.limit; closed = t.closed; entries = entries i }) symbol who
+own_summary-same t u symbol who listing entries =
+    λ i. participant_summary_at (record { listing = listing i; limit = t.limit; closed = t.closed; entries = entries i }) symbol who
 
 -- what is held is the first of the tape
 held_first : (w : World) → IsSound w → w.subscriber.tape.entries ≡ take (length w.subscriber.tape.entries) w.tape.entries

@@ -1,5 +1,6 @@
 -- What every event of a schedule keeps.
-use Rattle.std.proofs.Common.{◌≡◌, ℕ, zero, suc, ◌+◌, ◌-◌, ◌≤◌, true, false, List, [], ◌∷◌, ◌++◌, length, take, drop, Option, None, Some, refl, sym, ap, subst, ◌∙◌, arith, length-append, length-take-le, append_assoc}
+use Rattle.std.proofs.Common.{◌≡◌, ℕ, zero, suc, ◌+◌, ◌-◌, ◌≤◌, true, false, List, [], ◌∷◌, ◌++◌, length, take, drop, Option}
+use Rattle.std.proofs.Common.{None, Some, refl, sym, ap, subst, ◌∙◌, arith, length-append, length-take-le, append-nil, append_assoc}
 use Rattle.std.specs.Prelude.{slice_get, IfSome, is_some}
 use Rattle.std.specs.Option.{option_or}
 use Rattle.std.proofs.lemmas.List.{length_push, length-replicate, take-append-drop}
@@ -26,8 +27,9 @@ use Rattle.arbitration.specs.Windows.{next_of, flat, reach}
 use Rattle.arbitration.proofs.Numbers.{find_place}
 use Rattle.arbitration.proofs.Slots.{length-slots_after}
 use Rattle.subscriber.specs.Drains.{DrainsAll}
-use Rattle.subscriber.specs.Subscribers.{SubscriberState, NextIsOwn, own_entry, with_entry, subscriber_after_entry, subscriber_after}
-use Rattle.subscriber.specs.Schedules.{World, Event, Admits, Closes, Comes, Drains, Restarts, world_after, run, start, IsCut, IsAllowed, IsSchedule, LeadsTo, tape_after}
+use Rattle.subscriber.specs.Subscribers.{SubscriberState, NextIsOwn, new_subscriber, own_entry, with_entry, subscriber_after_entry, subscriber_after}
+use Rattle.subscriber.specs.Schedules.{World, Event, Admits, Closes, Comes, Drains, Restarts, world_after}
+use Rattle.subscriber.specs.Schedules.{run, start, IsCut, IsAllowed, IsSchedule, LeadsTo, tape_after}
 use Rattle.subscriber.proofs.Parts.{part_at, part_stands, part_last}
 use Rattle.subscriber.proofs.Due.{FromDue, FromDue-replicate, FromDue-grow, FromDue-append, FromDue-slots_after}
 use Rattle.subscriber.proofs.Turns.{after_entry-admitted, after_entry-refused, own_runs}
@@ -50,12 +52,12 @@ pub record IsSound (w : World) : Type 0 where
   pub ended : IfSome w.subscriber.window.ended (λ count. (w.tape.closed ≡ true) × (count ≡ length w.tape.entries))
   pub running : w.subscriber.failed ≡ false
 
--- a new subscriber of an empty tape is sound
-pub start-sound : (listing : Names) (tape_limit limit session : ℕ) → IsSound (start listing tape_limit limit session)
-start-sound listing tape_limit limit session = record {
+-- with a new subscriber a world is sound: all entries of its tape are later
+restart-sound : (w : World) → IsLegal w.tape → IsSound (record w { subscriber = new_subscriber w.tape.listing w.limit w.session })
+restart-sound w legal = record {
   due = [];
-  later = [];
-  legal = IsLegal-empty listing tape_limit;
+  later = w.tape.entries;
+  legal = legal;
   tape = refl;
   listing = refl;
   limit = refl;
@@ -69,16 +71,22 @@ start-sound listing tape_limit limit session = record {
   running = refl;
 }
 
--- a message is admitted, so the tape is open
-admits : (w : World) (m : Message) → IsSound w → refusal w.tape m ≡ None → IsSound (record w { tape = with_message w.tape m })
-admits w m s free = record {
+-- a new subscriber of an empty tape is sound
+pub start-sound : (listing : Names) (tape_limit limit session : ℕ) → IsSound (start listing tape_limit limit session)
+start-sound listing tape_limit limit session = restart-sound (start listing tape_limit limit session) (IsLegal-empty listing tape_limit)
+
+-- with a tape that goes on with these entries, or is closed, a world stays sound
+tape-sound : (w : World) (t : TapeState) (more : List Entry) → IsSound w → IsLegal t → t.entries ≡ w.tape.entries ++ more
+    → t.listing ≡ w.tape.listing → IfSome w.subscriber.window.ended (λ count. (t.closed ≡ true) × (count ≡ length t.entries))
+    → IsSound (record w { tape = t })
+tape-sound w t more s legal entries listing ended = record {
   due = s.due;
-  later = s.later ++ next_entry w.tape.entries m ∷ [];
-  legal = IsLegal-with_message w.tape m s.legal free;
+  later = s.later ++ more;
+  legal = legal;
   tape =
-      ap (λ t. t ++ next_entry w.tape.entries m ∷ []) s.tape ∙ append_assoc w.subscriber.tape.entries (s.due ++ s.later) _
-      ∙ ap (λ t. w.subscriber.tape.entries ++ t) (append_assoc s.due s.later _);
-  listing = s.listing;
+      entries ∙ ap (λ l. l ++ more) s.tape ∙ append_assoc w.subscriber.tape.entries (s.due ++ s.later) more
+      ∙ ap (λ l. w.subscriber.tape.entries ++ l) (append_assoc s.due s.later more);
+  listing = s.listing ∙ sym listing;
   limit = s.limit;
   unclosed = s.unclosed;
   base = s.base;
@@ -86,9 +94,15 @@ admits w m s free = record {
   slots = s.slots;
   session = s.session;
   size = s.size;
-  ended = not_ended w.subscriber.window.ended s.ended;
+  ended = ended;
   running = s.running;
 }
+
+-- a message is admitted, so the tape is open
+admits : (w : World) (m : Message) → IsSound w → refusal w.tape m ≡ None → IsSound (record w { tape = with_message w.tape m })
+admits w m s free =
+    tape-sound w (with_message w.tape m) (next_entry w.tape.entries m ∷ []) s (IsLegal-with_message w.tape m s.legal free) refl refl
+    (not_ended w.subscriber.window.ended s.ended)
   where
     not_ended : (o : Option ℕ) → IfSome o (λ count. (w.tape.closed ≡ true) × (count ≡ length w.tape.entries))
         → IfSome o (λ count. (w.tape.closed ≡ true) × (count ≡ length (w.tape.entries ++ next_entry w.tape.entries m ∷ [])))
@@ -101,7 +115,8 @@ sends w m s = by (refusal w.tape m) refl
   where
     by : (r : Option Refusal) → refusal w.tape m ≡ r → IsSound (record w { tape = tape_after w.tape m })
     by None free =
-        subst (λ t. IsSound (record w { tape = t })) (sym (cond-false (is_some (refusal w.tape m)) w.tape (with_message w.tape m) (ap is_some free))) (admits w m s free)
+        subst (λ t. IsSound (record w { tape = t })) (sym (cond-false (is_some (refusal w.tape m)) w.tape (with_message w.tape m) (ap is_some free)))
+        (admits w m s free)
     by (Some r) refused =
         subst (λ t. IsSound (record w { tape = t })) (sym (cond-true (is_some (refusal w.tape m)) w.tape (with_message w.tape m) (ap is_some refused))) s
 
@@ -155,12 +170,14 @@ comes w line packet s has =
     let held = w.subscriber.tape.entries in
     let window = w.subscriber.window in
     let more = last_of packet - window.announced in
-    let size : length w.tape.entries ≡ length held + (length s.due + length s.later) = ap length s.tape ∙ length-append held _ ∙ ap (λ n. length held + n) (length-append s.due s.later) in
+    let size : length w.tape.entries ≡ length held + (length s.due + length s.later) = ap length s.tape ∙ length-append held _
+    ∙ ap (λ n. length held + n) (length-append s.due s.later) in
     let announced : window.announced ≡ length held + length s.due = s.announced in
     let last : last_of packet ≤ length w.tape.entries = has.last in
     let base : window.base ≡ length held = s.base in
     let fits : more ≤ length s.later = omega arith in
-    let length_due : length (s.due ++ take more s.later) ≡ length s.due + more = length-append s.due _ ∙ ap (λ n. length s.due + n) (length-take-le more s.later fits) in
+    let length_due : length (s.due ++ take more s.later) ≡ length s.due + more = length-append s.due _
+    ∙ ap (λ n. length s.due + n) (length-take-le more s.later fits) in
     let tape : w.tape.entries ≡ held ++ ((s.due ++ take more s.later) ++ drop more s.later) =
     s.tape ∙ ap (λ t. held ++ t) (ap (λ t. s.due ++ t) (sym (take-append-drop more s.later)) ∙ sym (append_assoc s.due _ _)) in
     record {
@@ -201,7 +218,7 @@ same_size : (slots : List (Option Entry)) (e : Entry) → flat (slice_get slots 
 same_size [] e next = absurd (none-some e next)
 same_size (x ∷ slots) e next = length_push slots None ∙ omega arith
 
--- the next entry that is ready: it is the tape's next behind those that are held
+-- the next entry that is ready: it is the tape's next after those that are held
 pub record IsNext (w : World) (e : Entry) : Type 0 where
   pub own : own_entry w.subscriber e.message ≡ e
   pub refused : refusal w.subscriber.tape e.message ≡ limit_refusal w.subscriber.tape
@@ -214,7 +231,8 @@ next_ready w e s next =
     let whole : w.tape.entries ≡ held ++ (e ∷ (first.0 ++ s.later)) = s.tape ∙ ap (λ d. held ++ (d ++ s.later)) first.1 in
     let place : length held + 0 ≡ length held = omega arith in
     let at : slice_get w.tape.entries (length held) ≡ Some e =
-    ap (λ t. slice_get t (length held)) whole ∙ ap (slice_get (held ++ (e ∷ (first.0 ++ s.later)))) (sym place) ∙ slice_get-append-add held (e ∷ (first.0 ++ s.later)) 0 in
+    ap (λ t. slice_get t (length held)) whole ∙ ap (slice_get (held ++ (e ∷ (first.0 ++ s.later)))) (sym place)
+    ∙ slice_get-append-add held (e ∷ (first.0 ++ s.later)) 0 in
     let front : held ≡ take (length held) w.tape.entries = sym (ap (take (length held)) whole ∙ take-append_seam held (e ∷ (first.0 ++ s.later))) in
     record {
       own = entry-next w.tape w.subscriber.tape (length held) e s.legal at front;
@@ -263,27 +281,14 @@ replays w (Some e) s next = by (refusal w.subscriber.tape e.message) refl
 -- a drain keeps a world sound
 pub drains : (n : ℕ) (w : World) → IsSound w → IsSound (record w { subscriber = subscriber_after n w.subscriber })
 drains zero w s = s
-drains (suc n) w s = drains n (record w { subscriber = subscriber_after_entry (next_of w.subscriber.window) w.subscriber }) (replays w (next_of w.subscriber.window) s refl)
+drains (suc n) w s = drains n (record w { subscriber = subscriber_after_entry (next_of w.subscriber.window) w.subscriber })
+    (replays w (next_of w.subscriber.window) s refl)
 
 -- each event that is allowed keeps a world sound
 pub keeps : (w : World) (event : Event) → IsSound w → IsAllowed w event → IsSound (world_after w event)
 keeps w (Admits message) s ok = sends w message s
-keeps w Closes s ok = record {
-  due = s.due;
-  later = s.later;
-  legal = s.legal;
-  tape = s.tape;
-  listing = s.listing;
-  limit = s.limit;
-  unclosed = s.unclosed;
-  base = s.base;
-  announced = s.announced;
-  slots = s.slots;
-  session = s.session;
-  size = s.size;
-  ended = shut w.subscriber.window.ended s.ended;
-  running = s.running;
-}
+keeps w Closes s ok =
+    tape-sound w (record w.tape { closed = true }) [] s s.legal (sym (append-nil w.tape.entries)) refl (shut w.subscriber.window.ended s.ended)
   where
     shut : (o : Option ℕ) → IfSome o (λ count. (w.tape.closed ≡ true) × (count ≡ length w.tape.entries))
         → IfSome o (λ count. (true ≡ true) × (count ≡ length w.tape.entries))
@@ -291,22 +296,7 @@ keeps w Closes s ok = record {
     shut (Some count) h = (refl, h.1)
 keeps w (Comes line packet) s ok = comes w line packet s (tells w packet s.legal ok)
 keeps w (Drains count) s ok = drains count w s
-keeps w Restarts s ok = record {
-  due = [];
-  later = w.tape.entries;
-  legal = s.legal;
-  tape = refl;
-  listing = refl;
-  limit = refl;
-  unclosed = refl;
-  base = refl;
-  announced = refl;
-  slots = FromDue-replicate reach [];
-  session = refl;
-  size = length-replicate reach None;
-  ended = tt;
-  running = refl;
-}
+keeps w Restarts s ok = restart-sound w s.legal
 
 -- a schedule keeps a world sound
 pub keeps_all : (events : List Event) (w : World) → IsSound w → IsSchedule w events → IsSound (run w events)

@@ -35,7 +35,7 @@ pub data Event : Type 0 where
   Closes : Event
   -- a packet comes by a line and is taken
   Comes : (line : Line) → (packet : Packet) → Event
-  -- the subscriber drains, and ends after so many entries: nothing more is ready, it is out of memory, or it stops otherwise
+  -- the subscriber drains, and ends after this many entries: nothing more is ready, it is out of memory, or it stops otherwise
   Drains : (count : ℕ) → Event
   -- the subscriber starts anew
   Restarts : Event

@@ -81,7 +81,7 @@ entry_at_most (Correct h n c) = omega arith
 
 -- ---- packets
 
--- so many entries are no longer than so many corrections
+-- entries are no longer than as many corrections
 length-entries : (es : List Entry) → All IsEntry es → length (flat_map entry_text es) ≤ longest_entry * length es
 length-entries [] all = omega arith
 length-entries (e ∷ es) all =
@@ -94,7 +94,7 @@ length-entries (e ∷ es) all =
       length-entries es (All-tail IsEntry e es all),
     )
 
--- a data packet of so many entries is no longer than the longest packet
+-- a data packet of no more entries than a packet has is no longer than the longest packet
 pub length-data_text : (session : ℕ) (es : List Entry) → All IsEntry es → length es ≤ most_entries
     → length (packet_text (Data session es)) ≤ longest_packet
 length-data_text session es all few =

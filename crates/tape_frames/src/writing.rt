@@ -4,7 +4,8 @@ ghost use Rattle.std.specs.Int.{w8, w16, w32, w64, to_be_bytes};
 ghost use Rattle.reports.specs.Rows.{Puts};
 ghost use Rattle.tape_frames.specs.Limits.{most_entries, header_length, mark_length, summary_length, longest_entry, longest_packet, all_marks};
 ghost use Rattle.tape_frames.specs.Rows.{Carries, IsRow, first_number};
-ghost use Rattle.tape_frames.specs.Spelling.{IsEntry, IsFigure, IsMark, IsPacket, IsSummary, bit, carried_text, entry_text, figure_text, header_text, mark_text, packet_text, presence, summary_text};
+ghost use Rattle.tape_frames.specs.Spelling.{IsEntry, IsFigure, IsMark, IsPacket, IsSummary, bit, carried_text, entry_text};
+ghost use Rattle.tape_frames.specs.Spelling.{figure_text, header_text, mark_text, packet_text, presence, summary_text};
 
 use crate::limits::{LONGEST_MESSAGE, LONGEST_PACKET, MARK_LENGTH, VERSION};
 use crate::{EntryCount, Packet, Row};
@@ -27,7 +28,7 @@ pub fn write_packet(packet: &Packet, text: &mut Vec<u8>) -> Result<(), AllocErro
     text.extend_from_slice(&row[..end])
 }
 
-// Each of these puts a text behind the first `at` bytes of the row, and answers where the text ends.
+// Each of these puts a text after the first `at` bytes of the row, and answers where the text ends.
 
 /// The whole packet, at the front of the row.
 fn put_packet(row: &mut [u8], packet: &Packet) -> usize
@@ -58,7 +59,7 @@ fn put_header(row: &mut [u8], kind: u8, session: u64, number: u32, count: u8) ->
     put(row, at, &[count])
 }
 
-/// The entries, one behind the other.
+/// The entries, one after the other.
 fn put_entries(row: &mut [u8], at: usize, entries: &[Entry]) -> usize
     requires few { length entries.now ≤ most_entries }
     requires carry { All Carries entries.now }

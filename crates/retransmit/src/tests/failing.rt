@@ -11,7 +11,7 @@ use std::test::Fail;
 use tape_core::Entry;
 use tape_frames::{SliceSource, Source};
 
-/// A reader that gives one byte at a time, is interrupted before each, and fails once it gave so many.
+/// A reader that gives one byte at a time, is interrupted before each, and fails once it gave a number of them.
 #[derive(Drop)]
 struct SlowReads<'a> {
     left: &'a [u8],
@@ -34,7 +34,7 @@ impl Read for SlowReads<'_> {
     }
 }
 
-/// A reader of these bytes that fails once it gave so many of them.
+/// A reader of these bytes that fails once it gave this many of them.
 fn slow(left: &[u8], until_fault: u32) -> SlowReads<'_> {
     SlowReads {
         left,
@@ -134,7 +134,7 @@ impl Source for Growing<'_> {
     }
 }
 
-/// How serving two requests of zeros ends, where the reader fails once it gave so many bytes.
+/// How serving two requests of zeros ends, where the reader fails once it gave this many bytes.
 fn end_of_reads(alloc: Global, until_fault: u32, output: &mut Vec<u8>) -> Result<ServeEnd, Fail> {
     let tape = tape_of(alloc, 0)?;
     let mut source = source_of(&tape);
@@ -186,7 +186,7 @@ fn each_request_is_answered_over_what_is_published_then(rt: HostRuntime) -> Resu
             ended: Ended::Clean
         }
     );
-    // Refused, a packet of 59 bytes behind its four, another one, refused.
+    // Refused, a packet of 59 bytes after its four, another one, refused.
     assert_eq!(rt; output.len(), 1 + 63 + 63 + 1);
     assert_eq!(rt; output.first(), Some(&0x48));
     assert_eq!(rt; output.last(), Some(&0x48));

@@ -90,7 +90,7 @@ fn admits_reports(tape: &mut Feed, count: u32, price: u64) -> bool {
     true
 }
 
-/// A tape of so many reports.
+/// A tape of this many reports.
 pub(super) fn reports(alloc: Global, count: u32, price: u64) -> Option<Feed> {
     let mut tape = feed(alloc, 2_000)?;
     admits_reports(&mut tape, count, price).then_some(tape)

@@ -247,7 +247,7 @@ impl Schedule {
         Some(holds(&self.subscriber, &self.tape)? && !self.subscriber.open_gap())
     }
 
-    /// So many events, the tape's end, and what is then missing.
+    /// This many events, the tape's end, and what is then missing.
     fn runs(&mut self, alloc: Global, events: u32) -> Option<bool> {
         for _event in 0..events {
             self.goes_on(alloc)?;

@@ -21,7 +21,7 @@ pub(super) enum Sent {
     Beat(u32),
     /// An end with this number.
     End(u32),
-    /// The first so many bytes of a packet of entry 1.
+    /// The first bytes of a packet of entry 1: how many.
     Front(u32),
 }
 
@@ -43,13 +43,13 @@ pub(super) enum Step {
 /// What the subscriber answers, each fault by its number.
 #[derive(Clone, Copy, PartialEq, Eq)]
 pub(super) enum Told {
-    /// So many entries were fresh, repeated, and beyond.
+    /// How many entries were fresh, repeated, and beyond.
     Took(u32, u32, u32),
     /// The packet was refused.
     Refused(u8),
-    /// So many entries were drained, and the number of the fault that stopped the drain, 0 for none.
+    /// How many entries were drained, and the number of the fault that stopped the drain, 0 for none.
     Drained(u32, u8),
-    /// So many numbers from this one on are missing: 0 from 0 where none is.
+    /// The first missing number, and how many are missing from it on: both 0 where none is.
     Gap(u32, u32),
     /// Yes or no.
     Is(bool),
@@ -125,6 +125,11 @@ pub(super) fn deliver(subscriber: &mut Subscriber, line: Line, text: &[u8]) -> T
     told_delivery(subscriber.deliver(line, text))
 }
 
+/// The subscriber drains.
+pub(super) fn drain(subscriber: &mut Subscriber) -> Told {
+    told_drain(subscriber.drain())
+}
+
 fn brings(alloc: Global, subscriber: &mut Subscriber, line: Line, sent: Sent) -> Option<Told> {
     let text = bytes(alloc, sent)?;
     Some(deliver(subscriber, line, text.as_slice()))
@@ -133,7 +138,7 @@ fn brings(alloc: Global, subscriber: &mut Subscriber, line: Line, sent: Sent) ->
 fn take(alloc: Global, subscriber: &mut Subscriber, step: Step) -> Option<Told> {
     match step {
         Step::By(line, sent) => brings(alloc, subscriber, line, sent),
-        Step::Drain => Some(told_drain(subscriber.drain())),
+        Step::Drain => Some(drain(subscriber)),
         Step::Missing => Some(told_missing(subscriber.missing())),
         Step::IsGapOpen => Some(Told::Is(subscriber.open_gap())),
         Step::Announced => Some(Told::Number(subscriber.announced())),

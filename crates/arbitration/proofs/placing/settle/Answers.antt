@@ -22,10 +22,12 @@ loop-entry-preserved c =
     let so_far = c.loop-entry.invariant in
     let numbers = (row_numbers es c.requires.row).0 in
     record {
-      slots = c.put.ensures.slots ∙ ap (λ e. slots_after next now (e ∷ [])) c.entry-item.is ∙ turn_slots next start now es k c.entry-item.result c.loop-entry-test.true so_far.slots;
+      slots = c.put.ensures.slots ∙ ap (λ e. slots_after next now (e ∷ [])) c.entry-item.is ∙ turn_slots next start now es k c.entry-item.result
+          c.loop-entry-test.true so_far.slots;
       taken =
           c.count.ensures ∙ ap (taken_with c.loop-entry.taken) (c.put.ensures.placing ∙ ap (placing_of next now) c.entry-item.is)
           ∙ ap (λ t. taken_with t (placing_of next now (get_or es k c.entry-item.result))) so_far.taken
           ∙ turn_taken (first_number es) next start now es k c.entry-item.result numbers c.loop-entry-test.true so_far.slots;
-      count = c.put.ensures.count ∙ ap (λ n. n + fresh_count c.put.result) so_far.count ∙ fresh_more _ c.loop-entry.taken c.put.result ∙ ap (λ (t : Taken). count_by is_some start + t.fresh) (sym c.count.ensures);
+      count = c.put.ensures.count ∙ ap (λ n. n + fresh_count c.put.result) so_far.count ∙ fresh_more _ c.loop-entry.taken c.put.result
+          ∙ ap (λ (t : Taken). count_by is_some start + t.fresh) (sym c.count.ensures);
     }

@@ -13,12 +13,15 @@ loop-preserved g c =
       | in-Ok w ↦ record {
         within = search rules;
         written =
-            written_more (contents c.args.writer.now) (contents c.loop.writer) (contents c.write.new.self) c.loop.len w.in-Ok.more c.match-write.len text w.len-is c.loop.invariant.written
-            (subst (λ (l : List ℕ). Appends (contents c.loop.writer) (contents c.write.new.self) (take w.in-Ok.more l)) (take_rest text c.loop.len) w.in-Ok.ensures.bytes);
+            written_more (contents c.args.writer.now) (contents c.loop.writer) (contents c.write.new.self) c.loop.len w.in-Ok.more c.match-write.len
+            text w.len-is c.loop.invariant.written
+            (subst (λ (l : List ℕ). Appends (contents c.loop.writer) (contents c.write.new.self) (take w.in-Ok.more l)) (take_rest text c.loop.len)
+            w.in-Ok.ensures.bytes);
       }
       | in-Err+else-ne w ↦ record {
         within = search rules;
         written =
-            written_same (contents c.args.writer.now) (contents c.loop.writer) (contents c.write.new.self) c.loop.len c.match-write.len text w.len-is c.loop.invariant.written w.in-Err.ensures.bytes;
+            written_same (contents c.args.writer.now) (contents c.loop.writer) (contents c.write.new.self) c.loop.len c.match-write.len text w.len-is
+            c.loop.invariant.written w.in-Err.ensures.bytes;
       }
     ]

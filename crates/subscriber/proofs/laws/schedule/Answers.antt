@@ -3,7 +3,8 @@ use Rattle.std.proofs.lemmas.Bool.{both_ways, cases_lt, lt-ltb, ltb-true}
 use Rattle.arbitration.specs.Windows.{ready_entries}
 use Rattle.subscriber.specs.Schedules.{announced_by}
 use Rattle.subscriber.proofs.Sound.{sound, next_own, after_drain}
-use Rattle.subscriber.proofs.Schedule.{announced_told, accepts, never_refused, cut_is_part, bytes_come, empties, honest_stop, prefix_summary, prefix_own_summary}
+use Rattle.subscriber.proofs.Schedule.{announced_told, accepts, never_refused, cut_is_part, bytes_come}
+use Rattle.subscriber.proofs.Schedule.{empties, honest_stop, prefix_summary, prefix_own_summary}
 use Rattle.subscriber.proofs.Failures.{runs, fails, other_summary}
 use Rattle.subscriber.proofs.Events.{admits, drain_event, stop_event}
 use Rattle.subscriber.proofs.Gaps.{gap_next, gap_filled}
@@ -69,7 +70,8 @@ returns-clause-gap_next c events w h n after all from count gap =
 
 pub returns-clause-gap_filled : goal.returns-clause-gap_filled
 returns-clause-gap_filled c events w h n after all from count gap more ok stays brought later last again =
-    gap_filled (record w { subscriber = after }) from count more later last (after_drain w n after (sound events w h) all) all.nothing_ready gap ok stays brought again
+    gap_filled (record w { subscriber = after }) from count more later last (after_drain w n after (sound events w h) all) all.nothing_ready gap ok
+    stays brought again
 
 pub returns-clause-legal : goal.returns-clause-legal
 returns-clause-legal c = legal

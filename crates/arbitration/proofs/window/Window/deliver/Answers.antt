@@ -37,7 +37,14 @@ invariant_of-self c =
     ∙ sym c.is_past_end.ensures ∙ c.if-is_past_end.false in
     let count = ap (count_by is_some) (sym slots) ∙ c.settle-taken.ensures.count ∙ ap (λ (t : Taken). count_by is_some w.slots + t.fresh) taken in
     let window = IsWindow-window_after w c.args.line q c.self.invariant c.last-last.ensures.numbers in_time count in
-    subst IsWindow (λ i. record { session = w.session; base = w.base; slots = sym slots i; announced = sym announced i; ended = sym ended i; brought = sym brought i }) window
+    subst IsWindow (λ i. record {
+      session = w.session;
+      base = w.base;
+      slots = sym slots i;
+      announced = sym announced i;
+      ended = sym ended i;
+      brought = sym brought i;
+    }) window
 
 pub returns-clause-taken : goal.returns-clause-taken
 returns-clause-taken c =

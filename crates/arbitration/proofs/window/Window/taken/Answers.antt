@@ -10,4 +10,11 @@ invariant_of-self c =
     let w = state_of c.self.inside in
     let slots = c.rotate_left.ensures.items ∙ rotated w.slots (some_slots w c.self.invariant) in
     let ready = ap (λ (v : WindowState). is_some (next_of v)) c.self.view_is ∙ c.requires in
-    subst IsWindow (λ i. record { session = w.session; base = w.base + 1; slots = sym slots i; announced = w.announced; ended = w.ended; brought = w.brought }) (IsWindow-window_past w c.self.invariant ready)
+    subst IsWindow (λ i. record {
+      session = w.session;
+      base = w.base + 1;
+      slots = sym slots i;
+      announced = w.announced;
+      ended = w.ended;
+      brought = w.brought;
+    }) (IsWindow-window_past w c.self.invariant ready)
