@@ -1,0 +1,184 @@
+//! All entries of an index by rising place: some blocks, and the last one apart from them, since most entries come at a
+//! place above all others and are found there at once.
+ghost use Rattle.std.specs.Prelude.{◌≡◌, ◌<◌, ◌≤◌, ◌++◌, ◌∷◌, [], ℕ, length, take, drop, OnOk, OnErr, MatchOption, Some, None, IsSome};
+ghost use Rattle.std.specs.FinMap as map;
+ghost use Rattle.place_index.specs.Blocks.{all_values, max_block_len, AllBelow, GoesLast, HasLastBlock};
+ghost use Rattle.place_index.specs.Places.{IsVacant, IsFirstPlace, IsLastPlace};
+
+use crate::block::Block;
+use crate::block_list::MAX_BLOCK_LEN;
+use crate::{block_list, one_block};
+use std::alloc::{AllocError, Global};
+use std::mem;
+use tape_types::TapeNumber;
+
+/// The value at a place, if it has one.
+pub fn find<V: Copy>(blocks: &[Block<V>], last: &Block<V>, place: TapeNumber) -> Option<V>
+    requires { HasLastBlock blocks.now last.now }
+    ensures { result ≡ map.get (all_values blocks.now last.now) place }
+{
+    if last.begins_by(place) {
+        one_block::find(last, place)
+    } else {
+        block_list::find(blocks, place)
+    }
+}
+
+/// Puts a value at a vacant place: in the last block where the place is above those of the others, and else in the block
+/// where it goes. Out of memory, the values are unchanged.
+pub fn insert<V: Copy>(
+    alloc: Global,
+    blocks: &mut Vec<Block<V>>,
+    last: &mut Block<V>,
+    place: TapeNumber,
+    value: V,
+) -> Result<(), AllocError>
+    requires valid { HasLastBlock blocks.old.items last.old }
+    requires vacant { map.get (all_values blocks.old.items last.old) place ≡ None }
+    ensures valid { HasLastBlock blocks.new.items last.new }
+    ensures ok { OnOk result (all_values blocks.new.items last.new ≡ map.insert (all_values blocks.old.items last.old) place value) }
+    ensures err { OnErr result (all_values blocks.new.items last.new ≡ all_values blocks.old.items last.old) }
+{
+    if last.len() > 0 && last.top() < place.value() {
+        return push(alloc, blocks, last, place, value);
+    }
+    if !goes_last(blocks, last, place) {
+        return block_list::insert(alloc, blocks, place, value);
+    }
+    make_room(alloc, blocks, last, MAX_BLOCK_LEN / 2)?;
+    if goes_last(blocks, last, place) {
+        one_block::insert(last, place, value)
+    } else {
+        block_list::insert(alloc, blocks, place, value)
+    }
+}
+
+/// Puts a value at a place above all others. Out of memory, the values are unchanged.
+fn push<V: Copy>(
+    alloc: Global,
+    blocks: &mut Vec<Block<V>>,
+    last: &mut Block<V>,
+    place: TapeNumber,
+    value: V,
+) -> Result<(), AllocError>
+    requires valid { HasLastBlock blocks.old.items last.old }
+    requires above { AllBelow (all_values blocks.old.items last.old) place }
+    ensures valid { HasLastBlock blocks.new.items last.new }
+    ensures ok { OnOk result (all_values blocks.new.items last.new ≡ map.insert (all_values blocks.old.items last.old) place value) }
+    ensures err { OnErr result (all_values blocks.new.items last.new ≡ all_values blocks.old.items last.old) }
+{
+    make_room(alloc, blocks, last, MAX_BLOCK_LEN)?;
+    one_block::push(last, place, value)
+}
+
+/// Whether a place that is put in goes into the last block: it is above those of all other blocks. Otherwise it is below
+/// those of the last.
+fn goes_last<V: Copy>(blocks: &[Block<V>], last: &Block<V>, place: TapeNumber) -> bool
+    requires { HasLastBlock blocks.now last.now }
+    ensures { GoesLast result blocks.now last.now place }
+{
+    if last.begins_by(place) {
+        return true;
+    }
+    block_list::is_above_all(blocks, place)
+}
+
+/// Cuts the last block at an index if it is full, so that it takes one entry more. The values are unchanged, also out of
+/// memory.
+fn make_room<V: Copy>(
+    alloc: Global,
+    blocks: &mut Vec<Block<V>>,
+    last: &mut Block<V>,
+    index: usize,
+) -> Result<(), AllocError>
+    requires valid { HasLastBlock blocks.old.items last.old }
+    requires index { (0 < index) × (index ≤ max_block_len) }
+    ensures valid { HasLastBlock blocks.new.items last.new }
+    ensures values { all_values blocks.new.items last.new ≡ all_values blocks.old.items last.old }
+    ensures room { OnOk result (length last.new < max_block_len) }
+{
+    if last.len() < MAX_BLOCK_LEN {
+        return Ok(());
+    }
+    cut(alloc, blocks, last, index)
+}
+
+/// Moves the entries of the last block before an index into a block of their own behind the others. Out of memory, the
+/// blocks are unchanged: the upper part is copied and finds its place before the lower one is shortened.
+fn cut<V: Copy>(
+    alloc: Global,
+    blocks: &mut Vec<Block<V>>,
+    last: &mut Block<V>,
+    index: usize,
+) -> Result<(), AllocError>
+    requires { index ≤ length last.old }
+    ensures ok { OnOk result ((blocks.new.items ≡ blocks.old.items ++ take index last.old ∷ []) × (last.new ≡ drop index last.old)) }
+    ensures err { OnErr result ((blocks.new.items ≡ blocks.old.items) × (last.new ≡ last.old)) }
+{
+    let upper = last.copy_from(alloc, index)?;
+    blocks.push(upper)?;
+    let at = blocks.len() - 1;
+    mem::swap(&mut blocks[at], last);
+    blocks[at].truncate(index);
+    Ok(())
+}
+
+/// Takes the value from a place, if it has one. It takes no memory.
+pub fn remove<V: Copy>(
+    blocks: &mut Vec<Block<V>>,
+    last: &mut Block<V>,
+    place: TapeNumber,
+) -> Option<V>
+    requires valid { HasLastBlock blocks.old.items last.old }
+    ensures valid { HasLastBlock blocks.new.items last.new }
+    ensures value { result ≡ map.get (all_values blocks.old.items last.old) place }
+    ensures removed { all_values blocks.new.items last.new ≡ map.remove (all_values blocks.old.items last.old) place }
+{
+    if last.begins_by(place) {
+        one_block::remove(last, place)
+    } else {
+        block_list::remove(blocks, place)
+    }
+}
+
+/// Writes another value at a place that has one, and answers the one that stood there. It takes no memory.
+pub fn set<V: Copy>(
+    blocks: &mut Vec<Block<V>>,
+    last: &mut Block<V>,
+    place: TapeNumber,
+    value: V,
+) -> V
+    requires valid { HasLastBlock blocks.old.items last.old }
+    requires present { IsSome (map.get (all_values blocks.old.items last.old) place) }
+    ensures valid { HasLastBlock blocks.new.items last.new }
+    ensures former { Some result ≡ map.get (all_values blocks.old.items last.old) place }
+    ensures changed { all_values blocks.new.items last.new ≡ map.insert (all_values blocks.old.items last.old) place value }
+{
+    if last.begins_by(place) {
+        one_block::set(last, place, value)
+    } else {
+        block_list::set(blocks, place, value)
+    }
+}
+
+/// The first place that has a value. It looks at one entry.
+pub fn first<V: Copy>(blocks: &[Block<V>], last: &Block<V>) -> Option<TapeNumber>
+    requires { HasLastBlock blocks.now last.now }
+    ensures { MatchOption result (IsVacant (all_values blocks.now last.now)) (IsFirstPlace (all_values blocks.now last.now)) }
+{
+    match block_list::first(blocks) {
+        Some(place) => Some(place),
+        None => one_block::first(last),
+    }
+}
+
+/// The last place that has a value. It looks at one entry.
+pub fn last<V: Copy>(blocks: &[Block<V>], last: &Block<V>) -> Option<TapeNumber>
+    requires { HasLastBlock blocks.now last.now }
+    ensures { MatchOption result (IsVacant (all_values blocks.now last.now)) (IsLastPlace (all_values blocks.now last.now)) }
+{
+    match one_block::last(last) {
+        Some(place) => Some(place),
+        None => block_list::last(blocks),
+    }
+}
