@@ -1,7 +1,8 @@
-//! The small values of a trade tape, each in its range, and the listing of a day.
+//! The small values of a trade tape, each in its range, the listing of a day, and the gate between the steps of workers.
 #![tactic(auto)]
 
 mod four_bytes;
+mod gate;
 mod listing;
 mod listing_fault;
 mod msg_number;
@@ -11,6 +12,7 @@ mod size;
 mod symbol;
 mod tape_number;
 
+pub use gate::{Gate, NoGate};
 pub use listing::{Listing, MAX_PARTICIPANTS, MAX_SYMBOLS};
 pub use listing_fault::ListingFault;
 pub use msg_number::MsgNumber;
