@@ -1,0 +1,15 @@
+//! The day's report: the rows of a tape, made by one worker or many, and their text.
+#![tactic(auto)]
+
+mod pieces;
+mod report_fault;
+mod row;
+mod text;
+
+pub use pieces::{MAX_WORKERS, rows};
+pub use report_fault::ReportFault;
+pub use row::Row;
+pub use text::write_report;
+
+#[cfg(test)]
+mod tests;

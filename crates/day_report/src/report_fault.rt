@@ -1,0 +1,52 @@
+//! Why there is no report.
+ghost use Rattle.std.specs.Prelude.{◌≡◌};
+ghost use Rattle.day_report.specs.ReportFaults.{report_fault_code, report_fault_name};
+ghost use Rattle.day_report.specs.declared.report_fault.ReportFault.TheVariants.{OutOfMemory};
+
+use std::alloc::AllocError;
+use thiserror::Error;
+
+/// Why the rows of a report were not made, or its text was not written. It is printed as its name.
+#[derive(Clone, Copy, Debug, PartialEq, Eq, Error)]
+#[error("{}", self.name())]
+pub enum ReportFault {
+    /// There is no worker, or there are more than 64.
+    BadWorkers = 95,
+    /// No worker could be started.
+    Unstarted = 96,
+    /// Memory ran out.
+    OutOfMemory = 97,
+    /// A write failed.
+    WriteFault = 98,
+}
+
+impl ReportFault {
+    /// The number of the fault.
+    pub fn code(self) -> u8
+        ensures { result ≡ report_fault_code self }
+    {
+        self as u8
+    }
+
+    /// The name of the fault, as it is printed.
+    pub fn name(self) -> &'static str
+        ensures { result.now ≡ report_fault_name self }
+    {
+        match self {
+            ReportFault::BadWorkers => "BadWorkers",
+            ReportFault::Unstarted => "Unstarted",
+            ReportFault::OutOfMemory => "OutOfMemory",
+            ReportFault::WriteFault => "WriteFault",
+        }
+    }
+}
+
+impl From<AllocError> for ReportFault {
+    ghost use Rattle.std.specs.Prelude.{◌≡◌};
+
+    ghost from_gives = { λ _ fault. fault ≡ OutOfMemory };
+
+    fn from(_error: AllocError) -> ReportFault {
+        ReportFault::OutOfMemory
+    }
+}

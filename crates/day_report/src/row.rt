@@ -1,0 +1,66 @@
+//! A row of the report.
+ghost use Rattle.std.specs.Prelude.{◌≡◌, Some, true, slice_get};
+ghost use Rattle.tape_core.specs.Tape.{lists_participant};
+
+use scratch_fold::Summary;
+use summaries::Store;
+use tape_core::Tape;
+use tape_types::{Participant, Symbol};
+
+/// A row of the report: what the reports of a symbol that stand come to, of all participants or of one.
+#[derive(Clone, Copy, Debug, PartialEq, Eq)]
+pub struct Row {
+    /// The symbol that it is about.
+    pub symbol: Symbol,
+    /// The participant whose reports alone it counts, by the participant columns of the matrix, or `None` for the reports of
+    /// all, by the consolidated columns.
+    pub who: Option<Participant>,
+    /// What the reports that stand come to.
+    pub summary: Summary,
+}
+
+impl Row {
+    ghost use Rattle.std.specs.Prelude.{◌≡◌, Some, true, slice_get};
+    ghost use Rattle.tape_core.specs.Tape.{lists_participant};
+    ghost use Rattle.day_report.specs.Rows.{consolidated_row, participant_row};
+
+    /// The consolidated row of the symbol at an index of the listing.
+    pub(crate) fn consolidated<S: Store>(tape: &Tape<S>, index: usize, symbol: Symbol) -> Row
+        requires { slice_get tape.now.listing.symbols index ≡ Some symbol }
+        ensures { result ≡ consolidated_row tape.now symbol }
+    {
+        let Some(summary) = tape.summary_at(index) else {
+            unreachable!()
+        };
+        Row {
+            symbol,
+            who: None,
+            summary,
+        }
+    }
+
+    /// The row of a listed participant in the symbol at an index of the listing, or `None` where no report of the
+    /// participant's stands there.
+    pub(crate) fn of_participant<S: Store>(
+        tape: &Tape<S>,
+        index: usize,
+        symbol: Symbol,
+        who: Participant,
+    ) -> Option<Row>
+        requires symbol { slice_get tape.now.listing.symbols index ≡ Some symbol }
+        requires participant { lists_participant tape.now.listing who ≡ true }
+        ensures { result ≡ participant_row tape.now symbol who }
+    {
+        let Some(summary) = tape.summary_of_at(index, who) else {
+            unreachable!()
+        };
+        if summary.trades == 0 {
+            return None;
+        }
+        Some(Row {
+            symbol,
+            who: Some(who),
+            summary,
+        })
+    }
+}
