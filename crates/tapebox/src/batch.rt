@@ -2,12 +2,11 @@
 ghost use Rattle.std.specs.Prelude.{◌≡◌, ◌≢◌, ◌≤◌, ◌+◌, ◌++◌, ◌⊎◌, IfOk, IfErr, OnOk, IfSome, length, Err, false, [], List, ℕ};
 ghost use Rattle.std.specs.Io.KnownBytes.{Appends, Keeps};
 ghost use Rattle.std.specs.List.{flat_map};
-ghost use Rattle.tapebox.specs.Batch.{INPUT_MOST, answer_line, empty_tape, fault_line, input_listing, message_lines};
+ghost use Rattle.tapebox.specs.Batch.{INPUT_MOST, answer_line, empty_tape, fault_line, input_listing, message_lines, tape_report};
 ghost use Rattle.tapebox.specs.BatchEnds.{EndsAt, EndsReading, Fits, Wrote, WroteForMemory};
 ghost use Rattle.tapebox.specs.Day.{HasAnswered, ReadsBatch};
 ghost use Rattle.tapebox.specs.Lines.{lines_of};
-ghost use Rattle.tapebox.specs.ReportText.{report_text};
-ghost use Rattle.tapebox.specs.declared.batch_end.BatchEnd.TheVariants.{BadHeader, Done, ReadFault, TooLarge, WriteFault};
+ghost use Rattle.tapebox.specs.declared.batch_end.BatchEnd.TheVariants.{BadHeader, Done, OutOfMemory as EndOutOfMemory, ReadFault, TooLarge, WriteFault};
 ghost use Rattle.tapebox.specs.declared.stop.Stop.TheVariants.{OutOfMemory};
 
 use crate::day::{Answer, Day};
@@ -15,13 +14,14 @@ use crate::day_tape::DayTape;
 use crate::gathered::Gathered;
 use crate::header::read_header;
 use crate::input::{INPUT_LIMIT, Input};
-use crate::report::report_of;
 use crate::stop::Stop;
 use crate::{BatchEnd, HeaderFault};
+use day_report::{ReportFault, rows, write_report};
 use itoa::Buffer;
 use std::alloc::{AllocError, Global};
 use std::io::{BufRead, BufReader, Read, Write};
-use tape_types::{Listing, ListingFault};
+use std::thread::Threads;
+use tape_types::{Listing, ListingFault, NoGate};
 
 /// How many bytes are read at once.
 const READ_PIECE: usize = 65_536;
@@ -137,7 +137,8 @@ fn write_answers<W: Write>(
 }
 
 /// Writes a day: its answers, and, unless memory ran out at one of them, the report of its tape.
-fn write_day<W: Write>(
+fn write_day<T: Threads + Sync, W: Write>(
+    rt: &T,
     alloc: Global,
     day: &Day,
     gathered: &mut Gathered,
@@ -146,7 +147,7 @@ fn write_day<W: Write>(
     requires { gathered.old ≡ [] }
     ensures goes_on { OnOk result (day.now.is_stopped ≡ false) }
     ensures written { OnOk result (Appends (W.contents writer.old) (W.contents writer.new)
-        (flat_map answer_line day.now.answers.items ++ report_text day.now.tape)) }
+        (flat_map answer_line day.now.answers.items ++ tape_report day.now.tape)) }
     ensures memory { result ≡ Err OutOfMemory
         → Appends (W.contents writer.old) (W.contents writer.new) (flat_map answer_line day.now.answers.items) }
 {
@@ -154,12 +155,19 @@ fn write_day<W: Write>(
     if day.is_stopped {
         return Err(Stop::OutOfMemory);
     }
-    let report = report_of(alloc, &day.tape)?;
-    write_text(writer, &report)
+    let Ok(rows) = rows(rt, alloc, &day.tape, 1, &NoGate) else {
+        return Err(Stop::OutOfMemory);
+    };
+    match write_report(alloc, &rows, writer) {
+        Ok(()) => Ok(()),
+        Err(ReportFault::WriteFault) => Err(Stop::WriteFault),
+        Err(_) => Err(Stop::OutOfMemory),
+    }
 }
 
 /// Writes what was read of a batch: a day, or the line of a refused header.
-fn write_batch<W: Write>(
+fn write_batch<T: Threads + Sync, W: Write>(
+    rt: &T,
     alloc: Global,
     read: &Result<Day, HeaderFault>,
     gathered: &mut Gathered,
@@ -169,12 +177,15 @@ fn write_batch<W: Write>(
     ensures wrote { (input : List ℕ) → ReadsBatch read.now input → IfOk result (λ end. Wrote end input (W.contents writer.old) (W.contents writer.new)) }
     ensures memory { (input : List ℕ) → ReadsBatch read.now input → result ≡ Err OutOfMemory
         → WroteForMemory (input_listing input) (message_lines input) (W.contents writer.old) (W.contents writer.new) }
+    ensures goes_on { OnOk result (IfOk read.now (λ day. day.is_stopped ≡ false)) }
+    ensures answered { result ≡ Err OutOfMemory
+        → IfOk read.now (λ day. Appends (W.contents writer.old) (W.contents writer.new) (flat_map answer_line day.answers.items)) }
     ensures ends { (input : List ℕ) → ReadsBatch read.now input → length input ≤ INPUT_MOST → IfOk result (λ end. EndsAt end input) }
     ensures named { IfOk result (λ end. (end ≡ Done) ⊎ (end ≡ BadHeader)) }
 {
     match read {
         Ok(day) => {
-            write_day(alloc, day, gathered, writer)?;
+            write_day(rt, alloc, day, gathered, writer)?;
             Ok(BatchEnd::Done)
         }
         Err(fault) => {
@@ -185,7 +196,8 @@ fn write_batch<W: Write>(
 }
 
 /// Writes what was read of a batch, flushed at the end.
-fn finish_batch<W: Write>(
+fn finish_batch<T: Threads + Sync, W: Write>(
+    rt: &T,
     alloc: Global,
     read: &Result<Day, HeaderFault>,
     gathered: &mut Gathered,
@@ -195,8 +207,12 @@ fn finish_batch<W: Write>(
     ensures wrote { (input : List ℕ) → ReadsBatch read.now input → Wrote result input (W.contents writer.old) (W.contents writer.new) }
     ensures ends { (input : List ℕ) → ReadsBatch read.now input → length input ≤ INPUT_MOST → EndsAt result input }
     ensures writes { (result ≢ TooLarge) × (result ≢ ReadFault) }
+    // A day at whose last answer memory ran out is not done: that answer's line stands written, unless a write fails.
+    ensures goes_on { result ≡ Done → IfOk read.now (λ day. day.is_stopped ≡ false) }
+    ensures answered { result ≡ EndOutOfMemory
+        → IfOk read.now (λ day. Appends (W.contents writer.old) (W.contents writer.new) (flat_map answer_line day.answers.items)) }
 {
-    match write_batch(alloc, read, gathered, writer) {
+    match write_batch(rt, alloc, read, gathered, writer) {
         Ok(end) => flushed(writer, end),
         Err(Stop::WriteFault) => BatchEnd::WriteFault,
         Err(Stop::OutOfMemory) => flushed(writer, BatchEnd::OutOfMemory),
@@ -205,7 +221,12 @@ fn finish_batch<W: Write>(
 
 /// Reads a batch whole, and writes its answers and its report, in large pieces that are flushed once at the end. How it
 /// ends, and what stands written then, `BatchEnd` tells.
-pub fn batch_over<R: Read, W: Write>(alloc: Global, reader: &mut R, writer: &mut W) -> BatchEnd
+pub fn batch_over<T: Threads + Sync, R: Read, W: Write>(
+    rt: &T,
+    alloc: Global,
+    reader: &mut R,
+    writer: &mut W,
+) -> BatchEnd
     // What was written is the text of the whole input and nothing else, or what the end says.
     ensures wrote { IfSome (R.remaining reader.old) (λ input. Wrote result input (W.contents writer.old) (W.contents writer.new)) }
 
@@ -224,7 +245,7 @@ pub fn batch_over<R: Read, W: Write>(alloc: Global, reader: &mut R, writer: &mut
         return BatchEnd::OutOfMemory;
     };
     match read_batch(alloc, &mut Input::new(left)) {
-        Ok(read) => finish_batch(alloc, &read, &mut gathered, writer),
+        Ok(read) => finish_batch(rt, alloc, &read, &mut gathered, writer),
         Err(end) => end,
     }
 }
@@ -277,7 +298,7 @@ mod tests {
             taken: Vec::new(rt.alloc()),
             is_flushed: false,
         };
-        let end = finish_batch(rt.alloc(), &read, &mut gathered, &mut writer);
+        let end = finish_batch(&rt, rt.alloc(), &read, &mut gathered, &mut writer);
         assert_eq!(rt; end, BatchEnd::OutOfMemory);
         assert_eq!(rt;
             writer.taken.as_slice(),
