@@ -1,5 +1,5 @@
 -- The rows of pieces, one piece after another.
-use Rattle.std.proofs.Common.{◌≡◌, ◌++◌, ◌∷◌, ◌∙◌, ◌+◌, ◌*◌, ◌/◌, ◌%◌, ◌<◌, ◌≤◌, [], ℕ, zero, suc, min, List, refl, sym, ap, append_assoc, append-nil, length, arith, take, drop, get_or, subst, Bool, true, false, None, Some, Result, Ok, Err, slice_get, zero-add}
+use Rattle.std.proofs.Common.{◌≡◌, ◌++◌, ◌∷◌, ◌∙◌, ◌+◌, ◌*◌, ◌/◌, ◌%◌, ◌<◌, ◌≤◌, [], ℕ, zero, suc, min, List, refl, sym, ap, append_assoc, append-nil, length, arith, take, drop, get_or, subst, Bool, true, false, None, Result, Ok, Err, zero-add}
 use Rattle.std.specs.List.{AllByRecursion, flat_map}
 use Rattle.std.specs.Fork.{IsChunk, slice_chunk}
 use Rattle.std.specs.Prelude.{IfOk, IsOk, nat_lt, ◌||◌}
@@ -9,7 +9,6 @@ use Rattle.tape_types.specs.Names.{Names, first_fault, is_nil, refusal_of}
 use Rattle.tape_types.specs.declared.listing_fault.ListingFault.{ListingFault}
 use Rattle.day_report.specs.declared.row.Row.{Row}
 use Rattle.day_report.specs.Pieces.{IsPieceAt, made_rows}
-use Rattle.std.proofs.lemmas.Option.{slice_get_read}
 use Rattle.std.proofs.lemmas.Grind.{div_ceil_times, flat_map-append}
 use Rattle.std.proofs.lemmas.List.{take-append-drop, take_all, take-take, drop-take}
 use Rattle.std.proofs.Math.Nat.{suc-mul, zero-mul}
@@ -22,15 +21,6 @@ nil-from_length (x ∷ xs) none = absurd (omega arith)
 -- one more element is added
 pub one_more : {X : Type 0} (old new all : List X) (x : X) (left : List X) → new ≡ old ++ x ∷ [] → old ++ x ∷ left ≡ all → new ++ left ≡ all
 one_more old new all x left is whole = ap (λ l. l ++ left) is ∙ append_assoc old (x ∷ []) left ∙ whole
-
--- one more piece is added
-pub piece_more : {X Y : Type 0} (f : Y → List X) (old new all : List X) (y : Y) (left : List Y)
-    → new ≡ old ++ f y → old ++ flat_map f (y ∷ left) ≡ all → new ++ flat_map f left ≡ all
-piece_more f old new all y left is whole = ap (λ l. l ++ flat_map f left) is ∙ append_assoc old (f y) (flat_map f left) ∙ whole
-
--- nothing is left
-pub none_left : {X : Type 0} (old all left : List X) → left ≡ [] → old ++ left ≡ all → old ≡ all
-none_left old all left none whole = sym (append-nil old) ∙ ap (λ l. old ++ l) (sym none) ∙ whole
 
 -- ## Chunks
 
@@ -142,11 +132,6 @@ whole_place listing symbols all = record {
   within = omega (arith, ap length all);
   elements = λ k d lt. ap (λ (l : List (List ℕ)). get_or l k d) all ∙ ap (λ (i : ℕ). get_or listing.symbols i d) (sym (zero-add k));
 }
-
--- what stands in a piece stands in the whole
-pub piece_at : {X : Type 0} (whole piece : List X) (start k : ℕ) (x : X) → IsPieceAt whole start piece → k < length piece → x ≡ get_or piece k x
-    → slice_get whole (start + k) ≡ Some x
-piece_at whole piece start k x place lt is = slice_get_read whole (length whole) (start + k) x refl (omega (arith, place.within)) (is ∙ place.elements k x lt)
 
 -- a piece ends within the most symbols of a listing
 pub chunk_few : (listing : Names) (symbols : List (List ℕ)) (size start : ℕ) (piece : List (List ℕ)) → symbols ≡ listing.symbols
