@@ -1,0 +1,14 @@
+//! Where a message goes.
+
+use tape_types::TapeNumber;
+
+/// What a message that the tape does not refuse decides before anything changes.
+#[derive(Clone, Copy)]
+pub struct Route {
+    /// The index of its symbol's book.
+    pub book: usize,
+    /// The number of its entry.
+    pub number: TapeNumber,
+    /// The place that it changes: a report's is the number of its entry, and a cancel's or a correction's that of the report that its target names.
+    pub place: TapeNumber,
+}
