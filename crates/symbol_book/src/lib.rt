@@ -7,6 +7,3 @@ mod trade;
 
 pub use book::Book;
 pub use trade::Trade;
-
-#[cfg(test)]
-mod tests;

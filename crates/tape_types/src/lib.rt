@@ -21,6 +21,3 @@ pub use price::Price;
 pub use size::Size;
 pub use symbol::Symbol;
 pub use tape_number::TapeNumber;
-
-#[cfg(test)]
-mod tests;

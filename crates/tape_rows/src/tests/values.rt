@@ -1,7 +1,7 @@
 //! What no clause says: that a listing is made where there is memory, the printed names of its faults, and printed numbers.
-use crate::{Listing, ListingFault, Participant, Price, Symbol, TapeNumber};
 use std::process::Abort;
 use std::test::Fail;
+use tape_types::{Listing, ListingFault, Participant, Price, Symbol, TapeNumber};
 
 fn symbol(rt: &impl Abort, name: &[u8; 8]) -> Symbol {
     Symbol::try_new(*name).expect(rt, "a symbol")

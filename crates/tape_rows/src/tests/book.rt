@@ -3,12 +3,12 @@ ghost use Rattle.std.specs.Prelude.{◌≡◌, None, OnOk, IsSome};
 ghost use Rattle.std.specs.FinMap as map;
 ghost use Rattle.symbol_book.specs.Columns.{reported_trade, trades_with_content};
 
-use crate::Book;
 use sale_matrix::Condition;
 use scratch_fold::{Mark, Summary};
 use std::process::Abort;
 use std::test::Fail;
 use summaries::ScratchStore;
+use symbol_book::Book;
 use tape_types::{Participant, Price, Size, TapeNumber};
 
 fn add(

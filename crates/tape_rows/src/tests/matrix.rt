@@ -1,7 +1,7 @@
 //! The matrix against the profile's printed rows, written out here a second time.
 ghost use Rattle.std.specs.Prelude.{◌<◌};
 
-use crate::{Cells, Condition, LastRule, cells};
+use sale_matrix::{Cells, Condition, LastRule, cells};
 use std::process::Abort;
 use std::test::Fail;
 

@@ -5,7 +5,7 @@ use Rattle.std.specs.FinMap.{gets}
 use Rattle.symbol_book.specs.declared.trade.Trade.{Trade}
 use Rattle.symbol_book.specs.Columns.{Trades, with_content, reported_trade}
 use Rattle.symbol_book.proofs.HeldTrades.{get-inserted}
-use Rattle.symbol_book.proofs.tests.a_change_shows_in_every_summary.Goals as goal
+use Rattle.tape_rows.proofs.tests.book.a_change_shows_in_every_summary.Goals as goal
 
 with_content-present : (m : Trades) (place : ℕ) (o : Option Trade) (price size : ℕ) (condition : List ℕ) → IsSome o → IsSome (map.get (with_content m place o price size condition) place)
 with_content-present m place None price size condition there = absurd (cc)

@@ -1,6 +1,6 @@
 //! Both ends of a few prices.
 
-use crate::{PriceIndex, Searches};
+use price_index::{PriceIndex, Searches};
 use std::process::Abort;
 use std::test::Fail;
 use tape_types::{Price, TapeNumber};
