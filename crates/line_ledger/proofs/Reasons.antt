@@ -1,0 +1,182 @@
+-- What a refusal under the lock tells the seat's holder.
+use Rattle.std.proofs.Common.{◌≡◌, ◌≢◌, ◌≤◌, ◌==◌, ℕ, Bool, true, false, not, nat_le, List, [], ◌∷◌, length, refl, ap, subst, ◌∙◌, sym, arith, Option, Some, None, unwrap_or, true≢false}
+use Rattle.std.specs.Option.{option_map}
+use Rattle.std.proofs.lemmas.Bool.Decides.{nat_tests}
+use Rattle.std.proofs.lemmas.Option.{none-some, same_Some}
+use Rattle.reports.specs.declared.message.Message.{Message}
+use Rattle.reports.specs.declared.message.Message.TheVariants.{Report, Cancel, Correct}
+use Rattle.reports.specs.Messages.{header_of}
+use Rattle.tape_types.specs.Names.{Names, first_fault}
+use Rattle.tape_core.specs.declared.refusal.Refusal.{Refusal}
+use Rattle.tape_core.specs.declared.refusal.Refusal.TheVariants.{Closed, Full, WrongLine, UnknownParticipant, Stale, UnknownSymbol, OutOfMemory}
+use Rattle.tape_core.specs.Refusals.{refusal_code}
+use Rattle.tape_core.specs.Standing.{NumberedMessage, named_report, last_number}
+use Rattle.tape_core.specs.Tape.{TapeState, refusal, messages_of, message_faults, target_faults, lists_participant, lists_symbol}
+use Rattle.line_ledger.specs.declared.line_refusal.LineRefusal.{LineRefusal}
+use Rattle.line_ledger.specs.declared.line_refusal.LineRefusal.TheVariants.{Behind, Refused}
+use Rattle.line_ledger.specs.Faults.{line_refusal_code}
+use Rattle.line_ledger.specs.Days.{IsDay}
+use Rattle.line_ledger.specs.Admissions.{line_refusal, Refuses, TellsWhy}
+use Rattle.line_ledger.specs.Seats.{SeatState, agrees, last_told}
+
+-- what a refusal by a tape says of it
+pub record Says (t : TapeState) (m : Message) (r : Refusal) : Type 0 where
+  pub wrong_line : refusal_code r ≡ 33 → ⊥
+  pub closed : refusal_code r ≡ 31 → t.closed ≡ true
+  pub unknown : refusal_code r ≡ 34 → not (lists_participant t.listing (header_of m).participant) ≡ true
+  pub stale : refusal_code r ≡ 35 → nat_le (header_of m).number (last_number (messages_of t.entries) (header_of m).participant) ≡ true
+  pub unlisted : refusal_code r ≡ 36 → not (lists_symbol t.listing (header_of m).symbol) ≡ true
+
+module _ (t : TapeState) (m : Message) where
+  -- each case says so where its test holds
+  abbrev AllSay : List (Bool × Refusal) → Type 0
+  AllSay [] = Unit {0}
+  AllSay (c ∷ cases) = (c.0 ≡ true → Says t m c.1) × AllSay cases
+
+  first-says : (cases : List (Bool × Refusal)) (r : Refusal) → AllSay cases → first_fault cases ≡ Some r → Says t m r
+  first-says [] r all is = absurd (none-some r is)
+  first-says ((true, x) ∷ cases) r all is = subst (Says t m) (same_Some x r is) (all.0 refl)
+  first-says ((false, x) ∷ cases) r all is = first-says cases r all.1 is
+
+  -- a refusal of another number says nothing
+  other-says : (r : Refusal) → 37 ≤ refusal_code r → Says t m r
+  other-says r high = record { wrong_line = λ e. omega arith; closed = λ e. absurd (omega arith); unknown = λ e. absurd (omega arith); stale = λ e. absurd (omega arith); unlisted = λ e. absurd (omega arith) }
+
+  targets-say : (tape : List NumberedMessage) (symbol : List ℕ) (o : Option NumberedMessage) → AllSay (target_faults tape symbol o)
+  targets-say tape symbol None = (λ _. other-says _ (omega arith), tt)
+  targets-say tape symbol (Some report) = (λ _. other-says _ (omega arith), (λ _. other-says _ (omega arith), tt))
+
+  message-says : (tape : List NumberedMessage) (x : Message) → AllSay (message_faults tape x)
+  message-says tape (Report header content) = tt
+  message-says tape (Cancel header target) = targets-say tape header.symbol (named_report tape header.participant target)
+  message-says tape (Correct header target content) = targets-say tape header.symbol (named_report tape header.participant target)
+
+  refusal-says : (r : Refusal) → refusal t m ≡ Some r → Says t m r
+  refusal-says r is =
+      let tape = messages_of t.entries in
+      let who = (header_of m).participant in
+      let cases : List (Bool × Refusal) =
+      (t.closed, Closed) ∷ (length t.entries == t.limit, Full) ∷ (not (lists_participant t.listing who), UnknownParticipant)
+      ∷ (nat_le (header_of m).number (last_number tape who), Stale) ∷ (not (lists_symbol t.listing (header_of m).symbol), UnknownSymbol) ∷ message_faults tape m in
+      let all : AllSay cases = (
+        (λ b. record { wrong_line = λ e. omega arith; closed = λ e. b; unknown = λ e. absurd (omega arith); stale = λ e. absurd (omega arith); unlisted = λ e. absurd (omega arith) }),
+        (
+          (λ b. record { wrong_line = λ e. omega arith; closed = λ e. absurd (omega arith); unknown = λ e. absurd (omega arith); stale = λ e. absurd (omega arith); unlisted = λ e. absurd (omega arith) }),
+          (
+            (λ b. record { wrong_line = λ e. omega arith; closed = λ e. absurd (omega arith); unknown = λ e. b; stale = λ e. absurd (omega arith); unlisted = λ e. absurd (omega arith) }),
+            (
+              (λ b. record { wrong_line = λ e. omega arith; closed = λ e. absurd (omega arith); unknown = λ e. absurd (omega arith); stale = λ e. b; unlisted = λ e. absurd (omega arith) }),
+              (
+                (λ b. record { wrong_line = λ e. omega arith; closed = λ e. absurd (omega arith); unknown = λ e. absurd (omega arith); stale = λ e. absurd (omega arith); unlisted = λ e. b }),
+                message-says tape m,
+              ),
+            ),
+          ),
+        ),
+      ) in
+      first-says cases r all is
+
+  -- the answer of the tape, lack of memory included
+  answer-says : (o : Option Refusal) → refusal t m ≡ o → Says t m (unwrap_or o OutOfMemory)
+  answer-says None is = other-says OutOfMemory (omega arith)
+  answer-says (Some r) is = refusal-says r is
+
+pub agrees-last : (t : TapeState) (s : SeatState) → agrees t s ≡ true → last_number (messages_of t.entries) s.who ≡ last_told 0 s.told
+agrees-last t s same = grind (arith, nat_tests)
+
+-- the reasons, by whose message it is and by whether the tape has what the seat was told
+pub record IsWhy (t : TapeState) (s : SeatState) (m : Message) (why : LineRefusal) : Type 0 where
+  pub wrong_line : (header_of m).participant ≢ s.who → why ≡ Refused WrongLine
+  pub behind : (header_of m).participant ≡ s.who → agrees t s ≡ false → why ≡ Behind
+  pub tape : (header_of m).participant ≡ s.who → agrees t s ≡ true → why ≡ Refused (unwrap_or (refusal t m) OutOfMemory)
+
+unwrap-map : (o : Option Refusal) → unwrap_or (option_map Refused o) (Refused OutOfMemory) ≡ Refused (unwrap_or o OutOfMemory)
+unwrap-map None = refl
+unwrap-map (Some r) = refl
+
+refuses_other : (t : TapeState) (s : SeatState) (m : Message) → (header_of m).participant ≢ s.who → line_refusal t s m ≡ Some (Refused WrongLine)
+refuses_other t s m other = grind (arith, nat_tests, other)
+
+refuses_behind : (t : TapeState) (s : SeatState) (m : Message) → (header_of m).participant ≡ s.who → agrees t s ≡ false → line_refusal t s m ≡ Some Behind
+refuses_behind t s m own late = grind (arith, nat_tests, own, late)
+
+refuses_as_tape : (t : TapeState) (s : SeatState) (m : Message) → (header_of m).participant ≡ s.who → agrees t s ≡ true → line_refusal t s m ≡ option_map Refused (refusal t m)
+refuses_as_tape t s m own same = grind (arith, nat_tests, own, same)
+
+is_why : (t : TapeState) (s : SeatState) (m : Message) (why : LineRefusal) → why ≡ unwrap_or (line_refusal t s m) (Refused OutOfMemory) → IsWhy t s m why
+is_why t s m why is = record {
+  wrong_line = λ other. is ∙ ap (λ o. unwrap_or o (Refused OutOfMemory)) (refuses_other t s m other);
+  behind = λ own late. is ∙ ap (λ o. unwrap_or o (Refused OutOfMemory)) (refuses_behind t s m own late);
+  tape = λ own same. is ∙ ap (λ o. unwrap_or o (Refused OutOfMemory)) (refuses_as_tape t s m own same) ∙ unwrap-map (refusal t m);
+}
+
+-- what each reason is, by its number
+pub record Learns (listing : Names) (s : SeatState) (m : Message) (code : ℕ) : Type 0 where
+  pub wrong_line : code ≡ 33 → (header_of m).participant ≢ s.who
+  pub stale : code ≡ 35 → (header_of m).number ≤ last_told 0 s.told
+  pub unlisted : code ≡ 36 → lists_symbol listing (header_of m).symbol ≡ false
+  pub never_closed : code ≡ 31 → ⊥
+  pub never_unknown : code ≡ 34 → ⊥
+
+not-true : (b : Bool) → not b ≡ true → b ≡ false
+not-true true is = absurd (true≢false (sym is))
+not-true false is = refl
+
+learns : (listing : Names) (t : TapeState) (s : SeatState) (m : Message) (why : LineRefusal) → IsDay listing t → lists_participant listing s.who ≡ true
+    → IsWhy t s m why → Learns listing s m (line_refusal_code why)
+learns listing t s m why day listed reasons = elim ((header_of m).participant == s.who) as (λ b. ((header_of m).participant == s.who) ≡ b → Learns listing s m (line_refusal_code why)) [
+  | false ↦ λ e. other (neq e)
+  | true ↦ λ e. elim (agrees t s) as (λ b. agrees t s ≡ b → Learns listing s m (line_refusal_code why)) [
+    | false ↦ λ late. behind (eq e) late
+    | true ↦ λ same. tape (eq e) same
+  ] refl
+] refl
+  where
+    neq : ((header_of m).participant == s.who) ≡ false → (header_of m).participant ≢ s.who
+    neq e = grind (arith, nat_tests, e)
+
+    eq : ((header_of m).participant == s.who) ≡ true → (header_of m).participant ≡ s.who
+    eq e = grind (arith, nat_tests, e)
+
+    other : (header_of m).participant ≢ s.who → Learns listing s m (line_refusal_code why)
+    other not_own = subst (λ x. Learns listing s m (line_refusal_code x)) (sym (reasons.wrong_line not_own))
+        (record { wrong_line = λ e. not_own; stale = λ e. omega arith; unlisted = λ e. absurd (omega arith); never_closed = λ e. omega arith; never_unknown = λ e. omega arith })
+
+    behind : (header_of m).participant ≡ s.who → agrees t s ≡ false → Learns listing s m (line_refusal_code why)
+    behind own late = subst (λ x. Learns listing s m (line_refusal_code x)) (sym (reasons.behind own late))
+        (record { wrong_line = λ e. absurd (omega arith); stale = λ e. omega arith; unlisted = λ e. absurd (omega arith); never_closed = λ e. omega arith; never_unknown = λ e. omega arith })
+
+    tape : (header_of m).participant ≡ s.who → agrees t s ≡ true → Learns listing s m (line_refusal_code why)
+    tape own same =
+        let says = answer-says t m (refusal t m) refl in
+        let last : last_number (messages_of t.entries) (header_of m).participant ≡ last_told 0 s.told = ap (last_number (messages_of t.entries)) own ∙ agrees-last t s same in
+        let known : lists_participant t.listing (header_of m).participant ≡ true = ap (lists_participant t.listing) own ∙ ap (λ l. lists_participant l s.who) day.listed ∙ listed in
+        subst (λ x. Learns listing s m (line_refusal_code x)) (sym (reasons.tape own same))
+        (record {
+          wrong_line = λ e. absurd (says.wrong_line e);
+          stale = λ e. subst (λ n. (header_of m).number ≤ n) last (le (says.stale e));
+          unlisted = λ e. ap (λ l. lists_symbol l (header_of m).symbol) (sym day.listed) ∙ not-true _ (says.unlisted e);
+          never_closed = λ e. true≢false (sym (says.closed e) ∙ day.unclosed);
+          never_unknown = λ e. true≢false (sym known ∙ not-true _ (says.unknown e));
+        })
+      where
+        le : {a b : ℕ} → nat_le a b ≡ true → a ≤ b
+        le {a} {b} h = grind (arith, nat_tests, h)
+
+pub tells_why : (listing : Names) (t : TapeState) (s : SeatState) (m : Message) (why : LineRefusal) (t' : TapeState) (s' : SeatState)
+    → IsDay listing t → lists_participant listing s.who ≡ true → Refuses t s m why t' s' → TellsWhy listing s m why s'
+tells_why listing t s m why t' s' day listed refuses =
+    let reasons = is_why t s m why refuses.why_is in
+    let said = learns listing t s m why day listed reasons in
+    record {
+      seat = refuses.seat;
+      wrong_line = (λ e. said.wrong_line (ap line_refusal_code e), reasons.wrong_line);
+      stale = λ e. said.stale (ap line_refusal_code e);
+      unlisted = λ e. said.unlisted (ap line_refusal_code e);
+      never_closed = λ e. said.never_closed (ap line_refusal_code e);
+      never_unknown = λ e. said.never_unknown (ap line_refusal_code e);
+    }
+
+-- an admission is above what the seat was told
+pub tells : (t : TapeState) (s : SeatState) (m : Message) → line_refusal t s m ≡ None → ((header_of m).participant ≡ s.who) × (agrees t s ≡ true) × (refusal t m ≡ None)
+tells t s m may = (grind (arith, nat_tests, may), grind (arith, nat_tests, may), grind (arith, nat_tests, may))

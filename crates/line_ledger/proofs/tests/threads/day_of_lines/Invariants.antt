@@ -1,0 +1,7 @@
+use Rattle.line_ledger.proofs.tests.threads.day_of_lines.Given as goal
+
+abbrev pub ghosts-lines_at_once-D-Ledger : goal.ghosts-lines_at_once-D-Ledger
+ghosts-lines_at_once-D-Ledger g a = record { name = a.prepared.blank.name; parts = a.prepared.blank.parts }
+
+abbrev pub ghosts-lines_at_once-D-DayName : goal.ghosts-lines_at_once-D-DayName
+ghosts-lines_at_once-D-DayName g a = record { listing = a.prepared.tape.listing }

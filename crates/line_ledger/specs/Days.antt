@@ -1,0 +1,16 @@
+-- A day's tape, as it lies behind the lock.
+use Rattle.std.specs.Prelude.{◌≡◌, ℕ, ◌==◌, Bool, false, ◌&&◌}
+use Rattle.tape_types.specs.Names.{Names}
+use Rattle.tape_core.specs.Standing.{count_of, sizes_of, last_number}
+use Rattle.tape_core.specs.Tape.{TapeState, IsTape, messages_of}
+
+-- an open legal tape of this listing
+pub record IsDay (listing : Names) (t : TapeState) : Type 0 where
+  pub tape : IsTape t
+  pub unclosed : t.closed ≡ false
+  pub listed : t.listing ≡ listing
+
+-- whether the tape's count, sizes and last number of a participant are these
+abbrev pub has_figures : TapeState → ℕ → ℕ → ℕ → ℕ → Bool
+has_figures t who count sizes last =
+    count_of (messages_of t.entries) who == count && (sizes_of (messages_of t.entries) who == sizes && last_number (messages_of t.entries) who == last)

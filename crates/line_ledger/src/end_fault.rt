@@ -1,0 +1,59 @@
+//! Why a day did not end, or ended in a disagreement.
+ghost use Rattle.std.specs.Prelude.{◌≡◌, codes};
+ghost use Rattle.line_ledger.specs.declared.end_fault.EndFault.TheVariants.{MissingSeat, Disagrees};
+
+use crate::{DayName, LineSeat, SharedTape};
+use summaries::IndexStore;
+use tape_core::Tape;
+use tape_types::Participant;
+
+/// A day that did not end. Its seats must be spent: by an end with one seat of each participant.
+pub struct Unended<D: DayName> {
+    /// The shared tape, which is open.
+    pub shared: SharedTape<D>,
+    /// The seats that were given.
+    pub seats: Vec<LineSeat<D>>,
+}
+
+/// An ended day whose tape is not what its seats were told.
+#[derive(Drop)]
+pub struct Disagreement {
+    /// The first participant, in listing order, whose seat was told otherwise.
+    pub participant: Participant,
+    /// The first position, from 0, where what its seat was told differs from its entries.
+    pub at: usize,
+    /// The day's tape, which is closed.
+    pub tape: Tape<IndexStore>,
+}
+
+/// Why a day did not end, or ended in a disagreement. Like the seats that it may hold it must be spent.
+pub enum EndFault<D: DayName> {
+    /// 91 MissingSeat: there is not exactly one seat of each participant. Tape and seats come back, the tape open.
+    MissingSeat(Unended<D>),
+    /// 92 Disagrees: a seat was not told what the tape has of its participant. The closed tape comes back, the seats are spent.
+    Disagrees(Disagreement),
+}
+
+impl<D: DayName> EndFault<D> {
+    /// The number of the fault.
+    pub fn code(&self) -> u8
+        ensures missing { (unended : _) → self.now ≡ MissingSeat unended → result ≡ 91 }
+        ensures disagrees { (disagreement : _) → self.now ≡ Disagrees disagreement → result ≡ 92 }
+    {
+        match self {
+            EndFault::MissingSeat(_) => 91,
+            EndFault::Disagrees(_) => 92,
+        }
+    }
+
+    /// The name of the fault, as it is printed.
+    pub fn name(&self) -> &'static str
+        ensures missing { (unended : _) → self.now ≡ MissingSeat unended → result.now ≡ codes "MissingSeat" }
+        ensures disagrees { (disagreement : _) → self.now ≡ Disagrees disagreement → result.now ≡ codes "Disagrees" }
+    {
+        match self {
+            EndFault::MissingSeat(_) => "MissingSeat",
+            EndFault::Disagrees(_) => "Disagrees",
+        }
+    }
+}

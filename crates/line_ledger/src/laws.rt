@@ -1,0 +1,58 @@
+//! Where what a line was told first differs from a tape, and laws over seats and ends.
+ghost use Rattle.std.specs.Prelude.{◌≡◌, ◌↔◌, ℕ, IsTrue, MatchOption, slice_get, Some, List, length};
+ghost use Rattle.tape_core.specs.declared.entry.Entry.{Entry};
+ghost use Rattle.line_ledger.specs.declared.told.Told.{Told};
+ghost use Rattle.line_ledger.specs.Ends.{told_entry, told_of, whos, DiffersFirst, DisagreesAt, FirstTold, IsOneEach};
+ghost use Rattle.line_ledger.specs.Seats.{SeatState};
+
+use crate::Told;
+use tape_core::Entry;
+use tape_types::Participant;
+
+/// The first position, from 0, where what was told differs from the participant's entries, one list being longer included.
+/// `None` exactly where they are the same.
+pub fn first_difference(told: &[Told], entries: &[Entry], who: Participant) -> Option<usize>
+    ensures first { MatchOption result (told.now ≡ told_of who entries.now) (DiffersFirst told.now (told_of who entries.now)) }
+{
+    let mut at = 0;
+    for entry in entries {
+        if entry.message.header().participant != who {
+            continue;
+        }
+        if !tells(told, at, entry) {
+            return Some(at);
+        }
+        at += 1;
+    }
+    if at == told.len() { None } else { Some(at) }
+}
+
+/// Whether this entry was told here.
+fn tells(told: &[Told], at: usize, entry: &Entry) -> bool
+    ensures { IsTrue result ↔ (slice_get told.now at ≡ Some (told_entry entry.now)) }
+{
+    at < told.len() && is_told(&told[at], entry)
+}
+
+/// Whether the entry is the one that was told.
+fn is_told(told: &Told, entry: &Entry) -> bool
+    ensures { IsTrue result ↔ (told.now ≡ told_entry entry.now) }
+{
+    told.number == entry.number && told.message == entry.message
+}
+
+/// Seats of which there is one of each participant stay so, whatever they are told.
+pub fn seats()
+    ensures each { (participants : List ℕ) (old new : List SeatState) → IsOneEach participants old → whos new ≡ whos old → IsOneEach participants new }
+{}
+
+/// A disagreement is one: lists that first differ somewhere are not the same and first differ nowhere else, and an end that
+/// could answer 92 could not answer a day, nor name another participant or position.
+pub fn disagreement()
+    ensures differ { (told entries : List Told) (at : ℕ) → DiffersFirst told entries at → ¬ (told ≡ entries) }
+    ensures first { (told entries : List Told) (at other : ℕ) → DiffersFirst told entries at → DiffersFirst told entries other → at ≡ other }
+    ensures either { (participants : List ℕ) (entries : List Entry) (seats : List SeatState) (who at : ℕ)
+        → DisagreesAt participants entries seats who at → ¬ (FirstTold (length participants) participants entries seats) }
+    ensures only { (participants : List ℕ) (entries : List Entry) (seats : List SeatState) (who at other place : ℕ)
+        → DisagreesAt participants entries seats who at → DisagreesAt participants entries seats other place → (who ≡ other) × (at ≡ place) }
+{}

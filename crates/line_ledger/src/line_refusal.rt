@@ -1,0 +1,39 @@
+//! Why a message is not admitted on a line.
+ghost use Rattle.std.specs.Prelude.{◌≡◌};
+ghost use Rattle.line_ledger.specs.Faults.{line_refusal_code, line_refusal_name};
+
+use tape_core::Refusal;
+use thiserror::Error;
+
+/// Why a message is not admitted on a line, the first reason that applies. Tape and seat are unchanged.
+#[derive(Clone, Copy, Debug, PartialEq, Eq, Error)]
+#[error("{}", self.name())]
+pub enum LineRefusal {
+    /// 94 Behind: the tape's count, sizes or last number of the participant is not what its line was told.
+    Behind,
+    /// 33 WrongLine where the message is of another participant; else, after 94, the tape's own refusal: 32, 35 to 39, or
+    /// 40 out of memory.
+    Refused(Refusal),
+}
+
+impl LineRefusal {
+    /// The number of the refusal: 94, or that of the tape's refusal.
+    pub fn code(self) -> u8
+        ensures code { result ≡ line_refusal_code self }
+    {
+        match self {
+            LineRefusal::Behind => 94,
+            LineRefusal::Refused(refusal) => refusal.code(),
+        }
+    }
+
+    /// The name of the refusal, as it is printed.
+    pub fn name(self) -> &'static str
+        ensures name { result.now ≡ line_refusal_name self }
+    {
+        match self {
+            LineRefusal::Behind => "Behind",
+            LineRefusal::Refused(refusal) => refusal.name(),
+        }
+    }
+}

@@ -1,0 +1,347 @@
+//! What lies behind the lock, and the seats. A seat's share and what it was told grow only here, in `Locked::admit`.
+ghost use Rattle.std.specs.Prelude.{◌≡◌, ◌↔◌, ◌≤◌, true, length, map, IfOk, IfErr, OnOk, MatchResult, Some, IsTrue};
+ghost use Rattle.tape_core.specs.Standing.{reported_size};
+ghost use Rattle.tape_core.specs.Tape.{lists_participant};
+ghost use Rattle.line_ledger.specs.declared.open_fault.OpenFault.TheVariants.{OutOfMemory};
+ghost use Rattle.line_ledger.specs.Admissions.{Admits, Refuses};
+ghost use Rattle.line_ledger.specs.Days.{IsDay, has_figures};
+ghost use Rattle.line_ledger.specs.Ends.{IsOneEach, FirstTold, DisagreesAt, told_in_all};
+ghost use Rattle.line_ledger.specs.Seats.{untold, sizes_told, last_told};
+ghost use Rattle.line_ledger.specs.Views.{Shows, view_fault};
+
+use crate::ends::{find_disagreement, is_one_each};
+use crate::{Day, DayName, Disagreement, LineRefusal, OpenFault, Prepared, Told, ViewFault};
+use reports::Message;
+use scratch_fold::Summary;
+use std::marker::Model;
+use std::sync::ledger::{Book, Share};
+use summaries::IndexStore;
+use tape_core::{Refusal, Tape};
+use tape_types::{Participant, Symbol, TapeNumber};
+
+/// The value behind the lock: the open tape of the day, and the book, which counts the tape's entries. What the seats count
+/// is in their shares.
+#[derive(Drop)]
+pub struct Locked<D: DayName> {
+    tape: Tape<IndexStore>,
+    book: Book<D>,
+    rest: Share<D>, // what is left of the ledger when each seat has its share: no part, no amount
+}
+
+impl<D: DayName> Model for Locked<D> {
+    ghost use Rattle.std.specs.Prelude.{◌≡◌, length};
+    ghost use Rattle.tape_core.specs.Tape.{TapeState};
+    ghost use Rattle.line_ledger.specs.Days.{IsDay};
+
+    ghost Value = { TapeState };
+
+    ghost view = { λ l. l.tape };
+
+    ghost invariant = { λ l. IsDay D.listing l.tape × (l.book.total ≡ length l.tape.entries) × (l.rest.parts ≡ 0) × (l.rest.amount ≡ 0) × (D.parts ≡ length D.listing.participants) };
+}
+
+/// The right of one participant's line to admit messages, and what the line was told. It can't be dropped: only an end of
+/// the day takes it.
+pub struct LineSeat<D: DayName> {
+    who: Participant,
+    share: Share<D>,
+    told: Vec<Told>,
+    sizes: u64,
+    last: u32,
+}
+
+impl<D: DayName> Model for LineSeat<D> {
+    ghost use Rattle.std.specs.Prelude.{◌≡◌};
+    ghost use Rattle.line_ledger.specs.Seats.{SeatState, IsCounted};
+
+    ghost Value = { SeatState };
+
+    ghost view = { λ s. record { who = s.who; told = s.told.items } };
+
+    ghost invariant = { λ s. IsCounted D.listing s.who s.share.parts s.share.amount s.sizes s.last s.told.items };
+}
+
+/// What an admission answers: the tape number that the message got. Only `Locked::admit` makes one.
+#[derive(Drop)]
+pub struct Receipt {
+    number: TapeNumber,
+}
+
+impl Model for Receipt {
+    ghost use Rattle.std.specs.Prelude.{ℕ};
+
+    ghost Value = { ℕ };
+
+    ghost view = { λ r. r.number };
+}
+
+impl Receipt {
+    /// The tape number of the entry.
+    pub fn number(&self) -> TapeNumber
+        ensures number { result ≡ self.now }
+    {
+        self.number
+    }
+}
+
+/// What a seat's holder was shown of the tape, as it was at one moment. Only `Locked::view` makes one.
+#[derive(Drop)]
+pub struct View {
+    symbol: Symbol,
+    count: u32,
+    mine: u32,
+    summary: Summary,
+}
+
+impl Model for View {
+    ghost use Rattle.line_ledger.specs.Views.{ViewState};
+
+    ghost Value = { ViewState };
+
+    ghost view = { λ v. record { symbol = v.symbol; count = v.count; mine = v.mine; summary = v.summary } };
+}
+
+impl View {
+    /// The symbol that was asked for.
+    pub fn symbol(&self) -> Symbol
+        ensures symbol { result ≡ self.now.symbol }
+    {
+        self.symbol
+    }
+
+    /// How many entries the tape had, from 0 to 1,048,576.
+    pub fn count(&self) -> u32
+        ensures count { result ≡ self.now.count }
+    {
+        self.count
+    }
+
+    /// How many of them are of the seat's participant: as many as the seat was told of.
+    pub fn mine(&self) -> u32
+        ensures mine { result ≡ self.now.mine }
+    {
+        self.mine
+    }
+
+    /// The symbol's consolidated summary.
+    pub fn summary(&self) -> Summary
+        ensures summary { result ≡ self.now.summary }
+    {
+        self.summary
+    }
+}
+
+impl<D: DayName> LineSeat<D> {
+    /// The participant of the line.
+    pub fn participant(&self) -> Participant
+        ensures participant { result ≡ self.now.who }
+    {
+        self.who
+    }
+
+    /// How many admissions it was told of, from 0 to 1,048,576.
+    pub fn count(&self) -> u32
+        ensures count { result ≡ length self.now.told }
+    {
+        let told = &self.told;
+        told.len() as u32
+    }
+
+    /// The shares of the reports that it was told of, added up, each as it was reported: cancels and corrections add none.
+    pub fn sizes(&self) -> u64
+        ensures sizes { result ≡ sizes_told self.now.told }
+    {
+        self.sizes
+    }
+
+    /// The participant's number of the last message that it was told of, 0 for none.
+    pub fn last(&self) -> u32
+        ensures last { result ≡ last_told 0 self.now.told }
+    {
+        self.last
+    }
+
+    /// The admissions that it was told of, in order.
+    pub fn told(&self) -> &[Told]
+        ensures told { result.now ≡ self.now.told }
+    {
+        self.told.as_slice()
+    }
+}
+
+/// Whether the tape has these figures of the participant.
+fn has_figures(
+    tape: &Tape<IndexStore>,
+    who: Participant,
+    count: usize,
+    sizes: u64,
+    last: u32,
+) -> bool
+    ensures { result ≡ has_figures tape.now who count sizes last }
+{
+    tape.count_of(who) as usize == count && tape.sizes_of(who) == sizes && tape.last_of(who) == last
+}
+
+/// The shares of a report as it was reported, 0 for another message.
+fn reported(message: &Message) -> u64
+    ensures size { result ≡ reported_size message.now }
+    ensures bound { result ≤ 99999999 }
+{
+    match message {
+        Message::Report { content, .. } => u64::from(content.size.value()),
+        Message::Cancel { .. } | Message::Correct { .. } => 0,
+    }
+}
+
+impl<D: DayName> Locked<D> {
+    /// Opens the ledger: the value to lock, and a seat for each participant, in listing order and told nothing. What was
+    /// prepared is spent; where memory runs out it is 8 OutOfMemory. `D` is to name what was prepared.
+    pub fn start(prepared: Prepared) -> Result<(Locked<D>, Vec<LineSeat<D>>), OpenFault>
+        requires name { prepared.blank.name ≡ D.name }
+        requires parts { prepared.blank.parts ≡ D.parts }
+        requires listing { prepared.tape.listing ≡ D.listing }
+        ensures tape { IfOk result (λ r. r.0 ≡ prepared.tape) }
+        ensures seats { IfOk result (λ r. r.1.items ≡ map untold prepared.tape.listing.participants) }
+        ensures each { IfOk result (λ r. IsOneEach D.listing.participants r.1.items) }
+        ensures memory { IfErr result (λ fault. fault ≡ OutOfMemory) }
+    {
+        let Prepared { alloc, tape, blank } = prepared;
+        let _ = tape.entries();
+        let _ = tape.limit();
+        let many = tape.listing().participants().as_slice().len();
+        let Ok(mut seats) = Vec::with_capacity(alloc, many) else {
+            return Err(OpenFault::OutOfMemory);
+        };
+        let (book, mut rest) = blank.open::<D>();
+        for i in 0..many {
+            let who = tape.listing().participants().as_slice()[i];
+            let share = rest.split_off(1, 0);
+            seats.push_reserved(LineSeat {
+                who,
+                share,
+                told: Vec::new(alloc),
+                sizes: 0,
+                last: 0,
+            });
+        }
+        Ok((Locked { tape, book, rest }, seats))
+    }
+
+    /// Admits a message of the seat's participant: the tape has it, the seat is told so, and share, count, sizes and last
+    /// number rise with it. Refused, the first that applies: 33 WrongLine where it is another participant's message, 94 Behind
+    /// where the tape's count, sizes or last number of the participant is not the seat's, and then as the tape refuses it, 40
+    /// out of memory last. On a refusal tape and seat are unchanged.
+    pub fn admit(
+        &mut self,
+        seat: &mut LineSeat<D>,
+        message: Message,
+    ) -> Result<Receipt, LineRefusal>
+        ensures day { IsDay D.listing self.old }
+        ensures listed { lists_participant D.listing seat.old.who ≡ true }
+        ensures ok { IfOk result (λ r. Admits self.old seat.old message r self.new seat.new) }
+        ensures err { IfErr result (λ why. Refuses self.old seat.old message why self.new seat.new) }
+    {
+        let _ = &self.tape;
+        let header = message.header();
+        if header.participant != seat.who {
+            return Err(LineRefusal::Refused(Refusal::WrongLine));
+        }
+        if !has_figures(&self.tape, seat.who, seat.told.len(), seat.sizes, seat.last) {
+            return Err(LineRefusal::Behind);
+        }
+        if seat.told.reserve(1).is_err() {
+            let refusal = self.tape.refusal(&message);
+            return Err(LineRefusal::Refused(refusal.unwrap_or(Refusal::OutOfMemory)));
+        }
+        let entry = match self.tape.admit(message) {
+            Ok(entry) => entry,
+            Err(refusal) => return Err(LineRefusal::Refused(refusal)),
+        };
+        self.book.add(&mut seat.share, 1);
+        self.book.audit(&mut seat.share);
+        let _ = self.tape.entries();
+        let _ = self.tape.limit();
+        seat.told.push_reserved(Told {
+            number: entry.number,
+            message,
+        });
+        seat.sizes += reported(&message);
+        seat.last = header.number.value();
+        Ok(Receipt {
+            number: entry.number,
+        })
+    }
+
+    /// Shows the seat's holder a symbol's consolidated summary and how long the tape is: at least as long as the seat was told.
+    /// Refused: 36 UnknownSymbol where the symbol is not listed, then 94 Behind where the tape's count, sizes or last number
+    /// of the participant is not the seat's.
+    pub fn view(&self, seat: &LineSeat<D>, symbol: Symbol) -> Result<View, ViewFault>
+        ensures day { IsDay D.listing self.now }
+        ensures answer { MatchResult result (Shows self.now seat.now symbol) (λ fault. view_fault self.now seat.now symbol ≡ Some fault) }
+        ensures told { IfOk result (λ view. length seat.now.told ≤ view.count) }
+    {
+        let _ = &self.tape;
+        let Some(summary) = self.tape.summary(symbol) else {
+            return Err(ViewFault::UnknownSymbol);
+        };
+        if !has_figures(&self.tape, seat.who, seat.told.len(), seat.sizes, seat.last) {
+            return Err(ViewFault::Behind);
+        }
+        Ok(View {
+            symbol,
+            count: self.tape.entries().len() as u32,
+            mine: self.tape.count_of(seat.who),
+            summary,
+        })
+    }
+
+    /// Whether there is exactly one seat of each participant of the day.
+    pub(crate) fn is_each(&self, seats: &[LineSeat<D>]) -> bool
+        ensures { IsTrue result ↔ IsOneEach D.listing.participants seats.now }
+    {
+        let _ = &self.tape;
+        is_one_each(self.tape.listing().participants().as_slice(), seats)
+    }
+
+    /// Ends the day with one seat of each participant, in any order, and closes its tape, whose length is the sum of the
+    /// seats' counts: the shares show it, and nothing counts it. Where a seat was not told what the tape has of its
+    /// participant, that is a disagreement, which hands the closed tape back. The seats are spent in each case.
+    pub fn finish(self, seats: Vec<LineSeat<D>>) -> Result<Day, Disagreement>
+        requires { IsOneEach D.listing.participants seats.items }
+        ensures day { IsDay D.listing self }
+        ensures ok { IfOk result (λ day. day ≡ record self { closed = true }) }
+        ensures told { OnOk result (FirstTold (length self.listing.participants) self.listing.participants self.entries seats.items) }
+        ensures err { IfErr result (λ d. d.tape ≡ record self { closed = true }) }
+        ensures disagrees { IfErr result (λ d. DisagreesAt self.listing.participants self.entries seats.items d.participant d.at) }
+        ensures sum { length self.entries ≡ told_in_all seats.items }
+    {
+        let Locked {
+            mut tape,
+            mut book,
+            mut rest,
+        } = self;
+        let found = find_disagreement(&tape, seats.as_slice());
+        let mut left = seats.into_iter();
+        while let Some(seat) = left.next() {
+            let LineSeat {
+                who: _,
+                share,
+                told: _,
+                sizes: _,
+                last: _,
+            } = seat;
+            rest.merge(share);
+        }
+        left.destroy_empty();
+        book.audit(&mut rest);
+        tape.close();
+        match found {
+            None => Ok(Day { tape }),
+            Some((participant, at)) => Err(Disagreement {
+                participant,
+                at,
+                tape,
+            }),
+        }
+    }
+}

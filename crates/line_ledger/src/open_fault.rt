@@ -1,0 +1,37 @@
+//! Why a day is not opened.
+ghost use Rattle.std.specs.Prelude.{◌≡◌};
+ghost use Rattle.line_ledger.specs.Faults.{open_fault_code, open_fault_name};
+
+use thiserror::Error;
+
+/// Why a day is not prepared or opened, the first reason that applies. What was given is spent.
+#[derive(Clone, Copy, Debug, PartialEq, Eq, Error)]
+#[error("{}", self.name())]
+pub enum OpenFault {
+    /// 7 NotEmpty: the tape is closed, or has an entry.
+    NotEmpty,
+    /// 8 OutOfMemory: memory ran out.
+    OutOfMemory,
+}
+
+impl OpenFault {
+    /// The number of the fault.
+    pub fn code(self) -> u8
+        ensures code { result ≡ open_fault_code self }
+    {
+        match self {
+            OpenFault::NotEmpty => 7,
+            OpenFault::OutOfMemory => 8,
+        }
+    }
+
+    /// The name of the fault, as it is printed.
+    pub fn name(self) -> &'static str
+        ensures name { result.now ≡ open_fault_name self }
+    {
+        match self {
+            OpenFault::NotEmpty => "NotEmpty",
+            OpenFault::OutOfMemory => "OutOfMemory",
+        }
+    }
+}

@@ -1,0 +1,6 @@
+//! The worked rows of a shared day, and two lines at once.
+
+mod days;
+mod faults;
+mod rows;
+mod threads;

@@ -1,0 +1,120 @@
+//! A day of the symbols AB and CD and the participants N, P and Q, and what it is played with.
+ghost use Rattle.std.specs.Prelude.{◌≡◌, IsSomeAnd};
+ghost use Rattle.line_ledger.specs.Ends.{IsOneEach};
+
+use crate::{DayName, EndFault, LineSeat, Prepared, SharedTape, prepare};
+use reports::{Content, Header, Message, Moment};
+use sale_matrix::Condition;
+use std::alloc::Global;
+use summaries::IndexStore;
+use tape_core::Tape;
+use tape_types::{Listing, MsgNumber, Participant, Price, Size, Symbol};
+
+pub(super) const AB: &[u8; 8] = b"AB      ";
+
+pub(super) const CD: &[u8; 8] = b"CD      ";
+
+pub(super) const EF: &[u8; 8] = b"EF      ";
+
+/// A message of a participant under a number, of the symbol AB and a hundred shares where nothing else is said.
+#[derive(Clone, Copy)]
+pub(super) enum Sent {
+    /// A report under a condition, at a price.
+    Report(u8, u32, &'static [u8; 4], u64),
+    /// A regular report of another symbol.
+    ReportOf(&'static [u8; 8], u8, u32),
+    /// A cancel of a target.
+    Cancel(u8, u32, u32),
+    /// A cancel of a target under another symbol.
+    CancelUnder(&'static [u8; 8], u8, u32, u32),
+    /// A correction of a target to a price.
+    Correct(u8, u32, u32, u64),
+}
+
+fn header(who: u8, number: u32, symbol: &[u8; 8]) -> Option<Header> {
+    Some(Header {
+        participant: Participant::try_new(who)?,
+        number: MsgNumber::try_new(number)?,
+        moment: Moment::new(0),
+        symbol: Symbol::try_new(*symbol)?,
+    })
+}
+
+fn content(condition: &[u8; 4], price: u64) -> Option<Content> {
+    Some(Content {
+        price: Price::try_new(price)?,
+        size: Size::try_new(100)?,
+        condition: Condition::try_new(*condition)?,
+    })
+}
+
+fn report(header: Option<Header>, content: Option<Content>) -> Option<Message> {
+    Some(Message::Report {
+        header: header?,
+        content: content?,
+    })
+}
+
+fn cancel(header: Option<Header>, target: u32) -> Option<Message> {
+    Some(Message::Cancel {
+        header: header?,
+        target: MsgNumber::try_new(target)?,
+    })
+}
+
+fn correction(header: Option<Header>, target: u32, content: Option<Content>) -> Option<Message> {
+    Some(Message::Correct {
+        header: header?,
+        target: MsgNumber::try_new(target)?,
+        content: content?,
+    })
+}
+
+pub(super) fn message(sent: Sent) -> Option<Message> {
+    match sent {
+        Sent::Report(who, number, condition, price) => {
+            report(header(who, number, AB), content(condition, price))
+        }
+        Sent::ReportOf(symbol, who, number) => {
+            report(header(who, number, symbol), content(b"@   ", 100_000))
+        }
+        Sent::Cancel(who, number, target) => cancel(header(who, number, AB), target),
+        Sent::CancelUnder(symbol, who, number, target) => {
+            cancel(header(who, number, symbol), target)
+        }
+        Sent::Correct(who, number, target, price) => {
+            correction(header(who, number, AB), target, content(b"@   ", price))
+        }
+    }
+}
+
+fn listing(alloc: Global) -> Option<Listing> {
+    let symbols = [Symbol::try_new(*AB)?, Symbol::try_new(*CD)?];
+    let participants = [
+        Participant::try_new(b'N')?,
+        Participant::try_new(b'P')?,
+        Participant::try_new(b'Q')?,
+    ];
+    Listing::new(alloc, &symbols, &participants).ok()
+}
+
+/// An open tape of the day.
+pub(super) fn tape(alloc: Global) -> Option<Tape<IndexStore>> {
+    Tape::new(alloc, listing(alloc)?, 10).ok()
+}
+
+/// The day, which is empty.
+pub(super) fn prepared(alloc: Global) -> Option<Prepared> {
+    prepare(alloc, tape(alloc)?).ok()
+}
+
+/// How many entries the ended day has.
+pub(super) fn ended_len<D: DayName>(shared: SharedTape<D>, seats: Vec<LineSeat<D>>) -> Option<usize>
+    requires { IsOneEach D.listing.participants seats.items }
+{
+    match shared.end(seats) {
+        Ok(day) => Some(day.tape().entries().len()),
+        Err(EndFault::Disagrees(_)) => None,
+        Err(EndFault::MissingSeat(_unended)) => unreachable!(),
+    }
+}

@@ -1,0 +1,263 @@
+//! The worked rows of a tape, each through a shared one.
+ghost use Rattle.std.specs.Prelude.{◌≡◌};
+ghost use Rattle.line_ledger.specs.Ends.{IsOneEach};
+
+use super::days::Sent::{Cancel, CancelUnder, Correct, Report, ReportOf};
+use super::days::{AB, CD, EF, Sent, ended_len, message, prepared};
+use crate::{DayName, LineRefusal, LineSeat, Prepared, Receipt, SharedTape, View, ViewFault};
+use Answer::{Number, Refused, Shown};
+use Step::{Admit, Show};
+use scratch_fold::{Mark, Summary};
+use std::alloc::Global;
+use std::marker::Brand;
+use std::sync::Wait;
+use tape_types::Symbol;
+
+/// What a line does.
+#[derive(Clone, Copy)]
+enum Step {
+    Admit(Sent),
+    Show(&'static [u8; 8]),
+}
+
+/// A mark's price and place, 0 for none.
+type Place = (u64, u32);
+
+/// A summary in plain figures: open, high, low, last, volume and trades.
+type Figures = (Place, Place, Place, Place, u64, u32);
+
+/// What a line is answered, each refusal by its number.
+#[derive(Clone, Copy, PartialEq, Eq)]
+enum Answer {
+    /// The message has this tape number.
+    Number(u32),
+    Refused(u8),
+    /// The tape has so many entries, so many of them the line's own, and the symbol has this summary.
+    Shown(u32, u32, Figures),
+}
+
+const NOTHING: Figures = ((0, 0), (0, 0), (0, 0), (0, 0), 0, 0);
+
+/// The lines of N, P and Q are 0, 1 and 2.
+const A_CANCEL_GIVES_THE_LAST_BACK: [(usize, Step, Answer); 6] = [
+    (2, Admit(Report(b'Q', 1, b"@   ", 100_000)), Number(1)),
+    (0, Admit(Report(b'N', 1, b"@   ", 101_000)), Number(2)),
+    (2, Admit(Report(b'Q', 2, b"@ L ", 100_500)), Number(3)),
+    (
+        1,
+        Show(AB),
+        Shown(
+            3,
+            0,
+            (
+                (100_000, 1),
+                (101_000, 2),
+                (100_000, 1),
+                (101_000, 2),
+                300,
+                3,
+            ),
+        ),
+    ),
+    (0, Admit(Cancel(b'N', 2, 1)), Number(4)),
+    (
+        2,
+        Show(AB),
+        Shown(
+            4,
+            2,
+            (
+                (100_000, 1),
+                (100_500, 3),
+                (100_000, 1),
+                (100_500, 3),
+                200,
+                2,
+            ),
+        ),
+    ),
+];
+
+const A_CORRECTION_KEEPS_ITS_PLACE: [(usize, Step, Answer); 6] = [
+    (0, Admit(Report(b'N', 1, b"@   ", 100_000)), Number(1)),
+    (0, Admit(Report(b'N', 2, b"@   ", 102_000)), Number(2)),
+    (0, Admit(Report(b'N', 3, b"@   ", 102_000)), Number(3)),
+    (
+        0,
+        Show(AB),
+        Shown(
+            3,
+            3,
+            (
+                (100_000, 1),
+                (102_000, 2),
+                (100_000, 1),
+                (102_000, 3),
+                300,
+                3,
+            ),
+        ),
+    ),
+    (0, Admit(Correct(b'N', 4, 2, 99_000)), Number(4)),
+    (
+        0,
+        Show(AB),
+        Shown(
+            4,
+            4,
+            (
+                (100_000, 1),
+                (102_000, 3),
+                (99_000, 2),
+                (102_000, 3),
+                300,
+                3,
+            ),
+        ),
+    ),
+];
+
+const TARGETS_OF_EVERY_KIND: [(usize, Step, Answer); 9] = [
+    (0, Admit(Report(b'N', 1, b"@   ", 100_000)), Number(1)),
+    (0, Admit(Correct(b'N', 2, 1, 100_500)), Number(2)),
+    (0, Admit(Correct(b'N', 3, 2, 100_500)), Refused(37)),
+    (0, Admit(CancelUnder(CD, b'N', 3, 1)), Refused(38)),
+    (0, Admit(Cancel(b'N', 3, 1)), Number(3)),
+    (0, Admit(Correct(b'N', 4, 1, 100_500)), Refused(39)),
+    (0, Admit(Cancel(b'N', 4, 9)), Refused(37)),
+    (0, Show(AB), Shown(3, 3, NOTHING)),
+    (0, Show(CD), Shown(3, 3, NOTHING)),
+];
+
+const A_REFUSED_NUMBER_IS_USED_AGAIN: [(usize, Step, Answer); 8] = [
+    (0, Admit(Report(b'N', 1, b"@   ", 100_000)), Number(1)),
+    (0, Admit(Report(b'N', 1, b"@   ", 100_000)), Refused(35)),
+    (0, Admit(ReportOf(EF, b'N', 5)), Refused(36)),
+    (0, Show(EF), Refused(36)),
+    (0, Admit(Report(b'N', 5, b"@   ", 100_000)), Number(2)),
+    (0, Admit(Report(b'Z', 1, b"@   ", 100_000)), Refused(33)),
+    (0, Admit(Report(b'Q', 1, b"@   ", 100_000)), Refused(33)),
+    (
+        0,
+        Show(AB),
+        Shown(
+            2,
+            2,
+            (
+                (100_000, 1),
+                (100_000, 1),
+                (100_000, 1),
+                (100_000, 2),
+                200,
+                2,
+            ),
+        ),
+    ),
+];
+
+fn place(mark: Option<Mark>) -> Place {
+    match mark {
+        Some(mark) => (mark.price.value(), mark.place.value()),
+        None => (0, 0),
+    }
+}
+
+fn figures(summary: Summary) -> Figures {
+    (
+        place(summary.opening),
+        place(summary.high),
+        place(summary.low),
+        place(summary.last),
+        summary.volume,
+        summary.trades,
+    )
+}
+
+fn admission(answer: Result<Receipt, LineRefusal>) -> Answer {
+    match answer {
+        Ok(receipt) => Number(receipt.number().value()),
+        Err(refusal) => Refused(refusal.code()),
+    }
+}
+
+fn showing(answer: Result<View, ViewFault>) -> Answer {
+    match answer {
+        Ok(view) => Shown(view.count(), view.mine(), figures(view.summary())),
+        Err(fault) => Refused(fault.code()),
+    }
+}
+
+/// What the line is answered, `None` where the step is none.
+fn step_answer<D: DayName, R: Wait>(
+    rt: &R,
+    shared: &SharedTape<D>,
+    seat: &mut LineSeat<D>,
+    step: Step,
+) -> Option<Answer>
+    ensures { seat.new.who ≡ seat.old.who }
+{
+    match step {
+        Admit(sent) => Some(admission(shared.admit(rt, seat, message(sent)?))),
+        Show(name) => Some(showing(shared.view(rt, seat, Symbol::try_new(*name)?))),
+    }
+}
+
+/// How many steps are answered as they have to be, up to the first that is not.
+#[tactic(auto, using(crate::proofs::KeptSeats::each_set))]
+fn answered<D: DayName, R: Wait>(
+    rt: &R,
+    shared: &SharedTape<D>,
+    seats: &mut Vec<LineSeat<D>>,
+    steps: &[(usize, Step, Answer)],
+) -> usize
+    requires { IsOneEach D.listing.participants seats.old.items }
+    ensures { IsOneEach D.listing.participants seats.new.items }
+{
+    for at in 0..steps.len() {
+        let (line, step, wanted) = steps[at];
+        if line >= seats.len() || step_answer(rt, shared, &mut seats[line], step) != Some(wanted) {
+            return at;
+        }
+    }
+    steps.len()
+}
+
+/// How many steps are answered as they have to be, and how many entries the day has.
+fn played<D: DayName, R: Wait>(
+    rt: &R,
+    prepared: Prepared,
+    steps: &[(usize, Step, Answer)],
+) -> Option<(usize, usize)>
+    requires name { prepared.blank.name ≡ D.name }
+    requires parts { prepared.blank.parts ≡ D.parts }
+    requires listing { prepared.tape.listing ≡ D.listing }
+{
+    let Ok((shared, mut seats)) = SharedTape::<D>::open(prepared) else {
+        return None;
+    };
+    let many = answered(rt, &shared, &mut seats, steps);
+    Some((many, ended_len(shared, seats)?))
+}
+
+fn row<R: Wait>(rt: &R, alloc: Global, steps: &[(usize, Step, Answer)]) -> Option<(usize, usize)> {
+    let prepared = prepared(alloc)?;
+    played::<Brand, _>(rt, prepared, steps)
+}
+
+#[test]
+fn a_shared_tape_answers_the_worked_rows(rt: HostRuntime) {
+    let alloc = rt.alloc();
+    assert_eq!(rt;
+        row(&rt, alloc, &A_CANCEL_GIVES_THE_LAST_BACK),
+        Some((6, 4))
+    );
+    assert_eq!(rt;
+        row(&rt, alloc, &A_CORRECTION_KEEPS_ITS_PLACE),
+        Some((6, 4))
+    );
+    assert_eq!(rt; row(&rt, alloc, &TARGETS_OF_EVERY_KIND), Some((9, 3)));
+    assert_eq!(rt;
+        row(&rt, alloc, &A_REFUSED_NUMBER_IS_USED_AGAIN),
+        Some((8, 2))
+    );
+}

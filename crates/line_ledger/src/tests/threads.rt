@@ -1,0 +1,135 @@
+//! Two lines at once.
+ghost use Rattle.std.specs.Prelude.{◌≡◌, ◌<◌, length};
+ghost use Rattle.line_ledger.specs.Ends.{IsOneEach};
+
+use super::days::{AB, Sent, ended_len, message, prepared};
+use crate::{Day, DayName, EndFault, LineSeat, Prepared, SharedTape, Unended};
+use std::alloc::Global;
+use std::marker::Brand;
+use std::sync::Wait;
+use std::thread;
+use std::thread::Threads;
+use tape_types::Symbol;
+
+/// Sends so many reports on a line.
+fn send<D: DayName, R: Wait>(rt: &R, shared: &SharedTape<D>, seat: &mut LineSeat<D>, many: u32)
+    ensures { seat.new.who ≡ seat.old.who }
+{
+    let who = seat.participant().value();
+    for number in 1..=many {
+        if let Some(report) = message(Sent::Report(who, number, b"@   ", 100_000)) {
+            let _ = shared.admit(rt, seat, report);
+        }
+    }
+}
+
+/// How many reports come on a line.
+fn reports_of(line: usize) -> u32 {
+    match line {
+        0 => 3,
+        1 => 2,
+        _ => 1,
+    }
+}
+
+/// Sends three reports on the first line, two on the second and one on each other, each line in a thread.
+fn send_all<D: DayName + Send + Sync, R: Threads + Wait + Sync>(
+    rt: &R,
+    shared: &SharedTape<D>,
+    seats: &mut Vec<LineSeat<D>>,
+)
+    requires { IsOneEach D.listing.participants seats.old.items }
+    ensures { IsOneEach D.listing.participants seats.new.items }
+{
+    let workers = seats.len();
+    if workers == 0 {
+        return;
+    }
+    let work = |line: usize, seat: &mut LineSeat<D>|
+        ensures { seat.exit.now.who ≡ seat.entry.now.who }
+    { send(rt, shared, seat, reports_of(line)) };
+    thread::for_each_mut(rt, seats.as_mut_slice(), workers, &work);
+}
+
+/// How many entries each view shows of its line, where it shows as many as the line was told of.
+fn own_counts<D: DayName, R: Wait>(
+    rt: &R,
+    shared: &SharedTape<D>,
+    seats: &[LineSeat<D>],
+) -> Option<(u32, u32, u32)> {
+    let symbol = Symbol::try_new(*AB)?;
+    let mut counts = (0, 0, 0);
+    for seat in seats {
+        let view = shared.view(rt, seat, symbol).ok()?;
+        if view.mine() != seat.count() {
+            return None;
+        }
+        counts = (counts.1, counts.2, view.mine());
+    }
+    Some(counts)
+}
+
+/// The number of an end's fault, 0 for none.
+fn code_of<D: DayName>(ended: &Result<Day, EndFault<D>>) -> u8 {
+    match ended {
+        Ok(_) => 0,
+        Err(fault) => fault.code(),
+    }
+}
+
+/// The number of the fault of an end without seats, and how many entries the day has that then ends with them.
+fn late_end<D: DayName>(
+    alloc: Global,
+    shared: SharedTape<D>,
+    seats: Vec<LineSeat<D>>,
+) -> Option<(u8, usize)>
+    requires each { IsOneEach D.listing.participants seats.items }
+    requires some { 0 < length D.listing.participants }
+{
+    let ended = shared.end(Vec::new(alloc));
+    let code = code_of(&ended);
+    let unended = match ended {
+        Ok(_day) => unreachable!(),
+        Err(EndFault::Disagrees(_disagreement)) => unreachable!(),
+        Err(EndFault::MissingSeat(unended)) => unended,
+    };
+    let Unended {
+        shared,
+        seats: none,
+    } = unended;
+    none.destroy_empty();
+    Some((code, ended_len(shared, seats)?))
+}
+
+/// What the lines of N, P and Q counted, and what the end without seats and the day's end came to.
+fn lines_at_once<D: DayName + Send + Sync, R: Threads + Wait + Sync>(
+    rt: &R,
+    alloc: Global,
+    prepared: Prepared,
+) -> Option<((u32, u32, u32), (u8, usize))>
+    requires name { prepared.blank.name ≡ D.name }
+    requires parts { prepared.blank.parts ≡ D.parts }
+    requires listing { prepared.tape.listing ≡ D.listing }
+    requires some { 0 < length D.listing.participants }
+{
+    let Ok((shared, mut seats)) = SharedTape::<D>::open(prepared) else {
+        return None;
+    };
+    send_all(rt, &shared, &mut seats);
+    let counts = own_counts(rt, &shared, seats.as_slice());
+    let ended = late_end(alloc, shared, seats)?;
+    Some((counts?, ended))
+}
+
+fn day_of_lines<R: Threads + Wait + Sync>(
+    rt: &R,
+    alloc: Global,
+) -> Option<((u32, u32, u32), (u8, usize))> {
+    let prepared = prepared(alloc)?;
+    lines_at_once::<Brand, _>(rt, alloc, prepared)
+}
+
+#[test]
+fn lines_at_once_make_one_tape(rt: HostRuntime) {
+    assert_eq!(rt; day_of_lines(&rt, rt.alloc()), Some(((3, 2, 1), (91, 6))));
+}

@@ -1,0 +1,37 @@
+//! Why a line is not shown the tape.
+ghost use Rattle.std.specs.Prelude.{◌≡◌};
+ghost use Rattle.line_ledger.specs.Faults.{view_fault_code, view_fault_name};
+
+use thiserror::Error;
+
+/// Why a line is not shown a symbol's summary, the first reason that applies.
+#[derive(Clone, Copy, Debug, PartialEq, Eq, Error)]
+#[error("{}", self.name())]
+pub enum ViewFault {
+    /// 36 UnknownSymbol: the symbol is not listed.
+    UnknownSymbol,
+    /// 94 Behind: the tape's count, sizes or last number of the participant is not what its line was told.
+    Behind,
+}
+
+impl ViewFault {
+    /// The number of the fault.
+    pub fn code(self) -> u8
+        ensures code { result ≡ view_fault_code self }
+    {
+        match self {
+            ViewFault::UnknownSymbol => 36,
+            ViewFault::Behind => 94,
+        }
+    }
+
+    /// The name of the fault, as it is printed.
+    pub fn name(self) -> &'static str
+        ensures name { result.now ≡ view_fault_name self }
+    {
+        match self {
+            ViewFault::UnknownSymbol => "UnknownSymbol",
+            ViewFault::Behind => "Behind",
+        }
+    }
+}
