@@ -29,7 +29,7 @@ abbrev pub is_nil : {A : Type 0} → List A → Bool
 is_nil [] = true
 is_nil (x ∷ xs) = false
 
--- the fault of two lists of names, want of memory aside
+-- the fault of two lists of names, out of memory aside
 abbrev pub refusal_of : List (List ℕ) → List ℕ → Option ListingFault
 refusal_of symbols participants = first_fault (
     (is_nil symbols || is_nil participants, Empty) ∷

@@ -58,7 +58,7 @@ impl Listing {
         }
         let symbols = match in_order(alloc, symbols) {
             Ok(symbols) => symbols,
-            // A name that stands twice is told of before want of memory, in either list.
+            // A name that stands twice is told of before OutOfMemory, in either list.
             Err(ListingFault::OutOfMemory) if has_repeat(participants) => {
                 return Err(ListingFault::Repeated);
             }

@@ -240,7 +240,7 @@ pub fn batch_over<T: Threads + Sync, R: Read, W: Write>(
     let Ok(left) = BufReader::with_capacity(alloc, READ_PIECE, reader.take(INPUT_LIMIT + 1)) else {
         return BatchEnd::OutOfMemory;
     };
-    // Room to write comes first, so that it takes none to tell a refusal for want of memory.
+    // Room to write comes first, so that it takes none to tell a refusal out of memory.
     let Ok(mut gathered) = Gathered::new(alloc) else {
         return BatchEnd::OutOfMemory;
     };
