@@ -182,7 +182,7 @@ impl Dice {
 }
 
 fn changes_and_empties<R: Abort>(rt: &R, both: &mut Both) -> Result<(), Fail> {
-    both.follow_dice(rt, 8_000, 3_000)?;
+    both.follow_dice(rt, 10_000, 3_000)?;
     assert!(rt; both.plain.summary(rt).trades > 2_000);
     both.empty_to(rt, 3_000)
 }
