@@ -1,5 +1,5 @@
 -- A disagreement is one.
-use Rattle.std.proofs.Common.{◌≡◌, ◌<◌, ℕ, List, length, slice_get, Some, ap, subst, ◌∙◌, sym, arith}
+use Rattle.std.proofs.Common.{◌≡◌, ◌<◌, ℕ, List, length, slice_get, ap, subst, ◌∙◌, sym}
 use Rattle.std.proofs.lemmas.Option.{same_Some, slice_get_within}
 use Rattle.tape_core.specs.declared.entry.Entry.{Entry}
 use Rattle.line_ledger.specs.Seats.{SeatState}

@@ -1,4 +1,4 @@
-use Rattle.std.proofs.Common.{rules, ◌≡◌, ◌≤◌, None, ap, ◌∙◌, length, map, take, subst}
+use Rattle.std.proofs.Common.{rules, ◌≡◌, ◌≤◌, None, ap, ◌∙◌, length, map, subst}
 use Rattle.std.proofs.Math.Seq.{take_all}
 use Rattle.tape_types.specs.Names.{refusal_of}
 use Rattle.line_ledger.specs.Ends.{IsOneEach}
