@@ -357,7 +357,7 @@ module _ {V : Type 0} where
       remove-first _ _ _ both-of (all_values bs2 es) k (values_of bs2) (none-below (values_in es) k above) is (both-parts (joined bs2) es),
     )
 
-    -- the last block cut in two, the lower part of it put behind the others
+    -- the last block cut in two, the lower part of it put after the others
     pub last-cut : (i : ℕ) → 0 < i → i ≤ length es → let bs2 = bs ++ take i es ∷ [] in HasLastBlock bs2 (drop i es) × (all_values bs2 (drop i es) ≡ all_values bs es)
     last-cut i some within =
         let count = length-take-le i es within in
@@ -402,7 +402,7 @@ module _ {V : Type 0} where
     pub all-vacant : IsVacant (values_of bs) → IsVacant (values_in es) → IsVacant (all_values bs es)
     all-vacant first second q = both-of q ∙ ap (λ o. either o (map.get (values_in es) q)) (first q) ∙ second q
 
-  -- a place behind all blocks is above all
+  -- a place after all blocks is above all
   pub above-blocks : (k : ℕ) (bs : List (List (ℕ × V))) → IsBlockList bs → IsBlockFor k bs (length bs) → AllBelow (values_of bs) k
   above-blocks k bs valid at q some = elim (cases_lt q k) [
     | inl lt ↦ lt

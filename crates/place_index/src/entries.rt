@@ -103,7 +103,7 @@ fn make_room<V: Copy>(
     cut(alloc, blocks, last, index)
 }
 
-/// Moves the entries of the last block before an index into a block of their own behind the others. Out of memory, the
+/// Moves the entries of the last block before an index into a block of their own after the others. Out of memory, the
 /// blocks are unchanged: the upper part is copied and finds its place before the lower one is shortened.
 fn cut<V: Copy>(
     alloc: Global,

@@ -58,7 +58,7 @@ const OUT_OF_SEQUENCE: Cells = Cells {
     volume: true,
 };
 
-/// The trade may be told late: it is the last only behind one of its own participant, or where there is none.
+/// The trade may be told late: it is the last only after one of its own participant, or where there is none.
 const SOLD_LAST: Cells = Cells {
     ch: true,
     cl: LastRule::SameMarket,

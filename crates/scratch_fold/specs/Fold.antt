@@ -11,7 +11,7 @@ use Rattle.sale_matrix.specs.declared.matrix.LastRule.TheVariants.{Always, SameM
 abbrev pub PlacedEffect : Type 0
 PlacedEffect = ℕ × Effect
 
--- each report stands behind those before it on the tape
+-- each report stands after those before it on the tape
 abbrev pub PlacesRise : List PlacedEffect → Type 0
 PlacesRise reports = IsStrictlyIncreasing (map (λ r. r.0) reports)
 

@@ -17,7 +17,7 @@ is_always_effect e = is_always e.last
 abbrev pub is_conditional_effect : Effect → Bool
 is_conditional_effect e = is_conditional e.last
 
--- whether the effect is of `who` and sets the last behind its own participant
+-- whether the effect is of `who` and sets the last after its own participant
 abbrev pub is_same_market_of : ℕ → Effect → Bool
 is_same_market_of who e = is_same_market e.last && (who == e.who)
 

@@ -73,7 +73,7 @@ fn flushed<W: Write>(writer: &mut W, end: BatchEnd) -> BatchEnd
     }
 }
 
-/// Answers the lines of an input that are left behind its header: the day that they leave.
+/// Answers the lines of an input that are left after its header: the day that they leave.
 fn read_day<B: BufRead>(
     alloc: Global,
     listing: Listing,
@@ -260,7 +260,7 @@ mod tests {
     use tape_core::Refusal;
     use tape_types::{Participant, Symbol};
 
-    /// A writer that keeps what it takes, and whether it was flushed behind that.
+    /// A writer that keeps what it takes, and whether it was flushed after that.
     #[derive(Drop)]
     struct Flushed {
         taken: Vec<u8>,
