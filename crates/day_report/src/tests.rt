@@ -54,11 +54,12 @@ fn report() -> Option<Message> {
 }
 
 /// A tape of five symbols with one report.
-fn five(alloc: Global) -> Option<Tape<ScratchStore>> {
-    let listing = listing(alloc)?;
-    let mut tape = Tape::new(alloc, listing, 10).ok()?;
-    tape.admit(report()?).ok()?;
-    Some(tape)
+fn five(alloc: Global) -> Result<Tape<ScratchStore>, Fail> {
+    let listing = listing(alloc).ok_or("listing")?;
+    let report = report().ok_or("report")?;
+    let mut tape = Tape::new(alloc, listing, 10)?;
+    tape.admit(report)?;
+    Ok(tape)
 }
 
 /// The report's text, whose rows so many workers make.
@@ -87,7 +88,7 @@ fn assert_text<A: Abort + Threads + Sync>(
 
 #[test]
 fn every_number_of_workers_makes_the_same_bytes(rt: HostRuntime) -> Result<(), Fail> {
-    let tape = five(rt.alloc()).ok_or("tape")?;
+    let tape = five(rt.alloc())?;
     for workers in [1, 2, 64] {
         assert_text(&rt, rt.alloc(), &tape, workers);
     }
@@ -96,7 +97,7 @@ fn every_number_of_workers_makes_the_same_bytes(rt: HostRuntime) -> Result<(), F
 
 #[test]
 fn no_worker_and_one_too_many_are_refused(rt: HostRuntime) -> Result<(), Fail> {
-    let tape = five(rt.alloc()).ok_or("tape")?;
+    let tape = five(rt.alloc())?;
     for workers in [0, 65, usize::MAX] {
         let fault = rows(&rt, rt.alloc(), &tape, workers, &NoGate).err();
         assert_eq!(rt; fault, Some(ReportFault::BadWorkers));
@@ -132,7 +133,7 @@ impl Gate for Meeting {
 
 #[test]
 fn two_workers_run_at_once(rt: HostRuntime) -> Result<(), Fail> {
-    let tape = five(rt.alloc()).ok_or("tape")?;
+    let tape = five(rt.alloc())?;
     let meeting = Meeting {
         done: [AtomicU32::new(0), AtomicU32::new(0)],
         met: AtomicU32::new(0),
@@ -143,34 +144,36 @@ fn two_workers_run_at_once(rt: HostRuntime) -> Result<(), Fail> {
     Ok(())
 }
 
-/// A gate that counts its calls, and adds up the workers and the turns that it is told.
+/// A gate that counts its calls, and those of the second worker, and adds up the turns that it is told.
 #[derive(Drop)]
 struct Count {
     calls: AtomicU32,
-    workers: AtomicU32,
+    second: AtomicU32,
     turns: AtomicU32,
 }
 
 impl Gate for Count {
     fn between(&self, worker: usize, turn: u32) {
         self.calls.fetch_add(1, Ordering::SeqCst);
-        self.workers.fetch_add(worker as u32, Ordering::SeqCst);
+        if worker == 1 {
+            self.second.fetch_add(1, Ordering::SeqCst);
+        }
         self.turns.fetch_add(turn, Ordering::SeqCst);
     }
 }
 
 #[test]
 fn the_gate_is_called_after_each_symbol(rt: HostRuntime) -> Result<(), Fail> {
-    let tape = five(rt.alloc()).ok_or("tape")?;
+    let tape = five(rt.alloc())?;
     let count = Count {
         calls: AtomicU32::new(0),
-        workers: AtomicU32::new(0),
+        second: AtomicU32::new(0),
         turns: AtomicU32::new(0),
     };
     // Worker 0 has three symbols and worker 1 two.
     rows(&rt, rt.alloc(), &tape, 2, &count)?;
     assert_eq!(rt; count.calls.load(Ordering::SeqCst), 5);
-    assert_eq!(rt; count.workers.load(Ordering::SeqCst), 2);
+    assert_eq!(rt; count.second.load(Ordering::SeqCst), 2);
     assert_eq!(rt; count.turns.load(Ordering::SeqCst), 1 + 2 + 3 + 1 + 2);
     Ok(())
 }
