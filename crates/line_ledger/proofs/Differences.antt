@@ -23,17 +23,22 @@ told-Decides t e =
     (Decides-and (t.number == e.number) _ (Decides-eqb t.number e.number) (message-Decides t.message e.message))
 
 pub told_of-yes : (who : ℕ) (e : Entry) (es : List Entry) → is_of who e.message ≡ true → told_of who (e ∷ es) ≡ told_entry e ∷ told_of who es
-told_of-yes who e es own = ap (map told_entry) (cond-true (is_of who e.message) (e ∷ filter (λ x. is_of who x.message) es) (filter (λ x. is_of who x.message) es) own)
+told_of-yes who e es own = ap (map told_entry) (cond-true (is_of who e.message) (e ∷ filter (λ x. is_of who x.message) es)
+    (filter (λ x. is_of who x.message) es) own)
 
 pub told_of-no : (who : ℕ) (e : Entry) (es : List Entry) → is_of who e.message ≡ false → told_of who (e ∷ es) ≡ told_of who es
-told_of-no who e es other_line = ap (map told_entry) (cond-false (is_of who e.message) (e ∷ filter (λ x. is_of who x.message) es) (filter (λ x. is_of who x.message) es) other_line)
+told_of-no who e es other_line = ap (map told_entry) (cond-false (is_of who e.message) (e ∷ filter (λ x. is_of who x.message) es)
+    (filter (λ x. is_of who x.message) es) other_line)
 
 pub told_of-append : (who : ℕ) (xs ys : List Entry) → told_of who (xs ++ ys) ≡ told_of who xs ++ told_of who ys
 told_of-append who [] ys = refl
-told_of-append who (x ∷ xs) ys = elim (is_of who x.message) as (λ b. is_of who x.message ≡ b → told_of who (x ∷ xs ++ ys) ≡ told_of who (x ∷ xs) ++ told_of who ys) [
-  | true ↦ λ own. told_of-yes who x (xs ++ ys) own ∙ ap (λ l. told_entry x ∷ l) (told_of-append who xs ys) ∙ ap (λ l. l ++ told_of who ys) (sym (told_of-yes who x xs own))
-  | false ↦ λ other_line. told_of-no who x (xs ++ ys) other_line ∙ told_of-append who xs ys ∙ ap (λ l. l ++ told_of who ys) (sym (told_of-no who x xs other_line))
-] refl
+told_of-append who (x ∷ xs) ys = elim (is_of who x.message) as (λ b. is_of who x.message ≡ b → told_of who (x ∷ xs ++ ys)
+    ≡ told_of who (x ∷ xs) ++ told_of who ys) [
+      | true ↦ λ own. told_of-yes who x (xs ++ ys) own ∙ ap (λ l. told_entry x ∷ l) (told_of-append who xs ys) ∙ ap (λ l. l ++ told_of who ys)
+          (sym (told_of-yes who x xs own))
+      | false ↦ λ other_line. told_of-no who x (xs ++ ys) other_line ∙ told_of-append who xs ys ∙ ap (λ l. l ++ told_of who ys)
+          (sym (told_of-no who x xs other_line))
+    ] refl
 
 -- one entry more: of the participant, or of another
 pub told_of-more : (who : ℕ) (es : List Entry) (i : ℕ) (e : Entry) → i < length es → e ≡ get_or es i e → is_of who e.message ≡ true
@@ -66,9 +71,11 @@ differs_at who es told i at e within is own so_far most other =
     ∙ ap (λ l. take at told ++ l) (told_of-yes who e (drop (suc i) es) own) in
     let there : slice_get (take at told ++ told_entry e ∷ rest) at ≡ Some (told_entry e) =
     slice_get-get_or (take at told ++ told_entry e ∷ rest) at (told_entry e) (omega (arith, long, length-append (take at told) (told_entry e ∷ rest)))
-    ∙ ap (λ n. Some (get_or (take at told ++ told_entry e ∷ rest) n (told_entry e))) (sym long) ∙ ap Some (get_or-append_seam (take at told) (told_entry e) rest (told_entry e)) in
+    ∙ ap (λ n. Some (get_or (take at told ++ told_entry e ∷ rest) n (told_entry e))) (sym long)
+    ∙ ap Some (get_or-append_seam (take at told) (told_entry e) rest (told_entry e)) in
     record {
-      before = sym (ap (take at) whole ∙ ap (λ n. take n (take at told ++ told_entry e ∷ rest)) (sym long) ∙ take-append_seam (take at told) (told_entry e ∷ rest));
+      before = sym (ap (take at) whole ∙ ap (λ n. take n (take at told ++ told_entry e ∷ rest)) (sym long) ∙ take-append_seam (take at told)
+          (told_entry e ∷ rest));
       here = λ same. other (same ∙ ap (λ l. slice_get l at) whole ∙ there);
     }
 

@@ -8,14 +8,20 @@ use Rattle.line_ledger.proofs.Differences.{differs_apart, differs_once, same_fro
 
 module _ (participants : List ℕ) (entries : List Entry) (seats : List SeatState) where
   -- the seats of the participants before it were told their entries
-  not-before : (who at other place : ℕ) (one : DisagreesAt participants entries seats who at) (two : DisagreesAt participants entries seats other place) → one.k < two.k → ⊥
+  not-before : (who at other place : ℕ) (one : DisagreesAt participants entries seats who at)
+      (two : DisagreesAt participants entries seats other place) → one.k < two.k → ⊥
   not-before who at other place one two less = differs_apart (told_by who seats) (told_of who entries) at one.first (two.before one.k who less one.listed)
 
   pub either : (who at : ℕ) → DisagreesAt participants entries seats who at → FirstTold (length participants) participants entries seats → ⊥
-  either who at one told = differs_apart (told_by who seats) (told_of who entries) at one.first (told one.k who (slice_get_within participants one.k who one.listed) one.listed)
+  either who at one told = differs_apart (told_by who seats) (told_of who entries) at one.first
+      (told one.k who (slice_get_within participants one.k who one.listed) one.listed)
 
-  pub only : (who at other place : ℕ) → DisagreesAt participants entries seats who at → DisagreesAt participants entries seats other place → (who ≡ other) × (at ≡ place)
+  pub only : (who at other place : ℕ) → DisagreesAt participants entries seats who at → DisagreesAt participants entries seats other place
+      → (who ≡ other) × (at ≡ place)
   only who at other place one two =
       let here : one.k ≡ two.k = same_from (not-before who at other place one two) (not-before other place who at two one) in
-      let same : who ≡ other = same_Some who other (sym one.listed ∙ ap (slice_get participants) here ∙ two.listed) in
-      (same, differs_once (told_by who seats) (told_of who entries) at place one.first (subst (λ w. DiffersFirst (told_by w seats) (told_of w entries) place) (sym same) two.first))
+      let same : who ≡ other = same_Some who other (sym one.listed ∙ ap (slice_get participants) here ∙ two.listed) in (
+        same,
+        differs_once (told_by who seats) (told_of who entries) at place one.first
+            (subst (λ w. DiffersFirst (told_by w seats) (told_of w entries) place) (sym same) two.first),
+      )

@@ -40,7 +40,13 @@ module _ (t : TapeState) (m : Message) where
 
   -- a refusal of another number says nothing
   other-says : (r : Refusal) → 37 ≤ refusal_code r → Says t m r
-  other-says r high = record { wrong_line = λ e. omega arith; closed = λ e. absurd (omega arith); unknown = λ e. absurd (omega arith); stale = λ e. absurd (omega arith); unlisted = λ e. absurd (omega arith) }
+  other-says r high = record {
+    wrong_line = λ e. omega arith;
+    closed = λ e. absurd (omega arith);
+    unknown = λ e. absurd (omega arith);
+    stale = λ e. absurd (omega arith);
+    unlisted = λ e. absurd (omega arith);
+  }
 
   targets-say : (tape : List NumberedMessage) (symbol : List ℕ) (o : Option NumberedMessage) → AllSay (target_faults tape symbol o)
   targets-say tape symbol None = (λ _. other-says _ (omega arith), tt)
@@ -57,17 +63,48 @@ module _ (t : TapeState) (m : Message) where
       let who = (header_of m).participant in
       let cases : List (Bool × Refusal) =
       (t.closed, Closed) ∷ (length t.entries == t.limit, Full) ∷ (not (lists_participant t.listing who), UnknownParticipant)
-      ∷ (nat_le (header_of m).number (last_number tape who), Stale) ∷ (not (lists_symbol t.listing (header_of m).symbol), UnknownSymbol) ∷ message_faults tape m in
+      ∷ (nat_le (header_of m).number (last_number tape who), Stale) ∷ (not (lists_symbol t.listing (header_of m).symbol), UnknownSymbol) ∷
+      message_faults tape m in
       let all : AllSay cases = (
-        (λ b. record { wrong_line = λ e. omega arith; closed = λ e. b; unknown = λ e. absurd (omega arith); stale = λ e. absurd (omega arith); unlisted = λ e. absurd (omega arith) }),
+        (λ b. record {
+          wrong_line = λ e. omega arith;
+          closed = λ e. b;
+          unknown = λ e. absurd (omega arith);
+          stale = λ e. absurd (omega arith);
+          unlisted = λ e. absurd (omega arith);
+        }),
         (
-          (λ b. record { wrong_line = λ e. omega arith; closed = λ e. absurd (omega arith); unknown = λ e. absurd (omega arith); stale = λ e. absurd (omega arith); unlisted = λ e. absurd (omega arith) }),
+          (λ b. record {
+            wrong_line = λ e. omega arith;
+            closed = λ e. absurd (omega arith);
+            unknown = λ e. absurd (omega arith);
+            stale = λ e. absurd (omega arith);
+            unlisted = λ e. absurd (omega arith);
+          }),
           (
-            (λ b. record { wrong_line = λ e. omega arith; closed = λ e. absurd (omega arith); unknown = λ e. b; stale = λ e. absurd (omega arith); unlisted = λ e. absurd (omega arith) }),
+            (λ b. record {
+              wrong_line = λ e. omega arith;
+              closed = λ e. absurd (omega arith);
+              unknown = λ e. b;
+              stale = λ e. absurd (omega arith);
+              unlisted = λ e. absurd (omega arith);
+            }),
             (
-              (λ b. record { wrong_line = λ e. omega arith; closed = λ e. absurd (omega arith); unknown = λ e. absurd (omega arith); stale = λ e. b; unlisted = λ e. absurd (omega arith) }),
+              (λ b. record {
+                wrong_line = λ e. omega arith;
+                closed = λ e. absurd (omega arith);
+                unknown = λ e. absurd (omega arith);
+                stale = λ e. b;
+                unlisted = λ e. absurd (omega arith);
+              }),
               (
-                (λ b. record { wrong_line = λ e. omega arith; closed = λ e. absurd (omega arith); unknown = λ e. absurd (omega arith); stale = λ e. absurd (omega arith); unlisted = λ e. b }),
+                (λ b. record {
+                  wrong_line = λ e. omega arith;
+                  closed = λ e. absurd (omega arith);
+                  unknown = λ e. absurd (omega arith);
+                  stale = λ e. absurd (omega arith);
+                  unlisted = λ e. b;
+                }),
                 message-says tape m,
               ),
             ),
@@ -100,7 +137,8 @@ refuses_other t s m other = grind (arith, nat_tests, other)
 refuses_behind : (t : TapeState) (s : SeatState) (m : Message) → (header_of m).participant ≡ s.who → agrees t s ≡ false → line_refusal t s m ≡ Some Behind
 refuses_behind t s m own late = grind (arith, nat_tests, own, late)
 
-refuses_as_tape : (t : TapeState) (s : SeatState) (m : Message) → (header_of m).participant ≡ s.who → agrees t s ≡ true → line_refusal t s m ≡ option_map Refused (refusal t m)
+refuses_as_tape : (t : TapeState) (s : SeatState) (m : Message) → (header_of m).participant ≡ s.who → agrees t s ≡ true
+    → line_refusal t s m ≡ option_map Refused (refusal t m)
 refuses_as_tape t s m own same = grind (arith, nat_tests, own, same)
 
 is_why : (t : TapeState) (s : SeatState) (m : Message) (why : LineRefusal) → why ≡ unwrap_or (line_refusal t s m) (Refused OutOfMemory) → IsWhy t s m why
@@ -124,13 +162,14 @@ not-true false is = refl
 
 learns : (listing : Names) (t : TapeState) (s : SeatState) (m : Message) (why : LineRefusal) → IsDay listing t → lists_participant listing s.who ≡ true
     → IsWhy t s m why → Learns listing s m (line_refusal_code why)
-learns listing t s m why day listed reasons = elim ((header_of m).participant == s.who) as (λ b. ((header_of m).participant == s.who) ≡ b → Learns listing s m (line_refusal_code why)) [
-  | false ↦ λ e. other (neq e)
-  | true ↦ λ e. elim (agrees t s) as (λ b. agrees t s ≡ b → Learns listing s m (line_refusal_code why)) [
-    | false ↦ λ late. behind (eq e) late
-    | true ↦ λ same. tape (eq e) same
-  ] refl
-] refl
+learns listing t s m why day listed reasons = elim ((header_of m).participant == s.who) as
+    (λ b. ((header_of m).participant == s.who) ≡ b → Learns listing s m (line_refusal_code why)) [
+      | false ↦ λ e. other (neq e)
+      | true ↦ λ e. elim (agrees t s) as (λ b. agrees t s ≡ b → Learns listing s m (line_refusal_code why)) [
+        | false ↦ λ late. behind (eq e) late
+        | true ↦ λ same. tape (eq e) same
+      ] refl
+    ] refl
   where
     neq : ((header_of m).participant == s.who) ≡ false → (header_of m).participant ≢ s.who
     neq e = grind (arith, nat_tests, e)
@@ -140,17 +179,32 @@ learns listing t s m why day listed reasons = elim ((header_of m).participant ==
 
     other : (header_of m).participant ≢ s.who → Learns listing s m (line_refusal_code why)
     other not_own = subst (λ x. Learns listing s m (line_refusal_code x)) (sym (reasons.wrong_line not_own))
-        (record { wrong_line = λ e. not_own; stale = λ e. omega arith; unlisted = λ e. absurd (omega arith); never_closed = λ e. omega arith; never_unknown = λ e. omega arith })
+        (record {
+          wrong_line = λ e. not_own;
+          stale = λ e. omega arith;
+          unlisted = λ e. absurd (omega arith);
+          never_closed = λ e. omega arith;
+          never_unknown = λ e. omega arith;
+        })
 
     behind : (header_of m).participant ≡ s.who → agrees t s ≡ false → Learns listing s m (line_refusal_code why)
     behind own late = subst (λ x. Learns listing s m (line_refusal_code x)) (sym (reasons.behind own late))
-        (record { wrong_line = λ e. absurd (omega arith); stale = λ e. omega arith; unlisted = λ e. absurd (omega arith); never_closed = λ e. omega arith; never_unknown = λ e. omega arith })
+        (record {
+          wrong_line = λ e. absurd (omega arith);
+          stale = λ e. omega arith;
+          unlisted = λ e. absurd (omega arith);
+          never_closed = λ e. omega
+              arith;
+          never_unknown = λ e. omega arith;
+        })
 
     tape : (header_of m).participant ≡ s.who → agrees t s ≡ true → Learns listing s m (line_refusal_code why)
     tape own same =
         let says = answer-says t m (refusal t m) refl in
-        let last : last_number (messages_of t.entries) (header_of m).participant ≡ last_told 0 s.told = ap (last_number (messages_of t.entries)) own ∙ agrees-last t s same in
-        let known : lists_participant t.listing (header_of m).participant ≡ true = ap (lists_participant t.listing) own ∙ ap (λ l. lists_participant l s.who) day.listed ∙ listed in
+        let last : last_number (messages_of t.entries) (header_of m).participant ≡ last_told 0 s.told = ap (last_number (messages_of t.entries)) own
+        ∙ agrees-last t s same in
+        let known : lists_participant t.listing (header_of m).participant ≡ true = ap (lists_participant t.listing) own ∙ ap
+        (λ l. lists_participant l s.who) day.listed ∙ listed in
         subst (λ x. Learns listing s m (line_refusal_code x)) (sym (reasons.tape own same))
         (record {
           wrong_line = λ e. absurd (says.wrong_line e);
@@ -178,5 +232,6 @@ tells_why listing t s m why t' s' day listed refuses =
     }
 
 -- an admission is above what the seat was told
-pub tells : (t : TapeState) (s : SeatState) (m : Message) → line_refusal t s m ≡ None → ((header_of m).participant ≡ s.who) × (agrees t s ≡ true) × (refusal t m ≡ None)
+pub tells : (t : TapeState) (s : SeatState) (m : Message) → line_refusal t s m ≡ None
+    → ((header_of m).participant ≡ s.who) × (agrees t s ≡ true) × (refusal t m ≡ None)
 tells t s m may = (grind (arith, nat_tests, may), grind (arith, nat_tests, may), grind (arith, nat_tests, may))

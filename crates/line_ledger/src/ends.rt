@@ -54,7 +54,8 @@ pub(crate) fn find_disagreement<D: DayName>(
     seats: &[LineSeat<D>],
 ) -> Option<(Participant, usize)>
     ensures { let listed = tape.now.listing.participants in
-        MatchOption result (FirstTold (length listed) listed tape.now.entries seats.now) (λ found. DisagreesAt listed tape.now.entries seats.now found.0 found.1) }
+        MatchOption result (FirstTold (length listed) listed tape.now.entries seats.now)
+        (λ found. DisagreesAt listed tape.now.entries seats.now found.0 found.1) }
 {
     let participants = tape.listing().participants().as_slice();
     for who in participants {

@@ -37,7 +37,8 @@ impl<D: DayName> Model for Locked<D> {
 
     ghost view = { λ l. l.tape };
 
-    ghost invariant = { λ l. IsDay D.listing l.tape × (l.book.total ≡ length l.tape.entries) × (l.rest.parts ≡ 0) × (l.rest.amount ≡ 0) × (D.parts ≡ length D.listing.participants) };
+    ghost invariant = { λ l. IsDay D.listing l.tape × (l.book.total ≡ length l.tape.entries)
+        × (l.rest.parts ≡ 0) × (l.rest.amount ≡ 0) × (D.parts ≡ length D.listing.participants) };
 }
 
 /// The right of one participant's line to admit messages, and what the line was told. It can't be dropped: only an end of

@@ -19,8 +19,11 @@ pub loop-entry-preserved : goal.loop-entry-preserved
 loop-entry-preserved c =
     let own : is_of c.args.who c.entry-item.result.message ≡ true = search rules in
     let here : slice_get c.args.told.now c.loop-entry.at ≡ Some (told_entry c.entry-item.result) = search rules in
-    let more = told_of-more c.args.who c.args.entries.now c.loop-entry.entry-index c.entry-item.result c.loop-entry-test.true c.entry-item.is own in
-    (grind (arith, more, c.loop-entry.invariant.0, told_more c.args.told.now c.loop-entry.at (told_entry c.entry-item.result) here), omega (arith, slice_get_within c.args.told.now c.loop-entry.at (told_entry c.entry-item.result) here), omega (arith, c.loop-entry.invariant.2))
+    let more = told_of-more c.args.who c.args.entries.now c.loop-entry.entry-index c.entry-item.result c.loop-entry-test.true c.entry-item.is own in (
+      grind (arith, more, c.loop-entry.invariant.0, told_more c.args.told.now c.loop-entry.at (told_entry c.entry-item.result) here),
+      omega (arith, slice_get_within c.args.told.now c.loop-entry.at (told_entry c.entry-item.result) here),
+      omega (arith, c.loop-entry.invariant.2),
+    )
 
 pub returns-else-at-told : goal.returns-else-at-told
 returns-else-at-told c =
