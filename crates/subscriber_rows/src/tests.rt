@@ -1,7 +1,9 @@
-//! Worked rows and seeded schedules, each packet as its bytes.
+//! Packets and the window by worked rows and vectors, and a subscriber's worked rows and seeded schedules, each packet as its bytes.
 
 mod feed;
 mod memory;
+mod packets;
 mod rows;
 mod schedules;
 mod steps;
+mod window;

@@ -3,6 +3,7 @@
 mod book;
 mod matrix;
 mod messages;
+mod places;
 mod prices;
 mod tape;
 mod targets;

@@ -1,6 +1,6 @@
 //! Blocks that are cut and emptied, a set of places, and the places of participants.
 
-use crate::{MarketIndex, PlaceIndex};
+use place_index::{MarketIndex, PlaceIndex};
 use price_index::Searches;
 use std::process::Abort;
 use std::test::Fail;
