@@ -1,80 +1,103 @@
 //! What no clause says: that a listing is made where there is memory, the printed names of its faults, and printed numbers.
-use std::process::Abort;
-use std::test::Fail;
+
+use super::printing::prints_as;
+use std::alloc::Global;
 use tape_types::{Listing, ListingFault, Participant, Price, Symbol, TapeNumber};
 
-fn symbol(rt: &impl Abort, name: &[u8; 8]) -> Symbol {
-    Symbol::try_new(*name).expect(rt, "a symbol")
+fn symbols(names: [&[u8; 8]; 2]) -> Option<[Symbol; 2]> {
+    Some([Symbol::try_new(*names[0])?, Symbol::try_new(*names[1])?])
 }
 
-fn participant(rt: &impl Abort, letter: u8) -> Participant {
-    Participant::try_new(letter).expect(rt, "a participant")
+fn participants(letters: [u8; 2]) -> Option<[Participant; 2]> {
+    Some([
+        Participant::try_new(letters[0])?,
+        Participant::try_new(letters[1])?,
+    ])
+}
+
+/// The listing of AB and CD, and of Q and N.
+fn listing(alloc: Global) -> Option<Listing> {
+    let symbols = symbols([b"AB      ", b"CD      "])?;
+    let participants = participants([b'Q', b'N'])?;
+    Listing::new(alloc, &symbols, &participants).ok()
+}
+
+/// The position of a symbol, whether a participant is listed, how many symbols there are, and the first participant.
+fn asked(
+    listing: &Listing,
+    name: &[u8; 8],
+    letter: u8,
+) -> Option<(Option<usize>, bool, usize, u8)> {
+    Some((
+        listing.position(Symbol::try_new(*name)?),
+        listing.has(Participant::try_new(letter)?),
+        listing.symbols().count(),
+        listing.participants().next()?.value(),
+    ))
+}
+
+/// What is asked of a new listing.
+fn told(alloc: Global, name: &[u8; 8], letter: u8) -> Option<(Option<usize>, bool, usize, u8)> {
+    asked(&listing(alloc)?, name, letter)
 }
 
 #[test]
-fn a_listing_keeps_both_orders(rt: HostRuntime) -> Result<(), Fail> {
-    let symbols = [symbol(&rt, b"AB      "), symbol(&rt, b"CD      ")];
-    let participants = [participant(&rt, b'Q'), participant(&rt, b'N')];
-    let listing = Listing::new(rt.alloc(), &symbols, &participants)?;
-    assert_eq!(rt; listing.position(symbols[0]), Some(0));
-    assert_eq!(rt; listing.position(symbols[1]), Some(1));
-    assert_eq!(rt; listing.position(symbol(&rt, b"EF      ")), None);
-    assert!(rt; listing.has(participants[1]));
-    assert!(rt; !listing.has(participant(&rt, b'P')));
-    assert_eq!(rt; listing.symbols().count(), 2);
-    assert_eq!(rt;
-        listing.participants().next().copied(),
-        Some(participants[0])
-    );
-    Ok(())
-}
-
-#[test]
-fn faults_of_a_listing_come_in_their_order(rt: HostRuntime) -> Result<(), Fail> {
-    let ab = symbol(&rt, b"AB      ");
-    let n = participant(&rt, b'N');
-    let many = [n; 27];
-    let table = [
-        (
-            Listing::new(rt.alloc(), &[], &many),
-            ListingFault::Empty,
-            1,
-            "Empty",
-        ),
-        (
-            Listing::new(rt.alloc(), &[ab, ab], &many),
-            ListingFault::TooMany,
-            2,
-            "TooMany",
-        ),
-        (
-            Listing::new(rt.alloc(), &[ab, ab], &[n]),
-            ListingFault::Repeated,
-            3,
-            "Repeated",
-        ),
-        (
-            Listing::new(rt.alloc(), &[ab], &[n, n]),
-            ListingFault::Repeated,
-            3,
-            "Repeated",
-        ),
-    ];
-    for (answer, fault, code, name) in table {
-        assert_eq!(rt; answer.err(), Some(fault), "{name}");
-        assert_eq!(rt; fault.code(), code);
-        assert_eq!(rt; fault.to_string(rt.alloc())?.as_str(), name);
+fn a_listing_keeps_both_orders(rt: HostRuntime) {
+    for (name, letter, position, is_listed) in [
+        (b"AB      ", b'Q', Some(0), true),
+        (b"CD      ", b'N', Some(1), true),
+        (b"EF      ", b'P', None, false),
+    ] {
+        let wanted = Some((position, is_listed, 2, b'Q'));
+        assert_eq!(rt; told(rt.alloc(), name, letter), wanted, "{name:?}");
     }
-    Ok(())
+}
+
+/// The fault of a listing of some of two equal symbols and of 27 equal participants: of how many.
+fn fault(alloc: Global, symbol_count: usize, participant_count: usize) -> Option<ListingFault> {
+    let symbols = symbols([b"AB      ", b"AB      "])?;
+    let participants = [Participant::try_new(b'N')?; 27];
+    Listing::new(
+        alloc,
+        symbols.get(..symbol_count)?,
+        participants.get(..participant_count)?,
+    )
+    .err()
 }
 
 #[test]
-fn a_number_is_printed_as_its_value(rt: HostRuntime) -> Result<(), Fail> {
-    let price = Price::try_new(999_999_999_999).ok_or("price")?;
-    let place = TapeNumber::try_new(1_048_576).ok_or("place")?;
+fn faults_of_a_listing_come_in_their_order(rt: HostRuntime) {
+    for (symbols, participants, wanted, code, name) in [
+        (0, 27, ListingFault::Empty, 1, "Empty"),
+        (2, 27, ListingFault::TooMany, 2, "TooMany"),
+        (2, 1, ListingFault::Repeated, 3, "Repeated"),
+        (1, 2, ListingFault::Repeated, 3, "Repeated"),
+    ] {
+        assert_eq!(rt;
+            fault(rt.alloc(), symbols, participants),
+            Some(wanted),
+            "{name}"
+        );
+        assert_eq!(rt; wanted.code(), code);
+        assert!(rt; prints_as(rt.alloc(), &wanted, name), "{name}");
+    }
+}
+
+/// Whether the text is that of these two numbers.
+fn numbers_print_as(alloc: Global, price: u64, place: u32, wanted: &str) -> Option<bool> {
+    let price = Price::try_new(price)?;
+    let place = TapeNumber::try_new(place)?;
+    match format!(in alloc; "{price:?} {place:?}") {
+        Ok(text) => Some(text.as_str() == wanted),
+        Err(_) => None,
+    }
+}
+
+#[test]
+fn a_number_is_printed_as_its_value(rt: HostRuntime) {
+    let text = "Price(999999999999) TapeNumber { position: 1048576 }";
     assert_eq!(rt;
-        format!(in rt.alloc(); "{price:?} {place:?}")?.as_str(),
-        "Price(999999999999) TapeNumber { position: 1048576 }"
+        numbers_print_as(rt.alloc(), 999_999_999_999, 1_048_576, text),
+        Some(true)
     );
-    Ok(())
 }
