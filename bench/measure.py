@@ -4,6 +4,7 @@
     bench/measure.py [DAY[:BYTES] ..]   the batch (one, busy and hostile where no day is named)
     bench/measure.py plot               the hostile day at 2, 4, 8 and 16 MB, into docs/speed.svg
     bench/measure.py feed               the way of a busy day through two lossy lines to a subscriber
+    bench/measure.py rows               the rows of a wide day's report by one worker, two and four
 
 Builds the programs, makes the days, runs the programs on each day in turns, checks that they answer alike, and prints the
 processor seconds of each (of its least run and of its middle one), the least wall-clock seconds, the peak memory, and the ratios
@@ -29,6 +30,7 @@ PLOT_MEGABYTES = (2, 4, 8, 16)
 FEED_DAYS = ("busy:1680000", "busy")
 # What both feeds must tell alike.
 FEED_COUNTS = ("entries", "packets", "retransmitted", "held")
+ROWS_DAY = "wide"
 
 
 def build(crates, crate, words, given):
@@ -241,23 +243,43 @@ def feed(words, programs):
     return True
 
 
+def rows(words, programs):
+    """Measures the rows of a report by one worker, two and four: prints the figures of each run, and the ratio of the least times."""
+    ((name, program),) = programs.items()
+    source = make(ROWS_DAY, words.seed)
+    target = DAYS / f"{source.stem}.{name}"
+    turns = []
+    for _ in range(words.turns):
+        status, *_ = run(program, ["rows"], source, target)
+        if status != 0:
+            print(f"{ROWS_DAY}: {name} ended with status {status}")
+            return False
+        turns.append(told(target))
+        print("   ".join(f"{figure} {value:g}" for figure, value in turns[-1].items()))
+    least = {figure: min(turn[figure] for turn in turns) for figure in turns[0] if figure.startswith("seconds")}
+    one = least["seconds_one_worker"]
+    print("least of all: " + "   ".join(f"{figure} {value:.6f} ({value / one:.3f})" for figure, value in least.items()))
+    return True
+
+
 def main():
     parser = argparse.ArgumentParser(description="Measures tapebox beside plain programs.")
     parser.add_argument("--no-build", action="store_true", help="measure the programs that are there")
     parser.add_argument("--turns", type=int, default=7, help="how often each program runs on each day (7)")
     parser.add_argument("--seed", type=int, default=1, help="the days' seed (1)")
     parser.add_argument("--crates", type=Path, default=ROOT / "crates", help="where the crates are that built tapebox")
-    parser.add_argument("days", nargs="*", metavar="DAY[:BYTES]", help="the days of the batch; or plot, or feed")
+    parser.add_argument("days", nargs="*", metavar="DAY[:BYTES]", help="the days of the batch; or plot, feed or rows")
     words = parser.parse_args()
-    kind = words.days[0] if words.days[:1] in (["plot"], ["feed"]) else "batch"
-    crate, given = ("feed_speed", b"") if kind == "feed" else ("tapebox", b"A\nA\n")
+    kind = words.days[0] if words.days[:1] in (["plot"], ["feed"], ["rows"]) else "batch"
+    crate, given = ("feed_speed", b"") if kind in ("feed", "rows") else ("tapebox", b"A\nA\n")
     if not words.no_build:
-        build(words.crates, crate, [] if kind == "feed" else ["batch"], given)
-    plain = ("feed",) if kind == "feed" else ("indexed", "least")
+        build(words.crates, crate, ["batch"] if crate == "tapebox" else [], given)
+    plain = {"feed": ("feed",), "rows": ()}.get(kind, ("indexed", "least"))
     programs = {name: RELEASE / name for name in plain} | {crate: words.crates / crate / "out" / crate}
     DAYS.mkdir(parents=True, exist_ok=True)
-    print(f"{'day':16} {'program':18} {'processor':>12} {'middle run':>12} {'wall clock':>12} {'peak memory':>13}")
-    measures = {"batch": batch, "plot": plot, "feed": feed}
+    if kind != "rows":
+        print(f"{'day':16} {'program':18} {'processor':>12} {'middle run':>12} {'wall clock':>12} {'peak memory':>13}")
+    measures = {"batch": batch, "plot": plot, "feed": feed, "rows": rows}
     return 0 if measures[kind](words, programs) else 1
 
 

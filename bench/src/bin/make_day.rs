@@ -7,6 +7,7 @@
 //! - `odd`: every second line is changed somewhere, in its text or in its message's bytes.
 //! - `every`: 4,096 symbols and 25 participants, and every kind of line: each refusal that a day of this length can meet, lines
 //!   of 70,000 bytes, and a last line without a line feed that fills the day up to its last byte.
+//! - `wide`: 4,096 symbols and 26 participants, each of which reports in every symbol, and then reports anywhere.
 
 use std::io::{self, Write};
 use std::process::ExitCode;
@@ -31,6 +32,7 @@ fn main() -> ExitCode {
         Some("stored") => maker.stored(),
         Some("odd") => maker.odd(),
         Some("every") => maker.every(),
+        Some("wide") => maker.wide(),
         _ => return usage(),
     }
     match io::stdout().write_all(&maker.text) {
@@ -40,7 +42,7 @@ fn main() -> ExitCode {
 }
 
 fn usage() -> ExitCode {
-    eprintln!("usage: make_day one|busy|hostile|stored|odd|every [SEED [BYTES]]");
+    eprintln!("usage: make_day one|busy|hostile|stored|odd|every|wide [SEED [BYTES]]");
     ExitCode::FAILURE
 }
 
@@ -278,6 +280,19 @@ impl Maker {
         }
         self.text.extend(b"Z ");
         self.text.resize(self.bytes, b'0');
+    }
+
+    fn wide(&mut self) {
+        self.header(4_096, 26);
+        let mut first = (0..26).flat_map(|sender| (0..4_096).map(move |symbol| (sender, symbol)));
+        while self.has_room() {
+            let (sender, symbol) = match first.next() {
+                Some(pair) => pair,
+                None => (self.random.below(26) as usize, self.popular_symbol()),
+            };
+            let condition = **self.random.one_of(&CONDITIONS);
+            self.report(sender, symbol, condition);
+        }
     }
 
     /// A line with one of the rare faults; the long line is rarer yet.

@@ -1,7 +1,8 @@
-//! The figures of a measurement.
+//! The figures of a feed.
 
+use crate::times::Seconds;
+use std::io;
 use std::time::Duration;
-use std::{fmt, io};
 
 /// What was measured of a tape.
 #[derive(Clone, Copy)]
@@ -39,14 +40,4 @@ impl Figures {
 /// A count of things that took this time, as things a second.
 fn per_second(count: usize, time: Duration) -> u128 {
     count as u128 * 1_000_000_000 / time.as_nanos().max(1)
-}
-
-/// A time in seconds, with six digits after the point.
-#[derive(Clone, Copy)]
-struct Seconds(Duration);
-
-impl fmt::Display for Seconds {
-    fn fmt<W: fmt::Write>(&self, f: &mut fmt::Formatter<W>) -> fmt::Result {
-        write!(f, "{}.{:06}", self.0.as_secs(), self.0.subsec_micros())
-    }
 }

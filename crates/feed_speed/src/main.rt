@@ -1,80 +1,40 @@
-//! `feed_speed`: how long a tape takes through two lossy lines to a subscriber. It measures; no other crate calls it.
+//! `feed_speed`: how long a tape takes through two lossy lines to a subscriber, and how long the rows of its report take. It
+//! measures; no other crate calls it.
 #![tactic(auto)]
 
 mod day;
 mod feed;
 mod figures;
+mod mode;
+mod report;
+mod sending;
 #[cfg(test)]
 mod tests;
+mod times;
 
-use anyhow::ensure;
-use arbitration::Line;
-use figures::Figures;
+use mode::{Mode, given_mode};
 use std::io::Read;
-use std::rt::Clock;
-use std::time::Instant;
-use subscriber::Subscriber;
-use summaries::IndexStore;
-use tape_core::Tape;
+use std::process::ExitCode;
 
-/// Reads a day from standard input, sends its tape, and prints the figures, one a line. Without an input there is nothing
-/// to measure, and the first figure stands alone.
-fn main(rt: HostRuntime) -> anyhow::Result<()> {
+/// The status of bad arguments.
+const BAD_ARGUMENTS: u8 = 2;
+
+/// Reads a day from standard input, measures what the words ask for, and prints the figures, one a line. Without an input
+/// there is nothing to measure, and the first figure stands alone. For words that ask for nothing, nothing is read.
+fn main(rt: HostRuntime) -> anyhow::Result<ExitCode> {
+    let Some(mode) = given_mode(&rt)? else {
+        let _ = eprintln!(rt; "feed_speed: bad arguments");
+        return Ok(ExitCode::from(BAD_ARGUMENTS));
+    };
     let mut input = Vec::new(rt.alloc());
     rt.stdin().read_to_end(&mut input)?;
     if input.is_empty() {
         println!(rt; "entries 0")?;
-        return Ok(());
+        return Ok(ExitCode::SUCCESS);
     }
-    let figures = measure(&rt, &input)?;
-    figures.print(&rt)?;
-    Ok(())
-}
-
-/// The figures of a day, unless the subscriber came to hold less than its tape. The input is read before.
-fn measure<R: AllocGlobal + Clock>(rt: &R, input: &[u8]) -> anyhow::Result<Figures> {
-    let began = Instant::now(rt)?;
-    let tape = day::read_tape(rt.alloc(), input)?;
-    measure_tape(rt, input, &tape, began)
-}
-
-/// The same of a tape that was read. What holds a tape or a subscriber ends in one call, and its proof stays short.
-fn measure_tape<R: AllocGlobal + Clock>(
-    rt: &R,
-    input: &[u8],
-    tape: &Tape<IndexStore>,
-    began: Instant,
-) -> anyhow::Result<Figures> {
-    let mut subscriber = day::new_subscriber(rt.alloc(), input)?;
-    measure_sending(rt, tape, &mut subscriber, began)
-}
-
-/// The same of a tape that is to be sent.
-fn measure_sending<R: AllocGlobal + Clock>(
-    rt: &R,
-    tape: &Tape<IndexStore>,
-    subscriber: &mut Subscriber,
-    began: Instant,
-) -> anyhow::Result<Figures> {
-    let sending = Instant::now(rt)?;
-    let packets = feed::send_all(rt.alloc(), tape, subscriber)?;
-    let sending = sending.elapsed(rt)?;
-    let total = began.elapsed(rt)?;
-    ensure!(
-        holds(subscriber, tape),
-        "the subscriber does not hold the whole tape"
-    );
-    Ok(Figures {
-        entries: tape.entries().len(),
-        packets,
-        sending,
-        total,
-        retransmitted: subscriber.brought(Line::R),
-        held: subscriber.held().len(),
-    })
-}
-
-/// Whether the subscriber holds the whole tape. What it holds is a prefix of the tape that it was sent, so the length tells.
-fn holds(subscriber: &Subscriber, tape: &Tape<IndexStore>) -> bool {
-    subscriber.held().len() == tape.entries().len()
+    match mode {
+        Mode::Feed => sending::measure(&rt, &input)?.print(&rt)?,
+        Mode::Rows => report::measure(&rt, &input)?.print(&rt)?,
+    }
+    Ok(ExitCode::SUCCESS)
 }

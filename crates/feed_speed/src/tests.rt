@@ -1,10 +1,12 @@
-//! A gap that both lines leave, closed by a request over memory.
+//! A gap that both lines leave, closed by a request over memory; and a report's rows, made by each number of workers.
 
 use crate::{day, feed};
 use arbitration::Line;
 use reports::{Content, Header, Message, Moment};
 use sale_matrix::Condition;
 use std::alloc::Global;
+use std::rt::Clock;
+use std::thread::Threads;
 use subscriber::Subscriber;
 use summaries::IndexStore;
 use tape_core::Tape;
@@ -12,6 +14,10 @@ use tape_types::{MsgNumber, Participant, Price, Size, Symbol};
 
 /// The listing of a day without a message.
 const LISTING: &[u8] = b"AB\nN\n";
+
+/// A day of three symbols in which N reports once, in AB.
+const ONE_REPORT: &[u8] = b"AB CD EF\nN Q\n\
+N 0026524e000000010000000000000000414220202020202000000000000186a00000006440202020\n";
 
 /// N's report of this number in AB.
 fn report(number: u32) -> Option<Message> {
@@ -71,4 +77,15 @@ fn brought_of_fifteen_packets(alloc: Global) -> Option<(u32, usize)> {
 #[test]
 fn the_packet_that_both_lines_lose_comes_by_retransmission(rt: HostRuntime) {
     assert_eq!(rt; brought_of_fifteen_packets(rt.alloc()), Some((8, 120)));
+}
+
+/// The entries and the rows that are measured of a day of three symbols and one report.
+fn measured_counts<R: AllocGlobal + Clock + Threads + Sync>(rt: &R) -> Option<(usize, usize)> {
+    let figures = crate::report::measure(rt, ONE_REPORT).ok()?;
+    Some((figures.entries, figures.rows))
+}
+
+#[test]
+fn a_report_has_a_row_for_each_symbol_and_for_each_participant_in_it(rt: HostRuntime) {
+    assert_eq!(rt; measured_counts(&rt), Some((1, 4)));
 }
