@@ -1,0 +1,64 @@
+//! What a piece of a header's line names.
+ghost use Rattle.std.specs.Prelude.{◌≡◌, List, ℕ, Option};
+ghost use Rattle.tapebox.specs.Header.{participant_named, symbol_named};
+
+use tape_types::{Participant, Symbol};
+
+/// What a piece of a header's line can name.
+pub trait Named: Copy {
+    /// What a text names, if anything.
+    ghost named: { List ℕ → Option Self };
+
+    /// What a text names, or `None` where it is no such name.
+    fn of_name(name: &[u8]) -> Option<Self>
+        ensures { result ≡ named name.now };
+}
+
+impl Named for Symbol {
+    ghost use Rattle.tapebox.specs.Header.{symbol_named};
+
+    ghost named = { symbol_named };
+
+    fn of_name(name: &[u8]) -> Option<Symbol> {
+        symbol_named(name)
+    }
+}
+
+impl Named for Participant {
+    ghost use Rattle.tapebox.specs.Header.{participant_named};
+
+    ghost named = { participant_named };
+
+    fn of_name(name: &[u8]) -> Option<Participant> {
+        participant_named(name)
+    }
+}
+
+/// The symbol of a name, with spaces to the end.
+fn symbol_named(name: &[u8]) -> Option<Symbol>
+    ensures { result ≡ symbol_named name.now }
+{
+    if name.len() > 8 {
+        return None;
+    }
+    let mut bytes = [b' '; 8];
+    bytes[..name.len()].copy_from_slice(name);
+    let Some(symbol) = Symbol::try_new(bytes) else {
+        return None;
+    };
+    // A space at the end of a name would pass for padding.
+    if symbol.name() != name {
+        return None;
+    }
+    Some(symbol)
+}
+
+/// The participant of a name.
+fn participant_named(name: &[u8]) -> Option<Participant>
+    ensures { result ≡ participant_named name.now }
+{
+    match name {
+        [letter] => Participant::try_new(*letter),
+        _ => None,
+    }
+}
