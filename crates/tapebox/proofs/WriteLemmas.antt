@@ -1,0 +1,104 @@
+-- A text that is written piece by piece.
+use Rattle.std.proofs.Common.{◌≡◌, ◌++◌, ◌∙◌, [], ℕ, List, Option, Some, None, OnErr, Result, Ok, Err, refl, sym, ap, subst, append-nil, append_assoc, take, drop}
+use Rattle.std.specs.Io.KnownBytes.{Appends, Keeps}
+use Rattle.std.proofs.lemmas.List.{take-append-drop}
+use Rattle.tapebox.specs.Writing.{WritesFront, WritesUpTo}
+
+-- nothing is appended
+Appends-nil : (known : Option (List ℕ)) → Appends known known []
+Appends-nil None = tt
+Appends-nil (Some xs) = sym (append-nil xs)
+
+-- one text is appended after another
+Appends-both : (old now new : Option (List ℕ)) (first second : List ℕ) → Appends old now first → Appends now new second → Appends old new (first ++ second)
+Appends-both None now new first second one two = tt
+Appends-both (Some xs) None new first second one two = absurd one
+Appends-both (Some xs) (Some ys) None first second one two = absurd two
+Appends-both (Some xs) (Some ys) (Some zs) first second one two = two ∙ ap (λ (l : List ℕ). l ++ second) one ∙ append_assoc xs first second
+
+-- known bytes that stay grow by nothing
+Appends-kept_nil : (old new : Option (List ℕ)) → Keeps old new → Appends old new []
+Appends-kept_nil None new kept = tt
+Appends-kept_nil (Some xs) None kept = absurd kept
+Appends-kept_nil (Some xs) (Some ys) kept = kept ∙ sym (append-nil xs)
+
+-- nothing is written of a text
+pub WritesUpTo-none : (text : List ℕ) (known : Option (List ℕ)) → WritesUpTo text text known known
+WritesUpTo-none text known = record { front = []; split = refl; written = Appends-nil known }
+
+-- a whole text is written
+pub WritesUpTo-whole : (text : List ℕ) (old new : Option (List ℕ)) → Appends old new text → WritesUpTo text [] old new
+WritesUpTo-whole text old new written = record { front = text; split = sym (append-nil text); written = written }
+
+-- where nothing is left, the whole text is written
+pub WritesUpTo-all : (text : List ℕ) (old new : Option (List ℕ)) → WritesUpTo text [] old new → Appends old new text
+WritesUpTo-all text old new all = subst (λ (l : List ℕ). Appends old new l) (sym (all.split ∙ append-nil all.front)) all.written
+
+-- a text is written up to a rest, and that up to another
+pub WritesUpTo-both : (text mid rest : List ℕ) (old now new : Option (List ℕ)) → WritesUpTo text mid old now → WritesUpTo mid rest now new
+    → WritesUpTo text rest old new
+WritesUpTo-both text mid rest old now new one two = record {
+  front = one.front ++ two.front;
+  split = one.split ∙ ap (λ (l : List ℕ). one.front ++ l) two.split ∙ sym (append_assoc one.front two.front rest);
+  written = Appends-both old now new one.front two.front one.written two.written;
+}
+
+-- so many bytes of a text are written
+pub WritesUpTo-count : (text left : List ℕ) (old new : Option (List ℕ)) (n : ℕ) → Appends old new (take n text) → left ≡ drop n text
+    → WritesUpTo text left old new
+WritesUpTo-count text left old new n written is = record { front = take n text; split = rw is (sym (take-append-drop n text)); written = written }
+
+-- no byte of a text is written
+pub WritesUpTo-kept : (text : List ℕ) (old new : Option (List ℕ)) → Keeps old new → WritesUpTo text text old new
+WritesUpTo-kept text old new kept = record { front = []; split = refl; written = Appends-kept_nil old new kept }
+
+-- a text grows by more, and so does what is left of it
+pub WritesUpTo-longer : (text rest more : List ℕ) (old new : Option (List ℕ)) → WritesUpTo text rest old new → WritesUpTo (text ++ more) (rest ++ more) old new
+WritesUpTo-longer text rest more old new so_far = record {
+  front = so_far.front;
+  split = ap (λ (l : List ℕ). l ++ more) so_far.split ∙ append_assoc so_far.front rest more;
+  written = so_far.written;
+}
+
+-- a front of a text is one of a longer text
+pub WritesFront-longer : (text more : List ℕ) (old new : Option (List ℕ)) → WritesFront text old new → WritesFront (text ++ more) old new
+WritesFront-longer text more old new front = (front.0 ++ more, WritesUpTo-longer text front.0 more old new front.1)
+
+-- a text is written up to a rest, and then a front of that
+pub WritesFront-after : (text mid : List ℕ) (old now new : Option (List ℕ)) → WritesUpTo text mid old now → WritesFront mid now new → WritesFront text old new
+WritesFront-after text mid old now new one front = (front.0, WritesUpTo-both text mid front.0 old now new one front.1)
+
+-- a whole text is a front of itself
+pub WritesFront-whole : (text : List ℕ) (old new : Option (List ℕ)) → Appends old new text → WritesFront text old new
+WritesFront-whole text old new written = ([], WritesUpTo-whole text old new written)
+
+-- a front stays written where known bytes stay
+pub WritesFront-kept : (text : List ℕ) (old now new : Option (List ℕ)) → WritesFront text old now → Keeps now new → WritesFront text old new
+WritesFront-kept text old now new front kept = WritesFront-after text front.0 old now new front.1 (front.0, WritesUpTo-kept front.0 now new kept)
+
+-- more is gathered after what is left of a text, and some of it is written
+pub WritesUpTo-gathered : (text rest pushed left more : List ℕ) (old now new : Option (List ℕ)) → pushed ≡ rest ++ more
+    → WritesUpTo text rest old now → WritesUpTo pushed left now new → WritesUpTo (text ++ more) left old new
+WritesUpTo-gathered text rest pushed left more old now new is one two =
+    WritesUpTo-both (text ++ more) pushed left old now new (rw is (WritesUpTo-longer text rest more old now one)) two
+
+-- more is gathered after what is left of a text, and a front of it is written
+pub WritesFront-gathered : (text rest pushed more : List ℕ) (old now new : Option (List ℕ)) → pushed ≡ rest ++ more
+    → WritesUpTo text rest old now → WritesFront pushed now new → WritesFront (text ++ more) old new
+WritesFront-gathered text rest pushed more old now new is one front = (front.0, WritesUpTo-gathered text rest pushed front.0 more old now new is one front.1)
+
+-- a text is written, and then a front of another
+pub WritesFront-then : (first second : List ℕ) (old now new : Option (List ℕ)) → Appends old now first → WritesFront second now new
+    → WritesFront (first ++ second) old new
+WritesFront-then first second old now new written front =
+    WritesFront-gathered first [] second second old now new refl (WritesUpTo-whole first old now written) front
+
+-- what holds anyway holds at an error
+pub OnErr-any : {T E : Type 0} (r : Result T E) (P : Type 0) → P → OnErr r P
+OnErr-any (Ok value) P p = tt
+OnErr-any (Err error) P p = p
+
+-- what follows from what holds at an error
+pub OnErr-map : {T E : Type 0} (r : Result T E) (P Q : Type 0) → (P → Q) → OnErr r P → OnErr r Q
+OnErr-map (Ok value) P Q f p = tt
+OnErr-map (Err error) P Q f p = f p

@@ -1,0 +1,13 @@
+-- What a writer that may fail holds of a text.
+use Rattle.std.specs.Prelude.{◌≡◌, ℕ, List, ◌++◌, Option}
+use Rattle.std.specs.Io.KnownBytes.{Appends}
+
+-- known bytes grow by the text up to this rest of it, which is not written
+pub record WritesUpTo (text rest : List ℕ) (old new : Option (List ℕ)) : Type 0 where
+  pub front : List ℕ
+  pub split : text ≡ front ++ rest
+  pub written : Appends old new front
+
+-- known bytes grow by a front of the text and nothing else
+abbrev pub WritesFront : List ℕ → Option (List ℕ) → Option (List ℕ) → Type 0
+WritesFront text old new = (rest : List ℕ) × WritesUpTo text rest old new
