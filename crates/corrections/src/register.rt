@@ -49,7 +49,7 @@ impl Register {
         }
     }
 
-    /// Notes a report that stands, at the place of its admission. Want of memory leaves the register unchanged.
+    /// Notes a report that stands, at the place of its admission. Out of memory, the register is unchanged.
     pub fn record(
         &mut self,
         who: Participant,

@@ -41,7 +41,7 @@ impl Row {
         }
     }
 
-    /// Notes a report under a vacant number. Want of memory leaves the row unchanged. Inlined, since each admission does it.
+    /// Notes a report under a vacant number. Out of memory, the row is unchanged. Inlined, since each admission does it.
     #[inline(always)]
     pub fn record(&mut self, number: MsgNumber, target: Target) -> Result<(), AllocError>
         requires vacant { map.get self.old number ≡ None }

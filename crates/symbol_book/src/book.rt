@@ -52,7 +52,7 @@ impl<S: Store> Book<S> {
         }
     }
 
-    /// Adds a report at a vacant place. Want of memory leaves what both of its stores hold unchanged.
+    /// Adds a report at a vacant place. Out of memory, what both of its stores hold is unchanged.
     pub fn add(
         &mut self,
         place: TapeNumber,
@@ -88,7 +88,7 @@ impl<S: Store> Book<S> {
         }
     }
 
-    /// Gives the report at a place another content; its participant stays. Want of memory leaves both of its stores
+    /// Gives the report at a place another content; its participant stays. Out of memory, both of its stores are
     /// unchanged.
     pub fn replace(
         &mut self,

@@ -13,7 +13,7 @@ use std::alloc::{AllocError, Global};
 use summaries::Store;
 use tape_types::{Participant, TapeNumber};
 
-/// Puts an effect into the participant's store. Want of memory leaves what each participant holds unchanged.
+/// Puts an effect into the participant's store. Out of memory, what each participant holds is unchanged.
 pub fn put<S: Store>(
     own: &mut Vec<S>,
     alloc: Global,
