@@ -13,40 +13,49 @@ use summaries::ScratchStore;
 use tape_core::Tape;
 use tape_types::{Gate, Listing, MsgNumber, NoGate, Participant, Price, Size, Symbol};
 
-/// The report of five symbols, of which the second has one trade, by Q.
+/// The report of five symbols with a trade each, by Q.
 const FIVE: &[u8] = b"\
 symbol,who,open,open_at,high,high_at,low,low_at,last,last_at,volume,trades\n\
-AB,ALL,,,,,,,,,0,0\n\
-CD,ALL,100000,1,100000,1,100000,1,100000,1,100,1\n\
-CD,Q,100000,1,100000,1,100000,1,100000,1,100,1\n\
-EF,ALL,,,,,,,,,0,0\n\
-GH,ALL,,,,,,,,,0,0\n\
-IJ,ALL,,,,,,,,,0,0\n";
+AB,ALL,10000,1,10000,1,10000,1,10000,1,100,1\n\
+AB,Q,10000,1,10000,1,10000,1,10000,1,100,1\n\
+CD,ALL,20000,2,20000,2,20000,2,20000,2,100,1\n\
+CD,Q,20000,2,20000,2,20000,2,20000,2,100,1\n\
+EF,ALL,30000,3,30000,3,30000,3,30000,3,100,1\n\
+EF,Q,30000,3,30000,3,30000,3,30000,3,100,1\n\
+GH,ALL,40000,4,40000,4,40000,4,40000,4,100,1\n\
+GH,Q,40000,4,40000,4,40000,4,40000,4,100,1\n\
+IJ,ALL,50000,5,50000,5,50000,5,50000,5,100,1\n\
+IJ,Q,50000,5,50000,5,50000,5,50000,5,100,1\n";
+
+/// The symbol at a place of the listing, from 1 to 5.
+fn symbol(place: u32) -> Option<Symbol> {
+    Symbol::try_new(match place {
+        1 => *b"AB      ",
+        2 => *b"CD      ",
+        3 => *b"EF      ",
+        4 => *b"GH      ",
+        _ => *b"IJ      ",
+    })
+}
 
 /// Five symbols and two participants.
 fn listing(alloc: Global) -> Option<Listing> {
-    let symbols = [
-        Symbol::try_new(*b"AB      ")?,
-        Symbol::try_new(*b"CD      ")?,
-        Symbol::try_new(*b"EF      ")?,
-        Symbol::try_new(*b"GH      ")?,
-        Symbol::try_new(*b"IJ      ")?,
-    ];
+    let symbols = [symbol(1)?, symbol(2)?, symbol(3)?, symbol(4)?, symbol(5)?];
     let participants = [Participant::try_new(b'N')?, Participant::try_new(b'Q')?];
     Listing::new(alloc, &symbols, &participants).ok()
 }
 
-/// Q's report in the second symbol.
-fn report() -> Option<Message> {
+/// Q's report in the symbol at a place of the listing, under that number and at as many dollars.
+fn report(place: u32) -> Option<Message> {
     Some(Message::Report {
         header: Header {
             participant: Participant::try_new(b'Q')?,
-            number: MsgNumber::try_new(1)?,
+            number: MsgNumber::try_new(place)?,
             moment: Moment::new(0),
-            symbol: Symbol::try_new(*b"CD      ")?,
+            symbol: symbol(place)?,
         },
         content: Content {
-            price: Price::try_new(100_000)?,
+            price: Price::try_new(10_000 * u64::from(place))?,
             size: Size::try_new(100)?,
             condition: Condition::try_new(*b"@   ")?,
         },
@@ -58,16 +67,25 @@ fn empty(alloc: Global) -> Option<Tape<ScratchStore>> {
     Tape::new(alloc, listing(alloc)?, 10).ok()
 }
 
-/// Whether the tape takes the message.
-fn is_admitted(tape: &mut Tape<ScratchStore>, message: Message) -> bool {
-    tape.admit(message).is_ok()
+/// Whether the tape takes the message, if it is one.
+fn is_admitted(tape: &mut Tape<ScratchStore>, message: Option<Message>) -> bool {
+    match message {
+        Some(message) => tape.admit(message).is_ok(),
+        None => false,
+    }
 }
 
-/// A tape of five symbols with one report.
+/// Admits a report in each symbol.
+fn fill(tape: &mut Tape<ScratchStore>) {
+    for place in 1..=5 {
+        let _answer = is_admitted(tape, report(place));
+    }
+}
+
+/// A tape of five symbols with a report each.
 fn five(alloc: Global) -> Option<Tape<ScratchStore>> {
-    let message = report()?;
     let mut tape = empty(alloc)?;
-    let _answer = is_admitted(&mut tape, message);
+    fill(&mut tape);
     Some(tape)
 }
 
@@ -148,7 +166,7 @@ fn two_workers_run_at_once(rt: HostRuntime) -> Result<(), Fail> {
         met: AtomicU32::new(0),
     };
     let made = rows(&rt, rt.alloc(), &tape, 2, &meeting)?;
-    assert_eq!(rt; made.len(), 6);
+    assert_eq!(rt; made.len(), 10);
     assert_eq!(rt; meeting.met.load(Ordering::SeqCst), 2);
     Ok(())
 }
