@@ -1,0 +1,167 @@
+-- A line's frames, done one after the other.
+use Rattle.std.proofs.Common.{◌≡◌, ◌≢◌, ℕ, ◌+◌, ◌<◌, ◌≤◌, ◌==◌, ◌||◌, List, [], ◌∷◌, ◌++◌, Option, Result, Ok, Err, cond, ltb, inl, inr}
+use Rattle.std.proofs.Common.{length, length-append, append-nil, take, drop, refl, sym, ap, subst, ◌∙◌, arith}
+use Rattle.std.specs.List.{concat}
+use Rattle.std.specs.Io.KnownBytes.{Consumes}
+use Rattle.std.proofs.KnownBytes.{Consumes-nil, Consumes-trans}
+use Rattle.std.proofs.Math.Seq.{take-length}
+use Rattle.std.proofs.lemmas.List.Folds.{concat-append}
+use Rattle.line_ledger.specs.Seats.{SeatState}
+use Rattle.line_ledger.specs.declared.told.Told.{Told}
+use Rattle.reports.specs.Fields.{◌>>=◌}
+use Rattle.reports.specs.Reading.{announced_length, body_message, message_at}
+use Rattle.reports.specs.Spelling.{Spells}
+use Rattle.reports.specs.declared.fault.MessageFault.{MessageFault}
+use Rattle.reports.specs.declared.fault.MessageFault.TheVariants as fault
+use Rattle.reports.specs.declared.message.Message.{Message}
+use Rattle.reports.proofs.Fields.{passed, bind_ok, ok_is}
+use Rattle.tape_types.specs.Names.{Names}
+use Rattle.participant_lines.specs.Frames.{EndsInput, IsFrame}
+use Rattle.participant_lines.specs.Runs.{AreDone, Does, EndsAfter, IsDone, Runs, StopsAt, Takes, most_frames}
+use Rattle.participant_lines.specs.declared.line_end.Ended.{Ended}
+use Rattle.participant_lines.specs.declared.line_end.Ended.TheVariants.{Clean, Truncated, Oversize, ReadFault, TooMany, OutOfMemory, Behind}
+
+-- a message that is read of a frame takes all of it
+pub whole_message : (frame : List ℕ) (x : Message × ℕ) → IsFrame frame → Ok x ≡ message_at frame → x.1 ≡ length frame
+unfolding message_at
+whole_message frame x is read =
+    let len = announced_length frame in
+    let inner = take len (drop 2 frame) in
+    let body : Result (Message × ℕ) MessageFault = body_message inner >>= λ m. Ok (m, 2 + len) in
+    let within = cond (ltb (length frame) (2 + len)) (Err fault.Short) body in
+    let g1 = passed (ltb (length frame) 2) fault.Short (cond ((len == 0) || ltb 64 len) (Err fault.Oversize) within) x (sym read) in
+    let g2 = passed ((len == 0) || ltb 64 len) fault.Oversize within x g1.1 in
+    let g3 = passed (ltb (length frame) (2 + len)) fault.Short body x g2.1 in
+    let b = bind_ok (body_message inner) (λ m. Ok (m, 2 + len)) x g3.1 in
+    ap (λ (y : Message × ℕ). y.1) (sym (ok_is fault.Short (b.0, 2 + len) x b.2)) ∙ sym is.whole
+
+-- a message that is read of a frame is spelled by all of it
+pub spelled : (frame : List ℕ) (x : Message × ℕ) → IsFrame frame → Ok x ≡ message_at frame → (x.1 ≤ length frame) × Spells (take x.1 frame) x.0
+    → Spells frame x.0
+spelled frame x is read found =
+    subst (λ (l : List ℕ). Spells l x.0) (ap (λ (n : ℕ). take n frame) (whole_message frame x is read) ∙ take-length frame) found.1
+
+-- what a frame does to the counts of a seat
+counts : (listing : Names) (s s' : SeatState) (frame : List ℕ) (refused : ℕ) → IsDone listing s frame refused s'
+    → (length s'.told + refused ≡ length s.told + 1) × (refused ≤ 1) × (s'.who ≡ s.who)
+counts listing s s' frame refused (inl (fault, read, same, one)) =
+    (omega (arith, ap (λ (x : SeatState). length x.told) same, one), omega (arith, one), ap (λ (x : SeatState). x.who) same)
+counts listing s s' frame refused (inr (m, spells, inl (number, tells, none))) =
+    let t : Told = record { number = number; message = m } in (
+      omega (arith, ap (λ (x : SeatState). length x.told) tells.told, length-append s.told (t ∷ []), none),
+      omega (arith, none),
+      ap (λ (x : SeatState). x.who) tells.told,
+    )
+counts listing s s' frame refused (inr (m, spells, inr (why, goes_on, tells, one))) =
+    (omega (arith, ap (λ (x : SeatState). length x.told) tells.seat, one), omega (arith, one), ap (λ (x : SeatState). x.who) tells.seat)
+
+-- no frame yet
+pub does_none : (listing : Names) (s : SeatState) (had : Option (List ℕ)) → Does listing s had had 0 0 s
+unfolding AreDone
+does_none listing s had = record {
+  frames = [];
+  number = refl;
+  read = Consumes-nil had;
+  done = (refl, refl);
+  sum = omega arith;
+  few = omega arith;
+  same = refl;
+}
+
+-- one frame
+pub does_one : (listing : Names) (s s' : SeatState) (had rest : Option (List ℕ)) (frame : List ℕ) (refused : ℕ) → IsFrame frame
+    → IsDone listing s frame refused s' → Consumes had rest frame → Does listing s had rest 1 refused s'
+unfolding AreDone
+does_one listing s s' had rest frame refused is done read =
+    let many = counts listing s s' frame refused done in
+    record {
+      frames = frame ∷ [];
+      number = refl;
+      read = subst (Consumes had rest) (sym (append-nil frame)) read;
+      done = (s', refused, 0, is, done, (refl, refl), omega arith);
+      sum = many.0;
+      few = many.1;
+      same = many.2;
+    }
+
+-- frames after others
+done_both : (listing : Names) (s s' s'' : SeatState) (xs ys : List (List ℕ)) (n m : ℕ) → AreDone listing s xs n s' → AreDone listing s' ys m s''
+    → AreDone listing s (xs ++ ys) (n + m) s''
+unfolding AreDone
+done_both listing s s' s'' [] ys n m one two =
+    let none : n + m ≡ m = omega (arith, one.1) in
+    subst (λ (k : ℕ). AreDone listing s ys k s'') (sym none) (subst (λ (x : SeatState). AreDone listing x ys m s'') one.0 two)
+done_both listing s s' s'' (frame ∷ xs) ys n m (between, first, others, is, done, later, sum) two =
+    (between, first, others + m, is, done, done_both listing between s' s'' xs ys others m later two, omega (arith, sum))
+
+pub does_both : (listing : Names) (s s' s'' : SeatState) (had left rest : Option (List ℕ)) (n m a b many refused : ℕ)
+    → Does listing s had left n a s' → Does listing s' left rest m b s'' → many ≡ n + m → refused ≡ a + b
+    → Does listing s had rest many refused s''
+does_both listing s s' s'' had left rest n m a b many refused one two all more = record {
+  frames = one.frames ++ two.frames;
+  number = omega (arith, length-append one.frames two.frames, one.number, two.number, all);
+  read =
+      subst (Consumes had rest) (sym (concat-append one.frames two.frames))
+      (Consumes-trans had left rest (concat one.frames) (concat two.frames) one.read two.read);
+  done =
+      subst (λ (k : ℕ). AreDone listing s (one.frames ++ two.frames) k s'') (sym more)
+      (done_both listing s s' s'' one.frames two.frames a b one.done two.done);
+  sum = omega (arith, one.sum, two.sum, all, more);
+  few = omega (arith, one.few, two.few, all, more);
+  same = two.same ∙ one.same;
+}
+
+-- an end that the input brings is an end of the line
+pub input_end : (ended : Ended) (listing : Names) (s : SeatState) (had rest : Option (List ℕ)) → EndsInput ended had rest
+    → EndsAfter ended listing s had rest
+input_end Clean listing s had rest end = end
+input_end Truncated listing s had rest end = end
+input_end Oversize listing s had rest end = end
+input_end ReadFault listing s had rest end = end
+input_end TooMany listing s had rest end = absurd end
+input_end OutOfMemory listing s had rest end = absurd end
+input_end Behind listing s had rest end = absurd end
+
+-- an end that a refusal brings is an end of the line
+pub refusal_end : (ended : Ended) (listing : Names) (s : SeatState) (had rest : Option (List ℕ)) (frame : List ℕ) (m : Message)
+    → Consumes had rest frame → IsFrame frame → Spells frame m → StopsAt ended listing s m → EndsAfter ended listing s had rest
+refusal_end Clean listing s had rest frame m read is spells stop = absurd stop
+refusal_end Truncated listing s had rest frame m read is spells stop = absurd stop
+refusal_end Oversize listing s had rest frame m read is spells stop = absurd stop
+refusal_end ReadFault listing s had rest frame m read is spells stop = absurd stop
+refusal_end TooMany listing s had rest frame m read is spells stop = absurd stop
+refusal_end OutOfMemory listing s had rest frame m read is spells stop = (frame, m, read, is, spells, stop)
+refusal_end Behind listing s had rest frame m read is spells stop = (frame, m, read, is, spells, stop)
+
+-- neither brings the end of as many frames as ever are
+pub input_few : (ended : Ended) (had rest : Option (List ℕ)) → EndsInput ended had rest → ended ≢ TooMany
+input_few ended had rest end is = subst (λ (e : Ended). EndsInput e had rest) is end
+
+pub refusal_few : (ended : Ended) (listing : Names) (s : SeatState) (m : Message) → StopsAt ended listing s m → ended ≢ TooMany
+refusal_few ended listing s m stop is = subst (λ (e : Ended). StopsAt e listing s m) is stop
+
+-- a line that ended before it did as many frames as ever are
+pub runs_ended : (listing : Names) (s s' s'' : SeatState) (had left rest : Option (List ℕ)) (many refused : ℕ) (ended : Ended)
+    → Does listing s had left many refused s' → s'' ≡ s' → EndsAfter ended listing s' left rest → ended ≢ TooMany → many < most_frames
+    → Runs listing s had rest refused ended s''
+runs_ended listing s s' s'' had left rest many refused ended does same after goes_on fewer =
+    subst (Runs listing s had rest refused ended) (sym same) (record {
+      many = many;
+      left = left;
+      does = does;
+      after = after;
+      most = λ is. absurd (goes_on is);
+      fewer = λ _. fewer;
+    })
+
+-- a line that did as many frames as ever are
+pub runs_most : (listing : Names) (s s' : SeatState) (had rest : Option (List ℕ)) (many refused : ℕ)
+    → Does listing s had rest many refused s' → many ≡ most_frames → Runs listing s had rest refused TooMany s'
+runs_most listing s s' had rest many refused does all = record {
+  many = many;
+  left = rest;
+  does = does;
+  after = Consumes-nil rest;
+  most = λ _. all;
+  fewer = λ other. absurd (other refl);
+}

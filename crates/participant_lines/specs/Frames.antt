@@ -1,0 +1,29 @@
+-- A line's input: frames one after the other, and what may stand after them.
+use Rattle.std.specs.Prelude.{◌≡◌, ◌+◌, ◌<◌, ◌≤◌, ◌⊎◌, ℕ, List, [], length, Option}
+use Rattle.std.specs.Io.KnownBytes.{Consumes, IsAtEnd}
+use Rattle.reports.specs.Reading.{announced_length}
+use Rattle.participant_lines.specs.declared.line_end.Ended.{Ended}
+use Rattle.participant_lines.specs.declared.line_end.Ended.TheVariants.{Clean, Truncated, Oversize, ReadFault, TooMany, OutOfMemory, Behind}
+
+-- how many bytes the body of a frame may have
+abbrev pub IsLength : ℕ → Type 0
+IsLength len = (1 ≤ len) × (len ≤ 64)
+
+-- a frame: a length of 1 to 64 in two bytes, and as many bytes
+pub record IsFrame (frame : List ℕ) : Type 0 where
+  pub len : IsLength (announced_length frame)
+  pub whole : length frame ≡ 2 + announced_length frame
+
+-- the front of a frame and not all of it: one byte or none, or a length of 1 to 64 and fewer bytes than it says
+abbrev pub IsPart : List ℕ → Type 0
+IsPart part = (length part < 2) ⊎ (IsLength (announced_length part) × (length part < 2 + announced_length part))
+
+-- what was read of an input in which no whole frame comes next, by the end that it brings
+abbrev pub EndsInput : Ended → Option (List ℕ) → Option (List ℕ) → Type 0
+EndsInput Clean had rest = Consumes had rest [] × IsAtEnd rest
+EndsInput Truncated had rest = (part : List ℕ) × Consumes had rest part × (1 ≤ length part) × IsPart part × IsAtEnd rest
+EndsInput Oversize had rest = (head : List ℕ) × Consumes had rest head × (length head ≡ 2) × ¬ (IsLength (announced_length head))
+EndsInput ReadFault had rest = (part : List ℕ) × Consumes had rest part × IsPart part
+EndsInput TooMany had rest = ⊥
+EndsInput OutOfMemory had rest = ⊥
+EndsInput Behind had rest = ⊥

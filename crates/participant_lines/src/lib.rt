@@ -1,0 +1,13 @@
+//! The lines of a day's participants: each brings its messages as bytes, and all of them run at once over one shared tape.
+#![tactic(auto)]
+
+mod frame;
+mod line_end;
+mod lines;
+mod running;
+mod unstarted;
+
+pub use line_end::{Ended, LineEnd};
+pub use lines::run_lines;
+pub use running::{MOST_FRAMES, run_line};
+pub use unstarted::{Lack, Unstarted};

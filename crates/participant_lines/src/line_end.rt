@@ -1,0 +1,34 @@
+//! How a line ends.
+
+use line_ledger::{DayName, LineSeat};
+
+/// Why a line does no more frames.
+#[derive(Clone, Copy, Debug, PartialEq, Eq)]
+pub enum Ended {
+    /// The input ended, and the frames were all of it.
+    Clean,
+    /// The input ended within a frame: after one byte, or after a length of 1 to 64 and fewer bytes than it says.
+    Truncated,
+    /// 11: a length of 0 or above 64 came next.
+    Oversize,
+    /// A read failed. What was read after the frames that were done is not a whole frame.
+    ReadFault,
+    /// As many frames were done as ever are, whatever follows them.
+    TooMany,
+    /// 40: memory ran out for the next frame's message. The frame was read, and nothing changed; it is not counted.
+    OutOfMemory,
+    /// 94: the tape has not of the participant what the seat was told. The next frame was read, and nothing changed; it is not
+    /// counted.
+    Behind,
+}
+
+/// A line that has ended. It must be spent, since it holds the line's seat.
+pub struct LineEnd<D: DayName> {
+    /// The line's seat, with what it was told.
+    pub seat: LineSeat<D>,
+    /// How many frames were refused, from 0 to 2,097,152: those that spell no message (13 to 21), and those whose message the
+    /// tape does not take (31 to 39).
+    pub refused: u32,
+    /// Why no more were done.
+    pub ended: Ended,
+}

@@ -1,0 +1,181 @@
+//! All lines of a day, run at once.
+ghost use Rattle.std.specs.Prelude.{◌≡◌, ◌<◌, ◌≤◌, ℕ, IfErr, IfOk, [], length, map, slice_index_or, vec_len};
+ghost use Rattle.std.specs.Vec.{vec_capacity};
+ghost use Rattle.participant_lines.specs.Lines.{HasRun};
+ghost use Rattle.participant_lines.specs.declared.unstarted.Lack.TheVariants.{Worker};
+
+use crate::running::{Outcome, run_frames};
+use crate::{Ended, Lack, LineEnd, Unstarted};
+use line_ledger::{DayName, LineSeat, SharedTape};
+use std::alloc::Global;
+use std::io::BufRead;
+use std::sync::Wait;
+use std::thread;
+use std::thread::Threads;
+use tape_types::Gate;
+
+/// A line while it runs.
+struct Running<D: DayName, R> {
+    seat: LineSeat<D>,
+    reader: R,
+    outcome: Outcome,
+}
+
+/// The lines as they are before they run, or the lines again where memory runs out.
+fn running_lines<D: DayName, R>(
+    alloc: Global,
+    lines: Vec<(LineSeat<D>, R)>,
+) -> Result<Vec<Running<D, R>>, Vec<(LineSeat<D>, R)>>
+    ensures ok { IfOk result (λ running. map (λ r. (r.seat, r.reader)) running.items ≡ lines.items) }
+    ensures err { IfErr result (λ back. back.items ≡ lines.items) }
+{
+    let Ok(mut running) = Vec::with_capacity(alloc, lines.len()) else {
+        return Err(lines);
+    };
+    let mut left = lines.into_iter();
+    while let Some((seat, reader)) = left.next() {
+        running.push_reserved(Running {
+            seat,
+            reader,
+            outcome: Outcome {
+                refused: 0,
+                ended: Ended::Clean,
+            },
+        });
+    }
+    left.destroy_empty();
+    Ok(running)
+}
+
+/// The ends of lines that have run, put into a vector with room for them.
+fn line_ends<D: DayName, R: Drop>(
+    running: Vec<Running<D, R>>,
+    ends: Vec<LineEnd<D>>,
+) -> Vec<LineEnd<D>>
+    requires room { vec_len running ≤ vec_capacity ends }
+    requires empty { ends.items ≡ [] }
+    ensures { result.items ≡ map (λ r. record { seat = r.seat; refused = r.outcome.refused; ended = r.outcome.ended }) running.items }
+{
+    let mut ends = ends;
+    let mut left = running.into_iter();
+    while let Some(line) = left.next() {
+        let Running {
+            seat,
+            reader: _,
+            outcome: Outcome { refused, ended },
+        } = line;
+        ends.push_reserved(LineEnd {
+            seat,
+            refused,
+            ended,
+        });
+    }
+    left.destroy_empty();
+    ends
+}
+
+/// Runs each line in a worker of its own: the workers are started by halves, and all are joined.
+fn run_each<D: DayName + Send + Sync, R: BufRead + Send, G: Gate + Sync, T: Threads + Wait + Sync>(
+    rt: &T,
+    shared: &SharedTape<D>,
+    lines: &mut [Running<D, R>],
+    gate: &G,
+)
+    ensures len { length lines.new ≡ length lines.old }
+    ensures each { (i : ℕ) (d : _) → i < length lines.old → HasRun D.listing (slice_index_or lines.old i d).seat (R.remaining (slice_index_or lines.old i d).reader)
+        (slice_index_or lines.new i d).outcome.refused (slice_index_or lines.new i d).outcome.ended (slice_index_or lines.new i d).seat }
+{
+    let workers = lines.len();
+    if workers == 0 {
+        return;
+    }
+    let work = |line: usize, running: &mut Running<D, R>|
+        ensures { HasRun D.listing running.entry.now.seat (R.remaining running.entry.now.reader) running.exit.now.outcome.refused
+            running.exit.now.outcome.ended running.exit.now.seat }
+    { run_one(rt, shared, line, running, gate) };
+    thread::for_each_mut(rt, lines, workers, &work);
+}
+
+/// Runs one line.
+fn run_one<D: DayName, R: BufRead, G: Gate, W: Wait>(
+    rt: &W,
+    shared: &SharedTape<D>,
+    line: usize,
+    running: &mut Running<D, R>,
+    gate: &G,
+)
+    ensures { HasRun D.listing running.old.seat (R.remaining running.old.reader) running.new.outcome.refused running.new.outcome.ended running.new.seat }
+{
+    let Running {
+        seat,
+        reader,
+        outcome,
+    } = running;
+    *outcome = run_frames(rt, shared, line, seat, reader, gate);
+}
+
+/// Whether a thread can be started now. It does nothing, and its end is waited for.
+fn can_start<T: Threads>(rt: &T) -> bool {
+    match thread::spawn(rt, || ()) {
+        Ok(worker) => {
+            worker.join(rt);
+            true
+        }
+        Err(_) => false,
+    }
+}
+
+/// Runs all lines at once, each in a worker as `run_line` runs it, with its place from 0 as its number, and waits for their
+/// ends, which come in the order of the lines. The workers are started by halves.
+///
+/// Nothing is started, and all lines come back with their seats, where memory runs out (`Lack::Memory`) or, with two lines or
+/// more, no thread can be started (`Lack::Worker`). Where a thread is refused later, its half of the lines is run by the
+/// thread that asked for it.
+pub fn run_lines<
+    D: DayName + Send + Sync,
+    R: BufRead + Send + Drop,
+    G: Gate + Sync,
+    T: Threads + Wait + Sync,
+>(
+    rt: &T,
+    alloc: Global,
+    shared: &SharedTape<D>,
+    lines: Vec<(LineSeat<D>, R)>,
+    gate: &G,
+) -> Result<Vec<LineEnd<D>>, Unstarted<D, R>>
+    ensures len { IfOk result (λ ends. length ends.items ≡ length lines.items) }
+    // Each end is that of the line in its place.
+    ensures each { IfOk result (λ ends. (i : ℕ) (l : _) (e : _) → i < length lines.items
+        → HasRun D.listing (slice_index_or lines.items i l).0 (R.remaining (slice_index_or lines.items i l).1)
+            (slice_index_or ends.items i e).refused (slice_index_or ends.items i e).ended (slice_index_or ends.items i e).seat) }
+    ensures same { IfOk result (λ ends. map (λ e. e.seat.who) ends.items ≡ map (λ l. l.0.who) lines.items) }
+    ensures back { IfErr result (λ unstarted. (unstarted.ends.items ≡ []) × (unstarted.lines.items ≡ lines.items)) }
+    ensures lack { IfErr result (λ unstarted. unstarted.lack ≡ Worker → 2 ≤ length lines.items) }
+{
+    let Ok(ends) = Vec::with_capacity(alloc, lines.len()) else {
+        return Err(Unstarted {
+            ends: Vec::new(alloc),
+            lines,
+            lack: Lack::Memory,
+        });
+    };
+    if lines.len() > 1 && !can_start(rt) {
+        return Err(Unstarted {
+            ends,
+            lines,
+            lack: Lack::Worker,
+        });
+    }
+    let mut running = match running_lines(alloc, lines) {
+        Ok(running) => running,
+        Err(lines) => {
+            return Err(Unstarted {
+                ends,
+                lines,
+                lack: Lack::Memory,
+            });
+        }
+    };
+    run_each(rt, shared, running.as_mut_slice(), gate);
+    Ok(line_ends(running, ends))
+}

@@ -1,0 +1,23 @@
+//! Lines that were not started.
+
+use crate::LineEnd;
+use line_ledger::{DayName, LineSeat};
+
+/// What there was too little of.
+#[derive(Clone, Copy, Debug, PartialEq, Eq)]
+pub enum Lack {
+    /// Memory ran out.
+    Memory,
+    /// No thread could be started.
+    Worker,
+}
+
+/// Lines that were not started. It must be spent, since it holds their seats.
+pub struct Unstarted<D: DayName, R> {
+    /// The ends of the lines that ran: none, since either all lines are started or none is.
+    pub ends: Vec<LineEnd<D>>,
+    /// The lines that were not started, with their seats and readers.
+    pub lines: Vec<(LineSeat<D>, R)>,
+    /// Why they were not.
+    pub lack: Lack,
+}

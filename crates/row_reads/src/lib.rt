@@ -1,0 +1,34 @@
+//! Rows of bytes, read whole from a reader.
+#![tactic(auto)]
+
+ghost use Rattle.std.specs.Prelude.{◌≡◌, ◌≤◌, ◌<◌, IfNone, IfSome, take, length};
+ghost use Rattle.std.specs.Io.KnownBytes.{Consumes, IsAtEnd};
+ghost use Rattle.row_reads.specs.Rows.{ReadsFewer};
+
+use std::io::{ErrorKind, Read};
+
+/// Reads until the row is full or the input ends: how many bytes were read, or `None` where a read failed. A read that
+/// was interrupted is tried again. No byte is read beyond the row.
+pub fn fill<R: Read>(reader: &mut R, row: &mut [u8]) -> Option<usize>
+    ensures within { IfSome result (λ n. n ≤ length row.new) }
+    ensures bytes { IfSome result (λ n. Consumes (R.remaining reader.old) (R.remaining reader.new) (take n row.new)) }
+    ensures end { IfSome result (λ n. n < length row.new → IsAtEnd (R.remaining reader.new)) }
+    ensures failed { IfNone result (ReadsFewer (R.remaining reader.old) (R.remaining reader.new) (length row.new)) }
+{
+    let mut len = 0;
+    for _ in 0..u64::MAX {
+        if len >= row.len() {
+            return Some(len);
+        }
+        match reader.read(&mut row[len..]) {
+            Ok(0) => return Some(len),
+            Ok(more) => len += more,
+            Err(error) => {
+                if error.kind() != ErrorKind::Interrupted {
+                    return None;
+                }
+            }
+        }
+    }
+    if len < row.len() { None } else { Some(len) }
+}
