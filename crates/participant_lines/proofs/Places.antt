@@ -28,3 +28,8 @@ pub whole_slice : {X : Type 0} (items new : List X) (len : ℕ) → len ≡ leng
 whole_slice items new len is same =
     ap (λ l. take len (new ++ l)) (drop_all (length new) items (omega (arith, same))) ∙ ap (take len) (append-nil new)
     ∙ take_all len new (omega (arith, is, same))
+
+-- what is made of what is made
+pub map_made : {A B C : Type 0} (f : A → B) (h : B → C) (xs : List A) → map h (map f xs) ≡ map (λ x. h (f x)) xs
+map_made f h [] = refl
+map_made f h (x ∷ xs) = ap (λ l. h (f x) ∷ l) (map_made f h xs)

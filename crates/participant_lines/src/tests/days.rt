@@ -1,0 +1,70 @@
+//! A day of the symbol AB and the participants N and Q or N alone, and the bytes of their reports.
+ghost use Rattle.line_ledger.specs.Ends.{IsOneEach};
+
+use line_ledger::{DayName, EndFault, LineSeat, Prepared, SharedTape, prepare};
+use std::alloc::Global;
+use summaries::IndexStore;
+use tape_core::Tape;
+use tape_types::{Listing, Participant, Symbol};
+
+/// N's report 1 of 100 shares of AB at 10.00, out of sequence.
+pub(super) const REPORT: [u8; 40] = [
+    0x00, 0x26, 0x52, 0x4e, 0x00, 0x00, 0x00, 0x01, 0x00, 0x00, 0x00, 0x00, 0x00, 0x00, 0x00, 0x00,
+    0x41, 0x42, 0x20, 0x20, 0x20, 0x20, 0x20, 0x20, 0x00, 0x00, 0x00, 0x00, 0x00, 0x01, 0x86, 0xa0,
+    0x00, 0x00, 0x00, 0x64, 0x40, 0x20, 0x5a, 0x20,
+];
+
+/// The report under another participant and number.
+pub(super) fn report(who: u8, number: u8) -> [u8; 40] {
+    let mut bytes = REPORT;
+    bytes[3] = who;
+    bytes[7] = number;
+    bytes
+}
+
+/// The report under another number, at no price.
+pub(super) fn without_price(number: u8) -> [u8; 40] {
+    let mut bytes = report(b'N', number);
+    bytes[29] = 0;
+    bytes[30] = 0;
+    bytes[31] = 0;
+    bytes
+}
+
+/// These reports, one after the other.
+pub(super) fn joined(alloc: Global, reports: &[[u8; 40]]) -> Option<Vec<u8>> {
+    let mut bytes = Vec::new(alloc);
+    for report in reports {
+        bytes.extend_from_slice(report).ok()?;
+    }
+    Some(bytes)
+}
+
+/// The day of N alone, which is empty.
+pub(super) fn day_of_one(alloc: Global) -> Option<Prepared> {
+    let symbols = [Symbol::try_new(*b"AB      ")?];
+    let participants = [Participant::try_new(b'N')?];
+    let listing = Listing::new(alloc, &symbols, &participants).ok()?;
+    let tape: Tape<IndexStore> = Tape::new(alloc, listing, 10).ok()?;
+    prepare(alloc, tape).ok()
+}
+
+/// The day of N and Q, which is empty.
+pub(super) fn day_of_two(alloc: Global) -> Option<Prepared> {
+    let symbols = [Symbol::try_new(*b"AB      ")?];
+    let participants = [Participant::try_new(b'N')?, Participant::try_new(b'Q')?];
+    let listing = Listing::new(alloc, &symbols, &participants).ok()?;
+    let tape: Tape<IndexStore> = Tape::new(alloc, listing, 10).ok()?;
+    prepare(alloc, tape).ok()
+}
+
+/// How many entries the ended day has.
+pub(super) fn ended_len<D: DayName>(shared: SharedTape<D>, seats: Vec<LineSeat<D>>) -> Option<usize>
+    requires { IsOneEach D.listing.participants seats.items }
+{
+    match shared.end(seats) {
+        Ok(day) => Some(day.tape().entries().len()),
+        Err(EndFault::Disagrees(_)) => None,
+        Err(EndFault::MissingSeat(_unended)) => unreachable!(),
+    }
+}
