@@ -73,6 +73,6 @@ module _ (had mid left : Option (List ℕ)) (head piece : List ℕ) (len : ℕ) 
   whole_frame row n full all read =
       let is : take (2 + len) row ≡ head ++ piece = subst (λ (k : ℕ). take k row ≡ head ++ piece) all read in
       subst (λ (l : List ℕ). IsFrame l × Consumes had left l) (sym is) (
-    record { len = subst IsLength (sym is_len) within; whole = omega (arith, size, is_len, full) },
-    Consumes-trans had mid left head piece first second,
-  )
+        record { len = subst IsLength (sym is_len) within; whole = omega (arith, size, is_len, full) },
+        Consumes-trans had mid left head piece first second,
+      )

@@ -147,7 +147,7 @@ pub fn run_lines<
     // Each end is that of the line in its place.
     ensures each { IfOk result (λ ends. (i : ℕ) (l : _) (e : _) → i < length lines.items
         → HasRun D.listing (slice_index_or lines.items i l).0 (R.remaining (slice_index_or lines.items i l).1)
-            (slice_index_or ends.items i e).refused (slice_index_or ends.items i e).ended (slice_index_or ends.items i e).seat) }
+        (slice_index_or ends.items i e).refused (slice_index_or ends.items i e).ended (slice_index_or ends.items i e).seat) }
     ensures same { IfOk result (λ ends. map (λ e. e.seat.who) ends.items ≡ map (λ l. l.0.who) lines.items) }
     ensures back { IfErr result (λ unstarted. (unstarted.ends.items ≡ []) × (unstarted.lines.items ≡ lines.items)) }
     ensures lack { IfErr result (λ unstarted. unstarted.lack ≡ Worker → 2 ≤ length lines.items) }

@@ -95,10 +95,22 @@ fn a_message_that_the_tape_refuses_is_counted(rt: HostRuntime) -> Result<(), Fai
 fn an_input_ends_its_line(rt: HostRuntime) -> Result<(), Fail> {
     let bytes = joined(rt.alloc(), &[REPORT, REPORT]).ok_or("bytes")?;
     let alloc = rt.alloc();
-    assert_eq!(rt; end_of_bytes(&rt, alloc, &[]), Some((0, Ended::Clean, 0, 0)));
-    assert_eq!(rt; end_of_bytes(&rt, alloc, &[0, 0]), Some((0, Ended::Oversize, 0, 0)));
-    assert_eq!(rt; end_of_bytes(&rt, alloc, &bytes[..50]), Some((0, Ended::Truncated, 1, 1)));
-    assert_eq!(rt; end_of_bytes(&rt, alloc, &bytes[..41]), Some((0, Ended::Truncated, 1, 1)));
+    assert_eq!(rt;
+        end_of_bytes(&rt, alloc, &[]),
+        Some((0, Ended::Clean, 0, 0))
+    );
+    assert_eq!(rt;
+        end_of_bytes(&rt, alloc, &[0, 0]),
+        Some((0, Ended::Oversize, 0, 0))
+    );
+    assert_eq!(rt;
+        end_of_bytes(&rt, alloc, &bytes[..50]),
+        Some((0, Ended::Truncated, 1, 1))
+    );
+    assert_eq!(rt;
+        end_of_bytes(&rt, alloc, &bytes[..41]),
+        Some((0, Ended::Truncated, 1, 1))
+    );
     Ok(())
 }
 
@@ -106,6 +118,9 @@ fn an_input_ends_its_line(rt: HostRuntime) -> Result<(), Fail> {
 fn a_read_that_fails_ends_its_line(rt: HostRuntime) -> Result<(), Fail> {
     let failing = Failing { left: &REPORT };
     let mut reader = BufReader::with_capacity(rt.alloc(), 16, failing)?;
-    assert_eq!(rt; end_of(&rt, rt.alloc(), &mut reader), Some((0, Ended::ReadFault, 1, 1)));
+    assert_eq!(rt;
+        end_of(&rt, rt.alloc(), &mut reader),
+        Some((0, Ended::ReadFault, 1, 1))
+    );
     Ok(())
 }

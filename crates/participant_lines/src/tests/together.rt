@@ -72,10 +72,7 @@ fn lines_of<'a, D: DayName>(
 }
 
 /// The seats of ended lines, put into a vector with room for them.
-fn seats_of_ends<D: DayName>(
-    ends: Vec<LineEnd<D>>,
-    seats: Vec<LineSeat<D>>,
-) -> Vec<LineSeat<D>>
+fn seats_of_ends<D: DayName>(ends: Vec<LineEnd<D>>, seats: Vec<LineSeat<D>>) -> Vec<LineSeat<D>>
     requires room { vec_len ends ≤ vec_capacity seats }
     requires empty { seats.items ≡ [] }
     ensures { result.items ≡ map (λ e. e.seat) ends.items }
@@ -95,10 +92,7 @@ fn seats_of_ends<D: DayName>(
 }
 
 /// The seats of lines that were not started, put into a vector with room for them.
-fn seats_of_lines<D: DayName>(
-    lines: Vec<Line<'_, D>>,
-    seats: Vec<LineSeat<D>>,
-) -> Vec<LineSeat<D>>
+fn seats_of_lines<D: DayName>(lines: Vec<Line<'_, D>>, seats: Vec<LineSeat<D>>) -> Vec<LineSeat<D>>
     requires room { vec_len lines ≤ vec_capacity seats }
     requires empty { seats.items ≡ [] }
     ensures { result.items ≡ map (λ l. l.0) lines.entry.items }
@@ -142,11 +136,13 @@ fn run_two<D: DayName + Send + Sync, T: Threads + Wait + Sync>(
             let counts = told_in_all(&ends);
             (seats_of_ends(ends, seats), counts)
         }
-        Err(Unstarted {
-            ends,
-            lines,
-            lack: _,
-        }) => {
+        Err(
+            Unstarted {
+                ends,
+                lines,
+                lack: _,
+            },
+        ) => {
             ends.destroy_empty();
             (seats_of_lines(lines, seats), None)
         }

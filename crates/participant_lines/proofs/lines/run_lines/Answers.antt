@@ -20,7 +20,7 @@ returns-clause-each g c = λ i l e within.
     let after = c.run_each.new.lines in
     let lent : c.as_mut_slice.result.now ≡ running = c.as_mut_slice.ensures.value in
     let each = subst (λ (xs : List Run). (k : ℕ) (d : Run) → k < length xs → Ran (line (slice_index_or xs k d)) (end (slice_index_or after k d)))
-        lent c.run_each.ensures.each in
+    lent c.run_each.ensures.each in
     let long : length after ≡ length running = c.run_each.ensures.len ∙ ap length lent in
     let whole = whole_slice running after c.in-Ok-running_lines.running.len (search rules) long in
     let lines : map line running ≡ c.args.lines.items = c.in-Ok-running_lines.ensures.ok in
@@ -42,7 +42,7 @@ returns-clause-same g c =
     let after = c.run_each.new.lines in
     let lent : c.as_mut_slice.result.now ≡ running = c.as_mut_slice.ensures.value in
     let each = subst (λ (xs : List Run). (k : ℕ) (d : Run) → k < length xs → who (slice_index_or after k d) ≡ who (slice_index_or xs k d))
-        lent (λ k d less. (c.run_each.ensures.each k d less).1.does.same) in
+    lent (λ k d less. (c.run_each.ensures.each k d less).1.does.same) in
     let long : length after ≡ length running = c.run_each.ensures.len ∙ ap length lent in
     let whole = whole_slice running after c.in-Ok-running_lines.running.len (search rules) long in
     let lines : map line running ≡ c.args.lines.items = c.in-Ok-running_lines.ensures.ok in
