@@ -1,8 +1,7 @@
 //! A day of the symbol AB and the participants N and Q or N alone, and the bytes of their reports.
-ghost use Rattle.line_ledger.specs.Ends.{IsOneEach};
-
 use line_ledger::{DayName, EndFault, LineSeat, Prepared, SharedTape, prepare};
 use std::alloc::Global;
+use std::process::Abort;
 use summaries::IndexStore;
 use tape_core::Tape;
 use tape_types::{Listing, Participant, Symbol};
@@ -58,13 +57,15 @@ pub(super) fn day_of_two(alloc: Global) -> Option<Prepared> {
     prepare(alloc, tape).ok()
 }
 
-/// How many entries the ended day has.
-pub(super) fn ended_len<D: DayName>(shared: SharedTape<D>, seats: Vec<LineSeat<D>>) -> Option<usize>
-    requires { IsOneEach D.listing.participants seats.items }
-{
+/// How many entries the ended day has. A missing seat stops the test.
+pub(super) fn ended_len<D: DayName, A: Abort>(
+    rt: &A,
+    shared: SharedTape<D>,
+    seats: Vec<LineSeat<D>>,
+) -> Option<usize> {
     match shared.end(seats) {
         Ok(day) => Some(day.tape().entries().len()),
         Err(EndFault::Disagrees(_)) => None,
-        Err(EndFault::MissingSeat(_unended)) => unreachable!(),
+        Err(EndFault::MissingSeat(_unended)) => panic!(rt; "a seat is missing"),
     }
 }

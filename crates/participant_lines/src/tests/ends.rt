@@ -1,5 +1,5 @@
 //! The ends of a line.
-ghost use Rattle.std.specs.Prelude.{◌≡◌, ◌<◌, length};
+ghost use Rattle.std.specs.Prelude.{◌≡◌};
 
 use super::days::{REPORT, day_of_one, ended_len, joined, report, without_price};
 use crate::{Ended, LineEnd, run_line};
@@ -8,6 +8,7 @@ use std::alloc::Global;
 use std::io;
 use std::io::{BufRead, BufReader, ErrorKind, Read};
 use std::marker::Brand;
+use std::process::Abort;
 use std::sync::Wait;
 use std::test::Fail;
 use tape_types::NoGate;
@@ -17,7 +18,7 @@ use tape_types::NoGate;
 type Figures = (u32, Ended, u32, usize);
 
 /// How the last participant's line ends over this reader.
-fn figures<D: DayName, R: BufRead, W: Wait>(
+fn figures<D: DayName, R: BufRead, W: Wait + Abort>(
     rt: &W,
     prepared: Prepared,
     reader: &mut R,
@@ -30,7 +31,7 @@ fn figures<D: DayName, R: BufRead, W: Wait>(
         return None;
     };
     let Some(seat) = seats.pop() else {
-        let _ = ended_len(shared, seats);
+        let _ = ended_len(rt, shared, seats);
         return None;
     };
     let LineEnd {
@@ -40,18 +41,30 @@ fn figures<D: DayName, R: BufRead, W: Wait>(
     } = run_line(rt, &shared, 0, seat, reader, &NoGate);
     let count = seat.count();
     seats.push_reserved(seat);
-    let len = ended_len(shared, seats)?;
+    let len = ended_len(rt, shared, seats)?;
     Some((refused, ended, count, len))
 }
 
-fn end_of<R: BufRead, W: Wait>(rt: &W, alloc: Global, reader: &mut R) -> Option<Figures> {
+/// How N's line ends over this reader, in a day of N alone.
+fn end_of<R: BufRead, W: Wait + Abort>(rt: &W, alloc: Global, reader: &mut R) -> Option<Figures> {
     let prepared = day_of_one(alloc)?;
     figures::<Brand, R, W>(rt, prepared, reader)
 }
 
-fn end_of_bytes<W: Wait>(rt: &W, alloc: Global, bytes: &[u8]) -> Option<Figures> {
+/// How N's line ends over these bytes.
+fn end_of_bytes<W: Wait + Abort>(rt: &W, alloc: Global, bytes: &[u8]) -> Option<Figures> {
     let mut reader = bytes;
     end_of(rt, alloc, &mut reader)
+}
+
+/// How N's line ends over the front of these bytes.
+fn end_of_front<W: Wait + Abort>(
+    rt: &W,
+    alloc: Global,
+    bytes: &[u8],
+    len: usize,
+) -> Option<Figures> {
+    end_of_bytes(rt, alloc, bytes.get(..len)?)
 }
 
 /// A reader of these bytes that fails where they end.
@@ -104,11 +117,11 @@ fn an_input_ends_its_line(rt: HostRuntime) -> Result<(), Fail> {
         Some((0, Ended::Oversize, 0, 0))
     );
     assert_eq!(rt;
-        end_of_bytes(&rt, alloc, &bytes[..50]),
+        end_of_front(&rt, alloc, &bytes, 50),
         Some((0, Ended::Truncated, 1, 1))
     );
     assert_eq!(rt;
-        end_of_bytes(&rt, alloc, &bytes[..41]),
+        end_of_front(&rt, alloc, &bytes, 41),
         Some((0, Ended::Truncated, 1, 1))
     );
     Ok(())

@@ -1,13 +1,13 @@
 //! Two lines at once.
-ghost use Rattle.std.specs.Prelude.{◌≡◌, ◌≤◌, [], length, map, vec_len};
+ghost use Rattle.std.specs.Prelude.{◌≡◌, ◌≤◌, [], vec_len};
 ghost use Rattle.std.specs.Vec.{vec_capacity};
-ghost use Rattle.line_ledger.specs.Ends.{whos};
 
 use super::days::{day_of_two, ended_len, joined, report};
 use crate::{Ended, LineEnd, Unstarted, run_lines};
 use line_ledger::{DayName, LineSeat, Prepared, SharedTape};
 use std::alloc::Global;
 use std::marker::Brand;
+use std::process::Abort;
 use std::sync::Wait;
 use std::sync::atomic::{AtomicU32, Ordering};
 use std::test::Fail;
@@ -58,7 +58,6 @@ fn lines_of<'a, D: DayName>(
 ) -> Vec<Line<'a, D>>
     requires room { vec_len seats ≤ vec_capacity lines }
     requires empty { lines.items ≡ [] }
-    ensures { map (λ l. l.0) result.items ≡ seats.items }
 {
     let mut lines = lines;
     let mut left = seats.into_iter();
@@ -75,7 +74,6 @@ fn lines_of<'a, D: DayName>(
 fn seats_of_ends<D: DayName>(ends: Vec<LineEnd<D>>, seats: Vec<LineSeat<D>>) -> Vec<LineSeat<D>>
     requires room { vec_len ends ≤ vec_capacity seats }
     requires empty { seats.items ≡ [] }
-    ensures { result.items ≡ map (λ e. e.seat) ends.items }
 {
     let mut seats = seats;
     let mut left = ends.into_iter();
@@ -95,7 +93,6 @@ fn seats_of_ends<D: DayName>(ends: Vec<LineEnd<D>>, seats: Vec<LineSeat<D>>) -> 
 fn seats_of_lines<D: DayName>(lines: Vec<Line<'_, D>>, seats: Vec<LineSeat<D>>) -> Vec<LineSeat<D>>
     requires room { vec_len lines ≤ vec_capacity seats }
     requires empty { seats.items ≡ [] }
-    ensures { result.items ≡ map (λ l. l.0) lines.entry.items }
 {
     let mut seats = seats;
     let mut left = lines.into_iter();
@@ -129,7 +126,6 @@ fn run_two<D: DayName + Send + Sync, T: Threads + Wait + Sync>(
 ) -> (Vec<LineSeat<D>>, Option<(u32, u32)>)
     requires room { vec_len lines ≤ vec_capacity seats }
     requires empty { seats.items ≡ [] }
-    ensures { whos result.0.items ≡ map (λ l. l.0.who) lines.entry.items }
 {
     match run_lines(rt, alloc, shared, lines, meeting) {
         Ok(ends) => {
@@ -150,7 +146,7 @@ fn run_two<D: DayName + Send + Sync, T: Threads + Wait + Sync>(
 }
 
 /// How many messages each of two lines was told of, and how many entries the day has.
-fn day_of_lines<D: DayName + Send + Sync, T: Threads + Wait + Sync>(
+fn day_of_lines<D: DayName + Send + Sync, T: Threads + Wait + Abort + Sync>(
     rt: &T,
     alloc: Global,
     prepared: Prepared,
@@ -161,7 +157,6 @@ fn day_of_lines<D: DayName + Send + Sync, T: Threads + Wait + Sync>(
     requires name { prepared.blank.name ≡ D.name }
     requires parts { prepared.blank.parts ≡ D.parts }
     requires listing { prepared.tape.listing ≡ D.listing }
-    requires two { length D.listing.participants ≡ 2 }
 {
     let Ok(lines) = Vec::with_capacity(alloc, 2) else {
         return None;
@@ -175,13 +170,16 @@ fn day_of_lines<D: DayName + Send + Sync, T: Threads + Wait + Sync>(
         room.destroy_empty();
         return None;
     };
+    assert!(rt; seats.len() <= lines.capacity());
     let lines = lines_of(seats, lines, first, second);
+    assert!(rt; lines.len() <= room.capacity());
     let (seats, counts) = run_two(rt, alloc, &shared, lines, room, meeting);
-    let len = ended_len(shared, seats)?;
+    let len = ended_len(rt, shared, seats)?;
     Some((counts?, len))
 }
 
-fn two_lines<T: Threads + Wait + Sync>(
+/// How many messages each of N's and Q's lines was told of, and how many entries the day has.
+fn two_lines<T: Threads + Wait + Abort + Sync>(
     rt: &T,
     alloc: Global,
     meeting: &Meeting,

@@ -1,11 +1,10 @@
-use Rattle.std.proofs.Common.{◌≡◌, ◌+◌, ◌≤◌, ◌++◌, map}
+use Rattle.std.proofs.Common.{◌≡◌, ◌+◌, ◌≤◌}
 use Rattle.std.specs.Vec.{vec_len, vec_capacity}
-use Rattle.std.specs.Vec.Iter.{into_iter_items, into_iter_len}
+use Rattle.std.specs.Vec.Iter.{into_iter_len}
 use Rattle.participant_lines.proofs.tests.together.lines_of.Given as goal
 
 abbrev pub invariant-loop-seat : goal.invariant-loop-seat
 invariant-loop-seat g l =
-    (map (λ x. x.0) l.lines.items ++ into_iter_items l.left ≡ l.fn.seats.items) ×
     (vec_len l.lines + into_iter_len l.left ≡ vec_len l.fn.seats) × (vec_len l.fn.seats ≤ vec_capacity l.lines)
 
 abbrev pub decreases-loop-seat : goal.decreases-loop-seat

@@ -1,11 +1,10 @@
-use Rattle.std.proofs.Common.{◌≡◌, ◌+◌, ◌≤◌, ◌++◌, map}
+use Rattle.std.proofs.Common.{◌≡◌, ◌+◌, ◌≤◌}
 use Rattle.std.specs.Vec.{vec_len, vec_capacity}
-use Rattle.std.specs.Vec.Iter.{into_iter_items, into_iter_len}
+use Rattle.std.specs.Vec.Iter.{into_iter_len}
 use Rattle.participant_lines.proofs.tests.together.seats_of_ends.Given as goal
 
 abbrev pub invariant-loop-end : goal.invariant-loop-end
 invariant-loop-end g l =
-    (l.seats.items ++ map (λ e. e.seat) (into_iter_items l.left) ≡ map (λ e. e.seat) l.fn.ends.items) ×
     (vec_len l.seats + into_iter_len l.left ≡ vec_len l.fn.ends) × (vec_len l.fn.ends ≤ vec_capacity l.seats)
 
 abbrev pub decreases-loop-end : goal.decreases-loop-end

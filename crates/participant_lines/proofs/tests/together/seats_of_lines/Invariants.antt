@@ -1,11 +1,10 @@
-use Rattle.std.proofs.Common.{◌≡◌, ◌+◌, ◌≤◌, ◌++◌, map}
+use Rattle.std.proofs.Common.{◌≡◌, ◌+◌, ◌≤◌}
 use Rattle.std.specs.Vec.{vec_len, vec_capacity}
-use Rattle.std.specs.Vec.Iter.{into_iter_items, into_iter_len}
+use Rattle.std.specs.Vec.Iter.{into_iter_len}
 use Rattle.participant_lines.proofs.tests.together.seats_of_lines.Given as goal
 
 abbrev pub invariant-loop-seat : goal.invariant-loop-seat
 invariant-loop-seat g l =
-    (l.seats.items ++ map (λ x. x.0) (into_iter_items l.left) ≡ map (λ x. x.0) l.fn.lines.items) ×
     (vec_len l.seats + into_iter_len l.left ≡ vec_len l.fn.lines) × (vec_len l.fn.lines ≤ vec_capacity l.seats)
 
 abbrev pub decreases-loop-seat : goal.decreases-loop-seat
