@@ -1,5 +1,6 @@
 //! Worked rows and vectors, layer by layer.
 
+mod limits;
 mod matrix;
 mod messages;
 mod places;

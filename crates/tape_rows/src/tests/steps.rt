@@ -228,6 +228,18 @@ pub(super) fn told_so<S: Store>(tape: &mut Tape<S>, steps: &[(Step, Told)]) -> u
     steps.len()
 }
 
+/// Sends equal reports of N in AB, numbered from 1, until one is not answered by its own number, and tells how many were.
+pub(super) fn fills<S: Store>(tape: &mut Tape<S>, count: u32) -> u32 {
+    for before in 0..count {
+        let number = before + 1;
+        let step = Step::Sends(b'N', number, b"AB      ", Kind::Report(b"@   ", 100_000));
+        if take(tape, step) != Told::Number(number) {
+            return before;
+        }
+    }
+    count
+}
+
 fn listing(alloc: Global) -> Option<Listing> {
     let symbols = [
         Symbol::try_new(*b"AB      ")?,

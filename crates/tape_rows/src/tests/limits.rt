@@ -1,0 +1,137 @@
+//! The greatest listing, and a tape that is filled to the greatest limit.
+
+use super::steps::Kind::{Cancel, Correct, Report};
+use super::steps::Step::{Consolidated, Sends};
+use super::steps::Told::{Number, Shows};
+use super::steps::{Figures, Point, Step, Told, fills, indexed, told_so};
+use std::alloc::Global;
+use summaries::IndexStore;
+use tape_core::Tape;
+use tape_types::{Listing, Participant, Symbol};
+
+const LETTERS: &[u8; 26] = b"ABCDEFGHIJKLMNOPQRSTUVWXYZ";
+
+/// The symbol of three letters that is the one after `at` others in the order of the alphabet.
+fn symbol_at(at: usize) -> Option<Symbol> {
+    let first = *LETTERS.get(at / 676)?;
+    let second = *LETTERS.get(at / 26 % 26)?;
+    let third = *LETTERS.get(at % 26)?;
+    Symbol::try_new([first, second, third, b' ', b' ', b' ', b' ', b' '])
+}
+
+fn symbols(alloc: Global, count: usize) -> Option<Vec<Symbol>> {
+    let mut symbols = Vec::new(alloc);
+    for at in 0..count {
+        symbols.push(symbol_at(at)?).ok()?;
+    }
+    Some(symbols)
+}
+
+fn participants(alloc: Global) -> Option<Vec<Participant>> {
+    let mut participants = Vec::new(alloc);
+    for letter in LETTERS {
+        participants.push(Participant::try_new(*letter)?).ok()?;
+    }
+    Some(participants)
+}
+
+fn listing(alloc: Global, count: usize) -> Option<Listing> {
+    let symbols = symbols(alloc, count)?;
+    let participants = participants(alloc)?;
+    Listing::new(alloc, symbols.as_slice(), participants.as_slice()).ok()
+}
+
+/// A tape of as many symbols and of every participant, over the indexes.
+fn tape(alloc: Global, count: usize) -> Option<Tape<IndexStore>> {
+    Tape::new(alloc, listing(alloc, count)?, 10).ok()
+}
+
+/// Where the symbol after `at` others stands in a tape's listing, and how many symbols and participants that has.
+fn sizes(tape: &Tape<IndexStore>, at: usize) -> Option<(usize, usize, usize)> {
+    let listing = tape.listing();
+    let position = listing.position(symbol_at(at)?)?;
+    Some((
+        position,
+        listing.symbols().count(),
+        listing.participants().count(),
+    ))
+}
+
+/// The same of a new tape.
+fn sizes_of_new(alloc: Global, count: usize, at: usize) -> Option<(usize, usize, usize)> {
+    sizes(&tape(alloc, count)?, at)
+}
+
+#[test]
+fn the_greatest_listing_makes_a_tape(rt: HostRuntime) {
+    assert_eq!(rt;
+        sizes_of_new(rt.alloc(), 4_096, 4_095),
+        Some((4_095, 4_096, 26))
+    );
+    assert_eq!(rt; sizes_of_new(rt.alloc(), 4_097, 0), None);
+}
+
+const AB: &[u8; 8] = b"AB      ";
+
+/// How many reports stand on the tape before its first and its last one are corrected.
+const REPORTS: u32 = 1_048_571;
+
+/// The first report has the lowest price from now on, and the last one the highest, with two hundred shares more.
+const CORRECTED: Figures = Figures {
+    opening: Some(Point(90_000, 1, b'N')),
+    high: Some(Point(110_000, REPORTS, b'N')),
+    low: Some(Point(90_000, 1, b'N')),
+    last: Some(Point(110_000, REPORTS, b'N')),
+    volume: 104_857_300,
+    trades: REPORTS,
+};
+
+/// Without the first and the last one.
+const CANCELLED: Figures = Figures {
+    opening: Some(Point(100_000, 2, b'N')),
+    high: Some(Point(100_000, 2, b'N')),
+    low: Some(Point(100_000, 2, b'N')),
+    last: Some(Point(100_000, 1_048_570, b'N')),
+    volume: 104_856_900,
+    trades: 1_048_569,
+};
+
+/// What comes after the reports, up to the last place of the tape and one beyond it.
+const TO_THE_LIMIT: [(Step, Told); 8] = [
+    (
+        Sends(b'N', 1_048_572, AB, Correct(1, b"@   ", 90_000, 100)),
+        Number(1_048_572),
+    ),
+    (
+        Sends(b'N', 1_048_573, AB, Correct(REPORTS, b"@   ", 110_000, 300)),
+        Number(1_048_573),
+    ),
+    (Consolidated, Shows(CORRECTED)),
+    (Sends(b'N', 1_048_574, AB, Cancel(1)), Number(1_048_574)),
+    (
+        Sends(b'N', 1_048_575, AB, Cancel(REPORTS)),
+        Number(1_048_575),
+    ),
+    (Consolidated, Shows(CANCELLED)),
+    (
+        Sends(b'N', 1_048_576, AB, Report(b"@   ", 100_000)),
+        Number(1_048_576),
+    ),
+    (
+        Sends(b'N', 1_048_577, AB, Report(b"@   ", 100_000)),
+        Number(32),
+    ),
+];
+
+/// How many reports a tape took, each by its own number, and how many of the steps after them it answered as it has to.
+fn filled(tape: Option<Tape<IndexStore>>) -> Option<(u32, usize)> {
+    let mut tape = tape?;
+    let taken = fills(&mut tape, REPORTS);
+    Some((taken, told_so(&mut tape, &TO_THE_LIMIT)))
+}
+
+#[test]
+fn a_full_tape_is_corrected_and_cancelled_at_both_ends(rt: HostRuntime) {
+    let tape = indexed(rt.alloc(), 1_048_576);
+    assert_eq!(rt; filled(tape), Some((REPORTS, TO_THE_LIMIT.len())));
+}
