@@ -1,5 +1,5 @@
 -- A line's frames, done one after the other.
-use Rattle.std.proofs.Common.{◌≡◌, ◌≢◌, ℕ, ◌+◌, ◌<◌, ◌≤◌, ◌==◌, ◌||◌, List, [], ◌∷◌, ◌++◌, Option, Result, Ok, Err, cond, ltb, inl, inr}
+use Rattle.std.proofs.Common.{◌≡◌, ◌≢◌, ℕ, ◌+◌, ◌<◌, ◌≤◌, ◌==◌, ◌||◌, List, [], ◌∷◌, ◌++◌, Option, Result, Ok, Err, IfOk, IfErr, cond, ltb, inl, inr}
 use Rattle.std.proofs.Common.{length, length-append, append-nil, take, drop, refl, sym, ap, subst, ◌∙◌, arith}
 use Rattle.std.specs.List.{concat}
 use Rattle.std.specs.Io.KnownBytes.{Consumes}
@@ -7,6 +7,9 @@ use Rattle.std.proofs.KnownBytes.{Consumes-nil, Consumes-trans}
 use Rattle.std.proofs.Math.Seq.{take-length}
 use Rattle.std.proofs.lemmas.List.Folds.{concat-append}
 use Rattle.line_ledger.specs.Seats.{SeatState}
+use Rattle.line_ledger.specs.Admissions.{Tells, TellsWhy}
+use Rattle.line_ledger.specs.declared.line_refusal.LineRefusal.{LineRefusal}
+use Rattle.line_ledger.specs.declared.line_refusal.LineRefusal.TheVariants as line
 use Rattle.line_ledger.specs.declared.told.Told.{Told}
 use Rattle.reports.specs.Fields.{◌>>=◌}
 use Rattle.reports.specs.Reading.{announced_length, body_message, message_at}
@@ -15,9 +18,11 @@ use Rattle.reports.specs.declared.fault.MessageFault.{MessageFault}
 use Rattle.reports.specs.declared.fault.MessageFault.TheVariants as fault
 use Rattle.reports.specs.declared.message.Message.{Message}
 use Rattle.reports.proofs.Fields.{passed, bind_ok, ok_is}
+use Rattle.tape_core.specs.declared.refusal.Refusal.{Refusal}
+use Rattle.tape_core.specs.declared.refusal.Refusal.TheVariants as tape
 use Rattle.tape_types.specs.Names.{Names}
 use Rattle.participant_lines.specs.Frames.{EndsInput, IsFrame}
-use Rattle.participant_lines.specs.Runs.{AreDone, Does, EndsAfter, IsDone, Runs, StopsAt, Takes, most_frames}
+use Rattle.participant_lines.specs.Runs.{AreDone, Does, EndsAfter, IsAnswered, IsDone, Runs, StopsAt, Takes, effect_of, most_frames, refusal_effect}
 use Rattle.participant_lines.specs.declared.line_end.Ended.{Ended}
 use Rattle.participant_lines.specs.declared.line_end.Ended.TheVariants.{Clean, Truncated, Oversize, ReadFault, TooMany, OutOfMemory, Behind}
 
@@ -41,19 +46,80 @@ pub spelled : (frame : List ℕ) (x : Message × ℕ) → IsFrame frame → Ok x
 spelled frame x is read found =
     subst (λ (l : List ℕ). Spells l x.0) (ap (λ (n : ℕ). take n frame) (whole_message frame x is read) ∙ take-length frame) found.1
 
+-- a refusal by the tape after which the line goes on is counted once
+counted_once : (r : Refusal) (refused : ℕ) → refusal_effect r ≡ Ok refused → refused ≡ 1
+counted_once tape.Closed refused is = cc
+counted_once tape.Full refused is = cc
+counted_once tape.WrongLine refused is = cc
+counted_once tape.UnknownParticipant refused is = cc
+counted_once tape.Stale refused is = cc
+counted_once tape.UnknownSymbol refused is = cc
+counted_once tape.NoSuchReport refused is = cc
+counted_once tape.OtherSymbol refused is = cc
+counted_once tape.Cancelled refused is = cc
+counted_once tape.OutOfMemory refused is = absurd cc
+counted_once tape.WrongNumber refused is = cc
+
+-- what a message that was taken does to the counts of a seat
+takes_counts : (listing : Names) (s s' : SeatState) (m : Message) (answer : Result ℕ LineRefusal) (refused : ℕ) → IsAnswered listing s m answer s'
+    → effect_of answer ≡ Ok refused → (length s'.told + refused ≡ length s.told + 1) × (refused ≤ 1) × (s'.who ≡ s.who)
+takes_counts listing s s' m (Ok number) refused tells is =
+    let t : Told = record { number = number; message = m } in
+    let none : refused ≡ 0 = cc in (
+      omega (arith, ap (λ (x : SeatState). length x.told) tells.told, length-append s.told (t ∷ []), none),
+      omega (arith, none),
+      ap (λ (x : SeatState). x.who) tells.told,
+    )
+takes_counts listing s s' m (Err line.Behind) refused tells is = absurd cc
+takes_counts listing s s' m (Err (line.Refused r)) refused tells is =
+    let one = counted_once r refused is in
+    (omega (arith, ap (λ (x : SeatState). length x.told) tells.seat, one), omega (arith, one), ap (λ (x : SeatState). x.who) tells.seat)
+
 -- what a frame does to the counts of a seat
 counts : (listing : Names) (s s' : SeatState) (frame : List ℕ) (refused : ℕ) → IsDone listing s frame refused s'
     → (length s'.told + refused ≡ length s.told + 1) × (refused ≤ 1) × (s'.who ≡ s.who)
 counts listing s s' frame refused (inl (fault, read, same, one)) =
     (omega (arith, ap (λ (x : SeatState). length x.told) same, one), omega (arith, one), ap (λ (x : SeatState). x.who) same)
-counts listing s s' frame refused (inr (m, spells, inl (number, tells, none))) =
-    let t : Told = record { number = number; message = m } in (
-      omega (arith, ap (λ (x : SeatState). length x.told) tells.told, length-append s.told (t ∷ []), none),
-      omega (arith, none),
-      ap (λ (x : SeatState). x.who) tells.told,
-    )
-counts listing s s' frame refused (inr (m, spells, inr (why, goes_on, tells, one))) =
-    (omega (arith, ap (λ (x : SeatState). length x.told) tells.seat, one), omega (arith, one), ap (λ (x : SeatState). x.who) tells.seat)
+counts listing s s' frame refused (inr (m, spells, (answer, tells, is))) = takes_counts listing s s' m answer refused tells is
+
+-- an answer as what a seat's holder learns of it
+pub answered : (listing : Names) (s s' : SeatState) (m : Message) (answer : Result ℕ LineRefusal) → IfOk answer (λ number. Tells s m number s')
+    → IfErr answer (λ why. TellsWhy listing s m why s') → IsAnswered listing s m answer s'
+answered listing s s' m (Ok number) tells why = tells
+answered listing s s' m (Err refusal) tells why = why
+
+-- an answer after which the line goes on
+pub taken : (listing : Names) (s s' : SeatState) (m : Message) (answer : Result ℕ LineRefusal) (result : Result ℕ Ended) → IsAnswered listing s m answer s'
+    → result ≡ effect_of answer → IfOk result (λ refused. Takes listing s m refused s')
+taken listing s s' m answer (Ok refused) tells is = (answer, tells, sym is)
+taken listing s s' m answer (Err ended) tells is = tt
+
+-- a refusal by the tape at which the line ends
+stopped_by : (listing : Names) (s s' : SeatState) (m : Message) (r : Refusal) → TellsWhy listing s m (line.Refused r) s'
+    → IfErr (refusal_effect r) (λ ended. (s' ≡ s) × StopsAt ended listing s m)
+stopped_by listing s s' m tape.Closed tells = tt
+stopped_by listing s s' m tape.Full tells = tt
+stopped_by listing s s' m tape.WrongLine tells = tt
+stopped_by listing s s' m tape.UnknownParticipant tells = tt
+stopped_by listing s s' m tape.Stale tells = tt
+stopped_by listing s s' m tape.UnknownSymbol tells = tt
+stopped_by listing s s' m tape.NoSuchReport tells = tt
+stopped_by listing s s' m tape.OtherSymbol tells = tt
+stopped_by listing s s' m tape.Cancelled tells = tt
+stopped_by listing s s' m tape.OutOfMemory tells = (tells.seat, subst (TellsWhy listing s m (line.Refused tape.OutOfMemory)) tells.seat tells)
+stopped_by listing s s' m tape.WrongNumber tells = tt
+
+effect-stops : (listing : Names) (s s' : SeatState) (m : Message) (answer : Result ℕ LineRefusal) → IsAnswered listing s m answer s'
+    → IfErr (effect_of answer) (λ ended. (s' ≡ s) × StopsAt ended listing s m)
+effect-stops listing s s' m (Ok number) tells = tt
+effect-stops listing s s' m (Err line.Behind) tells = (tells.seat, subst (TellsWhy listing s m line.Behind) tells.seat tells)
+effect-stops listing s s' m (Err (line.Refused r)) tells = stopped_by listing s s' m r tells
+
+-- an answer at which the line ends
+pub stopped : (listing : Names) (s s' : SeatState) (m : Message) (answer : Result ℕ LineRefusal) (result : Result ℕ Ended) → IsAnswered listing s m answer s'
+    → result ≡ effect_of answer → IfErr result (λ ended. (s' ≡ s) × StopsAt ended listing s m)
+stopped listing s s' m answer result tells is =
+    subst (λ (r : Result ℕ Ended). IfErr r (λ ended. (s' ≡ s) × StopsAt ended listing s m)) (sym is) (effect-stops listing s s' m answer tells)
 
 -- no frame yet
 pub does_none : (listing : Names) (s : SeatState) (had : Option (List ℕ)) → Does listing s had had 0 0 s

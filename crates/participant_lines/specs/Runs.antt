@@ -1,5 +1,5 @@
 -- What a line does with its frames, and how it ends.
-use Rattle.std.specs.Prelude.{◌≡◌, ◌≢◌, ◌+◌, ◌<◌, ◌≤◌, ◌⊎◌, ℕ, List, [], ◌∷◌, length, Option, Err}
+use Rattle.std.specs.Prelude.{◌≡◌, ◌≢◌, ◌+◌, ◌<◌, ◌≤◌, ◌⊎◌, ℕ, List, [], ◌∷◌, length, Option, Result, Ok, Err}
 use Rattle.std.specs.List.{concat}
 use Rattle.std.specs.Io.KnownBytes.{Consumes}
 use Rattle.line_ledger.specs.Admissions.{Tells, TellsWhy}
@@ -10,6 +10,7 @@ use Rattle.reports.specs.Reading.{message_at}
 use Rattle.reports.specs.Spelling.{Spells}
 use Rattle.reports.specs.declared.fault.MessageFault.{MessageFault}
 use Rattle.reports.specs.declared.message.Message.{Message}
+use Rattle.tape_core.specs.declared.refusal.Refusal.{Refusal}
 use Rattle.tape_core.specs.declared.refusal.Refusal.TheVariants as tape
 use Rattle.tape_types.specs.Names.{Names}
 use Rattle.participant_lines.specs.Frames.{EndsInput, IsFrame}
@@ -20,15 +21,34 @@ use Rattle.participant_lines.specs.declared.line_end.Ended.TheVariants.{Clean, T
 abbrev pub most_frames : ℕ
 most_frames = 2097152
 
--- a refusal that is counted, and after which the line goes on
-abbrev pub GoesOn : LineRefusal → Type 0
-GoesOn why = (why ≢ line.Behind) × (why ≢ line.Refused tape.OutOfMemory)
+-- what a tape's refusal is to its line: 40 ends it, and each other one is counted
+abbrev pub refusal_effect : Refusal → Result ℕ Ended
+refusal_effect tape.Closed = Ok 1
+refusal_effect tape.Full = Ok 1
+refusal_effect tape.WrongLine = Ok 1
+refusal_effect tape.UnknownParticipant = Ok 1
+refusal_effect tape.Stale = Ok 1
+refusal_effect tape.UnknownSymbol = Ok 1
+refusal_effect tape.NoSuchReport = Ok 1
+refusal_effect tape.OtherSymbol = Ok 1
+refusal_effect tape.Cancelled = Ok 1
+refusal_effect tape.OutOfMemory = Err OutOfMemory
+refusal_effect tape.WrongNumber = Ok 1
 
--- a message was admitted and the seat told so, or it was refused and counted, and the seat is unchanged
+-- what an answer is to its line: how many refusals it makes, or the end that it brings
+abbrev pub effect_of : Result ℕ LineRefusal → Result ℕ Ended
+effect_of (Ok number) = Ok 0
+effect_of (Err line.Behind) = Err Behind
+effect_of (Err (line.Refused refusal)) = refusal_effect refusal
+
+-- what a seat's holder learns of an answer
+abbrev pub IsAnswered : Names → SeatState → Message → Result ℕ LineRefusal → SeatState → Type 0
+IsAnswered listing s m (Ok number) s' = Tells s m number s'
+IsAnswered listing s m (Err why) s' = TellsWhy listing s m why s'
+
+-- a message was answered so that its line goes on, with so many refusals more
 abbrev pub Takes : Names → SeatState → Message → ℕ → SeatState → Type 0
-Takes listing s m refused s' =
-    ((number : ℕ) × Tells s m number s' × (refused ≡ 0))
-    ⊎ ((why : LineRefusal) × GoesOn why × TellsWhy listing s m why s' × (refused ≡ 1))
+Takes listing s m refused s' = (answer : Result ℕ LineRefusal) × IsAnswered listing s m answer s' × (effect_of answer ≡ Ok refused)
 
 -- a frame was done: it spells no message, which is counted as refused, or its message was taken
 abbrev pub IsDone : Names → SeatState → List ℕ → ℕ → SeatState → Type 0

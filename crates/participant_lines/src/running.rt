@@ -1,11 +1,11 @@
 //! One line run to its end.
 ghost use Rattle.std.specs.Prelude.{◌≡◌, ◌≢◌, IfErr, IfOk};
-ghost use Rattle.participant_lines.specs.Runs.{Does, EndsAfter, Runs, StopsAt, Takes};
+ghost use Rattle.participant_lines.specs.Runs.{Does, EndsAfter, Runs, StopsAt, Takes, effect_of};
 ghost use Rattle.participant_lines.specs.declared.line_end.Ended.TheVariants.{TooMany};
 
 use crate::frame::{LONGEST_FRAME, read_frame};
 use crate::{Ended, LineEnd};
-use line_ledger::{DayName, LineRefusal, LineSeat, SharedTape};
+use line_ledger::{DayName, LineRefusal, LineSeat, Receipt, SharedTape};
 use reports::{Message, decode};
 use std::io::BufRead;
 use std::sync::Wait;
@@ -24,6 +24,19 @@ pub(crate) struct Outcome {
     pub ended: Ended,
 }
 
+/// What an answer is to its line: how many refusals it makes, 0 or 1, or the end that it brings. Nothing else decides which
+/// refusals end a line.
+fn effect_of(answer: Result<Receipt, LineRefusal>) -> Result<u32, Ended>
+    ensures { result ≡ effect_of answer }
+{
+    match answer {
+        Ok(_) => Ok(0),
+        Err(LineRefusal::Behind) => Err(Ended::Behind),
+        Err(LineRefusal::Refused(Refusal::OutOfMemory)) => Err(Ended::OutOfMemory),
+        Err(LineRefusal::Refused(_)) => Ok(1),
+    }
+}
+
 /// Admits a message: how many refusals that makes, 0 or 1, or why the line ends at it.
 fn take_message<D: DayName, W: Wait>(
     rt: &W,
@@ -34,12 +47,7 @@ fn take_message<D: DayName, W: Wait>(
     ensures ok { IfOk result (λ refused. Takes D.listing seat.old message refused seat.new) }
     ensures err { IfErr result (λ ended. (seat.new ≡ seat.old) × StopsAt ended D.listing seat.old message) }
 {
-    match shared.admit(rt, seat, message) {
-        Ok(_) => Ok(0),
-        Err(LineRefusal::Behind) => Err(Ended::Behind),
-        Err(LineRefusal::Refused(Refusal::OutOfMemory)) => Err(Ended::OutOfMemory),
-        Err(LineRefusal::Refused(_)) => Ok(1),
-    }
+    effect_of(shared.admit(rt, seat, message))
 }
 
 /// Reads the next frame and does it: how many refusals that makes, 0 or 1, or why the line ends before or at it. The row is
