@@ -11,6 +11,3 @@ pub use line_end::{Ended, LineEnd};
 pub use lines::run_lines;
 pub use running::{MOST_FRAMES, run_line};
 pub use unstarted::{Lack, Unstarted};
-
-#[cfg(test)]
-mod tests;

@@ -1,9 +1,9 @@
 //! The ends of a line.
 ghost use Rattle.std.specs.Prelude.{◌≡◌};
 
-use super::days::{REPORT, day_of_one, ended_len, joined, report, without_price};
-use crate::{Ended, LineEnd, run_line};
+use super::days::{REPORT, day_of_one, ended_day, joined, report, without_price};
 use line_ledger::{DayName, Prepared, SharedTape};
+use participant_lines::{Ended, LineEnd, run_line};
 use std::alloc::Global;
 use std::io;
 use std::io::{BufRead, BufReader, ErrorKind, Read};
@@ -31,7 +31,7 @@ fn figures<D: DayName, R: BufRead, W: Wait + Abort>(
         return None;
     };
     let Some(seat) = seats.pop() else {
-        let _ = ended_len(rt, shared, seats);
+        let _ = ended_day(rt, shared, seats);
         return None;
     };
     let LineEnd {
@@ -41,8 +41,8 @@ fn figures<D: DayName, R: BufRead, W: Wait + Abort>(
     } = run_line(rt, &shared, 0, seat, reader, &NoGate);
     let count = seat.count();
     seats.push_reserved(seat);
-    let len = ended_len(rt, shared, seats)?;
-    Some((refused, ended, count, len))
+    let day = ended_day(rt, shared, seats)?;
+    Some((refused, ended, count, day.tape().entries().len()))
 }
 
 /// How N's line ends over this reader, in a day of N alone.

@@ -1,5 +1,5 @@
-//! A day of the symbol AB and the participants N and Q or N alone, and the bytes of their reports.
-use line_ledger::{DayName, EndFault, LineSeat, Prepared, SharedTape, prepare};
+//! A day of the symbol AB and the participants N and Q or N alone, the bytes of their reports, and the end of a day.
+use line_ledger::{Day, DayName, EndFault, LineSeat, Prepared, SharedTape, prepare};
 use std::alloc::Global;
 use std::process::Abort;
 use summaries::IndexStore;
@@ -57,14 +57,14 @@ pub(super) fn day_of_two(alloc: Global) -> Option<Prepared> {
     prepare(alloc, tape).ok()
 }
 
-/// How many entries the ended day has. A missing seat stops the test.
-pub(super) fn ended_len<D: DayName, A: Abort>(
+/// The ended day. A missing seat stops the test.
+pub(super) fn ended_day<D: DayName, A: Abort>(
     rt: &A,
     shared: SharedTape<D>,
     seats: Vec<LineSeat<D>>,
-) -> Option<usize> {
+) -> Option<Day> {
     match shared.end(seats) {
-        Ok(day) => Some(day.tape().entries().len()),
+        Ok(day) => Some(day),
         Err(EndFault::Disagrees(_)) => None,
         Err(EndFault::MissingSeat(_unended)) => panic!(rt; "a seat is missing"),
     }

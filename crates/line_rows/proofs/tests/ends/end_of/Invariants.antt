@@ -1,4 +1,4 @@
-use Rattle.participant_lines.proofs.tests.ends.end_of.Given as goal
+use Rattle.line_rows.proofs.tests.ends.end_of.Given as goal
 
 abbrev pub ghosts-figures-D-Ledger : goal.ghosts-figures-D-Ledger
 ghosts-figures-D-Ledger g a = record { name = a.prepared.blank.name; parts = a.prepared.blank.parts }

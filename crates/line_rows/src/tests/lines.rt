@@ -1,0 +1,181 @@
+//! Lines run at once over bytes, and what each came to.
+ghost use Rattle.std.specs.Prelude.{◌≡◌, ◌≤◌, [], vec_len};
+ghost use Rattle.std.specs.Vec.{vec_capacity};
+
+use super::days::ended_day;
+use line_ledger::{Day, DayName, LineSeat, Prepared, SharedTape};
+use participant_lines::{Ended, LineEnd, Unstarted, run_lines};
+use std::alloc::Global;
+use std::marker::Brand;
+use std::process::Abort;
+use std::sync::Wait;
+use std::thread::Threads;
+use tape_types::Gate;
+
+/// A seat and the bytes of its line.
+type Line<'a, D> = (LineSeat<D>, &'a [u8]);
+
+/// What a line came to: how many frames were refused, why it ended, and how many messages its seat was told of, with their
+/// shares and the last number.
+#[derive(Clone, Copy, Debug, PartialEq, Eq)]
+pub(super) struct LineFigures {
+    pub(super) refused: u32,
+    pub(super) ended: Ended,
+    pub(super) count: u32,
+    pub(super) sizes: u64,
+    pub(super) last: u32,
+}
+
+/// The seats with the bytes of their lines, put into a vector with room for them. A line without bytes has an empty input.
+fn lines_of<'a, D: DayName>(
+    seats: Vec<LineSeat<D>>,
+    lines: Vec<Line<'a, D>>,
+    inputs: &'a [Vec<u8>],
+) -> Vec<Line<'a, D>>
+    requires room { vec_len seats ≤ vec_capacity lines }
+    requires empty { lines.items ≡ [] }
+{
+    let mut lines = lines;
+    let mut left = seats.into_iter();
+    while let Some(seat) = left.next() {
+        let bytes = input_of(inputs, lines.len());
+        lines.push_reserved((seat, bytes));
+    }
+    left.destroy_empty();
+    lines
+}
+
+/// The bytes of a line, none where it has no input.
+fn input_of(inputs: &[Vec<u8>], line: usize) -> &[u8] {
+    match inputs.get(line) {
+        Some(bytes) => bytes.as_slice(),
+        None => &[],
+    }
+}
+
+/// The seats of ended lines, put into a vector with room for them.
+fn seats_of_ends<D: DayName>(ends: Vec<LineEnd<D>>, seats: Vec<LineSeat<D>>) -> Vec<LineSeat<D>>
+    requires room { vec_len ends ≤ vec_capacity seats }
+    requires empty { seats.items ≡ [] }
+{
+    let mut seats = seats;
+    let mut left = ends.into_iter();
+    while let Some(end) = left.next() {
+        let LineEnd {
+            seat,
+            refused: _,
+            ended: _,
+        } = end;
+        seats.push_reserved(seat);
+    }
+    left.destroy_empty();
+    seats
+}
+
+/// The seats of lines that were not started, put into a vector with room for them.
+fn seats_of_lines<D: DayName>(lines: Vec<Line<'_, D>>, seats: Vec<LineSeat<D>>) -> Vec<LineSeat<D>>
+    requires room { vec_len lines ≤ vec_capacity seats }
+    requires empty { seats.items ≡ [] }
+{
+    let mut seats = seats;
+    let mut left = lines.into_iter();
+    while let Some((seat, _)) = left.next() {
+        seats.push_reserved(seat);
+    }
+    left.destroy_empty();
+    seats
+}
+
+/// What an ended line came to.
+fn line_figures<D: DayName>(end: &LineEnd<D>) -> LineFigures {
+    LineFigures {
+        refused: end.refused,
+        ended: end.ended,
+        count: end.seat.count(),
+        sizes: end.seat.sizes(),
+        last: end.seat.last(),
+    }
+}
+
+/// What the ended lines came to, in their order.
+fn all_figures<D: DayName>(alloc: Global, ends: &[LineEnd<D>]) -> Option<Vec<LineFigures>> {
+    let mut figures = Vec::new(alloc);
+    for end in ends {
+        figures.push(line_figures(end)).ok()?;
+    }
+    Some(figures)
+}
+
+/// Runs the lines at once: the seats after it, and what the lines came to.
+fn run_all<D: DayName + Send + Sync, G: Gate + Sync, T: Threads + Wait + Sync>(
+    rt: &T,
+    alloc: Global,
+    shared: &SharedTape<D>,
+    lines: Vec<Line<'_, D>>,
+    seats: Vec<LineSeat<D>>,
+    gate: &G,
+) -> (Vec<LineSeat<D>>, Option<Vec<LineFigures>>)
+    requires room { vec_len lines ≤ vec_capacity seats }
+    requires empty { seats.items ≡ [] }
+{
+    match run_lines(rt, alloc, shared, lines, gate) {
+        Ok(ends) => {
+            let figures = all_figures(alloc, &ends);
+            (seats_of_ends(ends, seats), figures)
+        }
+        Err(
+            Unstarted {
+                ends,
+                lines,
+                lack: _,
+            },
+        ) => {
+            ends.destroy_empty();
+            (seats_of_lines(lines, seats), None)
+        }
+    }
+}
+
+/// What the lines of a day came to, and the day.
+fn day_after<D: DayName + Send + Sync, G: Gate + Sync, T: Threads + Wait + Abort + Sync>(
+    rt: &T,
+    alloc: Global,
+    prepared: Prepared,
+    inputs: &[Vec<u8>],
+    gate: &G,
+) -> Option<(Vec<LineFigures>, Day)>
+    requires name { prepared.blank.name ≡ D.name }
+    requires parts { prepared.blank.parts ≡ D.parts }
+    requires listing { prepared.tape.listing ≡ D.listing }
+{
+    let Ok(lines) = Vec::with_capacity(alloc, inputs.len()) else {
+        return None;
+    };
+    let Ok(room) = Vec::with_capacity(alloc, inputs.len()) else {
+        lines.destroy_empty();
+        return None;
+    };
+    let Ok((shared, seats)) = SharedTape::<D>::open(prepared) else {
+        lines.destroy_empty();
+        room.destroy_empty();
+        return None;
+    };
+    assert!(rt; seats.len() <= lines.capacity());
+    let lines = lines_of(seats, lines, inputs);
+    assert!(rt; lines.len() <= room.capacity());
+    let (seats, figures) = run_all(rt, alloc, &shared, lines, room, gate);
+    let day = ended_day(rt, shared, seats)?;
+    Some((figures?, day))
+}
+
+/// What the lines of a day came to, one for each participant, in listing order and over these bytes, and the day that they
+/// made. More participants than inputs stop the test.
+pub(super) fn day_of_lines<G: Gate + Sync, T: Threads + Wait + Abort + Sync>(
+    rt: &T,
+    alloc: Global,
+    prepared: Prepared,
+    inputs: &[Vec<u8>],
+    gate: &G,
+) -> Option<(Vec<LineFigures>, Day)> {
+    day_after::<Brand, G, T>(rt, alloc, prepared, inputs, gate)
+}

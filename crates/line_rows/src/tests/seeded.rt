@@ -1,0 +1,226 @@
+//! A seeded day of eight lines at once, beside the same messages admitted one after the other in the day's order.
+ghost use Rattle.std.specs.Prelude.{◌≡◌, ◌≤◌, ◌<◌};
+
+use super::lines::{LineFigures, day_of_lines};
+use line_ledger::{Prepared, prepare};
+use participant_lines::Ended;
+use reports::{Content, Header, Message, Moment, encode_into};
+use sale_matrix::Condition;
+use std::alloc::Global;
+use std::process::Abort;
+use std::sync::Wait;
+use std::thread::Threads;
+use summaries::IndexStore;
+use tape_core::{Tape, run};
+use tape_types::{Listing, MsgNumber, NoGate, Participant, Price, Size, Symbol};
+
+/// How many lines the day has.
+const LINES: u32 = 8;
+
+/// How many messages each line brings.
+const MESSAGES: u32 = 10_000;
+
+/// How many symbols the day has.
+const SYMBOLS: u32 = 20;
+
+/// The conditions of the reports: regular, odd lot, sold last, out of sequence, and official close.
+const CONDITIONS: [&[u8; 4]; 5] = [b"@   ", b"@  I", b"@ L ", b"@ Z ", b"@  M"];
+
+/// Numbers that look random, the same from the same seed.
+#[derive(Drop)]
+struct Dice {
+    state: u64,
+}
+
+impl Dice {
+    /// A number below this one.
+    fn below(&mut self, bound: u32) -> u32
+        requires { 1 ≤ bound }
+        ensures { result < bound }
+    {
+        self.state = self
+            .state
+            .wrapping_mul(6_364_136_223_846_793_005)
+            .wrapping_add(1_442_695_040_888_963_407);
+        (self.state / 8_589_934_592 % u64::from(bound)) as u32
+    }
+
+    /// A price, a size and a condition.
+    fn content(&mut self) -> Option<Content> {
+        let price = 100_000 + u64::from(self.below(500));
+        let size = 1 + self.below(300);
+        let condition = CONDITIONS[self.below(5) as usize];
+        Some(Content {
+            price: Price::try_new(price)?,
+            size: Size::try_new(size)?,
+            condition: Condition::try_new(*condition)?,
+        })
+    }
+
+    /// The message of a participant in its turn: two in ten cancel or correct one of its earlier messages, which may be no
+    /// report that stands, and one in ten has the number of the turn before.
+    fn message(&mut self, who: Participant, turn: u32) -> Option<Message>
+        requires { 1 ≤ turn }
+    {
+        let target = 1 + self.below(turn);
+        match self.below(10) {
+            0 => Some(Message::Cancel {
+                header: header(who, turn, target)?,
+                target: MsgNumber::try_new(target)?,
+            }),
+            1 => Some(Message::Correct {
+                header: header(who, turn, target)?,
+                target: MsgNumber::try_new(target)?,
+                content: self.content()?,
+            }),
+            2 => self.report(who, turn.saturating_sub(1).max(1)),
+            _ => self.report(who, turn),
+        }
+    }
+
+    /// A report of a participant under a number.
+    fn report(&mut self, who: Participant, number: u32) -> Option<Message> {
+        Some(Message::Report {
+            header: header(who, number, number)?,
+            content: self.content()?,
+        })
+    }
+}
+
+/// The symbol of a place in the listing, or of one as many symbols further on.
+fn symbol(place: u32) -> Option<Symbol> {
+    let mut name = *b"A       ";
+    name[0] = b'A' + (place % SYMBOLS) as u8;
+    Symbol::try_new(name)
+}
+
+/// The participant of a line.
+fn participant(line: u32) -> Option<Participant> {
+    Participant::try_new(b'A' + (line % LINES) as u8)
+}
+
+/// The header of a message under a number, of the symbol that a report has under another.
+fn header(who: Participant, number: u32, report: u32) -> Option<Header> {
+    Some(Header {
+        participant: who,
+        number: MsgNumber::try_new(number)?,
+        moment: Moment::new(0),
+        symbol: symbol(report)?,
+    })
+}
+
+/// The bytes of a line's messages.
+fn line_bytes(alloc: Global, line: u32) -> Option<Vec<u8>> {
+    let who = participant(line)?;
+    let mut dice = Dice {
+        state: u64::from(line),
+    };
+    let mut row = [0; 44];
+    let mut bytes = Vec::new(alloc);
+    for turn in 1..=MESSAGES {
+        let len = encode_into(&dice.message(who, turn)?, &mut row);
+        bytes.extend_from_slice(row.get(..len)?).ok()?;
+    }
+    Some(bytes)
+}
+
+/// The bytes of all lines.
+fn inputs(alloc: Global) -> Option<Vec<Vec<u8>>> {
+    let mut inputs = Vec::new(alloc);
+    for line in 0..LINES {
+        inputs.push(line_bytes(alloc, line)?).ok()?;
+    }
+    Some(inputs)
+}
+
+/// The day's tape, which is empty.
+fn empty_tape(alloc: Global) -> Option<Tape<IndexStore>> {
+    let mut symbols = Vec::new(alloc);
+    for place in 0..SYMBOLS {
+        symbols.push(symbol(place)?).ok()?;
+    }
+    let mut participants = Vec::new(alloc);
+    for line in 0..LINES {
+        participants.push(participant(line)?).ok()?;
+    }
+    let listing = Listing::new(alloc, &symbols, &participants).ok()?;
+    Tape::new(alloc, listing, LINES * MESSAGES).ok()
+}
+
+/// The day, which is empty.
+fn empty_day(alloc: Global) -> Option<Prepared> {
+    prepare(alloc, empty_tape(alloc)?).ok()
+}
+
+/// A tape by the messages of this one, one after the other. `None` where one of them is refused.
+fn tape_again(alloc: Global, tape: &Tape<IndexStore>) -> Option<Tape<IndexStore>> {
+    let mut messages = Vec::new(alloc);
+    for entry in tape.entries() {
+        messages.push(entry.message).ok()?;
+    }
+    let mut again = empty_tape(alloc)?;
+    let answers = run(alloc, &mut again, &messages).ok()?;
+    answers.iter().all(|answer| answer.is_ok()).then_some(again)
+}
+
+/// Whether two tapes have the same summaries of a symbol: the consolidated one, and each participant's.
+fn has_same_summaries(tape: &Tape<IndexStore>, other: &Tape<IndexStore>, symbol: Symbol) -> bool {
+    if tape.summary(symbol) != other.summary(symbol) {
+        return false;
+    }
+    for who in tape.listing().participants().as_slice() {
+        if tape.summary_of(symbol, *who) != other.summary_of(symbol, *who) {
+            return false;
+        }
+    }
+    true
+}
+
+/// Whether two tapes have the same summaries of each symbol.
+fn has_all_summaries(tape: &Tape<IndexStore>, other: &Tape<IndexStore>) -> bool {
+    for symbol in tape.listing().symbols().as_slice() {
+        if !has_same_summaries(tape, other, *symbol) {
+            return false;
+        }
+    }
+    true
+}
+
+/// Whether a line's figures are those of the tape: it ended with its input, each message was admitted or refused, and
+/// count, shares and last number are its participant's.
+fn is_of(tape: &Tape<IndexStore>, who: Participant, line: &LineFigures) -> bool {
+    line.ended == Ended::Clean
+        && u64::from(line.count) + u64::from(line.refused) == u64::from(MESSAGES)
+        && tape.count_of(who) == line.count
+        && tape.sizes_of(who) == line.sizes
+        && tape.last_of(who) == line.last
+}
+
+/// Whether each line has the tape's figures of its participant.
+fn are_all_of(tape: &Tape<IndexStore>, lines: &[LineFigures]) -> Option<bool> {
+    for line in 0..LINES {
+        if !is_of(tape, participant(line)?, lines.get(line as usize)?) {
+            return Some(false);
+        }
+    }
+    Some(true)
+}
+
+/// Whether each line has the figures of its participant, whether the day's tape is the one that its messages make one after
+/// the other, and how many of all messages are on it.
+fn eight_lines<T: Threads + Wait + Abort + Sync>(
+    rt: &T,
+    alloc: Global,
+) -> Option<(bool, bool, usize)> {
+    let inputs = inputs(alloc)?;
+    let (lines, day) = day_of_lines(rt, alloc, empty_day(alloc)?, &inputs, &NoGate)?;
+    let tape = day.tape();
+    let again = tape_again(alloc, tape)?;
+    let is_same = tape.entries() == again.entries() && has_all_summaries(tape, &again);
+    Some((are_all_of(&again, &lines)?, is_same, tape.entries().len()))
+}
+
+#[test]
+fn eight_lines_make_the_tape_of_their_messages_in_its_order(rt: HostRuntime) {
+    assert_eq!(rt; eight_lines(&rt, rt.alloc()), Some((true, true, 67_575)));
+}
