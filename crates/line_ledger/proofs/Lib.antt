@@ -3,5 +3,7 @@ pub mod Endings
 pub mod KeptSeats
 pub mod OneDisagreement
 pub mod OneEach
+pub mod Openings
+pub mod Pushes
 pub mod Reasons
 pub mod Tellings

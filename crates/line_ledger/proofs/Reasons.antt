@@ -148,6 +148,12 @@ is_why t s m why is = record {
   tape = λ own same. is ∙ ap (λ o. unwrap_or o (Refused OutOfMemory)) (refuses_as_tape t s m own same) ∙ unwrap-map (refusal t m);
 }
 
+-- where the message is the seat's own and the tape has what the seat was told, the reason is the tape's
+pub why_as_tape : (t : TapeState) (s : SeatState) (m : Message) (r : Refusal) → (header_of m).participant ≡ s.who → agrees t s ≡ true
+    → r ≡ unwrap_or (refusal t m) OutOfMemory → Refused r ≡ unwrap_or (line_refusal t s m) (Refused OutOfMemory)
+why_as_tape t s m r own same is =
+    ap Refused is ∙ sym (ap (λ o. unwrap_or o (Refused OutOfMemory)) (refuses_as_tape t s m own same) ∙ unwrap-map (refusal t m))
+
 -- what each reason is, by its number
 pub record Learns (listing : Names) (s : SeatState) (m : Message) (code : ℕ) : Type 0 where
   pub wrong_line : code ≡ 33 → (header_of m).participant ≢ s.who

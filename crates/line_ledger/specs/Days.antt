@@ -1,5 +1,5 @@
 -- A day's tape, as it lies behind the lock.
-use Rattle.std.specs.Prelude.{◌≡◌, ℕ, ◌==◌, Bool, false, ◌&&◌}
+use Rattle.std.specs.Prelude.{◌≡◌, ℕ, ◌==◌, Bool, false, ◌&&◌, List}
 use Rattle.tape_types.specs.Names.{Names}
 use Rattle.tape_core.specs.Standing.{count_of, sizes_of, last_number}
 use Rattle.tape_core.specs.Tape.{TapeState, IsTape, messages_of}
@@ -14,3 +14,14 @@ pub record IsDay (listing : Names) (t : TapeState) : Type 0 where
 abbrev pub has_figures : TapeState → ℕ → ℕ → ℕ → ℕ → Bool
 has_figures t who count sizes last =
     count_of (messages_of t.entries) who == count && (sizes_of (messages_of t.entries) who == sizes && last_number (messages_of t.entries) who == last)
+
+-- the value behind the lock: the day's tape, and how many of the first cells are counted as set
+pub record LockedState : Type 0 where
+  pub tape : TapeState
+  pub set : ℕ
+
+-- an ended day: its closed tape, the names of its cells, and how many of the first cells hold the first entries
+pub record DayState : Type 0 where
+  pub tape : TapeState
+  pub names : List ℕ
+  pub published : ℕ

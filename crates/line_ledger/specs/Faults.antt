@@ -5,6 +5,8 @@ use Rattle.line_ledger.specs.declared.line_refusal.LineRefusal.{LineRefusal}
 use Rattle.line_ledger.specs.declared.line_refusal.LineRefusal.TheVariants.{Behind, Refused}
 use Rattle.line_ledger.specs.declared.open_fault.OpenFault.{OpenFault}
 use Rattle.line_ledger.specs.declared.open_fault.OpenFault.TheVariants.{NotEmpty, OutOfMemory}
+use Rattle.line_ledger.specs.declared.publish_fault.PublishFault.{PublishFault}
+use Rattle.line_ledger.specs.declared.publish_fault.PublishFault.TheVariants.{Unpublished, OutOfMemory as PublishOutOfMemory}
 use Rattle.line_ledger.specs.declared.view_fault.ViewFault.{ViewFault}
 use Rattle.line_ledger.specs.declared.view_fault.ViewFault.TheVariants.{UnknownSymbol, Behind as ViewBehind}
 
@@ -37,3 +39,13 @@ view_fault_code ViewBehind = 94
 abbrev pub view_fault_name : ViewFault → List ℕ
 view_fault_name UnknownSymbol = codes "UnknownSymbol"
 view_fault_name ViewBehind = codes "Behind"
+
+-- the number of a fault of a publication
+abbrev pub publish_fault_code : PublishFault → ℕ
+publish_fault_code (Unpublished number) = 81
+publish_fault_code PublishOutOfMemory = 82
+
+-- the name of a fault of a publication, as it is printed
+abbrev pub publish_fault_name : PublishFault → List ℕ
+publish_fault_name (Unpublished number) = codes "Unpublished"
+publish_fault_name PublishOutOfMemory = codes "OutOfMemory"

@@ -1,11 +1,16 @@
 //! Which day it is, and what is left of it.
-ghost use Rattle.std.specs.Prelude.{◌≡◌, []};
+ghost use Rattle.std.specs.Prelude.{◌≡◌, ◌↔◌, ◌+◌, ◌-◌, ◌<◌, ◌≤◌, [], length, slice_get, Some};
+ghost use Rattle.std.specs.Result.{IsOk};
 ghost use Rattle.tape_types.specs.Names.{Names};
+ghost use Rattle.line_ledger.specs.Cells.{IsTokenOf};
 
+use crate::same_entry::is_same;
+use crate::{CellRow, NotOnTape, Token};
+use seen_cells::Seen;
 use std::marker::{Brand, Model};
 use std::sync::ledger::Ledger;
 use summaries::IndexStore;
-use tape_core::Tape;
+use tape_core::{Entry, Tape};
 
 /// The name of one shared day: its ledger, which has one part for each participant, and its listing. A function over it is
 /// called with `Brand`, once for each day.
@@ -18,25 +23,68 @@ impl DayName for Brand {
     ghost listing = { record { symbols = []; participants = [] } };
 }
 
-/// An ended day: its closed tape.
+/// An ended day: its closed tape, its cells, and what its end saw in the first of them.
 #[derive(Drop)]
 pub struct Day {
     pub(crate) tape: Tape<IndexStore>,
+    pub(crate) row: CellRow,
+    pub(crate) seen: Vec<Seen<Entry>>,
 }
 
 impl Model for Day {
-    ghost use Rattle.tape_core.specs.Tape.{TapeState};
+    ghost use Rattle.std.specs.Prelude.{◌≤◌, length};
+    ghost use Rattle.line_ledger.specs.Cells.{FirstSeen};
+    ghost use Rattle.line_ledger.specs.Days.{DayState};
 
-    ghost Value = { TapeState };
+    ghost Value = { DayState };
 
-    ghost view = { λ d. d.tape };
+    ghost view = { λ d. record { tape = d.tape; names = d.row; published = length d.seen.items } };
+
+    ghost invariant = { λ d. FirstSeen d.row d.tape.entries d.seen.items × (length d.seen.items ≤ length d.tape.entries)
+        × (length d.seen.items ≤ 1048576) };
 }
 
 impl Day {
     /// The day's tape, which is closed.
     pub fn tape(&self) -> &Tape<IndexStore>
-        ensures tape { result.now ≡ self.now }
+        ensures tape { result.now ≡ self.now.tape }
     {
         &self.tape
+    }
+
+    /// How many of the first cells the day's end found to hold the tape's first entries, from 0 to the tape's length. A cell
+    /// that was set may be missed, so it is at most what was published.
+    pub fn published(&self) -> u32
+        ensures count { result ≡ self.now.published }
+        ensures within { result ≤ length self.now.tape.entries }
+    {
+        self.seen.len() as u32
+    }
+
+    /// Whether the day has the token's entry at its number: else it is 93 NotOnTape. Up to the published count it has.
+    pub fn confirm(&self, token: &Token) -> Result<(), NotOnTape>
+        requires { IsTokenOf self.now.names token.now }
+        ensures exact { IsOk result ↔ (slice_get self.now.tape.entries (token.now.number - 1) ≡ Some token.now.entry) }
+        ensures sure { token.now.number ≤ self.now.published → IsOk result }
+    {
+        let at = token.number() as usize - 1;
+        if at < self.seen.len() {
+            self.settle(at, token);
+            return Ok(());
+        }
+        match self.tape.entries().get(at) {
+            Some(entry) if is_same(entry, &token.entry()) => Ok(()),
+            _ => Err(NotOnTape),
+        }
+    }
+
+    /// A cell is set once, so the token shows the entry that the end saw in its cell, which is the day's.
+    fn settle(&self, at: usize, token: &Token)
+        requires number { at + 1 ≡ token.now.number }
+        requires cell { IsTokenOf self.now.names token.now }
+        requires within { at < self.now.published }
+        ensures { slice_get self.now.tape.entries at ≡ Some token.now.entry }
+    {
+        self.seen[at].agrees(&token.seen);
     }
 }

@@ -1,25 +1,37 @@
-//! A day's tape behind one lock, a seat for each participant's line, and a ledger of what the lines were told.
+//! A day's tape behind one lock, a seat for each participant's line, a ledger of what the lines were told, and cells beside
+//! the lock that show the published entries to anyone.
 #![tactic(auto)]
 
+mod cell_row;
 mod day;
 mod end_fault;
 mod ends;
 pub mod laws;
 mod line_refusal;
 mod locked;
+mod not_on_tape;
 mod open_fault;
 mod prepared;
+mod publish_fault;
+mod published;
+mod same_entry;
 mod shared;
+mod token;
 mod told;
 mod view_fault;
 
+pub use cell_row::CellRow;
 pub use day::{Day, DayName};
 pub use end_fault::{Disagreement, EndFault, Unended};
 pub use line_refusal::LineRefusal;
 pub use locked::{LineSeat, Locked, Receipt, View};
+pub use not_on_tape::NotOnTape;
 pub use open_fault::OpenFault;
 pub use prepared::{Prepared, prepare};
+pub use publish_fault::PublishFault;
+pub use published::Published;
 pub use shared::SharedTape;
+pub use token::Token;
 pub use told::Told;
 pub use view_fault::ViewFault;
 

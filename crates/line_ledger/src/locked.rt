@@ -1,44 +1,56 @@
 //! What lies behind the lock, and the seats. A seat's share and what it was told grow only here, in `Locked::admit`.
-ghost use Rattle.std.specs.Prelude.{◌≡◌, ◌↔◌, ◌≤◌, true, length, map, IfOk, IfErr, OnOk, MatchResult, Some, IsTrue};
+ghost use Rattle.std.specs.Prelude.{◌≡◌, ◌↔◌, ◌+◌, ◌<◌, ◌≤◌, true, length, map, IfOk, IfErr, Err, OnOk, MatchResult, Some, IsTrue};
 ghost use Rattle.tape_core.specs.Standing.{reported_size};
 ghost use Rattle.tape_core.specs.Tape.{lists_participant};
 ghost use Rattle.line_ledger.specs.declared.open_fault.OpenFault.TheVariants.{OutOfMemory};
+ghost use Rattle.line_ledger.specs.declared.publish_fault.PublishFault.TheVariants.{Unpublished};
 ghost use Rattle.line_ledger.specs.Admissions.{Admits, Refuses};
+ghost use Rattle.line_ledger.specs.Cells.{TokenAt};
 ghost use Rattle.line_ledger.specs.Days.{IsDay, has_figures};
 ghost use Rattle.line_ledger.specs.Ends.{IsOneEach, FirstTold, DisagreesAt, told_in_all};
+ghost use Rattle.line_ledger.specs.Publishing.{Publishes, Stops};
 ghost use Rattle.line_ledger.specs.Seats.{untold, sizes_told, last_told};
 ghost use Rattle.line_ledger.specs.Views.{Shows, view_fault};
 
 use crate::ends::{find_disagreement, is_one_each};
-use crate::{Day, DayName, Disagreement, LineRefusal, OpenFault, Prepared, Told, ViewFault};
+use crate::{
+    CellRow, Day, DayName, Disagreement, LineRefusal, OpenFault, Prepared, PublishFault, Token,
+    Told, ViewFault,
+};
 use reports::Message;
 use scratch_fold::Summary;
+use seen_cells::Seen;
+use std::alloc::Global;
 use std::marker::Model;
 use std::sync::ledger::{Book, Share};
 use summaries::IndexStore;
-use tape_core::{Refusal, Tape};
+use tape_core::{Entry, Refusal, Tape};
 use tape_types::{Participant, Symbol, TapeNumber};
 
-/// The value behind the lock: the open tape of the day, and the book, which counts the tape's entries. What the seats count
-/// is in their shares.
+/// The value behind the lock: the open tape of the day, the book, which counts the tape's entries, and how many of the first
+/// cells were set to them. What the seats count is in their shares.
 #[derive(Drop)]
 pub struct Locked<D: DayName> {
+    alloc: Global,
     tape: Tape<IndexStore>,
     book: Book<D>,
     rest: Share<D>, // what is left of the ledger when each seat has its share: no part, no amount
+    set: u32,
+    room: Vec<Seen<Entry>>, // for what the end sees in the cells
 }
 
 impl<D: DayName> Model for Locked<D> {
-    ghost use Rattle.std.specs.Prelude.{◌≡◌, length};
-    ghost use Rattle.tape_core.specs.Tape.{TapeState};
-    ghost use Rattle.line_ledger.specs.Days.{IsDay};
+    ghost use Rattle.std.specs.Prelude.{◌≡◌, ◌≤◌, [], length};
+    ghost use Rattle.std.specs.Vec.{vec_capacity};
+    ghost use Rattle.line_ledger.specs.Days.{LockedState, IsDay};
 
-    ghost Value = { TapeState };
+    ghost Value = { LockedState };
 
-    ghost view = { λ l. l.tape };
+    ghost view = { λ l. record { tape = l.tape; set = l.set } };
 
     ghost invariant = { λ l. IsDay D.listing l.tape × (l.book.total ≡ length l.tape.entries)
-        × (l.rest.parts ≡ 0) × (l.rest.amount ≡ 0) × (D.parts ≡ length D.listing.participants) };
+        × (l.rest.parts ≡ 0) × (l.rest.amount ≡ 0) × (D.parts ≡ length D.listing.participants)
+        × (l.set ≤ length l.tape.entries) × (l.room.items ≡ []) × (l.tape.limit ≤ vec_capacity l.room) };
 }
 
 /// The right of one participant's line to admit messages, and what the line was told. It can't be dropped: only an end of
@@ -195,18 +207,26 @@ fn reported(message: &Message) -> u64
 }
 
 impl<D: DayName> Locked<D> {
-    /// Opens the ledger: the value to lock, and a seat for each participant, in listing order and told nothing. What was
-    /// prepared is spent; where memory runs out it is 8 OutOfMemory. `D` is to name what was prepared.
-    pub fn start(prepared: Prepared) -> Result<(Locked<D>, Vec<LineSeat<D>>), OpenFault>
+    /// Opens the ledger: the value to lock, the cells to stand beside the lock, and a seat for each participant, in listing
+    /// order and told nothing. What was prepared is spent; where memory runs out it is 8 OutOfMemory. `D` is to name what was
+    /// prepared.
+    pub fn start(prepared: Prepared) -> Result<(Locked<D>, CellRow, Vec<LineSeat<D>>), OpenFault>
         requires name { prepared.blank.name ≡ D.name }
         requires parts { prepared.blank.parts ≡ D.parts }
         requires listing { prepared.tape.listing ≡ D.listing }
-        ensures tape { IfOk result (λ r. r.0 ≡ prepared.tape) }
-        ensures seats { IfOk result (λ r. r.1.items ≡ map untold prepared.tape.listing.participants) }
-        ensures each { IfOk result (λ r. IsOneEach D.listing.participants r.1.items) }
+        ensures locked { IfOk result (λ r. r.0 ≡ record { tape = prepared.tape; set = 0 }) }
+        ensures cells { IfOk result (λ r. length r.1 ≡ prepared.tape.limit) }
+        ensures seats { IfOk result (λ r. r.2.items ≡ map untold prepared.tape.listing.participants) }
+        ensures each { IfOk result (λ r. IsOneEach D.listing.participants r.2.items) }
         ensures memory { IfErr result (λ fault. fault ≡ OutOfMemory) }
     {
-        let Prepared { alloc, tape, blank } = prepared;
+        let Prepared {
+            alloc,
+            tape,
+            blank,
+            row,
+            room,
+        } = prepared;
         let _ = tape.entries();
         let _ = tape.limit();
         let many = tape.listing().participants().as_slice().len();
@@ -225,7 +245,15 @@ impl<D: DayName> Locked<D> {
                 last: 0,
             });
         }
-        Ok((Locked { tape, book, rest }, seats))
+        let locked = Locked {
+            alloc,
+            tape,
+            book,
+            rest,
+            set: 0,
+            room,
+        };
+        Ok((locked, row, seats))
     }
 
     /// Admits a message of the seat's participant: the tape has it, the seat is told so, and share, count, sizes and last
@@ -237,10 +265,11 @@ impl<D: DayName> Locked<D> {
         seat: &mut LineSeat<D>,
         message: Message,
     ) -> Result<Receipt, LineRefusal>
-        ensures day { IsDay D.listing self.old }
+        ensures day { IsDay D.listing self.old.tape }
         ensures listed { lists_participant D.listing seat.old.who ≡ true }
-        ensures ok { IfOk result (λ r. Admits self.old seat.old message r self.new seat.new) }
-        ensures err { IfErr result (λ why. Refuses self.old seat.old message why self.new seat.new) }
+        ensures ok { IfOk result (λ r. Admits self.old.tape seat.old message r self.new.tape seat.new) }
+        ensures err { IfErr result (λ why. Refuses self.old.tape seat.old message why self.new.tape seat.new) }
+        ensures set { self.new.set ≡ self.old.set }
     {
         let _ = &self.tape;
         let header = message.header();
@@ -277,8 +306,8 @@ impl<D: DayName> Locked<D> {
     /// Refused: 36 UnknownSymbol where the symbol is not listed, then 94 Behind where the tape's count, sizes or last number
     /// of the participant is not the seat's.
     pub fn view(&self, seat: &LineSeat<D>, symbol: Symbol) -> Result<View, ViewFault>
-        ensures day { IsDay D.listing self.now }
-        ensures answer { MatchResult result (Shows self.now seat.now symbol) (λ fault. view_fault self.now seat.now symbol ≡ Some fault) }
+        ensures day { IsDay D.listing self.now.tape }
+        ensures answer { MatchResult result (Shows self.now.tape seat.now symbol) (λ fault. view_fault self.now.tape seat.now symbol ≡ Some fault) }
         ensures told { IfOk result (λ view. length seat.now.told ≤ view.count) }
     {
         let _ = &self.tape;
@@ -296,6 +325,45 @@ impl<D: DayName> Locked<D> {
         })
     }
 
+    /// Publishes the tape's next entries, at most so many: sets the next cells to them, and answers a token of each, in order.
+    /// 81 Unpublished where the cell of the next number was set before or is not there, and 82 OutOfMemory where memory runs
+    /// out: what was set before that stays set, and is counted. The row is to be the one that `start` gave.
+    pub fn publish(&mut self, row: &CellRow, most: u32) -> Result<Vec<Token>, PublishFault>
+        ensures ok { IfOk result (λ tokens. Publishes self.old row.now most tokens.items self.new) }
+        ensures err { IfErr result (λ _. Stops self.old most self.new) }
+        ensures unpublished { (n : _) → result ≡ Err (Unpublished n) → n ≡ self.new.set + 1 }
+    {
+        let waiting = self.tape.entries().len() as u32 - self.set;
+        let many = waiting.min(most);
+        let Ok(mut tokens) = Vec::with_capacity(self.alloc, many as usize) else {
+            return Err(PublishFault::OutOfMemory);
+        };
+        for done in 0..many {
+            let _ = done;
+            tokens.push_reserved(self.publish_next(row)?);
+        }
+        Ok(tokens)
+    }
+
+    /// Publishes the tape's next entry.
+    fn publish_next(&mut self, row: &CellRow) -> Result<Token, PublishFault>
+        requires { self.old.set < length self.old.tape.entries }
+        ensures token { IfOk result (TokenAt row.now self.old.tape.entries (self.old.set + 1)) }
+        ensures counted { IfOk result (λ _. self.new ≡ record self.old { set = self.old.set + 1 }) }
+        ensures err { IfErr result (λ fault. (self.new ≡ self.old) × ((n : _) → fault ≡ Unpublished n → n ≡ self.old.set + 1)) }
+    {
+        let entry = &self.tape.entries()[self.set as usize];
+        let number = self.set + 1;
+        match row.set(number, entry) {
+            Ok(Some(token)) => {
+                self.set = number;
+                Ok(token)
+            }
+            Ok(None) => Err(PublishFault::Unpublished(number)),
+            Err(_) => Err(PublishFault::OutOfMemory),
+        }
+    }
+
     /// Whether there is exactly one seat of each participant of the day.
     pub(crate) fn is_each(&self, seats: &[LineSeat<D>]) -> bool
         ensures { IsTrue result ↔ IsOneEach D.listing.participants seats.now }
@@ -306,20 +374,25 @@ impl<D: DayName> Locked<D> {
 
     /// Ends the day with one seat of each participant, in any order, and closes its tape, whose length is the sum of the
     /// seats' counts: the shares show it, and nothing counts it. Where a seat was not told what the tape has of its
-    /// participant, that is a disagreement, which hands the closed tape back. The seats are spent in each case.
-    pub fn finish(self, seats: Vec<LineSeat<D>>) -> Result<Day, Disagreement>
+    /// participant, that is a disagreement, which hands the closed tape back. Else the day keeps the cells and what was seen
+    /// in them. The seats are spent in each case.
+    pub fn finish(self, row: CellRow, seats: Vec<LineSeat<D>>) -> Result<Day, Disagreement>
         requires { IsOneEach D.listing.participants seats.items }
-        ensures day { IsDay D.listing self }
-        ensures ok { IfOk result (λ day. day ≡ record self { closed = true }) }
-        ensures told { OnOk result (FirstTold (length self.listing.participants) self.listing.participants self.entries seats.items) }
-        ensures err { IfErr result (λ d. d.tape ≡ record self { closed = true }) }
-        ensures disagrees { IfErr result (λ d. DisagreesAt self.listing.participants self.entries seats.items d.participant d.at) }
-        ensures sum { length self.entries ≡ told_in_all seats.items }
+        ensures day { IsDay D.listing self.tape }
+        ensures ok { IfOk result (λ day. day.tape ≡ record self.tape { closed = true }) }
+        ensures cells { IfOk result (λ day. day.names ≡ row) }
+        ensures told { OnOk result (FirstTold (length self.tape.listing.participants) self.tape.listing.participants self.tape.entries seats.items) }
+        ensures err { IfErr result (λ d. d.tape ≡ record self.tape { closed = true }) }
+        ensures disagrees { IfErr result (λ d. DisagreesAt self.tape.listing.participants self.tape.entries seats.items d.participant d.at) }
+        ensures sum { length self.tape.entries ≡ told_in_all seats.items }
     {
         let Locked {
+            alloc: _,
             mut tape,
             mut book,
             mut rest,
+            set: _,
+            room,
         } = self;
         let found = find_disagreement(&tape, seats.as_slice());
         let mut left = seats.into_iter();
@@ -337,7 +410,10 @@ impl<D: DayName> Locked<D> {
         book.audit(&mut rest);
         tape.close();
         match found {
-            None => Ok(Day { tape }),
+            None => {
+                let seen = row.first_seen(tape.entries(), room);
+                Ok(Day { tape, row, seen })
+            }
             Some((participant, at)) => Err(Disagreement {
                 participant,
                 at,

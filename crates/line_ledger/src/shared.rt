@@ -1,27 +1,39 @@
 //! The tape behind one lock.
-ghost use Rattle.std.specs.Prelude.{◌≡◌, ◌≤◌, ◌↔◌, false, map, length, IfOk, IfErr, Err};
+ghost use Rattle.std.specs.Prelude.{◌≡◌, ◌≤◌, ◌↔◌, false, map, length, IfOk, IfErr, IfSome, Err};
 ghost use Rattle.tape_core.specs.Tape.{lists_symbol};
 ghost use Rattle.line_ledger.specs.declared.end_fault.EndFault.TheVariants.{MissingSeat, Disagrees};
 ghost use Rattle.line_ledger.specs.declared.open_fault.OpenFault.TheVariants.{OutOfMemory};
 ghost use Rattle.line_ledger.specs.declared.view_fault.ViewFault.TheVariants.{UnknownSymbol};
 ghost use Rattle.line_ledger.specs.Admissions.{Tells, TellsWhy};
+ghost use Rattle.line_ledger.specs.Cells.{IsTokenOf};
 ghost use Rattle.line_ledger.specs.Ends.{IsOneEach, IsEnd, IsDispute};
 ghost use Rattle.line_ledger.specs.Seats.{untold};
 ghost use Rattle.line_ledger.specs.Views.{IsShown};
 
 use crate::{
-    Day, DayName, EndFault, LineRefusal, LineSeat, Locked, OpenFault, Prepared, Receipt, Unended,
-    View, ViewFault,
+    CellRow, Day, DayName, EndFault, LineRefusal, LineSeat, Locked, OpenFault, Prepared,
+    PublishFault, Receipt, Token, Unended, View, ViewFault,
 };
 use reports::Message;
+use std::alloc::Global;
+use std::marker::Model;
 use std::sync::{Mutex, Wait};
 use tape_types::Symbol;
 
-/// A day's tape behind one lock. Whenever the lock is free, what it guards is the day's legal open tape, and a book that
-/// counts its entries.
+/// A day's tape behind one lock, with its cells beside it. Whenever the lock is free, what it guards is the day's legal open
+/// tape, and a book that counts its entries. A contract sees the names of the cells.
 #[derive(Drop)]
 pub struct SharedTape<D: DayName> {
     locked: Mutex<Locked<D>>,
+    row: CellRow,
+}
+
+impl<D: DayName> Model for SharedTape<D> {
+    ghost use Rattle.std.specs.Prelude.{List, ℕ};
+
+    ghost Value = { List ℕ };
+
+    ghost view = { λ s. s.row };
 }
 
 impl<D: DayName> SharedTape<D> {
@@ -31,14 +43,16 @@ impl<D: DayName> SharedTape<D> {
         requires name { prepared.blank.name ≡ D.name }
         requires parts { prepared.blank.parts ≡ D.parts }
         requires listing { prepared.tape.listing ≡ D.listing }
+        ensures cells { IfOk result (λ r. length r.0 ≡ prepared.tape.limit) }
         ensures seats { IfOk result (λ r. r.1.items ≡ map untold prepared.tape.listing.participants) }
         ensures each { IfOk result (λ r. IsOneEach D.listing.participants r.1.items) }
         ensures memory { IfErr result (λ fault. fault ≡ OutOfMemory) }
     {
-        let (locked, seats) = Locked::start(prepared)?;
+        let (locked, row, seats) = Locked::start(prepared)?;
         Ok((
             SharedTape {
                 locked: Mutex::new(locked),
+                row,
             },
             seats,
         ))
@@ -73,24 +87,75 @@ impl<D: DayName> SharedTape<D> {
         self.locked.lock(rt).view(seat, symbol)
     }
 
+    /// Publishes the tape's next entries under the lock, at most so many, as `Locked::publish` does, with its faults: how many
+    /// cells were set. It may wait for the lock; whoever looks at the cells does not.
+    pub fn publish(&self, rt: &impl Wait, most: u32) -> Result<u32, PublishFault>
+        ensures most { IfOk result (λ set. set ≤ most) }
+    {
+        let tokens = self.locked.lock(rt).publish(&self.row, most)?;
+        Ok(tokens.len() as u32)
+    }
+
+    /// Reads the cell of a tape number: `None` where the number is 0, above the tape's limit, or not seen to be published.
+    /// It takes no lock and never waits, whatever the lines do, and the same few steps at each number. That what was published
+    /// is seen is not promised.
+    pub fn look(&self, number: u32) -> Option<Token>
+        ensures token { IfSome result (λ token. (token.number ≡ number) × IsTokenOf self.now token) }
+    {
+        self.row.look(number)
+    }
+
+    /// A token of the same cell with the same entry.
+    pub fn again(&self, token: &Token) -> Token
+        requires { IsTokenOf self.now token.now }
+        ensures same { result ≡ token.now }
+    {
+        self.row.again(token)
+    }
+
+    /// Two tokens of one number show one entry, whichever threads got them.
+    pub fn compare(&self, one: &Token, other: &Token)
+        requires one { IsTokenOf self.now one.now }
+        requires other { IsTokenOf self.now other.now }
+        requires number { one.now.number ≡ other.now.number }
+        ensures same { one.now.entry ≡ other.now.entry }
+    {
+        self.row.compare(one, other);
+    }
+
+    /// How many cells there are: the tape's limit.
+    pub(crate) fn cells(&self) -> u32
+        ensures { result ≡ length self.now }
+    {
+        self.row.many()
+    }
+
+    /// Where the memory of the cells comes from.
+    pub(crate) fn alloc(&self) -> Global {
+        self.row.alloc()
+    }
+
     /// Ends the day, with the seats in any order. Where there is not exactly one seat of each participant it is 91 MissingSeat:
     /// shared tape and seats are handed back, and the tape stays open. Else the tape is closed and the seats are spent, and
     /// it is 92 Disagrees where a seat was not told what the tape has of its participant. It waits for nobody: who has the
-    /// shared tape has joined all that were lent it. It goes over the tape once for each participant.
+    /// shared tape has joined all that were lent it. It goes over the tape once for each participant, and once over the cells.
     pub fn end(self, seats: Vec<LineSeat<D>>) -> Result<Day, EndFault<D>>
-        ensures ok { IfOk result (IsEnd D.listing seats.items) }
-        ensures missing { (f : _) → result ≡ Err (MissingSeat f) → ¬ (IsOneEach D.listing.participants seats.items) × (f.seats.items ≡ seats.items) }
+        ensures ok { IfOk result (λ day. IsEnd D.listing seats.items day.tape) }
+        ensures cells { IfOk result (λ day. day.names ≡ self) }
+        ensures missing { (f : _) → result ≡ Err (MissingSeat f)
+            → ¬ (IsOneEach D.listing.participants seats.items) × (f.seats.items ≡ seats.items) × (f.shared ≡ self) }
         ensures disagrees { (d : _) → result ≡ Err (Disagrees d) → IsDispute D.listing seats.items d.participant d.at d.tape }
     {
-        let SharedTape { locked } = self;
+        let SharedTape { locked, row } = self;
         let locked = locked.into_inner();
         if !locked.is_each(seats.as_slice()) {
             let shared = SharedTape {
                 locked: Mutex::new(locked),
+                row,
             };
             return Err(EndFault::MissingSeat(Unended { shared, seats }));
         }
-        match locked.finish(seats) {
+        match locked.finish(row, seats) {
             Ok(day) => Ok(day),
             Err(disagreement) => Err(EndFault::Disagrees(disagreement)),
         }

@@ -2,5 +2,6 @@
 
 mod days;
 mod faults;
+mod publishing;
 mod rows;
 mod threads;

@@ -1,7 +1,8 @@
-//! The ends of a line, two lines at once, and a seeded day of eight lines.
+//! The ends of a line, two lines at once, a seeded day of eight lines, and a retransmission while a day is open.
 
 mod days;
 mod ends;
 mod lines;
 mod seeded;
+mod served;
 mod together;

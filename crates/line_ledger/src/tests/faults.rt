@@ -2,7 +2,7 @@
 
 use super::days::{Sent, message, tape};
 use crate::laws::first_difference;
-use crate::{LineRefusal, OpenFault, Told, ViewFault, prepare};
+use crate::{LineRefusal, NotOnTape, OpenFault, PublishFault, Told, ViewFault, prepare};
 use reports::Message;
 use scratch_fold::Mark;
 use std::alloc::Global;
@@ -90,5 +90,14 @@ fn a_fault_has_a_number_and_prints_as_its_name(rt: HostRuntime) -> Result<(), Fa
     assert_eq!(rt; LineRefusal::Behind.to_string(alloc)?.as_str(), "Behind");
     assert_eq!(rt; OpenFault::NotEmpty.to_string(alloc)?.as_str(), "NotEmpty");
     assert_eq!(rt; ViewFault::Behind.to_string(alloc)?.as_str(), "Behind");
+    assert_eq!(rt;
+        (PublishFault::Unpublished(3).code(), NotOnTape.code()),
+        (81, 93)
+    );
+    assert_eq!(rt;
+        PublishFault::Unpublished(3).to_string(alloc)?.as_str(),
+        "Unpublished"
+    );
+    assert_eq!(rt; NotOnTape.to_string(alloc)?.as_str(), "NotOnTape");
     Ok(())
 }

@@ -11,8 +11,14 @@ use std::thread;
 use std::thread::Threads;
 use tape_types::Symbol;
 
-/// Sends so many reports on a line.
-fn send<D: DayName, R: Wait>(rt: &R, shared: &SharedTape<D>, seat: &mut LineSeat<D>, many: u32)
+/// Sends so many reports on a line, and publishes at most so many entries after each.
+fn send<D: DayName, R: Wait>(
+    rt: &R,
+    shared: &SharedTape<D>,
+    seat: &mut LineSeat<D>,
+    many: u32,
+    most: u32,
+)
     ensures { seat.new.who ≡ seat.old.who }
 {
     let who = seat.participant().value();
@@ -20,23 +26,17 @@ fn send<D: DayName, R: Wait>(rt: &R, shared: &SharedTape<D>, seat: &mut LineSeat
         if let Some(report) = message(Sent::Report(who, number, b"@   ", 100_000)) {
             let _ = shared.admit(rt, seat, report);
         }
+        let _ = shared.publish(rt, most);
     }
 }
 
-/// How many reports come on a line.
-fn reports_of(line: usize) -> u32 {
-    match line {
-        0 => 3,
-        1 => 2,
-        _ => 1,
-    }
-}
-
-/// Sends three reports on the first line, two on the second and one on each other, each line in a thread.
-fn send_all<D: DayName + Send + Sync, R: Threads + Wait + Sync>(
+/// Sends so many reports on each line, each line in a thread, and publishes at most so many entries after each report.
+pub(super) fn send_all<D: DayName + Send + Sync, R: Threads + Wait + Sync>(
     rt: &R,
     shared: &SharedTape<D>,
     seats: &mut Vec<LineSeat<D>>,
+    counts: &[u32],
+    most: u32,
 )
     requires { IsOneEach D.listing.participants seats.old.items }
     ensures { IsOneEach D.listing.participants seats.new.items }
@@ -47,7 +47,10 @@ fn send_all<D: DayName + Send + Sync, R: Threads + Wait + Sync>(
     }
     let work = |line: usize, seat: &mut LineSeat<D>|
         ensures { seat.exit.now.who ≡ seat.entry.now.who }
-    { send(rt, shared, seat, reports_of(line)) };
+    {
+        let many = counts.get(line).copied().unwrap_or(0);
+        send(rt, shared, seat, many, most)
+    };
     thread::for_each_mut(rt, seats.as_mut_slice(), workers, &work);
 }
 
@@ -115,7 +118,7 @@ fn lines_at_once<D: DayName + Send + Sync, R: Threads + Wait + Sync>(
     let Ok((shared, mut seats)) = SharedTape::<D>::open(prepared) else {
         return None;
     };
-    send_all(rt, &shared, &mut seats);
+    send_all(rt, &shared, &mut seats, &[3, 2, 1], 0);
     let counts = own_counts(rt, &shared, seats.as_slice());
     let ended = late_end(alloc, shared, seats)?;
     Some((counts?, ended))

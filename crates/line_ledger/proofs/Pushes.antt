@@ -1,0 +1,99 @@
+-- Lists of tokens, and of what was seen, with one more, and the front of such a list.
+use Rattle.std.proofs.Common.{◌≡◌, ℕ, ◌+◌, ◌-◌, ◌<◌, ◌≤◌, List, [], ◌∷◌, ◌++◌, length, length-append, map, min, take, slice_get, slice_index_or, get_or, Some, refl, sym, subst, ap, ◌∙◌, ◌⊎◌, inl, inr, rules, arith, zero, suc}
+use Rattle.std.specs.Prelude.{All}
+use Rattle.std.proofs.Math.Nat.{eq-or-lt_of_le}
+use Rattle.std.proofs.lemmas.List.{append-nil, append_assoc, get_or_append_left, get_or_push, get_or-take, length-take, length-map, map-append, take_at, take-map}
+use Rattle.tape_core.specs.declared.entry.Entry.{Entry}
+use Rattle.tape_frames.specs.Rows.{Carries, IsNumberedFrom}
+use Rattle.tape_frames.specs.Sources.{BeginsWith, IsPublished}
+use Rattle.seen_cells.specs.declared.Seen.{Seen}
+use Rattle.line_ledger.specs.Cells.{TokenState, IsTokenOf, Each, TokenAt, NextTokens, FirstTokens, shown, SeenAt, FirstSeen}
+use Rattle.line_ledger.specs.Publishing.{GoesOn}
+
+-- what holds of each element and of a further one holds at a place of the longer list
+each_at : {X : Type 0} (P : ℕ → X → Type 0) (xs : List X) (x : X) → Each P xs → P (length xs) x → (i : ℕ) (d : X)
+    → (i ≡ length xs) ⊎ (i < length xs) → P i (slice_index_or (xs ++ x ∷ []) i d)
+each_at P xs x each last i d (inl e) = rw (get_or_push xs x d i (sym e), e) last
+each_at P xs x each last i d (inr below) = rw (get_or_append_left xs (x ∷ []) d i below) (each i d below)
+
+-- what holds of each element and of a further one holds of each of the longer list
+each_push : {X : Type 0} (P : ℕ → X → Type 0) (xs : List X) (x : X) → Each P xs → P (length xs) x → Each P (xs ++ x ∷ [])
+each_push P xs x each last i d within = each_at P xs x each last i d (eq-or-lt_of_le (omega (arith, length-append xs (x ∷ []), within)))
+
+-- what holds of each element holds of each of the front
+each_take : {X : Type 0} (P : ℕ → X → Type 0) (xs : List X) (n : ℕ) → Each P xs → Each P (take n xs)
+each_take P xs n each i d within =
+    let short : length (take n xs) ≡ min n (length xs) = length-take n xs in
+    let low : i < n = omega (arith, short, within) in
+    let inside : i < length xs = omega (arith, short, within) in
+    rw (get_or-take n xs i d low) (each i d inside)
+
+-- one cell more was set
+pub next_push : (names : List ℕ) (entries : List Entry) (set : ℕ) (ts ts' : List TokenState) (t : TokenState) → NextTokens names entries set ts
+    → TokenAt names entries (set + length ts + 1) t → ts' ≡ ts ++ t ∷ [] → NextTokens names entries set ts'
+next_push names entries set ts ts' t each at pushed = rw pushed (each_push (λ i t. TokenAt names entries (set + i + 1) t) ts t each at)
+
+-- one cell more was seen to hold its entry
+pub seen_push : (names : List ℕ) (entries : List Entry) (seen seen' : List (Seen Entry)) (s : Seen Entry) (at : ℕ) → FirstSeen names entries seen
+    → length seen ≡ at → SeenAt names entries at s → seen' ≡ seen ++ s ∷ [] → FirstSeen names entries seen'
+seen_push names entries seen seen' s at each len found pushed = rw pushed (each_push (λ i s. SeenAt names entries i s) seen s each (rw len found))
+
+-- one cell more was found to hold an entry
+pub first_push : (names : List ℕ) (ts ts' : List TokenState) (t : TokenState) → FirstTokens names ts → t.number ≡ length ts + 1
+    → IsTokenOf names t → ts' ≡ ts ++ t ∷ [] → FirstTokens names ts'
+first_push names ts ts' t each number of pushed = rw pushed (each_push (λ i t. IsTokenOf names t × (t.number ≡ i + 1)) ts t each (of, number))
+
+-- the first of them are tokens of the first cells
+pub first_take : (names : List ℕ) (ts ts' : List TokenState) (n : ℕ) → FirstTokens names ts → ts' ≡ take n ts → FirstTokens names ts'
+first_take names ts ts' n each cut = rw cut (each_take (λ i t. IsTokenOf names t × (t.number ≡ i + 1)) ts n each)
+
+-- an entry with the next number goes on a numbered list
+numbered_push : (first : ℕ) (es : List Entry) (e : Entry) → IsNumberedFrom first es → e.number ≡ first + length es → IsNumberedFrom first (es ++ e ∷ [])
+numbered_push first [] e h number = (omega (arith, number), tt)
+numbered_push first (x ∷ es) e h number = (h.0, numbered_push (first + 1) es e h.1 (omega (arith, number)))
+
+-- the front of a numbered list is numbered
+numbered_take : (first n : ℕ) (es : List Entry) → IsNumberedFrom first es → IsNumberedFrom first (take n es)
+numbered_take first zero es h = tt
+numbered_take first (suc n) [] h = tt
+numbered_take first (suc n) (x ∷ es) h = (h.0, numbered_take (first + 1) n es h.1)
+
+-- a source's list may go on with the entry of the next number that carries what its kind does
+list_push : (es : List Entry) (e : Entry) → IsPublished es → e.number ≡ length es + 1 → Carries e → IsPublished (es ++ e ∷ [])
+list_push es e list number carries = record {
+  numbered = numbered_push 1 es e list.numbered (omega (arith, number));
+  carries = each_push (λ i x. Carries x) es e list.carries carries;
+}
+
+-- and so may what tokens show
+pub published_push : (ts ts' : List TokenState) (t : TokenState) → IsPublished (shown ts) → t.entry.number ≡ t.number → t.number ≡ length ts + 1
+    → Carries t.entry → ts' ≡ ts ++ t ∷ [] → IsPublished (shown ts')
+published_push ts ts' t list same number carries pushed =
+    rw (pushed, map-append (λ (t : TokenState). t.entry) ts (t ∷ []))
+    (list_push (shown ts) t.entry list (omega (arith, same, number, length-map ts (λ (t : TokenState). t.entry))) carries)
+
+-- what the first of the tokens show is a source's list
+pub published_take : (ts ts' : List TokenState) (n : ℕ) → IsPublished (shown ts) → ts' ≡ take n ts → IsPublished (shown ts')
+published_take ts ts' n list cut =
+    rw (cut, sym (take-map (λ (t : TokenState). t.entry) n ts))
+    (record { numbered = numbered_take 1 n (shown ts) list.numbered; carries = each_take (λ i x. Carries x) (shown ts) n list.carries })
+
+-- a list goes on where it ends
+pub goes_on_none : (ts : List TokenState) → GoesOn ts ts
+goes_on_none ts = ([], sym (append-nil ts))
+
+-- a list that goes on where another ends, which goes on where a third ends
+pub goes_on_more : (ts ts' ts'' : List TokenState) → GoesOn ts ts' → GoesOn ts' ts'' → GoesOn ts ts''
+goes_on_more ts ts' ts'' first then = (first.0 ++ then.0, then.1 ∙ ap (λ (xs : List TokenState). xs ++ then.0) first.1 ∙ append_assoc ts first.0 then.0)
+
+-- one token more
+pub goes_on_push : (ts ts' : List TokenState) (t : TokenState) → ts' ≡ ts ++ t ∷ [] → GoesOn ts ts'
+goes_on_push ts ts' t pushed = (t ∷ [], pushed)
+
+-- what the tokens show goes on as they do
+pub shown_goes_on : (ts ts' : List TokenState) → GoesOn ts ts' → BeginsWith (shown ts) (shown ts')
+shown_goes_on ts ts' on = (shown on.0, ap shown on.1 ∙ map-append (λ (t : TokenState). t.entry) ts on.0)
+
+-- the front that was there before shows what was shown before
+pub shown_kept : (ts ts' ts'' : List TokenState) (n : ℕ) → GoesOn ts ts' → n ≡ length ts → ts'' ≡ take n ts' → shown ts'' ≡ shown ts
+shown_kept ts ts' ts'' n on len cut = ap shown (cut ∙ ap (take n) on.1 ∙ take_at ts on.0 n (sym len))

@@ -1,0 +1,146 @@
+//! The cells beside the lock, each of which is set once and read by anyone.
+ghost use Rattle.std.specs.Prelude.{◌≡◌, ◌≤◌, [], length, IfOk, IfSome};
+ghost use Rattle.std.specs.Vec.{vec_capacity};
+ghost use Rattle.line_ledger.specs.Cells.{IsTokenOf, SeenAt, FirstSeen};
+
+use crate::Token;
+use crate::same_entry::is_same;
+use once_cell::race::OnceBox;
+use seen_cells::Seen;
+use std::alloc::{AllocError, Global};
+use std::marker::Model;
+use tape_core::Entry;
+
+/// A row of cells, one for each number from 1 up to a tape's limit. A contract sees the names of the cells. An empty cell
+/// takes 8 bytes; one that is set, an entry's memory too.
+#[derive(Drop)]
+pub struct CellRow {
+    alloc: Global,
+    many: u32,
+    cells: Vec<OnceBox<Entry>>,
+}
+
+impl Model for CellRow {
+    ghost use Rattle.std.specs.Prelude.{◌≡◌, List, ℕ, length, map};
+    ghost use Rattle.once_cell.specs.Once.{cell_name};
+
+    ghost Value = { List ℕ };
+
+    ghost view = { λ r. map cell_name r.cells.items };
+
+    ghost invariant = { λ r. length r.cells.items ≡ r.many };
+}
+
+impl CellRow {
+    /// So many empty cells.
+    pub(crate) fn new(alloc: Global, many: u32) -> Result<CellRow, AllocError>
+        ensures { IfOk result (λ row. length row ≡ many) }
+    {
+        let mut cells = Vec::with_capacity(alloc, many as usize)?;
+        for made in 0..many {
+            let _ = made;
+            cells.push_reserved(OnceBox::new(alloc));
+        }
+        Ok(CellRow { alloc, many, cells })
+    }
+
+    /// How many cells there are.
+    pub(crate) fn many(&self) -> u32
+        ensures { result ≡ length self.now }
+    {
+        self.many
+    }
+
+    /// Where the memory of the cells comes from.
+    pub(crate) fn alloc(&self) -> Global {
+        self.alloc
+    }
+
+    /// Reads the cell of a number: `None` where it is empty, or where there is none. It takes no lock and never waits, and the
+    /// same few steps at each number.
+    pub fn look(&self, number: u32) -> Option<Token>
+        ensures token { IfSome result (λ token. (token.number ≡ number) × IsTokenOf self.now token) }
+    {
+        let at = (number as usize).checked_sub(1)?;
+        let cell = self.cells.get(at)?;
+        let mut note = cell.note();
+        let entry = *cell.get_as(&mut note)?;
+        Some(Token {
+            number,
+            entry,
+            seen: Seen::of(&mut note),
+        })
+    }
+
+    /// Sets the cell of a number: `Ok(None)` where it was set before, or where there is none. Where memory runs out, the cell
+    /// is as it was.
+    pub(crate) fn set(&self, number: u32, entry: &Entry) -> Result<Option<Token>, AllocError>
+        ensures { IfOk result (λ set. IfSome set (λ token. (token.entry ≡ entry.now) × (token.number ≡ number) × IsTokenOf self.now token)) }
+    {
+        if number == 0 || number as usize > self.cells.len() {
+            return Ok(None);
+        }
+        let cell = &self.cells[number as usize - 1];
+        let held = Box::new(self.alloc, *entry)?;
+        let mut note = cell.note();
+        if cell.set_as(held, &mut note).is_err() {
+            return Ok(None);
+        }
+        Ok(Some(Token {
+            number,
+            entry: *entry,
+            seen: Seen::of(&mut note),
+        }))
+    }
+
+    /// What shows that the cell at this place, from 0, holds the entry at this place. `None` where it was not seen to.
+    fn seen_at(&self, at: usize, entries: &[Entry]) -> Option<Seen<Entry>>
+        ensures { IfSome result (SeenAt self.now entries.now at) }
+    {
+        let cell = self.cells.get(at)?;
+        let entry = entries.get(at)?;
+        let mut note = cell.note();
+        if !is_same(cell.get_as(&mut note)?, entry) {
+            return None;
+        }
+        Some(Seen::of(&mut note))
+    }
+
+    /// Reads the cells from the first on, as far as each holds the entry of its number. What was seen is kept in the room.
+    pub(crate) fn first_seen(&self, entries: &[Entry], room: Vec<Seen<Entry>>) -> Vec<Seen<Entry>>
+        requires empty { room.items ≡ [] }
+        requires roomy { length entries.now ≤ vec_capacity room }
+        ensures seen { FirstSeen self.now entries.now result.items }
+        ensures within { length result.items ≤ length entries.now }
+    {
+        let mut seen = room;
+        for at in 0..entries.len() {
+            let Some(found) = self.seen_at(at, entries) else {
+                break;
+            };
+            seen.push_reserved(found);
+        }
+        seen
+    }
+
+    /// A token of the same cell with the same entry.
+    pub(crate) fn again(&self, token: &Token) -> Token
+        ensures { result ≡ token.now }
+    {
+        Token {
+            number: token.number,
+            entry: token.entry,
+            seen: token.seen.again(),
+        }
+    }
+
+    /// Two tokens of one cell show one entry.
+    pub(crate) fn compare(&self, one: &Token, other: &Token)
+        requires one { IsTokenOf self.now one.now }
+        requires other { IsTokenOf self.now other.now }
+        requires number { one.now.number ≡ other.now.number }
+        ensures { one.now.entry ≡ other.now.entry }
+    {
+        one.seen.agrees(&other.seen);
+    }
+}

@@ -1,0 +1,25 @@
+//! That a token's entry is not the day's.
+ghost use Rattle.std.specs.Prelude.{◌≡◌, codes};
+
+use thiserror::Error;
+
+/// 93 NotOnTape: the day has another entry at the token's number, or none.
+#[derive(Clone, Copy, Debug, PartialEq, Eq, Error)]
+#[error("{}", self.name())]
+pub struct NotOnTape;
+
+impl NotOnTape {
+    /// The number of the fault.
+    pub fn code(self) -> u8
+        ensures code { result ≡ 93 }
+    {
+        93
+    }
+
+    /// The name of the fault, as it is printed.
+    pub fn name(self) -> &'static str
+        ensures name { result.now ≡ codes "NotOnTape" }
+    {
+        "NotOnTape"
+    }
+}

@@ -1,0 +1,37 @@
+//! Why entries are not published.
+ghost use Rattle.std.specs.Prelude.{◌≡◌};
+ghost use Rattle.line_ledger.specs.Faults.{publish_fault_code, publish_fault_name};
+
+use thiserror::Error;
+
+/// Why entries are not published, the first reason that applies. The cells that were set before it stay set, and are counted.
+#[derive(Clone, Copy, Debug, PartialEq, Eq, Error)]
+#[error("{}", self.name())]
+pub enum PublishFault {
+    /// 81 Unpublished: the cell of this number, from 1, was set before, or there is none.
+    Unpublished(u32),
+    /// 82 OutOfMemory: memory ran out.
+    OutOfMemory,
+}
+
+impl PublishFault {
+    /// The number of the fault.
+    pub fn code(self) -> u8
+        ensures code { result ≡ publish_fault_code self }
+    {
+        match self {
+            PublishFault::Unpublished(_) => 81,
+            PublishFault::OutOfMemory => 82,
+        }
+    }
+
+    /// The name of the fault, as it is printed.
+    pub fn name(self) -> &'static str
+        ensures name { result.now ≡ publish_fault_name self }
+    {
+        match self {
+            PublishFault::Unpublished(_) => "Unpublished",
+            PublishFault::OutOfMemory => "OutOfMemory",
+        }
+    }
+}

@@ -1,0 +1,147 @@
+//! The published entries, as a source of packets.
+ghost use Rattle.std.specs.Prelude.{◌≡◌, ◌≤◌, ◌↔◌, [], List, take, length, IfOk, IfErr, OnOk, OnErr, IsTrue};
+ghost use Rattle.tape_core.specs.declared.entry.Entry.{Entry as EntryState};
+ghost use Rattle.tape_frames.specs.Rows.{Carries};
+ghost use Rattle.tape_frames.specs.Sources.{BeginsWith, IsPublished};
+ghost use Rattle.line_ledger.specs.Cells.{FirstTokens, shown};
+ghost use Rattle.line_ledger.specs.Publishing.{GoesOn};
+
+use crate::{DayName, SharedTape, Token};
+use reports::Message;
+use std::alloc::AllocError;
+use std::marker::Model;
+use tape_core::Entry;
+use tape_frames::Source;
+
+/// The entries that were found in a shared tape's cells, from the first on, as a source: it takes no lock, so it never waits
+/// for the lines.
+#[derive(Drop)]
+pub struct Published<'a, D: DayName> {
+    shared: &'a SharedTape<D>,
+    tokens: Vec<Token>,
+    count: u32,
+}
+
+impl<'a, D: DayName> Model for Published<'a, D> {
+    ghost use Rattle.std.specs.Prelude.{◌≡◌, length};
+    ghost use Rattle.tape_frames.specs.Sources.{IsPublished};
+    ghost use Rattle.line_ledger.specs.Cells.{FirstTokens, shown};
+    ghost use Rattle.line_ledger.specs.Publishing.{PublishedState};
+
+    ghost Value = { PublishedState };
+
+    ghost view = { λ p. record { names = p.shared.now; tokens = p.tokens.items } };
+
+    ghost invariant = { λ p. (length p.tokens.items ≡ p.count) × FirstTokens p.shared.now p.tokens.items × IsPublished (shown p.tokens.items) };
+}
+
+impl<'a, D: DayName> Published<'a, D> {
+    /// Nothing found yet. It takes no memory.
+    pub fn new(shared: &'a SharedTape<D>) -> Published<'a, D>
+        ensures cells { result.names ≡ shared.now }
+        ensures none { result.tokens ≡ [] }
+    {
+        Published {
+            shared,
+            tokens: Vec::new(shared.alloc()),
+            count: 0,
+        }
+    }
+
+    /// A token for each entry, in order.
+    pub fn into_tokens(self) -> Vec<Token>
+        ensures tokens { result.items ≡ self.entry.tokens }
+        ensures first { FirstTokens self.entry.names result.items }
+        ensures published { IsPublished (shown result.items) }
+    {
+        let Published {
+            shared: _,
+            tokens,
+            count: _,
+        } = self;
+        tokens
+    }
+
+    /// Looks at the next cell: whether it had one entry more.
+    #[tactic(auto, using(crate::proofs::Pushes::goes_on_none, crate::proofs::Pushes::goes_on_push))]
+    fn look_on(&mut self) -> Result<bool, AllocError>
+        ensures cells { self.new.names ≡ self.old.names }
+        ensures ok { OnOk result (GoesOn self.old.tokens self.new.tokens) }
+        ensures err { OnErr result (self.new ≡ self.old) }
+    {
+        if self.count == u32::MAX {
+            return Ok(false);
+        }
+        let Some(token) = self.shared.look(self.count + 1) else {
+            return Ok(false);
+        };
+        if !can_follow(&token.entry(), token.number()) {
+            return Ok(false);
+        }
+        self.tokens.push(token)?;
+        self.count += 1;
+        Ok(true)
+    }
+
+    /// Keeps the first so many alone.
+    fn keep_first(&mut self, count: u32)
+        requires { count ≤ length self.old.tokens }
+        ensures { self.new ≡ record self.old { tokens = take count self.old.tokens } }
+    {
+        self.tokens.truncate(count as usize);
+        self.count = count;
+    }
+}
+
+/// Whether a source may have the entry under this number: it has that number, and carries what its kind does. What a cell
+/// holds comes with no proof of it, so it is looked at.
+fn can_follow(entry: &Entry, number: u32) -> bool
+    ensures { IsTrue result ↔ ((entry.now.number ≡ number) × Carries entry.now) }
+{
+    entry.number.value() == number && carries(entry)
+}
+
+/// Whether the entry carries a summary exactly where its kind does.
+fn carries(entry: &Entry) -> bool
+    ensures { IsTrue result ↔ Carries entry.now }
+{
+    match entry.message {
+        Message::Report { .. } => entry.after.is_none(),
+        Message::Cancel { .. } | Message::Correct { .. } => entry.after.is_some(),
+    }
+}
+
+impl<D: DayName> Source for Published<'_, D> {
+    ghost list = { λ p. shown p.tokens };
+
+    /// Looks on from its own count, up to the first cell that shows nothing. Where memory runs out, it is as it was.
+    #[tactic(auto, using(crate::proofs::Pushes::goes_on_more, crate::proofs::Pushes::goes_on_none, crate::proofs::Pushes::shown_goes_on, crate::proofs::Pushes::shown_kept))]
+    fn refresh(&mut self) -> Result<(), AllocError>
+        ensures cells { self.new.names ≡ self.old.names }
+        ensures tokens { OnOk result (GoesOn self.old.tokens self.new.tokens) }
+        ensures ok { OnOk result (BeginsWith (shown self.old.tokens) (shown self.new.tokens)) }
+        ensures err { OnErr result (shown self.new.tokens ≡ shown self.old.tokens) }
+    {
+        let before = self.count;
+        for _ in before..self.shared.cells() {
+            match self.look_on() {
+                Ok(true) => {}
+                Ok(false) => break,
+                Err(refused) => {
+                    self.keep_first(before);
+                    return Err(refused);
+                }
+            }
+        }
+        Ok(())
+    }
+
+    fn published(&self) -> u32 {
+        self.count
+    }
+
+    fn entry(&self, number: u32) -> Option<Entry> {
+        let at = (number as usize).checked_sub(1)?;
+        Some(self.tokens.get(at)?.entry())
+    }
+}

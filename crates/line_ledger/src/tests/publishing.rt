@@ -1,0 +1,227 @@
+//! What lines publish, and what readers find that take no lock.
+ghost use Rattle.std.specs.Prelude.{◌≡◌};
+ghost use Rattle.line_ledger.specs.Cells.{FirstTokens, IsTokenOf};
+ghost use Rattle.line_ledger.specs.Ends.{IsOneEach};
+
+use super::days::{Sent, message, prepared};
+use super::threads::send_all;
+use crate::{
+    CellRow, Day, DayName, EndFault, LineSeat, Locked, Prepared, PublishFault, Published,
+    SharedTape, Token,
+};
+use std::alloc::Global;
+use std::marker::Brand;
+use std::process::Abort;
+use std::sync::Wait;
+use std::thread::{Threads, join};
+use tape_frames::Source;
+
+/// How many entries were set by publications of at most 2, 64 and 64.
+type Set = (
+    Result<u32, PublishFault>,
+    Result<u32, PublishFault>,
+    Result<u32, PublishFault>,
+);
+
+/// How many entries the ended day has, how many its end found published, and how many tokens it confirms.
+type Confirmed = (usize, u32, usize);
+
+/// What was set, how many entries a source found after the first publication and after the last, and its tokens.
+fn publications<D: DayName, R: Wait>(
+    rt: &R,
+    shared: &SharedTape<D>,
+) -> (Set, (u32, u32), Vec<Token>)
+    ensures { FirstTokens shared.now result.2.items }
+{
+    let mut published = Published::new(shared);
+    let first = shared.publish(rt, 2);
+    let _ = published.refresh();
+    let found = published.published();
+    let set = (first, shared.publish(rt, 64), shared.publish(rt, 64));
+    let _ = published.refresh();
+    let all = published.published();
+    (set, (found, all), published.into_tokens())
+}
+
+/// The numbers of the cells that show an entry, up to the eleventh, which is one beyond the tape's limit, added up.
+fn numbers_shown<D: DayName>(shared: &SharedTape<D>) -> u32 {
+    let mut sum: u32 = 0;
+    for number in 0..12 {
+        if shared.look(number).is_some() {
+            sum = sum.saturating_add(number);
+        }
+    }
+    sum
+}
+
+/// The cell's own token, compared with this one, or a copy of it.
+fn look_again<D: DayName>(shared: &SharedTape<D>, token: &Token) -> Token
+    requires { IsTokenOf shared.now token.now }
+    ensures { result.entry ≡ token.now.entry }
+{
+    match shared.look(token.number()) {
+        Some(found) => {
+            shared.compare(&found, token);
+            found
+        }
+        None => shared.again(token),
+    }
+}
+
+/// What two threads find in a token's cell, which is the token's entry.
+fn looked_twice<D: DayName + Send + Sync, R: Threads + Sync>(
+    rt: &R,
+    shared: &SharedTape<D>,
+    token: &Token,
+) -> (Token, Token)
+    requires { IsTokenOf shared.now token.now }
+    ensures { (result.0.entry ≡ token.now.entry) × (result.1.entry ≡ token.now.entry) }
+{
+    join(
+        rt,
+        || -> Token
+            requires { IsTokenOf shared.now token.now }
+            ensures { result.entry ≡ token.entry.now.entry }
+        { look_again(shared, token) },
+        || -> Token
+            requires { IsTokenOf shared.now token.now }
+            ensures { result.entry ≡ token.entry.now.entry }
+        { look_again(shared, token) },
+    )
+}
+
+/// What the day confirms.
+fn confirmed(day: &Day, tokens: &[Token]) -> Confirmed
+    requires { FirstTokens day.now.names tokens.now }
+{
+    let mut many: usize = 0;
+    for token in tokens {
+        if day.confirm(token).is_ok() {
+            many = many.saturating_add(1);
+        }
+    }
+    (day.tape().entries().len(), day.published(), many)
+}
+
+/// What the ended day confirms.
+fn confirmed_at_end<D: DayName>(
+    shared: SharedTape<D>,
+    seats: Vec<LineSeat<D>>,
+    tokens: &[Token],
+) -> Option<Confirmed>
+    requires each { IsOneEach D.listing.participants seats.items }
+    requires tokens { FirstTokens shared tokens.now }
+{
+    match shared.end(seats) {
+        Ok(day) => Some(confirmed(&day, tokens)),
+        Err(EndFault::Disagrees(_)) => None,
+        Err(EndFault::MissingSeat(_unended)) => unreachable!(),
+    }
+}
+
+/// What is set and found of three reports of N and two of Q, whether two threads found the fifth entry, and what the day
+/// confirms of what was found.
+fn five_published<D: DayName + Send + Sync, R: Threads + Wait + Sync>(
+    rt: &R,
+    prepared: Prepared,
+) -> Option<(Set, (u32, u32), u32, bool, Confirmed)>
+    requires name { prepared.blank.name ≡ D.name }
+    requires parts { prepared.blank.parts ≡ D.parts }
+    requires listing { prepared.tape.listing ≡ D.listing }
+{
+    let Ok((shared, mut seats)) = SharedTape::<D>::open(prepared) else {
+        return None;
+    };
+    send_all(rt, &shared, &mut seats, &[3, 0, 2], 0);
+    let (set, found, tokens) = publications(rt, &shared);
+    let shown = numbers_shown(&shared);
+    let is_same = match shared.look(5) {
+        Some(token) => {
+            let (one, other) = looked_twice(rt, &shared, &token);
+            one.entry() == other.entry()
+        }
+        None => false,
+    };
+    let confirmed = confirmed_at_end(shared, seats, tokens.as_slice())?;
+    Some((set, found, shown, is_same, confirmed))
+}
+
+/// Admits two reports on the first line.
+fn admit_two<D: DayName>(locked: &mut Locked<D>, seats: &mut Vec<LineSeat<D>>) {
+    for number in 1..=2 {
+        if !seats.is_empty()
+            && let Some(report) = message(Sent::Report(b'N', number, b"@   ", 100_000))
+        {
+            let _ = locked.admit(&mut seats[0], report);
+        }
+    }
+}
+
+/// How many of two entries are set in a row of one cell, then in the day's own row, and how many the day's end finds. A
+/// missing seat stops the test.
+fn set_in_two_rows<D: DayName, A: Abort>(
+    rt: &A,
+    alloc: Global,
+    prepared: Prepared,
+) -> Option<
+    (
+        Result<usize, PublishFault>,
+        Result<usize, PublishFault>,
+        u32,
+    ),
+>
+    requires name { prepared.blank.name ≡ D.name }
+    requires parts { prepared.blank.parts ≡ D.parts }
+    requires listing { prepared.tape.listing ≡ D.listing }
+{
+    let short = CellRow::new(alloc, 1).ok()?;
+    let Ok((mut locked, row, mut seats)) = Locked::<D>::start(prepared) else {
+        return None;
+    };
+    admit_two(&mut locked, &mut seats);
+    let first = locked.publish(&short, 64).map(|tokens| tokens.len());
+    let second = locked.publish(&row, 64).map(|tokens| tokens.len());
+    assert!(rt; locked.is_each(seats.as_slice()));
+    match locked.finish(row, seats) {
+        Ok(day) => Some((first, second, day.published())),
+        Err(_) => None,
+    }
+}
+
+fn five_published_in_a_day<R: Threads + Wait + Sync>(
+    rt: &R,
+    alloc: Global,
+) -> Option<(Set, (u32, u32), u32, bool, Confirmed)> {
+    let prepared = prepared(alloc)?;
+    five_published::<Brand, _>(rt, prepared)
+}
+
+#[test]
+fn published_entries_are_found_and_confirmed(rt: HostRuntime) {
+    assert_eq!(rt;
+        five_published_in_a_day(&rt, rt.alloc()),
+        Some(((Ok(2), Ok(3), Ok(0)), (2, 5), 15, true, (5, 5, 5)))
+    );
+}
+
+fn set_in_two_rows_of_a_day<A: Abort>(
+    rt: &A,
+    alloc: Global,
+) -> Option<
+    (
+        Result<usize, PublishFault>,
+        Result<usize, PublishFault>,
+        u32,
+    ),
+> {
+    let prepared = prepared(alloc)?;
+    set_in_two_rows::<Brand, A>(rt, alloc, prepared)
+}
+
+#[test]
+fn a_missing_cell_ends_a_publication(rt: HostRuntime) {
+    assert_eq!(rt;
+        set_in_two_rows_of_a_day(&rt, rt.alloc()),
+        Some((Err(PublishFault::Unpublished(2)), Ok(1), 0))
+    );
+}

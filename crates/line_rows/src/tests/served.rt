@@ -1,0 +1,109 @@
+//! A retransmission from the published entries of a day that is still open.
+ghost use Rattle.std.specs.Prelude.{◌≡◌};
+ghost use Rattle.tape_frames.specs.Sources.{IsPublished};
+
+use super::days::{day_of_two, ended_day, report};
+use line_ledger::{Day, DayName, LineSeat, Prepared, PublishFault, Published, SharedTape};
+use reports::decode;
+use retransmit::serve;
+use std::alloc::Global;
+use std::marker::Brand;
+use std::process::Abort;
+use std::sync::Wait;
+use tape_frames::{SliceSource, Source};
+
+/// A request of session 7 for 64 entries from 1.
+const REQUEST: [u8; 14] = [
+    0x00, 0x00, 0x00, 0x00, 0x00, 0x00, 0x00, 0x07, 0x00, 0x00, 0x00, 0x01, 0x00, 0x40,
+];
+
+/// How the answer to it over five reports begins: a range, one packet, its length of 235.
+const FRONT: [u8; 4] = [0x00, 0x01, 0x00, 0xeb];
+
+/// How many entries each of three publications set.
+type Set = [Result<u32, PublishFault>; 3];
+
+/// The bytes that answer the request.
+fn answered<S: Source>(alloc: Global, source: &mut S) -> Vec<u8> {
+    let mut reader = REQUEST.as_slice();
+    let mut output = Vec::new(alloc);
+    let _ = serve(alloc, source, 7, &mut reader, &mut output);
+    output
+}
+
+/// The entries of an ended day, to be sent.
+fn source_of(day: &Day) -> SliceSource<'_> {
+    SliceSource::new(day.tape().entries())
+}
+
+/// Admits a line's reports up to this number.
+fn admit<D: DayName, W: Wait>(
+    rt: &W,
+    shared: &SharedTape<D>,
+    seat: Option<&mut LineSeat<D>>,
+    who: u8,
+    last: u8,
+) {
+    let Some(seat) = seat else {
+        return;
+    };
+    for number in 1..=last {
+        if let Ok((message, _)) = decode(&report(who, number)) {
+            let _ = shared.admit(rt, seat, message);
+        }
+    }
+}
+
+/// How many of three reports of N and two of Q each publication set, what the request is answered from a source over the
+/// cells that was never refreshed, and what from the ended day.
+fn served<D: DayName, W: Wait + Abort>(
+    rt: &W,
+    alloc: Global,
+    prepared: Prepared,
+) -> Option<(Set, Vec<u8>, Vec<u8>)>
+    requires name { prepared.blank.name ≡ D.name }
+    requires parts { prepared.blank.parts ≡ D.parts }
+    requires listing { prepared.tape.listing ≡ D.listing }
+{
+    let Ok((shared, mut seats)) = SharedTape::<D>::open(prepared) else {
+        return None;
+    };
+    admit(rt, &shared, seats.get_mut(0), b'N', 3);
+    admit(rt, &shared, seats.get_mut(1), b'Q', 2);
+    let set = [
+        shared.publish(rt, 2),
+        shared.publish(rt, 64),
+        shared.publish(rt, 64),
+    ];
+    let from_cells = answered(alloc, &mut Published::new(&shared));
+    let day = ended_day(rt, shared, seats)?;
+    let from_day = answered(alloc, &mut source_of(&day));
+    Some((set, from_cells, from_day))
+}
+
+/// The same of a prepared day.
+fn served_of<W: Wait + Abort>(
+    rt: &W,
+    alloc: Global,
+    prepared: Prepared,
+) -> Option<(Set, Vec<u8>, Vec<u8>)> {
+    served::<Brand, W>(rt, alloc, prepared)
+}
+
+/// How many entries each publication set, whether the answer from the cells begins as it has to and is the answer from the
+/// day, and how long it is.
+fn served_of_a_day<W: Wait + Abort>(rt: &W, alloc: Global) -> Option<(Set, bool, bool, usize)> {
+    let (set, from_cells, from_day) = served_of(rt, alloc, day_of_two(alloc)?)?;
+    let begins = from_cells.get(..4)? == FRONT.as_slice();
+    let is_same = from_cells.as_slice() == from_day.as_slice();
+    Some((set, begins, is_same, from_cells.len()))
+}
+
+#[test]
+fn a_retransmission_while_lines_are_open_is_that_of_the_day(rt: HostRuntime) {
+    let set = [Ok(2), Ok(3), Ok(0)];
+    assert_eq!(rt;
+        served_of_a_day(&rt, rt.alloc()),
+        Some((set, true, true, 239))
+    );
+}

@@ -1,0 +1,68 @@
+//! What a cell that is set once was seen to hold: a fact that can be copied and compared behind a `&`.
+#![tactic(auto)]
+
+ghost use Rattle.std.specs.Prelude.{◌≡◌, ℕ, IfSome};
+ghost use Rattle.std.specs.declared.option.Option.{Option};
+ghost use Rattle.std.specs.Coded.{coded_option};
+ghost use denote.Sharing.{said};
+ghost use Rattle.once_cell.specs.Once.{noted, Agrees};
+
+use once_cell::race::Note;
+use std::marker::{Model, PhantomData};
+
+/// What a cell was seen to hold, or that nothing was seen in it yet. It takes no bytes.
+///
+/// `once_cell`'s own `Note` says the same of its cell, but is known and copied through a `&mut` alone; this is known, copied
+/// and compared through a `&`, in any thread.
+pub struct Seen<T> {
+    marker: PhantomData<*const T>,
+    /// The name of the cell.
+    pub ghost cell: { ℕ },
+    /// The value that was seen in it.
+    pub ghost known: { Option T } by { coded_option T.code },
+}
+
+impl<T> Model for Seen<T> {
+    ghost also_owns = { λ s. noted T.row s.cell s.known };
+
+    ghost also_shares = { λ s _ κ. said (noted T.row s.cell s.known) κ };
+}
+
+impl<T> Seen<T> {
+    /// What the note knows of its cell. The note is left as it is.
+    pub fn of(note: &mut Note<T>) -> Seen<T>
+        ensures { (note.new ≡ note.old) × (result.cell ≡ note.old.cell) × (result.known ≡ note.old.known) }
+    {
+        Seen {
+            marker: PhantomData,
+        }
+    }
+
+    /// The same once more.
+    pub fn again(&self) -> Seen<T>
+        ensures { result ≡ self.now }
+    {
+        Seen {
+            marker: PhantomData,
+        }
+    }
+
+    /// A cell is set once: where both know what one cell holds, they know the same value.
+    pub fn agrees(&self, other: &Seen<T>)
+        requires { other.now.cell ≡ self.now.cell }
+        ensures { IfSome other.now.known (Agrees self.now.known) }
+    {}
+}
+
+impl<T> Drop for Seen<T> {
+    fn drop(self) {
+        let Seen { marker: _ } = self;
+    }
+}
+
+unsafe impl<T> Send for Seen<T> {}
+
+unsafe impl<T> Sync for Seen<T> {}
+
+#[cfg(test)]
+mod tests;

@@ -1,0 +1,35 @@
+//! What threads saw in one cell.
+ghost use Rattle.std.specs.Prelude.{◌≡◌, Some, IfSome};
+ghost use Rattle.once_cell.specs.Once.{cell_name};
+
+use crate::Seen;
+use once_cell::race::OnceBox;
+use std::test::Fail;
+use std::thread::{Threads, join};
+
+/// What is seen in the cell, with its value.
+fn seen(cell: &OnceBox<u32>) -> Option<(u32, Seen<u32>)>
+    ensures { IfSome result (λ found. (found.1.cell ≡ cell_name cell.now) × (found.1.known ≡ Some found.0)) }
+{
+    let mut note = cell.note();
+    let value = *cell.get_as(&mut note)?;
+    Some((value, Seen::of(&mut note)))
+}
+
+/// What two threads find in the cell of which this was seen.
+fn found_twice<R: Threads + Sync>(rt: &R, one: &Seen<u32>) -> (Seen<u32>, Seen<u32>) {
+    join(rt, || one.again(), || one.again())
+}
+
+#[test]
+fn what_was_seen_is_seen_again(rt: HostRuntime) -> Result<(), Fail> {
+    let cell = OnceBox::new(rt.alloc());
+    assert!(rt; seen(&cell).is_none());
+    assert!(rt; cell.set(Box::new(rt.alloc(), 7u32)?).is_ok());
+    let (value, one) = seen(&cell).ok_or("a value")?;
+    let (same, other) = seen(&cell).ok_or("a value")?;
+    one.agrees(&other);
+    let (_, _) = found_twice(&rt, &one);
+    assert_eq!(rt; (value, same), (7, 7));
+    Ok(())
+}
