@@ -5,6 +5,7 @@
     bench/measure.py plot               the hostile day at 2, 4, 8 and 16 MB, into docs/speed.svg
     bench/measure.py feed               the way of a busy day through two lossy lines to a subscriber
     bench/measure.py rows               the rows of a wide day's report by one worker, two and four
+    bench/measure.py lines              a busy day's messages over 1, 2, 4 and 8 lines at once
 
 Builds the programs, makes the days, runs the programs on each day in turns, checks that they answer alike, and prints the
 processor seconds of each (of its least run and of its middle one), the least wall-clock seconds, the peak memory, and the ratios
@@ -31,6 +32,7 @@ FEED_DAYS = ("busy:1680000", "busy")
 # What both feeds must tell alike.
 FEED_COUNTS = ("entries", "packets", "retransmitted", "held")
 ROWS_DAY = "wide"
+LINES_DAYS = ("busy1", "busy2", "busy4", "busy8")
 
 
 def build(crates, crate, words, given):
@@ -262,24 +264,51 @@ def rows(words, programs):
     return True
 
 
+def lines(words, programs):
+    """Measures a busy day's messages over 1, 2, 4 and 8 lines: prints the least times, and their ratios to the tape alone and to one line."""
+    ((name, program),) = programs.items()
+    turns = {day: [] for day in LINES_DAYS}
+    for _ in range(words.turns):
+        for day in LINES_DAYS:
+            source = make(day, words.seed)
+            target = DAYS / f"{source.stem}.{name}"
+            status, *_ = run(program, ["lines"], source, target)
+            if status != 0:
+                print(f"{day}: {name} ended with status {status}")
+                return False
+            turns[day].append(told(target))
+    print(f"{'day':8} {'lines':>6} {'messages':>9} {'alone':>11} {'lines':>11} {'a second':>10} {'to alone':>9} {'middle':>7} {'to one line':>12}")
+    one = None
+    for day, figures in turns.items():
+        alone, least = (min(turn[figure] for turn in figures) for figure in ("seconds_alone", "seconds_lines"))
+        middle = statistics.median(turn["seconds_lines"] / turn["seconds_alone"] for turn in figures)
+        messages = figures[0]["messages"]
+        one = one or least / messages
+        print(
+            f"{day:8} {figures[0]['lines']:6.0f} {messages:9.0f} {alone:9.3f} s {least:9.3f} s {messages / least:10,.0f}"
+            f" {least / alone:9.2f} {middle:7.2f} {least / messages / one:12.2f}"
+        )
+    return True
+
+
 def main():
     parser = argparse.ArgumentParser(description="Measures tapebox beside plain programs.")
     parser.add_argument("--no-build", action="store_true", help="measure the programs that are there")
     parser.add_argument("--turns", type=int, default=7, help="how often each program runs on each day (7)")
     parser.add_argument("--seed", type=int, default=1, help="the days' seed (1)")
     parser.add_argument("--crates", type=Path, default=ROOT / "crates", help="where the crates are that built tapebox")
-    parser.add_argument("days", nargs="*", metavar="DAY[:BYTES]", help="the days of the batch; or plot, feed or rows")
+    parser.add_argument("days", nargs="*", metavar="DAY[:BYTES]", help="the days of the batch; or plot, feed, rows or lines")
     words = parser.parse_args()
-    kind = words.days[0] if words.days[:1] in (["plot"], ["feed"], ["rows"]) else "batch"
-    crate, given = ("feed_speed", b"") if kind in ("feed", "rows") else ("tapebox", b"A\nA\n")
+    kind = words.days[0] if words.days[:1] in (["plot"], ["feed"], ["rows"], ["lines"]) else "batch"
+    crate, given = ("feed_speed", b"") if kind in ("feed", "rows", "lines") else ("tapebox", b"A\nA\n")
     if not words.no_build:
         build(words.crates, crate, ["batch"] if crate == "tapebox" else [], given)
-    plain = {"feed": ("feed",), "rows": ()}.get(kind, ("indexed", "least"))
+    plain = {"feed": ("feed",), "rows": (), "lines": ()}.get(kind, ("indexed", "least"))
     programs = {name: RELEASE / name for name in plain} | {crate: words.crates / crate / "out" / crate}
     DAYS.mkdir(parents=True, exist_ok=True)
-    if kind != "rows":
+    if kind not in ("rows", "lines"):
         print(f"{'day':16} {'program':18} {'processor':>12} {'middle run':>12} {'wall clock':>12} {'peak memory':>13}")
-    measures = {"batch": batch, "plot": plot, "feed": feed, "rows": rows}
+    measures = {"batch": batch, "plot": plot, "feed": feed, "rows": rows, "lines": lines}
     return 0 if measures[kind](words, programs) else 1
 
 

@@ -2,6 +2,7 @@
 //!
 //! - `one`: one symbol and one participant, plain reports alone.
 //! - `busy`: 400 symbols and 15 participants, mixed conditions, some lines refused, 3 in 200 cancels and corrections.
+//! - `busy1`, `busy2`, `busy4`, `busy8`: the same with so many participants.
 //! - `hostile`: every second message cancels or corrects a report of one busy symbol.
 //! - `stored`: 20,000 reports with mixed conditions; BYTES is not looked at.
 //! - `odd`: every second line is changed somewhere, in its text or in its message's bytes.
@@ -27,7 +28,11 @@ fn main() -> ExitCode {
     let mut maker = Maker::new(seed, bytes as usize);
     match words.first().map(String::as_str) {
         Some("one") => maker.one(),
-        Some("busy") => maker.busy(),
+        Some("busy") => maker.busy(15),
+        Some("busy1") => maker.busy(1),
+        Some("busy2") => maker.busy(2),
+        Some("busy4") => maker.busy(4),
+        Some("busy8") => maker.busy(8),
         Some("hostile") => maker.hostile(),
         Some("stored") => maker.stored(),
         Some("odd") => maker.odd(),
@@ -42,7 +47,7 @@ fn main() -> ExitCode {
 }
 
 fn usage() -> ExitCode {
-    eprintln!("usage: make_day one|busy|hostile|stored|odd|every|wide [SEED [BYTES]]");
+    eprintln!("usage: make_day one|busy[1|2|4|8]|hostile|stored|odd|every|wide [SEED [BYTES]]");
     ExitCode::FAILURE
 }
 
@@ -201,10 +206,10 @@ impl Maker {
         }
     }
 
-    fn busy(&mut self) {
-        self.header(400, 15);
+    fn busy(&mut self, participants: usize) {
+        self.header(400, participants);
         while self.has_room() {
-            let sender = self.random.below(15) as usize;
+            let sender = self.random.below(participants as u64) as usize;
             if self.random.happens(3, 200) {
                 self.change(sender, None);
             } else if self.random.happens(1, 100) {

@@ -31,7 +31,7 @@ fn participant_named(name: &[u8]) -> Option<Participant> {
 }
 
 /// The listing of a day's first two lines: symbols, and the letters of participants.
-fn read_listing(alloc: Global, input: &[u8]) -> anyhow::Result<Listing> {
+pub fn read_listing(alloc: Global, input: &[u8]) -> anyhow::Result<Listing> {
     let mut lines = input.lines();
     let mut symbols = Vec::new(alloc);
     for name in lines.next().unwrap_or(&[]).split_str(b" ") {
@@ -61,13 +61,32 @@ fn read_message(line: &[u8]) -> Option<Message> {
 
 /// The tape of a day. A line that is no message and a message that is refused are passed over.
 pub fn read_tape(alloc: Global, input: &[u8]) -> anyhow::Result<Tape<IndexStore>> {
-    let mut tape = Tape::new(alloc, read_listing(alloc, input)?, TAPE_LIMIT)?;
+    let mut tape = empty_tape(alloc, input)?;
     for line in input.lines().skip(2) {
         if let Some(message) = read_message(line) {
             let _answer = tape.admit(message);
         }
     }
     Ok(tape)
+}
+
+/// The messages of a day's listed participants, in order. A line that is no message is passed over.
+pub fn read_messages(alloc: Global, input: &[u8]) -> anyhow::Result<Vec<Message>> {
+    let listing = read_listing(alloc, input)?;
+    let mut messages = Vec::new(alloc);
+    for line in input.lines().skip(2) {
+        if let Some(message) = read_message(line) {
+            if listing.has(message.header().participant) {
+                messages.push(message)?;
+            }
+        }
+    }
+    Ok(messages)
+}
+
+/// The tape of a day before its first message.
+pub fn empty_tape(alloc: Global, input: &[u8]) -> anyhow::Result<Tape<IndexStore>> {
+    Ok(Tape::new(alloc, read_listing(alloc, input)?, TAPE_LIMIT)?)
 }
 
 /// A subscriber to the tape of a day.

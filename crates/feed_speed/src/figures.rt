@@ -38,6 +38,6 @@ impl Figures {
 }
 
 /// A count of things that took this time, as things a second.
-fn per_second(count: usize, time: Duration) -> u128 {
+pub fn per_second(count: usize, time: Duration) -> u128 {
     count as u128 * 1_000_000_000 / time.as_nanos().max(1)
 }

@@ -1,10 +1,12 @@
-//! `feed_speed`: how long a tape takes through two lossy lines to a subscriber, and how long the rows of its report take. It
-//! measures; no other crate calls it.
+//! `feed_speed`: how long a tape takes through two lossy lines to a subscriber, how long the rows of its report take, and how
+//! long lines that run at once take over its messages. It measures; no other crate calls it.
 #![tactic(auto)]
 
 mod day;
 mod feed;
 mod figures;
+mod line_day;
+mod lines;
 mod mode;
 mod report;
 mod sending;
@@ -35,6 +37,7 @@ fn main(rt: HostRuntime) -> anyhow::Result<ExitCode> {
     match mode {
         Mode::Feed => sending::measure(&rt, &input)?.print(&rt)?,
         Mode::Rows => report::measure(&rt, &input)?.print(&rt)?,
+        Mode::Lines => lines::measure(&rt, &input)?.print(&rt)?,
     }
     Ok(ExitCode::SUCCESS)
 }

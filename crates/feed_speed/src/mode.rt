@@ -1,6 +1,6 @@
 //! What the program's words ask for.
-ghost use Rattle.std.specs.Prelude.{◌≡◌, ◌∷◌, ◌↔◌, [], Some, map, codes, string_bytes};
-ghost use Rattle.feed_speed.specs.declared.mode.Mode.TheVariants.{Feed, Rows};
+ghost use Rattle.std.specs.Prelude.{◌≡◌, ◌≢◌, ◌∷◌, ◌↔◌, [], Some, map, codes, string_bytes};
+ghost use Rattle.feed_speed.specs.declared.mode.Mode.TheVariants.{Feed, Lines, Rows};
 
 use std::alloc::AllocError;
 use std::env::{self, Env};
@@ -13,17 +13,35 @@ pub enum Mode {
     Feed,
     /// How long the rows of a report take.
     Rows,
+    /// How long lines that run at once take over a day's messages.
+    Lines,
 }
 
-/// What the words after the program's own name ask for: none for the feed, `rows` alone for the rows, and all others for
-/// nothing.
+/// What one word asks for: `rows` for the rows, `lines` for the lines, and all others for nothing.
+fn mode_of_word(word: &str) -> Option<Mode>
+    ensures feed { result ≢ Some Feed }
+    ensures rows { (result ≡ Some Rows) ↔ (word.now ≡ codes "rows") }
+    ensures lines { (result ≡ Some Lines) ↔ (word.now ≡ codes "lines") }
+{
+    if word == "rows" {
+        Some(Mode::Rows)
+    } else if word == "lines" {
+        Some(Mode::Lines)
+    } else {
+        None
+    }
+}
+
+/// What the words after the program's own name ask for: none for the feed, `rows` alone for the rows, `lines` alone for the
+/// lines, and all others for nothing.
 fn mode_of(words: &[String]) -> Option<Mode>
     ensures feed { (result ≡ Some Feed) ↔ (words.now ≡ []) }
     ensures rows { (result ≡ Some Rows) ↔ (map string_bytes words.now ≡ codes "rows" ∷ []) }
+    ensures lines { (result ≡ Some Lines) ↔ (map string_bytes words.now ≡ codes "lines" ∷ []) }
 {
     match words {
         [] => Some(Mode::Feed),
-        [word] if word.as_str() == "rows" => Some(Mode::Rows),
+        [word] => mode_of_word(word.as_str()),
         _ => None,
     }
 }

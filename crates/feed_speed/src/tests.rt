@@ -1,4 +1,5 @@
-//! A gap that both lines leave, closed by a request over memory; and a report's rows, made by each number of workers.
+//! A gap that both lines leave, closed by a request over memory; a report's rows, made by each number of workers; and
+//! the lines of a day.
 
 use crate::{day, feed};
 use arbitration::Line;
@@ -6,6 +7,7 @@ use reports::{Content, Header, Message, Moment};
 use sale_matrix::Condition;
 use std::alloc::Global;
 use std::rt::Clock;
+use std::sync::Wait;
 use std::thread::Threads;
 use subscriber::Subscriber;
 use summaries::IndexStore;
@@ -88,4 +90,17 @@ fn measured_counts<R: AllocGlobal + Clock + Threads + Sync>(rt: &R) -> Option<(u
 #[test]
 fn a_report_has_a_row_for_each_symbol_and_for_each_participant_in_it(rt: HostRuntime) {
     assert_eq!(rt; measured_counts(&rt), Some((1, 4)));
+}
+
+/// The lines, the messages and the entries that are measured of a day of two participants and one report.
+fn measured_lines<R: AllocGlobal + Clock + Threads + Wait + Sync>(
+    rt: &R,
+) -> Option<(usize, usize, usize)> {
+    let figures = crate::lines::measure(rt, ONE_REPORT).ok()?;
+    Some((figures.lines, figures.messages, figures.entries()))
+}
+
+#[test]
+fn a_day_has_a_line_for_each_participant(rt: HostRuntime) {
+    assert_eq!(rt; measured_lines(&rt), Some((2, 1, 1)));
 }

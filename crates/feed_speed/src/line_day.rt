@@ -1,0 +1,189 @@
+//! A day whose lines run at once, each over its bytes in memory.
+ghost use Rattle.std.specs.Prelude.{◌≡◌, ◌≤◌, [], map, vec_len};
+ghost use Rattle.std.specs.Vec.{vec_capacity};
+ghost use Rattle.line_ledger.specs.Ends.{IsOneEach, whos};
+
+use line_ledger::{DayName, EndFault, LineSeat, Prepared, SharedTape};
+use participant_lines::{LineEnd, Unstarted, run_lines};
+use std::alloc::Global;
+use std::io;
+use std::marker::Brand;
+use std::rt::Clock;
+use std::sync::Wait;
+use std::thread::Threads;
+use std::time::{Duration, Instant};
+use tape_types::NoGate;
+
+/// A seat and the bytes of its line.
+type Line<'a, D> = (LineSeat<D>, &'a [u8]);
+
+/// How long a day's messages took, and what they made.
+#[derive(Clone, Copy)]
+pub struct DayTime {
+    /// The time from the first message until the last is answered.
+    pub time: Duration,
+    /// The entries of the day's tape.
+    pub entries: usize,
+}
+
+/// The bytes of a line, none where it has no input.
+fn input_of(inputs: &[Vec<u8>], line: usize) -> &[u8] {
+    match inputs.get(line) {
+        Some(bytes) => bytes.as_slice(),
+        None => &[],
+    }
+}
+
+/// The seats with the bytes of their lines, put into a vector with room for them.
+fn lines_of<'a, D: DayName>(
+    seats: Vec<LineSeat<D>>,
+    lines: Vec<Line<'a, D>>,
+    inputs: &'a [Vec<u8>],
+) -> Vec<Line<'a, D>>
+    requires room { vec_len seats ≤ vec_capacity lines }
+    requires empty { lines.items ≡ [] }
+    ensures len { vec_len result ≡ vec_len seats }
+    ensures whos { map (λ l. l.0.who) result.items ≡ whos seats.items }
+{
+    let mut lines = lines;
+    let mut left = seats.into_iter();
+    while let Some(seat) = left.next() {
+        let bytes = input_of(inputs, lines.len());
+        lines.push_reserved((seat, bytes));
+    }
+    left.destroy_empty();
+    lines
+}
+
+/// The seats of ended lines, put into a vector with room for them.
+fn seats_of_ends<D: DayName>(ends: Vec<LineEnd<D>>, seats: Vec<LineSeat<D>>) -> Vec<LineSeat<D>>
+    requires room { vec_len ends ≤ vec_capacity seats }
+    requires empty { seats.items ≡ [] }
+    ensures { whos result.items ≡ map (λ e. e.seat.who) ends.items }
+{
+    let mut seats = seats;
+    let mut left = ends.into_iter();
+    while let Some(end) = left.next() {
+        let LineEnd {
+            seat,
+            refused: _,
+            ended: _,
+        } = end;
+        seats.push_reserved(seat);
+    }
+    left.destroy_empty();
+    seats
+}
+
+/// The seats of lines that were not started, put into a vector with room for them.
+fn seats_of_lines<D: DayName>(lines: Vec<Line<'_, D>>, seats: Vec<LineSeat<D>>) -> Vec<LineSeat<D>>
+    requires room { vec_len lines ≤ vec_capacity seats }
+    requires empty { seats.items ≡ [] }
+    ensures { whos result.items ≡ map (λ l. l.0.who) lines.entry.items }
+{
+    let mut seats = seats;
+    let mut left = lines.into_iter();
+    while let Some((seat, _)) = left.next() {
+        seats.push_reserved(seat);
+    }
+    left.destroy_empty();
+    seats
+}
+
+/// Runs the lines at once: the seats after it, and whether the lines were started.
+fn run_all<D: DayName + Send + Sync, R: Threads + Wait + Sync>(
+    rt: &R,
+    alloc: Global,
+    shared: &SharedTape<D>,
+    lines: Vec<Line<'_, D>>,
+    seats: Vec<LineSeat<D>>,
+) -> (Vec<LineSeat<D>>, bool)
+    requires room { vec_len lines ≤ vec_capacity seats }
+    requires empty { seats.items ≡ [] }
+    ensures { whos result.0.items ≡ map (λ l. l.0.who) lines.entry.items }
+{
+    match run_lines(rt, alloc, shared, lines, &NoGate) {
+        Ok(ends) => (seats_of_ends(ends, seats), true),
+        Err(
+            Unstarted {
+                ends,
+                lines,
+                lack: _,
+            },
+        ) => {
+            ends.destroy_empty();
+            (seats_of_lines(lines, seats), false)
+        }
+    }
+}
+
+/// How many entries the day has that ends with these seats, `None` where a seat was not told what the tape has.
+fn entries_at_end<D: DayName>(shared: SharedTape<D>, seats: Vec<LineSeat<D>>) -> Option<usize>
+    requires { IsOneEach D.listing.participants seats.items }
+{
+    match shared.end(seats) {
+        Ok(day) => Some(day.tape().entries().len()),
+        Err(EndFault::Disagrees(_)) => None,
+        Err(EndFault::MissingSeat(_unended)) => unreachable!(),
+    }
+}
+
+/// The time since then.
+fn elapsed<R: Clock>(rt: &R, began: io::Result<Instant>) -> Option<Duration> {
+    began.ok()?.elapsed(rt).ok()
+}
+
+/// The same under a name of the day.
+fn run_named_day<D: DayName + Send + Sync, R: Clock + Threads + Wait + Sync>(
+    rt: &R,
+    alloc: Global,
+    prepared: Prepared,
+    inputs: &[Vec<u8>],
+) -> Option<DayTime>
+    requires name { prepared.blank.name ≡ D.name }
+    requires parts { prepared.blank.parts ≡ D.parts }
+    requires listing { prepared.tape.listing ≡ D.listing }
+{
+    let Ok(lines) = Vec::with_capacity(alloc, inputs.len()) else {
+        return None;
+    };
+    let Ok(room) = Vec::with_capacity(alloc, inputs.len()) else {
+        lines.destroy_empty();
+        return None;
+    };
+    let Ok((shared, seats)) = SharedTape::<D>::open(prepared) else {
+        lines.destroy_empty();
+        room.destroy_empty();
+        return None;
+    };
+    if seats.len() > lines.capacity() || seats.len() > room.capacity() {
+        lines.destroy_empty();
+        room.destroy_empty();
+        let _entries = entries_at_end(shared, seats);
+        return None;
+    }
+    let lines = lines_of(seats, lines, inputs);
+    let began = Instant::now(rt);
+    let (seats, is_run) = run_all(rt, alloc, &shared, lines, room);
+    let time = elapsed(rt, began);
+    let entries = entries_at_end(shared, seats);
+    if !is_run {
+        return None;
+    }
+    Some(DayTime {
+        time: time?,
+        entries: entries?,
+    })
+}
+
+/// Runs the lines of a day, one for each participant, in listing order and over these bytes. `None` where memory runs out, no
+/// thread can be started, the clock does not tell the time, there are fewer inputs than participants, or a seat was not told
+/// what the tape has of its participant.
+pub fn run_day<R: Clock + Threads + Wait + Sync>(
+    rt: &R,
+    alloc: Global,
+    prepared: Prepared,
+    inputs: &[Vec<u8>],
+) -> Option<DayTime> {
+    run_named_day::<Brand, R>(rt, alloc, prepared, inputs)
+}
