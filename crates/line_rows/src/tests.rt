@@ -3,6 +3,7 @@
 mod days;
 mod ends;
 mod lines;
+mod readers;
 mod seeded;
 mod served;
 mod together;

@@ -1,0 +1,142 @@
+//! A reader that takes no lock, beside two lines that admit and publish.
+ghost use Rattle.std.specs.Prelude.{◌≡◌};
+ghost use Rattle.line_ledger.specs.Cells.{FirstTokens};
+
+use super::days::{day_of_two, report};
+use line_ledger::{Day, DayName, EndFault, LineSeat, Prepared, Published, SharedTape, Token};
+use reports::decode;
+use std::alloc::Global;
+use std::marker::Brand;
+use std::process::Abort;
+use std::sync::Wait;
+use std::thread;
+use std::thread::{Threads, join};
+use tape_frames::Source;
+
+/// How many turns the reader waits at most.
+const TURNS: u32 = 1_000_000_000;
+
+/// How many messages each line sends.
+const MANY: u8 = 5;
+
+/// Sends a line's reports, and publishes what is there after each.
+fn send<D: DayName, W: Wait>(rt: &W, shared: &SharedTape<D>, seat: &mut LineSeat<D>) {
+    let who = seat.participant().value();
+    for number in 1..=MANY {
+        if let Ok((message, _)) = decode(&report(who, number)) {
+            let _ = shared.admit(rt, seat, message);
+        }
+        let _ = shared.publish(rt, 64);
+    }
+}
+
+/// Sends the reports of each line in a thread.
+fn send_all<D: DayName + Send + Sync, T: Threads + Wait + Sync>(
+    rt: &T,
+    shared: &SharedTape<D>,
+    seats: &mut Vec<LineSeat<D>>,
+) {
+    let workers = seats.len();
+    if workers == 0 {
+        return;
+    }
+    let work = |_line: usize, seat: &mut LineSeat<D>| send(rt, shared, seat);
+    thread::for_each_mut(rt, seats.as_mut_slice(), workers, &work);
+}
+
+/// Looks for what is published, again and again until that is all that the lines send, and answers a token for each entry.
+fn read_all<D: DayName>(shared: &SharedTape<D>) -> Vec<Token>
+    ensures { FirstTokens shared.now result.items }
+{
+    let mut published = Published::new(shared);
+    for _ in 0..TURNS {
+        if published.published() == 2 * u32::from(MANY) {
+            break;
+        }
+        let _ = published.refresh();
+        thread::yield_now();
+    }
+    published.into_tokens()
+}
+
+/// What a reader found while the lines sent.
+fn read_while_sent<D: DayName + Send + Sync, T: Threads + Wait + Sync>(
+    rt: &T,
+    shared: &SharedTape<D>,
+    seats: &mut Vec<LineSeat<D>>,
+) -> Vec<Token>
+    ensures { FirstTokens shared.now result.items }
+{
+    let ((), tokens) = join(
+        rt,
+        || send_all(rt, shared, seats),
+        || -> Vec<Token>
+            ensures { FirstTokens shared.entry.now result.items }
+        { read_all(shared) },
+    );
+    tokens
+}
+
+/// How many tokens the day confirms.
+fn confirmed(day: &Day, tokens: &[Token]) -> usize
+    requires { FirstTokens day.now.names tokens.now }
+{
+    let mut many: usize = 0;
+    for token in tokens {
+        if day.confirm(token).is_ok() {
+            many = many.saturating_add(1);
+        }
+    }
+    many
+}
+
+/// How many tokens the ended day confirms, and how many entries it has. A missing seat stops the test.
+fn confirmed_at_end<D: DayName, A: Abort>(
+    rt: &A,
+    shared: SharedTape<D>,
+    seats: Vec<LineSeat<D>>,
+    tokens: &[Token],
+) -> Option<(usize, usize)>
+    requires { FirstTokens shared tokens.now }
+{
+    match shared.end(seats) {
+        Ok(day) => Some((confirmed(&day, tokens), day.tape().entries().len())),
+        Err(EndFault::Disagrees(_)) => None,
+        Err(EndFault::MissingSeat(_unended)) => panic!(rt; "a seat is missing"),
+    }
+}
+
+/// How many tokens of a reader the day of these lines confirms, and how many entries it has.
+fn read_day<D: DayName + Send + Sync, T: Threads + Wait + Abort + Sync>(
+    rt: &T,
+    prepared: Prepared,
+) -> Option<(usize, usize)>
+    requires name { prepared.blank.name ≡ D.name }
+    requires parts { prepared.blank.parts ≡ D.parts }
+    requires listing { prepared.tape.listing ≡ D.listing }
+{
+    let Ok((shared, mut seats)) = SharedTape::<D>::open(prepared) else {
+        return None;
+    };
+    let tokens = read_while_sent(rt, &shared, &mut seats);
+    confirmed_at_end(rt, shared, seats, tokens.as_slice())
+}
+
+fn read_prepared<T: Threads + Wait + Abort + Sync>(
+    rt: &T,
+    prepared: Prepared,
+) -> Option<(usize, usize)> {
+    read_day::<Brand, T>(rt, prepared)
+}
+
+fn read_day_of_two<T: Threads + Wait + Abort + Sync>(
+    rt: &T,
+    alloc: Global,
+) -> Option<(usize, usize)> {
+    read_prepared(rt, day_of_two(alloc)?)
+}
+
+#[test]
+fn the_day_confirms_what_was_read_while_lines_admitted(rt: HostRuntime) {
+    assert_eq!(rt; read_day_of_two(&rt, rt.alloc()), Some((10, 10)));
+}
