@@ -1,5 +1,7 @@
 //! A day of the symbol AB and the participants N and Q or N alone, the bytes of their reports, and the end of a day.
-use line_ledger::{Day, DayName, EndFault, LineSeat, Prepared, SharedTape, prepare};
+ghost use Rattle.line_ledger.specs.Cells.{FirstTokens};
+
+use line_ledger::{Day, DayName, EndFault, LineSeat, Prepared, SharedTape, Token, prepare};
 use std::alloc::Global;
 use std::process::Abort;
 use summaries::IndexStore;
@@ -65,6 +67,38 @@ pub(super) fn ended_day<D: DayName, A: Abort>(
 ) -> Option<Day> {
     match shared.end(seats) {
         Ok(day) => Some(day),
+        Err(EndFault::Disagrees(_)) => None,
+        Err(EndFault::MissingSeat(_unended)) => panic!(rt; "a seat is missing"),
+    }
+}
+
+/// How many entries an ended day has, how many its end found published, and how many tokens it confirms.
+pub(super) type Confirmed = (usize, u32, usize);
+
+/// What the day confirms.
+fn confirmed(day: &Day, tokens: &[Token]) -> Confirmed
+    requires { FirstTokens day.now.names tokens.now }
+{
+    let mut many: usize = 0;
+    for token in tokens {
+        if day.confirm(token).is_ok() {
+            many = many.saturating_add(1);
+        }
+    }
+    (day.tape().entries().len(), day.published(), many)
+}
+
+/// What the ended day confirms. A missing seat stops the test.
+pub(super) fn confirmed_at_end<D: DayName, A: Abort>(
+    rt: &A,
+    shared: SharedTape<D>,
+    seats: Vec<LineSeat<D>>,
+    tokens: &[Token],
+) -> Option<Confirmed>
+    requires { FirstTokens shared tokens.now }
+{
+    match shared.end(seats) {
+        Ok(day) => Some(confirmed(&day, tokens)),
         Err(EndFault::Disagrees(_)) => None,
         Err(EndFault::MissingSeat(_unended)) => panic!(rt; "a seat is missing"),
     }

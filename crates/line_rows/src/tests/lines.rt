@@ -136,6 +136,32 @@ fn run_all<D: DayName + Send + Sync, G: Gate + Sync, T: Threads + Wait + Sync>(
     }
 }
 
+/// Runs a line over each participant's bytes, all at once: the seats after it, and what the lines came to.
+pub(super) fn run_inputs<
+    D: DayName + Send + Sync,
+    G: Gate + Sync,
+    T: Threads + Wait + Abort + Sync,
+>(
+    rt: &T,
+    alloc: Global,
+    shared: &SharedTape<D>,
+    seats: Vec<LineSeat<D>>,
+    inputs: &[Vec<u8>],
+    gate: &G,
+) -> (Vec<LineSeat<D>>, Option<Vec<LineFigures>>) {
+    let Ok(lines) = Vec::with_capacity(alloc, inputs.len()) else {
+        return (seats, None);
+    };
+    let Ok(room) = Vec::with_capacity(alloc, inputs.len()) else {
+        lines.destroy_empty();
+        return (seats, None);
+    };
+    assert!(rt; seats.len() <= lines.capacity());
+    let lines = lines_of(seats, lines, inputs);
+    assert!(rt; lines.len() <= room.capacity());
+    run_all(rt, alloc, shared, lines, room, gate)
+}
+
 /// What the lines of a day came to, and the day.
 fn day_after<D: DayName + Send + Sync, G: Gate + Sync, T: Threads + Wait + Abort + Sync>(
     rt: &T,
@@ -148,22 +174,10 @@ fn day_after<D: DayName + Send + Sync, G: Gate + Sync, T: Threads + Wait + Abort
     requires parts { prepared.blank.parts ≡ D.parts }
     requires listing { prepared.tape.listing ≡ D.listing }
 {
-    let Ok(lines) = Vec::with_capacity(alloc, inputs.len()) else {
-        return None;
-    };
-    let Ok(room) = Vec::with_capacity(alloc, inputs.len()) else {
-        lines.destroy_empty();
-        return None;
-    };
     let Ok((shared, seats)) = SharedTape::<D>::open(prepared) else {
-        lines.destroy_empty();
-        room.destroy_empty();
         return None;
     };
-    assert!(rt; seats.len() <= lines.capacity());
-    let lines = lines_of(seats, lines, inputs);
-    assert!(rt; lines.len() <= room.capacity());
-    let (seats, figures) = run_all(rt, alloc, &shared, lines, room, gate);
+    let (seats, figures) = run_inputs(rt, alloc, &shared, seats, inputs, gate);
     let day = ended_day(rt, shared, seats)?;
     Some((figures?, day))
 }

@@ -2,8 +2,8 @@
 ghost use Rattle.std.specs.Prelude.{◌≡◌};
 ghost use Rattle.line_ledger.specs.Cells.{FirstTokens};
 
-use super::days::{day_of_two, report};
-use line_ledger::{Day, DayName, EndFault, LineSeat, Prepared, Published, SharedTape, Token};
+use super::days::{Confirmed, confirmed_at_end, day_of_two, report};
+use line_ledger::{DayName, LineSeat, Prepared, Published, SharedTape, Token};
 use reports::decode;
 use std::alloc::Global;
 use std::marker::Brand;
@@ -77,40 +77,11 @@ fn read_while_sent<D: DayName + Send + Sync, T: Threads + Wait + Sync>(
     tokens
 }
 
-/// How many tokens the day confirms.
-fn confirmed(day: &Day, tokens: &[Token]) -> usize
-    requires { FirstTokens day.now.names tokens.now }
-{
-    let mut many: usize = 0;
-    for token in tokens {
-        if day.confirm(token).is_ok() {
-            many = many.saturating_add(1);
-        }
-    }
-    many
-}
-
-/// How many tokens the ended day confirms, and how many entries it has. A missing seat stops the test.
-fn confirmed_at_end<D: DayName, A: Abort>(
-    rt: &A,
-    shared: SharedTape<D>,
-    seats: Vec<LineSeat<D>>,
-    tokens: &[Token],
-) -> Option<(usize, usize)>
-    requires { FirstTokens shared tokens.now }
-{
-    match shared.end(seats) {
-        Ok(day) => Some((confirmed(&day, tokens), day.tape().entries().len())),
-        Err(EndFault::Disagrees(_)) => None,
-        Err(EndFault::MissingSeat(_unended)) => panic!(rt; "a seat is missing"),
-    }
-}
-
-/// How many tokens of a reader the day of these lines confirms, and how many entries it has.
+/// What the day of these lines confirms of what a reader found.
 fn read_day<D: DayName + Send + Sync, T: Threads + Wait + Abort + Sync>(
     rt: &T,
     prepared: Prepared,
-) -> Option<(usize, usize)>
+) -> Option<Confirmed>
     requires name { prepared.blank.name ≡ D.name }
     requires parts { prepared.blank.parts ≡ D.parts }
     requires listing { prepared.tape.listing ≡ D.listing }
@@ -125,18 +96,15 @@ fn read_day<D: DayName + Send + Sync, T: Threads + Wait + Abort + Sync>(
 fn read_prepared<T: Threads + Wait + Abort + Sync>(
     rt: &T,
     prepared: Prepared,
-) -> Option<(usize, usize)> {
+) -> Option<Confirmed> {
     read_day::<Brand, T>(rt, prepared)
 }
 
-fn read_day_of_two<T: Threads + Wait + Abort + Sync>(
-    rt: &T,
-    alloc: Global,
-) -> Option<(usize, usize)> {
+fn read_day_of_two<T: Threads + Wait + Abort + Sync>(rt: &T, alloc: Global) -> Option<Confirmed> {
     read_prepared(rt, day_of_two(alloc)?)
 }
 
 #[test]
 fn the_day_confirms_what_was_read_while_lines_admitted(rt: HostRuntime) {
-    assert_eq!(rt; read_day_of_two(&rt, rt.alloc()), Some((10, 10)));
+    assert_eq!(rt; read_day_of_two(&rt, rt.alloc()), Some((10, 10, 10)));
 }

@@ -1,16 +1,23 @@
-//! Two lines at once.
+//! Two lines at once, and what they publish.
+ghost use Rattle.std.specs.Prelude.{◌≡◌};
+ghost use Rattle.line_ledger.specs.Cells.{FirstTokens};
 
-use super::days::{day_of_two, joined, report};
-use super::lines::{LineFigures, day_of_lines};
+use super::days::{Confirmed, confirmed_at_end, day_of_two, joined, report};
+use super::lines::{LineFigures, run_inputs};
+use line_ledger::{
+    Day, DayName, EndFault, LineSeat, Prepared, PublishFault, Published, SharedTape, Token, Unended,
+};
 use participant_lines::Ended;
 use std::alloc::Global;
+use std::marker::Brand;
 use std::process::Abort;
 use std::sync::Wait;
 use std::sync::atomic::{AtomicU32, Ordering};
 use std::test::Fail;
 use std::thread;
 use std::thread::Threads;
-use tape_types::Gate;
+use tape_frames::Source;
+use tape_types::{Gate, Symbol};
 
 /// How many turns a line waits at most.
 const TURNS: u32 = 1_000_000_000;
@@ -57,15 +64,129 @@ fn counts(figures: &[LineFigures]) -> Option<(u32, u32)> {
     (is_clean(first) && is_clean(second)).then_some((first.count, second.count))
 }
 
-/// How many messages each of N's and Q's lines was told of, and how many entries the day has.
-fn two_lines<T: Threads + Wait + Abort + Sync>(
+/// What two publications set, how many entries a source then finds, and whether the sixth cell shows one.
+type Publications = ([Result<u32, PublishFault>; 2], u32, bool);
+
+/// What is seen of a day of two lines: how many messages each was told of, how many its view shows, what is published, the
+/// number of the fault of an end without Q's seat, and what the day confirms.
+type Whole = ((u32, u32), (u32, u32), Publications, u8, Confirmed);
+
+/// How many entries the view of a line shows of it, where it was told of as many.
+fn shown<D: DayName, W: Wait>(rt: &W, shared: &SharedTape<D>, seat: &LineSeat<D>) -> Option<u32> {
+    let symbol = Symbol::try_new(*b"AB      ")?;
+    let view = shared.view(rt, seat, symbol).ok()?;
+    (view.mine() == seat.count()).then_some(view.mine())
+}
+
+/// The same of two lines.
+fn views<D: DayName, W: Wait>(
+    rt: &W,
+    shared: &SharedTape<D>,
+    seats: &[LineSeat<D>],
+) -> Option<(u32, u32)> {
+    let [first, second] = seats else {
+        return None;
+    };
+    Some((shown(rt, shared, first)?, shown(rt, shared, second)?))
+}
+
+/// What is published, and a token for each entry that was found.
+fn publications<D: DayName, W: Wait>(rt: &W, shared: &SharedTape<D>) -> (Publications, Vec<Token>)
+    ensures { FirstTokens shared.now result.1.items }
+{
+    let set = [shared.publish(rt, 64), shared.publish(rt, 64)];
+    let mut published = Published::new(shared);
+    let _ = published.refresh();
+    let found = published.published();
+    let is_beyond = shared.look(6).is_some();
+    ((set, found, is_beyond), published.into_tokens())
+}
+
+/// The number of an end's fault, 0 for none.
+fn code_of<D: DayName>(ended: &Result<Day, EndFault<D>>) -> u8 {
+    match ended {
+        Ok(_) => 0,
+        Err(fault) => fault.code(),
+    }
+}
+
+/// The number of the fault of an end that lacks a seat, and what it hands back. Another end stops the test.
+fn refused_end<D: DayName, A: Abort>(
+    rt: &A,
+    shared: SharedTape<D>,
+    seats: Vec<LineSeat<D>>,
+) -> (u8, SharedTape<D>, Vec<LineSeat<D>>)
+    ensures { result.1 ≡ shared }
+{
+    let ended = shared.end(seats);
+    let code = code_of(&ended);
+    let unended = match ended {
+        Ok(_day) => panic!(rt; "a day without a seat ended"),
+        Err(EndFault::Disagrees(_disagreement)) => panic!(rt; "a missing seat is another fault"),
+        Err(EndFault::MissingSeat(unended)) => unended,
+    };
+    let Unended { shared, seats } = unended;
+    (code, shared, seats)
+}
+
+/// The number of the fault of an end without the last seat, and what the day then confirms that ends with all.
+fn late_end<D: DayName, A: Abort>(
+    rt: &A,
+    shared: SharedTape<D>,
+    seats: Vec<LineSeat<D>>,
+    tokens: &[Token],
+) -> (u8, Option<Confirmed>)
+    requires { FirstTokens shared tokens.now }
+{
+    let mut seats = seats;
+    let Some(last) = seats.pop() else {
+        panic!(rt; "there is no seat")
+    };
+    let (code, shared, mut seats) = refused_end(rt, shared, seats);
+    assert!(rt; seats.len() < seats.capacity());
+    seats.push_reserved(last);
+    (code, confirmed_at_end(rt, shared, seats, tokens))
+}
+
+/// What is seen of the day of N's and Q's lines.
+fn two_lines<D: DayName + Send + Sync, T: Threads + Wait + Abort + Sync>(
+    rt: &T,
+    alloc: Global,
+    prepared: Prepared,
+    inputs: &[Vec<u8>],
+    meeting: &Meeting,
+) -> Option<Whole>
+    requires name { prepared.blank.name ≡ D.name }
+    requires parts { prepared.blank.parts ≡ D.parts }
+    requires listing { prepared.tape.listing ≡ D.listing }
+{
+    let Ok((shared, seats)) = SharedTape::<D>::open(prepared) else {
+        return None;
+    };
+    let (seats, figures) = run_inputs(rt, alloc, &shared, seats, inputs, meeting);
+    let shown = views(rt, &shared, seats.as_slice());
+    let (published, tokens) = publications(rt, &shared);
+    let (code, confirmed) = late_end(rt, shared, seats, tokens.as_slice());
+    Some((counts(&figures?)?, shown?, published, code, confirmed?))
+}
+
+fn two_lines_of<T: Threads + Wait + Abort + Sync>(
+    rt: &T,
+    alloc: Global,
+    prepared: Prepared,
+    inputs: &[Vec<u8>],
+    meeting: &Meeting,
+) -> Option<Whole> {
+    two_lines::<Brand, T>(rt, alloc, prepared, inputs, meeting)
+}
+
+fn two_lines_of_a_day<T: Threads + Wait + Abort + Sync>(
     rt: &T,
     alloc: Global,
     meeting: &Meeting,
-) -> Option<((u32, u32), usize)> {
+) -> Option<Whole> {
     let inputs = inputs(alloc)?;
-    let (figures, day) = day_of_lines(rt, alloc, day_of_two(alloc)?, &inputs, meeting)?;
-    Some((counts(&figures)?, day.tape().entries().len()))
+    two_lines_of(rt, alloc, day_of_two(alloc)?, &inputs, meeting)
 }
 
 #[test]
@@ -74,7 +195,11 @@ fn two_lines_run_at_once(rt: HostRuntime) -> Result<(), Fail> {
         done: [AtomicU32::new(0), AtomicU32::new(0)],
         met: AtomicU32::new(0),
     };
-    assert_eq!(rt; two_lines(&rt, rt.alloc(), &meeting), Some(((3, 2), 5)));
+    let published = ([Ok(5), Ok(0)], 5, false);
+    assert_eq!(rt;
+        two_lines_of_a_day(&rt, rt.alloc(), &meeting),
+        Some(((3, 2), (3, 2), published, 91, (5, 5, 5)))
+    );
     assert_eq!(rt; meeting.met.load(Ordering::SeqCst), 2);
     Ok(())
 }

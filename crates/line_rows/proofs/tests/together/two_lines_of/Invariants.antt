@@ -1,0 +1,7 @@
+use Rattle.line_rows.proofs.tests.together.two_lines_of.Given as goal
+
+abbrev pub ghosts-two_lines-D-Ledger : goal.ghosts-two_lines-D-Ledger
+ghosts-two_lines-D-Ledger g a = record { name = a.prepared.blank.name; parts = a.prepared.blank.parts }
+
+abbrev pub ghosts-two_lines-D-DayName : goal.ghosts-two_lines-D-DayName
+ghosts-two_lines-D-DayName g a = record { listing = a.prepared.tape.listing }
