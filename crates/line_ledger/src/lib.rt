@@ -34,6 +34,3 @@ pub use shared::SharedTape;
 pub use token::Token;
 pub use told::Told;
 pub use view_fault::ViewFault;
-
-#[cfg(test)]
-mod tests;

@@ -1,4 +1,4 @@
-//! The ends of a line, two lines at once, a seeded day of eight lines, and a retransmission while a day is open.
+//! Shared tapes, the ends of a line, two lines at once, a seeded day of eight lines, and a retransmission while a day is open.
 
 mod days;
 mod ends;
@@ -6,4 +6,9 @@ mod lines;
 mod readers;
 mod seeded;
 mod served;
+mod shared_days;
+mod shared_faults;
+mod shared_publishing;
+mod shared_rows;
+mod shared_threads;
 mod together;

@@ -1,8 +1,8 @@
 //! Where lists first differ, what is no empty open tape, and what faults print.
 
-use super::days::{Sent, message, tape};
-use crate::laws::first_difference;
-use crate::{LineRefusal, NotOnTape, OpenFault, PublishFault, Told, ViewFault, prepare};
+use super::shared_days::{Sent, message, tape};
+use line_ledger::laws::first_difference;
+use line_ledger::{LineRefusal, NotOnTape, OpenFault, PublishFault, Told, ViewFault, prepare};
 use reports::Message;
 use scratch_fold::Mark;
 use std::alloc::Global;

@@ -1,15 +1,15 @@
 //! The worked rows of a tape, each through a shared one.
 ghost use Rattle.std.specs.Prelude.{◌≡◌};
-ghost use Rattle.line_ledger.specs.Ends.{IsOneEach};
 
-use super::days::Sent::{Cancel, CancelUnder, Correct, Report, ReportOf};
-use super::days::{AB, CD, EF, Sent, ended_len, message, prepared};
-use crate::{DayName, LineRefusal, LineSeat, Prepared, Receipt, SharedTape, View, ViewFault};
+use super::shared_days::Sent::{Cancel, CancelUnder, Correct, Report, ReportOf};
+use super::shared_days::{AB, CD, EF, Sent, ended_len, message, prepared};
 use Answer::{Number, Refused, Shown};
 use Step::{Admit, Show};
+use line_ledger::{DayName, LineRefusal, LineSeat, Prepared, Receipt, SharedTape, View, ViewFault};
 use scratch_fold::{Mark, Summary};
 use std::alloc::Global;
 use std::marker::Brand;
+use std::process::Abort;
 use std::sync::Wait;
 use tape_types::Symbol;
 
@@ -193,9 +193,7 @@ fn step_answer<D: DayName, R: Wait>(
     shared: &SharedTape<D>,
     seat: &mut LineSeat<D>,
     step: Step,
-) -> Option<Answer>
-    ensures { seat.new.who ≡ seat.old.who }
-{
+) -> Option<Answer> {
     match step {
         Admit(sent) => Some(admission(shared.admit(rt, seat, message(sent)?))),
         Show(name) => Some(showing(shared.view(rt, seat, Symbol::try_new(*name)?))),
@@ -203,16 +201,12 @@ fn step_answer<D: DayName, R: Wait>(
 }
 
 /// How many steps are answered as they have to be, up to the first that is not.
-#[tactic(auto, using(crate::proofs::KeptSeats::each_set))]
 fn answered<D: DayName, R: Wait>(
     rt: &R,
     shared: &SharedTape<D>,
     seats: &mut Vec<LineSeat<D>>,
     steps: &[(usize, Step, Answer)],
-) -> usize
-    requires { IsOneEach D.listing.participants seats.old.items }
-    ensures { IsOneEach D.listing.participants seats.new.items }
-{
+) -> usize {
     for at in 0..steps.len() {
         let (line, step, wanted) = steps[at];
         if line >= seats.len() || step_answer(rt, shared, &mut seats[line], step) != Some(wanted) {
@@ -223,7 +217,7 @@ fn answered<D: DayName, R: Wait>(
 }
 
 /// How many steps are answered as they have to be, and how many entries the day has.
-fn played<D: DayName, R: Wait>(
+fn played<D: DayName, R: Wait + Abort>(
     rt: &R,
     prepared: Prepared,
     steps: &[(usize, Step, Answer)],
@@ -236,10 +230,14 @@ fn played<D: DayName, R: Wait>(
         return None;
     };
     let many = answered(rt, &shared, &mut seats, steps);
-    Some((many, ended_len(shared, seats)?))
+    Some((many, ended_len(rt, shared, seats)?))
 }
 
-fn row<R: Wait>(rt: &R, alloc: Global, steps: &[(usize, Step, Answer)]) -> Option<(usize, usize)> {
+fn row<R: Wait + Abort>(
+    rt: &R,
+    alloc: Global,
+    steps: &[(usize, Step, Answer)],
+) -> Option<(usize, usize)> {
     let prepared = prepared(alloc)?;
     played::<Brand, _>(rt, prepared, steps)
 }

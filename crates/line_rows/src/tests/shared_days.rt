@@ -1,11 +1,10 @@
 //! A day of the symbols AB and CD and the participants N, P and Q, and what it is played with.
-ghost use Rattle.std.specs.Prelude.{◌≡◌, IsSomeAnd};
-ghost use Rattle.line_ledger.specs.Ends.{IsOneEach};
-
-use crate::{DayName, EndFault, LineSeat, Prepared, SharedTape, prepare};
+use super::days::ended_day;
+use line_ledger::{DayName, LineSeat, Prepared, SharedTape, prepare};
 use reports::{Content, Header, Message, Moment};
 use sale_matrix::Condition;
 use std::alloc::Global;
+use std::process::Abort;
 use summaries::IndexStore;
 use tape_core::Tape;
 use tape_types::{Listing, MsgNumber, Participant, Price, Size, Symbol};
@@ -100,21 +99,29 @@ fn listing(alloc: Global) -> Option<Listing> {
 
 /// An open tape of the day.
 pub(super) fn tape(alloc: Global) -> Option<Tape<IndexStore>> {
-    Tape::new(alloc, listing(alloc)?, 10).ok()
+    tape_of(alloc, 10)
+}
+
+/// The same of at most so many entries.
+fn tape_of(alloc: Global, limit: u32) -> Option<Tape<IndexStore>> {
+    Tape::new(alloc, listing(alloc)?, limit).ok()
 }
 
 /// The day, which is empty.
 pub(super) fn prepared(alloc: Global) -> Option<Prepared> {
-    prepare(alloc, tape(alloc)?).ok()
+    prepared_of(alloc, 10)
 }
 
-/// How many entries the ended day has.
-pub(super) fn ended_len<D: DayName>(shared: SharedTape<D>, seats: Vec<LineSeat<D>>) -> Option<usize>
-    requires { IsOneEach D.listing.participants seats.items }
-{
-    match shared.end(seats) {
-        Ok(day) => Some(day.tape().entries().len()),
-        Err(EndFault::Disagrees(_)) => None,
-        Err(EndFault::MissingSeat(_unended)) => unreachable!(),
-    }
+/// The same of at most so many entries.
+pub(super) fn prepared_of(alloc: Global, limit: u32) -> Option<Prepared> {
+    prepare(alloc, tape_of(alloc, limit)?).ok()
+}
+
+/// How many entries the ended day has. A missing seat stops the test.
+pub(super) fn ended_len<D: DayName, A: Abort>(
+    rt: &A,
+    shared: SharedTape<D>,
+    seats: Vec<LineSeat<D>>,
+) -> Option<usize> {
+    Some(ended_day(rt, shared, seats)?.tape().entries().len())
 }

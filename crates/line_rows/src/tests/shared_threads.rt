@@ -1,11 +1,11 @@
 //! Two lines at once.
-ghost use Rattle.std.specs.Prelude.{◌≡◌, ◌<◌, length};
-ghost use Rattle.line_ledger.specs.Ends.{IsOneEach};
+ghost use Rattle.std.specs.Prelude.{◌≡◌};
 
-use super::days::{AB, Sent, ended_len, message, prepared};
-use crate::{Day, DayName, EndFault, LineSeat, Prepared, SharedTape, Unended};
+use super::shared_days::{AB, Sent, ended_len, message, prepared};
+use line_ledger::{Day, DayName, EndFault, LineSeat, Prepared, SharedTape, Unended};
 use std::alloc::Global;
 use std::marker::Brand;
+use std::process::Abort;
 use std::sync::Wait;
 use std::thread;
 use std::thread::Threads;
@@ -18,9 +18,7 @@ fn send<D: DayName, R: Wait>(
     seat: &mut LineSeat<D>,
     many: u32,
     most: u32,
-)
-    ensures { seat.new.who ≡ seat.old.who }
-{
+) {
     let who = seat.participant().value();
     for number in 1..=many {
         if let Some(report) = message(Sent::Report(who, number, b"@   ", 100_000)) {
@@ -37,17 +35,12 @@ pub(super) fn send_all<D: DayName + Send + Sync, R: Threads + Wait + Sync>(
     seats: &mut Vec<LineSeat<D>>,
     counts: &[u32],
     most: u32,
-)
-    requires { IsOneEach D.listing.participants seats.old.items }
-    ensures { IsOneEach D.listing.participants seats.new.items }
-{
+) {
     let workers = seats.len();
     if workers == 0 {
         return;
     }
-    let work = |line: usize, seat: &mut LineSeat<D>|
-        ensures { seat.exit.now.who ≡ seat.entry.now.who }
-    {
+    let work = |line: usize, seat: &mut LineSeat<D>| {
         let many = counts.get(line).copied().unwrap_or(0);
         send(rt, shared, seat, many, most)
     };
@@ -81,31 +74,30 @@ fn code_of<D: DayName>(ended: &Result<Day, EndFault<D>>) -> u8 {
 }
 
 /// The number of the fault of an end without seats, and how many entries the day has that then ends with them.
-fn late_end<D: DayName>(
+fn late_end<D: DayName, A: Abort>(
+    rt: &A,
     alloc: Global,
     shared: SharedTape<D>,
     seats: Vec<LineSeat<D>>,
-) -> Option<(u8, usize)>
-    requires each { IsOneEach D.listing.participants seats.items }
-    requires some { 0 < length D.listing.participants }
-{
+) -> Option<(u8, usize)> {
     let ended = shared.end(Vec::new(alloc));
     let code = code_of(&ended);
     let unended = match ended {
-        Ok(_day) => unreachable!(),
-        Err(EndFault::Disagrees(_disagreement)) => unreachable!(),
+        Ok(_day) => panic!(rt; "no seat is missing"),
+        Err(EndFault::Disagrees(_disagreement)) => panic!(rt; "no seat is missing"),
         Err(EndFault::MissingSeat(unended)) => unended,
     };
     let Unended {
         shared,
         seats: none,
     } = unended;
+    assert!(rt; none.is_empty());
     none.destroy_empty();
-    Some((code, ended_len(shared, seats)?))
+    Some((code, ended_len(rt, shared, seats)?))
 }
 
 /// What the lines of N, P and Q counted, and what the end without seats and the day's end came to.
-fn lines_at_once<D: DayName + Send + Sync, R: Threads + Wait + Sync>(
+fn lines_at_once<D: DayName + Send + Sync, R: Threads + Wait + Abort + Sync>(
     rt: &R,
     alloc: Global,
     prepared: Prepared,
@@ -113,18 +105,17 @@ fn lines_at_once<D: DayName + Send + Sync, R: Threads + Wait + Sync>(
     requires name { prepared.blank.name ≡ D.name }
     requires parts { prepared.blank.parts ≡ D.parts }
     requires listing { prepared.tape.listing ≡ D.listing }
-    requires some { 0 < length D.listing.participants }
 {
     let Ok((shared, mut seats)) = SharedTape::<D>::open(prepared) else {
         return None;
     };
     send_all(rt, &shared, &mut seats, &[3, 2, 1], 0);
     let counts = own_counts(rt, &shared, seats.as_slice());
-    let ended = late_end(alloc, shared, seats)?;
+    let ended = late_end(rt, alloc, shared, seats)?;
     Some((counts?, ended))
 }
 
-fn day_of_lines<R: Threads + Wait + Sync>(
+fn day_of_lines<R: Threads + Wait + Abort + Sync>(
     rt: &R,
     alloc: Global,
 ) -> Option<((u32, u32, u32), (u8, usize))> {

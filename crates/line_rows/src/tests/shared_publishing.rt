@@ -3,11 +3,11 @@ ghost use Rattle.std.specs.Prelude.{◌≡◌};
 ghost use Rattle.line_ledger.specs.Cells.{FirstTokens, IsTokenOf};
 ghost use Rattle.line_ledger.specs.Ends.{IsOneEach};
 
-use super::days::{Sent, message, prepared};
-use super::threads::send_all;
-use crate::{
-    CellRow, Day, DayName, EndFault, LineSeat, Locked, Prepared, PublishFault, Published,
-    SharedTape, Token,
+use super::days::{Confirmed, confirmed_at_end};
+use super::shared_days::{Sent, message, prepared, prepared_of};
+use super::shared_threads::send_all;
+use line_ledger::{
+    CellRow, DayName, LineSeat, Locked, Prepared, PublishFault, Published, SharedTape, Token,
 };
 use std::alloc::Global;
 use std::marker::Brand;
@@ -23,8 +23,12 @@ type Set = (
     Result<u32, PublishFault>,
 );
 
-/// How many entries the ended day has, how many its end found published, and how many tokens it confirms.
-type Confirmed = (usize, u32, usize);
+/// How many entries were set in a row of one cell and in the day's own, and how many the day's end found.
+type SetInTwo = (
+    Result<usize, PublishFault>,
+    Result<usize, PublishFault>,
+    u32,
+);
 
 /// What was set, how many entries a source found after the first publication and after the last, and its tokens.
 fn publications<D: DayName, R: Wait>(
@@ -90,38 +94,9 @@ fn looked_twice<D: DayName + Send + Sync, R: Threads + Sync>(
     )
 }
 
-/// What the day confirms.
-fn confirmed(day: &Day, tokens: &[Token]) -> Confirmed
-    requires { FirstTokens day.now.names tokens.now }
-{
-    let mut many: usize = 0;
-    for token in tokens {
-        if day.confirm(token).is_ok() {
-            many = many.saturating_add(1);
-        }
-    }
-    (day.tape().entries().len(), day.published(), many)
-}
-
-/// What the ended day confirms.
-fn confirmed_at_end<D: DayName>(
-    shared: SharedTape<D>,
-    seats: Vec<LineSeat<D>>,
-    tokens: &[Token],
-) -> Option<Confirmed>
-    requires each { IsOneEach D.listing.participants seats.items }
-    requires tokens { FirstTokens shared tokens.now }
-{
-    match shared.end(seats) {
-        Ok(day) => Some(confirmed(&day, tokens)),
-        Err(EndFault::Disagrees(_)) => None,
-        Err(EndFault::MissingSeat(_unended)) => unreachable!(),
-    }
-}
-
 /// What is set and found of three reports of N and two of Q, whether two threads found the fifth entry, and what the day
 /// confirms of what was found.
-fn five_published<D: DayName + Send + Sync, R: Threads + Wait + Sync>(
+fn five_published<D: DayName + Send + Sync, R: Threads + Wait + Abort + Sync>(
     rt: &R,
     prepared: Prepared,
 ) -> Option<(Set, (u32, u32), u32, bool, Confirmed)>
@@ -142,53 +117,75 @@ fn five_published<D: DayName + Send + Sync, R: Threads + Wait + Sync>(
         }
         None => false,
     };
-    let confirmed = confirmed_at_end(shared, seats, tokens.as_slice())?;
+    let confirmed = confirmed_at_end(rt, shared, seats, tokens.as_slice())?;
     Some((set, found, shown, is_same, confirmed))
 }
 
-/// Admits two reports on the first line.
-fn admit_two<D: DayName>(locked: &mut Locked<D>, seats: &mut Vec<LineSeat<D>>) {
-    for number in 1..=2 {
-        if !seats.is_empty()
-            && let Some(report) = message(Sent::Report(b'N', number, b"@   ", 100_000))
-        {
-            let _ = locked.admit(&mut seats[0], report);
-        }
+/// Admits N's report of this number.
+fn admit_one<D: DayName>(locked: &mut Locked<D>, seat: &mut LineSeat<D>, number: u32)
+    ensures { seat.new.who ≡ seat.old.who }
+{
+    if let Some(report) = message(Sent::Report(b'N', number, b"@   ", 100_000)) {
+        let _ = locked.admit(seat, report);
     }
 }
 
-/// How many of two entries are set in a row of one cell, then in the day's own row, and how many the day's end finds. A
-/// missing seat stops the test.
-fn set_in_two_rows<D: DayName, A: Abort>(
-    rt: &A,
-    alloc: Global,
-    prepared: Prepared,
-) -> Option<
-    (
-        Result<usize, PublishFault>,
-        Result<usize, PublishFault>,
-        u32,
-    ),
->
+/// Admits two reports on the first line.
+#[tactic(auto, using(line_ledger::proofs::KeptSeats::each_set))]
+fn admit_two<D: DayName>(locked: &mut Locked<D>, seats: &mut Vec<LineSeat<D>>)
+    requires { IsOneEach D.listing.participants seats.old.items }
+    ensures { IsOneEach D.listing.participants seats.new.items }
+{
+    if seats.is_empty() {
+        return;
+    }
+    admit_one(locked, &mut seats[0], 1);
+    admit_one(locked, &mut seats[0], 2);
+}
+
+/// How many of two entries are set in a row of one cell, then in the day's own row, and how many the day's end finds.
+fn set_in_two_rows<D: DayName>(prepared: Prepared, short: &CellRow) -> Option<SetInTwo>
     requires name { prepared.blank.name ≡ D.name }
     requires parts { prepared.blank.parts ≡ D.parts }
     requires listing { prepared.tape.listing ≡ D.listing }
 {
-    let short = CellRow::new(alloc, 1).ok()?;
     let Ok((mut locked, row, mut seats)) = Locked::<D>::start(prepared) else {
         return None;
     };
     admit_two(&mut locked, &mut seats);
-    let first = locked.publish(&short, 64).map(|tokens| tokens.len());
+    let first = locked.publish(short, 64).map(|tokens| tokens.len());
     let second = locked.publish(&row, 64).map(|tokens| tokens.len());
-    assert!(rt; locked.is_each(seats.as_slice()));
     match locked.finish(row, seats) {
         Ok(day) => Some((first, second, day.published())),
         Err(_) => None,
     }
 }
 
-fn five_published_in_a_day<R: Threads + Wait + Sync>(
+/// The same, with the row of a day of one cell.
+fn set_beside<D: DayName>(alloc: Global, one: Prepared) -> Option<SetInTwo>
+    requires name { one.blank.name ≡ D.name }
+    requires parts { one.blank.parts ≡ D.parts }
+    requires listing { one.tape.listing ≡ D.listing }
+{
+    let Ok((locked, short, seats)) = Locked::<D>::start(one) else {
+        return None;
+    };
+    let set = set_of_a_day(alloc, &short);
+    let _ = locked.finish(short, seats);
+    set
+}
+
+fn set_of_a_day(alloc: Global, short: &CellRow) -> Option<SetInTwo> {
+    let prepared = prepared(alloc)?;
+    set_in_two_rows::<Brand>(prepared, short)
+}
+
+fn set_in_two_rows_of_a_day(alloc: Global) -> Option<SetInTwo> {
+    let one = prepared_of(alloc, 1)?;
+    set_beside::<Brand>(alloc, one)
+}
+
+fn five_published_in_a_day<R: Threads + Wait + Abort + Sync>(
     rt: &R,
     alloc: Global,
 ) -> Option<(Set, (u32, u32), u32, bool, Confirmed)> {
@@ -204,24 +201,10 @@ fn published_entries_are_found_and_confirmed(rt: HostRuntime) {
     );
 }
 
-fn set_in_two_rows_of_a_day<A: Abort>(
-    rt: &A,
-    alloc: Global,
-) -> Option<
-    (
-        Result<usize, PublishFault>,
-        Result<usize, PublishFault>,
-        u32,
-    ),
-> {
-    let prepared = prepared(alloc)?;
-    set_in_two_rows::<Brand, A>(rt, alloc, prepared)
-}
-
 #[test]
 fn a_missing_cell_ends_a_publication(rt: HostRuntime) {
     assert_eq!(rt;
-        set_in_two_rows_of_a_day(&rt, rt.alloc()),
+        set_in_two_rows_of_a_day(rt.alloc()),
         Some((Err(PublishFault::Unpublished(2)), Ok(1), 0))
     );
 }

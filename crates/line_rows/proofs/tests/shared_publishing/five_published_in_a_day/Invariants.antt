@@ -1,4 +1,4 @@
-use Rattle.line_ledger.proofs.tests.publishing.five_published_in_a_day.Given as goal
+use Rattle.line_rows.proofs.tests.shared_publishing.five_published_in_a_day.Given as goal
 
 abbrev pub ghosts-five_published-D-Ledger : goal.ghosts-five_published-D-Ledger
 ghosts-five_published-D-Ledger g a = record { name = a.prepared.blank.name; parts = a.prepared.blank.parts }

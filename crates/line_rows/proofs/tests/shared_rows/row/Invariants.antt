@@ -1,4 +1,4 @@
-use Rattle.line_ledger.proofs.tests.rows.row.Given as goal
+use Rattle.line_rows.proofs.tests.shared_rows.row.Given as goal
 
 abbrev pub ghosts-played-D-Ledger : goal.ghosts-played-D-Ledger
 ghosts-played-D-Ledger g a = record { name = a.prepared.blank.name; parts = a.prepared.blank.parts }

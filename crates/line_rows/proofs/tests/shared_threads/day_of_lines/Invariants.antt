@@ -1,4 +1,4 @@
-use Rattle.line_ledger.proofs.tests.threads.day_of_lines.Given as goal
+use Rattle.line_rows.proofs.tests.shared_threads.day_of_lines.Given as goal
 
 abbrev pub ghosts-lines_at_once-D-Ledger : goal.ghosts-lines_at_once-D-Ledger
 ghosts-lines_at_once-D-Ledger g a = record { name = a.prepared.blank.name; parts = a.prepared.blank.parts }
