@@ -10,6 +10,3 @@ pub use pieces::{MAX_WORKERS, rows};
 pub use report_fault::ReportFault;
 pub use row::Row;
 pub use text::write_report;
-
-#[cfg(test)]
-mod tests;

@@ -6,6 +6,7 @@ mod messages;
 mod places;
 mod prices;
 mod printing;
+mod report;
 mod steps;
 mod tape;
 mod targets;

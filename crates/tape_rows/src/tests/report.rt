@@ -1,6 +1,6 @@
 //! What no clause says: that rows are made where there is memory, by workers that run at once, when the gate is called, and
 //! the printed text.
-use crate::{ReportFault, rows, write_report};
+use day_report::{ReportFault, rows, write_report};
 use reports::{Content, Header, Message, Moment};
 use sale_matrix::Condition;
 use std::alloc::Global;
