@@ -2,9 +2,9 @@
 ghost use Rattle.std.specs.Prelude.{◌≡◌};
 ghost use Rattle.line_ledger.specs.Cells.{FirstTokens};
 
-use super::days::{Confirmed, confirmed_at_end, day_of_two, report};
+use super::days::{Confirmed, confirmed_at_end, day_of_two};
+use super::shared_threads::send_all;
 use line_ledger::{DayName, LineSeat, Prepared, Published, SharedTape, Token};
-use reports::decode;
 use std::alloc::Global;
 use std::marker::Brand;
 use std::process::Abort;
@@ -17,32 +17,7 @@ use tape_frames::Source;
 const TURNS: u32 = 1_000_000_000;
 
 /// How many messages each line sends.
-const MANY: u8 = 5;
-
-/// Sends a line's reports, and publishes what is there after each.
-fn send<D: DayName, W: Wait>(rt: &W, shared: &SharedTape<D>, seat: &mut LineSeat<D>) {
-    let who = seat.participant().value();
-    for number in 1..=MANY {
-        if let Ok((message, _)) = decode(&report(who, number)) {
-            let _ = shared.admit(rt, seat, message);
-        }
-        let _ = shared.publish(rt, 64);
-    }
-}
-
-/// Sends the reports of each line in a thread.
-fn send_all<D: DayName + Send + Sync, T: Threads + Wait + Sync>(
-    rt: &T,
-    shared: &SharedTape<D>,
-    seats: &mut Vec<LineSeat<D>>,
-) {
-    let workers = seats.len();
-    if workers == 0 {
-        return;
-    }
-    let work = |_line: usize, seat: &mut LineSeat<D>| send(rt, shared, seat);
-    thread::for_each_mut(rt, seats.as_mut_slice(), workers, &work);
-}
+const MANY: u32 = 5;
 
 /// Looks for what is published, again and again until that is all that the lines send, and answers a token for each entry.
 fn read_all<D: DayName>(shared: &SharedTape<D>) -> Vec<Token>
@@ -50,7 +25,7 @@ fn read_all<D: DayName>(shared: &SharedTape<D>) -> Vec<Token>
 {
     let mut published = Published::new(shared);
     for _ in 0..TURNS {
-        if published.published() == 2 * u32::from(MANY) {
+        if published.published() == 2 * MANY {
             break;
         }
         let _ = published.refresh();
@@ -69,7 +44,7 @@ fn read_while_sent<D: DayName + Send + Sync, T: Threads + Wait + Sync>(
 {
     let ((), tokens) = join(
         rt,
-        || send_all(rt, shared, seats),
+        || send_all(rt, shared, seats, &[MANY, MANY], 64),
         || -> Vec<Token>
             ensures { FirstTokens shared.entry.now result.items }
         { read_all(shared) },

@@ -1,4 +1,4 @@
-//! Two lines at once.
+//! Three lines at once.
 ghost use Rattle.std.specs.Prelude.{◌≡◌};
 
 use super::shared_days::{AB, Sent, ended_len, message, prepared};
