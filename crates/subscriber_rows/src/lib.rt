@@ -1,4 +1,4 @@
-//! The worked rows and vectors of packets, the window and a subscriber, and seeded schedules.
+//! The worked rows and vectors of packets, the window, a subscriber and requests, and seeded schedules.
 #![tactic(auto)]
 
 #[cfg(test)]

@@ -1,8 +1,10 @@
-//! Packets and the window by worked rows and vectors, and a subscriber's worked rows and seeded schedules, each packet as its bytes.
+//! Packets, requests and the window by worked rows and vectors, and a subscriber's worked rows and seeded schedules, each packet as its bytes.
 
+mod failing;
 mod feed;
 mod memory;
 mod packets;
+mod requests;
 mod rows;
 mod schedules;
 mod steps;

@@ -109,17 +109,22 @@ fn header(who: Participant, number: u32, report: u32) -> Option<Header> {
     })
 }
 
+/// Appends a message's bytes, if it is one.
+fn put(bytes: &mut Vec<u8>, message: Option<Message>) -> Option<()> {
+    let mut row = [0; 44];
+    let len = encode_into(&message?, &mut row);
+    bytes.extend_from_slice(row.get(..len)?).ok()
+}
+
 /// The bytes of a line's messages.
 fn line_bytes(alloc: Global, line: u32) -> Option<Vec<u8>> {
     let who = participant(line)?;
     let mut dice = Dice {
         state: u64::from(line),
     };
-    let mut row = [0; 44];
     let mut bytes = Vec::new(alloc);
     for turn in 1..=MESSAGES {
-        let len = encode_into(&dice.message(who, turn)?, &mut row);
-        bytes.extend_from_slice(row.get(..len)?).ok()?;
+        put(&mut bytes, dice.message(who, turn))?;
     }
     Some(bytes)
 }

@@ -1,9 +1,8 @@
 //! Readers and writers that fail, are slow or are interrupted, and a source that grows.
 ghost use Rattle.std.specs.Prelude.{take};
 
-use super::{REQUEST, SESSION, put_request, request, source_of, tape_of};
-use crate::front::Front;
-use crate::{AskFault, Ended, Refusal, ServeEnd, ask, serve};
+use super::requests::{REQUEST, SESSION, put_request, request, source_of, tape_of};
+use retransmit::{AskFault, Ended, Refusal, ServeEnd, ask, serve};
 use std::alloc::{AllocError, Global};
 use std::io;
 use std::io::{ErrorKind, Read, Write};
@@ -114,23 +113,28 @@ impl Write for Calls {
 /// A source that shows one entry more at each refresh.
 #[derive(Drop)]
 struct Growing<'a> {
-    front: Front<'a, SliceSource<'a>>,
+    source: &'a SliceSource<'a>,
+    len: u32,
 }
 
 impl Source for Growing<'_> {
-    ghost list = { λ g. take g.front.len g.front.source.now };
+    ghost list = { λ g. take g.len g.source.now };
 
     fn refresh(&mut self) -> Result<(), AllocError> {
-        self.front.len = self.front.len.saturating_add(1);
+        self.len = self.len.saturating_add(1);
         Ok(())
     }
 
     fn published(&self) -> u32 {
-        self.front.published()
+        self.source.published().min(self.len)
     }
 
     fn entry(&self, number: u32) -> Option<Entry> {
-        self.front.entry(number)
+        if number <= self.len {
+            self.source.entry(number)
+        } else {
+            None
+        }
     }
 }
 
@@ -155,10 +159,8 @@ fn end_of_growing(alloc: Global, input: &[u8], output: &mut Vec<u8>) -> Result<S
     let tape = tape_of(alloc, 3)?;
     let entries = source_of(&tape);
     let mut source = Growing {
-        front: Front {
-            source: &entries,
-            len: 0,
-        },
+        source: &entries,
+        len: 0,
     };
     let mut reader = input;
     Ok(serve(alloc, &mut source, SESSION, &mut reader, output))

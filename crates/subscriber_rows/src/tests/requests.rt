@@ -1,11 +1,9 @@
 //! Requests answered over memory: worked answers, bytes written out by hand, and answers that are read again.
-mod failing;
-
 ghost use Rattle.std.specs.Prelude.{◌≡◌};
 ghost use Rattle.tape_frames.specs.Sources.{IsPublished};
 
-use crate::{Answer, AskFault, Ended, Refusal, ServeEnd, answer, ask, serve};
 use reports::{Content, Header, Message, Moment};
+use retransmit::{Answer, AskFault, Ended, Refusal, ServeEnd, answer, ask, serve};
 use sale_matrix::Condition;
 use scratch_fold::{Mark, Summary};
 use std::alloc::{AllocError, Global};
@@ -18,10 +16,10 @@ use tape_frames::{Packet, Request, SliceSource, Span, decode_packet};
 use tape_types::{Listing, MsgNumber, Participant, Price, Size, Symbol};
 
 /// The session of every tape here.
-const SESSION: u64 = 7;
+pub(super) const SESSION: u64 = 7;
 
 /// A request of session 7 for 64 entries from 3.
-const REQUEST: [u8; 14] = [
+pub(super) const REQUEST: [u8; 14] = [
     0x00, 0x00, 0x00, 0x00, 0x00, 0x00, 0x00, 0x07, 0x00, 0x00, 0x00, 0x03, 0x00, 0x40,
 ];
 
@@ -77,7 +75,7 @@ fn admit(tape: &mut Tape<ScratchStore>, number: u32) -> Result<(), Fail> {
 }
 
 /// A tape of this many reports.
-fn tape_of(alloc: Global, count: u32) -> Result<Tape<ScratchStore>, Fail> {
+pub(super) fn tape_of(alloc: Global, count: u32) -> Result<Tape<ScratchStore>, Fail> {
     let symbol = Symbol::try_new(*b"AB      ").ok_or("symbol")?;
     let participant = Participant::try_new(b'N').ok_or("participant")?;
     let listing = Listing::new(alloc, &[symbol], &[participant])?;
@@ -89,12 +87,12 @@ fn tape_of(alloc: Global, count: u32) -> Result<Tape<ScratchStore>, Fail> {
 }
 
 /// The entries of a tape, to be sent.
-fn source_of(tape: &Tape<ScratchStore>) -> SliceSource<'_> {
+pub(super) fn source_of(tape: &Tape<ScratchStore>) -> SliceSource<'_> {
     SliceSource::new(tape.entries())
 }
 
 /// A request of the session.
-fn request(from: u32, count: u16) -> Result<Request, Fail> {
+pub(super) fn request(from: u32, count: u16) -> Result<Request, Fail> {
     Ok(Request {
         session: SESSION,
         from,
@@ -103,7 +101,12 @@ fn request(from: u32, count: u16) -> Result<Request, Fail> {
 }
 
 /// Appends a request's bytes, whatever its count.
-fn put_request(text: &mut Vec<u8>, session: u64, from: u32, count: u16) -> Result<(), AllocError> {
+pub(super) fn put_request(
+    text: &mut Vec<u8>,
+    session: u64,
+    from: u32,
+    count: u16,
+) -> Result<(), AllocError> {
     text.extend_from_slice(&session.to_be_bytes())?;
     text.extend_from_slice(&from.to_be_bytes())?;
     text.extend_from_slice(&count.to_be_bytes())

@@ -1,0 +1,5 @@
+use Rattle.retransmit.proofs.Fronts.{IsPublished-take}
+use Rattle.subscriber_rows.proofs.tests.failing.GrowingSource.published.Goals as goal
+
+pub returns-clause-published : goal.returns-clause-published
+returns-clause-published c = IsPublished-take c.args.self.now.len c.args.self.now.source.now c.published.ensures.published
