@@ -6,6 +6,7 @@
     bench/measure.py feed               the way of a busy day through two lossy lines to a subscriber
     bench/measure.py rows               the rows of a wide day's report by one worker, two and four
     bench/measure.py lines              a busy day's messages over 1, 2, 4 and 8 lines at once
+    bench/measure.py looks              looks at published entries, without the lock, beside two lines and alone
 
 Builds the programs, makes the days, runs the programs on each day in turns, checks that they answer alike, and prints the
 processor seconds of each (of its least run and of its middle one), the least wall-clock seconds, the peak memory, and the ratios
@@ -33,6 +34,7 @@ FEED_DAYS = ("busy:1680000", "busy")
 FEED_COUNTS = ("entries", "packets", "retransmitted", "held")
 ROWS_DAY = "wide"
 LINES_DAYS = ("busy1", "busy2", "busy4", "busy8")
+LOOKS_DAY = "busy2"
 
 
 def build(crates, crate, words, given):
@@ -291,24 +293,43 @@ def lines(words, programs):
     return True
 
 
+def looks(words, programs):
+    """Measures looks at published entries beside two lines, and alone: prints the figures of each run, and the least and the middle ones."""
+    ((name, program),) = programs.items()
+    source = make(LOOKS_DAY, words.seed)
+    target = DAYS / f"{source.stem}.{name}"
+    turns = []
+    for _ in range(words.turns):
+        status, *_ = run(program, ["looks"], source, target)
+        if status != 0:
+            print(f"{LOOKS_DAY}: {name} ended with status {status}")
+            return False
+        turns.append(told(target))
+        print("   ".join(f"{figure} {value:.10g}" for figure, value in turns[-1].items()))
+    for figure in ("looks_per_second", "looks_per_second_alone"):
+        values = [turn[figure] for turn in turns]
+        print(f"{figure}: least {min(values):,.0f}, middle {statistics.median(values):,.0f}, most {max(values):,.0f}")
+    return True
+
+
 def main():
     parser = argparse.ArgumentParser(description="Measures tapebox beside plain programs.")
     parser.add_argument("--no-build", action="store_true", help="measure the programs that are there")
     parser.add_argument("--turns", type=int, default=7, help="how often each program runs on each day (7)")
     parser.add_argument("--seed", type=int, default=1, help="the days' seed (1)")
     parser.add_argument("--crates", type=Path, default=ROOT / "crates", help="where the crates are that built tapebox")
-    parser.add_argument("days", nargs="*", metavar="DAY[:BYTES]", help="the days of the batch; or plot, feed, rows or lines")
+    parser.add_argument("days", nargs="*", metavar="DAY[:BYTES]", help="the days of the batch; or plot, feed, rows, lines or looks")
     words = parser.parse_args()
-    kind = words.days[0] if words.days[:1] in (["plot"], ["feed"], ["rows"], ["lines"]) else "batch"
-    crate, given = ("feed_speed", b"") if kind in ("feed", "rows", "lines") else ("tapebox", b"A\nA\n")
+    kind = words.days[0] if words.days[:1] in (["plot"], ["feed"], ["rows"], ["lines"], ["looks"]) else "batch"
+    crate, given = ("feed_speed", b"") if kind in ("feed", "rows", "lines", "looks") else ("tapebox", b"A\nA\n")
     if not words.no_build:
         build(words.crates, crate, ["batch"] if crate == "tapebox" else [], given)
-    plain = {"feed": ("feed",), "rows": (), "lines": ()}.get(kind, ("indexed", "least"))
+    plain = {"feed": ("feed",), "rows": (), "lines": (), "looks": ()}.get(kind, ("indexed", "least"))
     programs = {name: RELEASE / name for name in plain} | {crate: words.crates / crate / "out" / crate}
     DAYS.mkdir(parents=True, exist_ok=True)
-    if kind not in ("rows", "lines"):
+    if kind not in ("rows", "lines", "looks"):
         print(f"{'day':16} {'program':18} {'processor':>12} {'middle run':>12} {'wall clock':>12} {'peak memory':>13}")
-    measures = {"batch": batch, "plot": plot, "feed": feed, "rows": rows, "lines": lines}
+    measures = {"batch": batch, "plot": plot, "feed": feed, "rows": rows, "lines": lines, "looks": looks}
     return 0 if measures[kind](words, programs) else 1
 
 

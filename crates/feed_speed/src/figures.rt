@@ -30,7 +30,7 @@ impl Figures {
         println!(rt; "seconds_packets {}", Seconds(self.sending))?;
         println!(rt;
             "entries_per_second {}",
-            per_second(self.entries, self.sending)
+            per_second(self.entries as u64, self.sending)
         )?;
         println!(rt; "retransmitted {}", self.retransmitted)?;
         println!(rt; "held {}", self.held)
@@ -38,6 +38,6 @@ impl Figures {
 }
 
 /// A count of things that took this time, as things a second.
-pub fn per_second(count: usize, time: Duration) -> u128 {
+pub fn per_second(count: u64, time: Duration) -> u128 {
     count as u128 * 1_000_000_000 / time.as_nanos().max(1)
 }

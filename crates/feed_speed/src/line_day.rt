@@ -117,8 +117,30 @@ fn run_all<D: DayName + Send + Sync, R: Threads + Wait + Sync>(
     }
 }
 
+/// Runs a line for each seat, all at once, in their order and over these bytes: the seats after it, and whether the lines were
+/// started. Where memory runs out they are not.
+pub fn run_seats<D: DayName + Send + Sync, R: Threads + Wait + Sync>(
+    rt: &R,
+    alloc: Global,
+    shared: &SharedTape<D>,
+    seats: Vec<LineSeat<D>>,
+    inputs: &[Vec<u8>],
+) -> (Vec<LineSeat<D>>, bool)
+    ensures { whos result.0.items ≡ whos seats.items }
+{
+    let Ok(lines) = Vec::with_capacity(alloc, seats.len()) else {
+        return (seats, false);
+    };
+    let Ok(room) = Vec::with_capacity(alloc, seats.len()) else {
+        lines.destroy_empty();
+        return (seats, false);
+    };
+    let lines = lines_of(seats, lines, inputs);
+    run_all(rt, alloc, shared, lines, room)
+}
+
 /// How many entries the day has that ends with these seats, `None` where a seat was not told what the tape has.
-fn entries_at_end<D: DayName>(shared: SharedTape<D>, seats: Vec<LineSeat<D>>) -> Option<usize>
+pub fn entries_at_end<D: DayName>(shared: SharedTape<D>, seats: Vec<LineSeat<D>>) -> Option<usize>
     requires { IsOneEach D.listing.participants seats.items }
 {
     match shared.end(seats) {
@@ -129,7 +151,7 @@ fn entries_at_end<D: DayName>(shared: SharedTape<D>, seats: Vec<LineSeat<D>>) ->
 }
 
 /// The time since then.
-fn elapsed<R: Clock>(rt: &R, began: io::Result<Instant>) -> Option<Duration> {
+pub fn elapsed<R: Clock>(rt: &R, began: io::Result<Instant>) -> Option<Duration> {
     began.ok()?.elapsed(rt).ok()
 }
 
@@ -144,27 +166,11 @@ fn run_named_day<D: DayName + Send + Sync, R: Clock + Threads + Wait + Sync>(
     requires parts { prepared.blank.parts ≡ D.parts }
     requires listing { prepared.tape.listing ≡ D.listing }
 {
-    let Ok(lines) = Vec::with_capacity(alloc, inputs.len()) else {
-        return None;
-    };
-    let Ok(room) = Vec::with_capacity(alloc, inputs.len()) else {
-        lines.destroy_empty();
-        return None;
-    };
     let Ok((shared, seats)) = SharedTape::<D>::open(prepared) else {
-        lines.destroy_empty();
-        room.destroy_empty();
         return None;
     };
-    if seats.len() > lines.capacity() || seats.len() > room.capacity() {
-        lines.destroy_empty();
-        room.destroy_empty();
-        let _entries = entries_at_end(shared, seats);
-        return None;
-    }
-    let lines = lines_of(seats, lines, inputs);
     let began = Instant::now(rt);
-    let (seats, is_run) = run_all(rt, alloc, &shared, lines, room);
+    let (seats, is_run) = run_seats(rt, alloc, &shared, seats, inputs);
     let time = elapsed(rt, began);
     let entries = entries_at_end(shared, seats);
     if !is_run {
@@ -177,8 +183,7 @@ fn run_named_day<D: DayName + Send + Sync, R: Clock + Threads + Wait + Sync>(
 }
 
 /// Runs the lines of a day, one for each participant, in listing order and over these bytes. `None` where memory runs out, no
-/// thread can be started, the clock does not tell the time, there are fewer inputs than participants, or a seat was not told
-/// what the tape has of its participant.
+/// thread can be started, the clock does not tell the time, or a seat was not told what the tape has of its participant.
 pub fn run_day<R: Clock + Threads + Wait + Sync>(
     rt: &R,
     alloc: Global,

@@ -55,7 +55,7 @@ impl LineFigures {
         println!(rt; "seconds_lines {}", Seconds(self.least.lines))?;
         println!(rt;
             "messages_per_second {}",
-            per_second(self.messages, self.least.lines)
+            per_second(self.messages as u64, self.least.lines)
         )?;
         println!(rt;
             "lines_to_alone {}",
@@ -91,7 +91,7 @@ fn inputs_of(
 }
 
 /// The same of a day's listing.
-fn inputs_of_day(
+pub fn inputs_of_day(
     alloc: Global,
     input: &[u8],
     messages: &[Message],

@@ -1,5 +1,6 @@
-//! `feed_speed`: how long a tape takes through two lossy lines to a subscriber, how long the rows of its report take, and how
-//! long lines that run at once take over its messages. It measures; no other crate calls it.
+//! `feed_speed`: how long a tape takes through two lossy lines to a subscriber, how long the rows of its report take, how long
+//! lines that run at once take over its messages, and how many published entries are looked at beside them. It measures; no
+//! other crate calls it.
 #![tactic(auto)]
 
 mod day;
@@ -7,6 +8,8 @@ mod feed;
 mod figures;
 mod line_day;
 mod lines;
+mod look_day;
+mod looks;
 mod mode;
 mod report;
 mod sending;
@@ -38,6 +41,7 @@ fn main(rt: HostRuntime) -> anyhow::Result<ExitCode> {
         Mode::Feed => sending::measure(&rt, &input)?.print(&rt)?,
         Mode::Rows => report::measure(&rt, &input)?.print(&rt)?,
         Mode::Lines => lines::measure(&rt, &input)?.print(&rt)?,
+        Mode::Looks => looks::measure(&rt, &input)?.print(&rt)?,
     }
     Ok(ExitCode::SUCCESS)
 }

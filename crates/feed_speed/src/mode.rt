@@ -1,6 +1,6 @@
 //! What the program's words ask for.
 ghost use Rattle.std.specs.Prelude.{◌≡◌, ◌≢◌, ◌∷◌, ◌↔◌, [], Some, map, codes, string_bytes};
-ghost use Rattle.feed_speed.specs.declared.mode.Mode.TheVariants.{Feed, Lines, Rows};
+ghost use Rattle.feed_speed.specs.declared.mode.Mode.TheVariants.{Feed, Lines, Looks, Rows};
 
 use std::alloc::AllocError;
 use std::env::{self, Env};
@@ -15,29 +15,35 @@ pub enum Mode {
     Rows,
     /// How long lines that run at once take over a day's messages.
     Lines,
+    /// How many published entries threads look at in a second, beside such lines.
+    Looks,
 }
 
-/// What one word asks for: `rows` for the rows, `lines` for the lines, and all others for nothing.
+/// What one word asks for: `rows` for the rows, `lines` for the lines, `looks` for the looks, and all others for nothing.
 fn mode_of_word(word: &str) -> Option<Mode>
     ensures feed { result ≢ Some Feed }
     ensures rows { (result ≡ Some Rows) ↔ (word.now ≡ codes "rows") }
     ensures lines { (result ≡ Some Lines) ↔ (word.now ≡ codes "lines") }
+    ensures looks { (result ≡ Some Looks) ↔ (word.now ≡ codes "looks") }
 {
     if word == "rows" {
         Some(Mode::Rows)
     } else if word == "lines" {
         Some(Mode::Lines)
+    } else if word == "looks" {
+        Some(Mode::Looks)
     } else {
         None
     }
 }
 
 /// What the words after the program's own name ask for: none for the feed, `rows` alone for the rows, `lines` alone for the
-/// lines, and all others for nothing.
+/// lines, `looks` alone for the looks, and all others for nothing.
 fn mode_of(words: &[String]) -> Option<Mode>
     ensures feed { (result ≡ Some Feed) ↔ (words.now ≡ []) }
     ensures rows { (result ≡ Some Rows) ↔ (map string_bytes words.now ≡ codes "rows" ∷ []) }
     ensures lines { (result ≡ Some Lines) ↔ (map string_bytes words.now ≡ codes "lines" ∷ []) }
+    ensures looks { (result ≡ Some Looks) ↔ (map string_bytes words.now ≡ codes "looks" ∷ []) }
 {
     match words {
         [] => Some(Mode::Feed),

@@ -1,5 +1,5 @@
 //! A gap that both lines leave, closed by a request over memory; a report's rows, made by each number of workers; and
-//! the lines of a day.
+//! the lines of a day, without looks and with them.
 
 use crate::{day, feed};
 use arbitration::Line;
@@ -103,4 +103,17 @@ fn measured_lines<R: AllocGlobal + Clock + Threads + Wait + Sync>(
 #[test]
 fn a_day_has_a_line_for_each_participant(rt: HostRuntime) {
     assert_eq!(rt; measured_lines(&rt), Some((2, 1, 1)));
+}
+
+/// The lines, the messages and the entries of the same day, at whose entry threads look.
+fn measured_looks<R: AllocGlobal + Clock + Threads + Wait + Sync>(
+    rt: &R,
+) -> Option<(usize, usize, usize)> {
+    let figures = crate::looks::measure(rt, ONE_REPORT).ok()?;
+    Some((figures.lines, figures.messages, figures.entries()))
+}
+
+#[test]
+fn a_day_that_is_looked_at_has_the_same_lines_and_entries(rt: HostRuntime) {
+    assert_eq!(rt; measured_looks(&rt), Some((2, 1, 1)));
 }

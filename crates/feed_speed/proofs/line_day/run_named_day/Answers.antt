@@ -11,6 +11,3 @@ after_lines participants lines opened ended each before after = each_kept partic
 
 pub entries_at_end-entries-requires : goal.entries_at_end-entries-requires
 entries_at_end-entries-requires g c = search (rules, after_lines)
-
-pub entries_at_end-entries-requires-2 : goal.entries_at_end-entries-requires-2
-entries_at_end-entries-requires-2 g c = search (rules, after_lines)
