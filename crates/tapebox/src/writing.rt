@@ -1,5 +1,5 @@
 //! Texts given to a writer.
-ghost use Rattle.std.specs.Prelude.{OnOk};
+ghost use Rattle.std.specs.Prelude.{◌≡◌, [], OnOk};
 ghost use Rattle.std.specs.Io.KnownBytes.{Appends};
 ghost use Rattle.tapebox.specs.Writing.{WritesFront};
 
@@ -29,4 +29,14 @@ pub fn write_text<W: Write>(writer: &mut W, text: &[u8]) -> Result<(), WriteFaul
         }
     }
     Err(WriteFault)
+}
+
+/// Says a text, and for no text writes nothing. A write that fails ends it, and changes nothing of the status.
+pub fn say<E: Write>(errors: &mut E, text: &str)
+    ensures quiet { text.now ≡ [] → errors.new ≡ errors.old }
+    ensures said { WritesFront text.now (E.contents errors.old) (E.contents errors.new) }
+{
+    if !text.is_empty() {
+        let _said = write_text(errors, text.as_bytes());
+    }
 }

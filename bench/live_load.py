@@ -1,0 +1,223 @@
+#!/usr/bin/env python3
+"""Measures `tapebox live` and `tapebox follow` on this machine: a busy day over 15 participants' lines to one follower.
+
+    bench/live_load.py [--messages N] [--seed N] [--lose P] [--tapebox PROGRAM] [--no-build]
+
+The day is that of `make_day busy`, without the lines that no participant's line can bring (an odd digit, a letter that is not
+listed), up to N messages. It runs straight and through samples/lossy_relay.py with P percent lost on each line. Prints for
+each run the seconds from the first byte sent to the end of `follow`, the messages a second, how many entries the answers of the
+retransmission had, and whether both reports are equal; and first how long `tapebox batch` takes over the same messages. Which
+participant comes first differs from run to run, but volumes and numbers of trades don't, so these are compared with the batch's.
+
+The follower asks through a small proxy that counts the entries, which makes each ask a little slower. Needs cargo, Python and
+Linux, whose /proc/net tells which ports are bound.
+"""
+
+import argparse
+import contextlib
+import socket
+import subprocess
+import sys
+import threading
+import time
+from pathlib import Path
+
+from measure import BENCH, DAYS, RELEASE, ROOT, make, run
+
+SAMPLES = ROOT / "samples"
+sys.path.insert(0, str(SAMPLES))
+from free_ports import free_ports
+from send_day import HOST, connect, parse_batch
+
+SESSION = "1"
+LIMIT_SECONDS = 120
+BINDING_SECONDS = 10
+REQUEST_BYTES = 14
+# Where a data packet has its number of entries.
+COUNT_AT = 14
+
+
+def busy_day(messages, seed):
+    """The file of the day's batch, its symbols, and the messages of each participant."""
+    lines = make("busy", seed).read_text().splitlines()
+    listed = set(lines[1].split())
+    sendable = [line for line in lines[2:] if line[0] in listed and len(line) % 2 == 0]
+    path = DAYS / "live.txt"
+    path.write_text("\n".join([*lines[:2], *sendable[:messages], ""]))
+    symbols, participants, parsed = parse_batch(path.read_text())
+    own = {letter: [] for letter in participants}
+    for letter, message in parsed:
+        own[letter].append(message)
+    return path, symbols, own
+
+
+class Retransmission(threading.Thread):
+    """Passes requests and answers between a follower and `live`, and counts the entries of the answers."""
+
+    def __init__(self, port, target):
+        super().__init__(daemon=True)
+        self.listener = socket.create_server((HOST, port))
+        self.target = target
+        self.entries = 0
+        self.requests = 0
+
+    def run(self):
+        follower, _ = self.listener.accept()
+        live = socket.create_connection((HOST, self.target))
+        for connection in (follower, live):
+            connection.setsockopt(socket.IPPROTO_TCP, socket.TCP_NODELAY, 1)
+        with follower, live, follower.makefile("rb") as requests, live.makefile("rb") as answers:
+            while request := requests.read(REQUEST_BYTES):
+                live.sendall(request)
+                answer = self.answer(answers)
+                if not answer:
+                    break
+                follower.sendall(answer)
+                self.requests += 1
+
+    def answer(self, answers):
+        """The next answer's bytes, none where `live` has closed."""
+        answer = answers.read(1)
+        if answer != b"\0":
+            return answer
+        answer += answers.read(1)
+        for _ in range(answer[1]):
+            length = answers.read(2)
+            packet = answers.read(int.from_bytes(length, "big"))
+            self.entries += packet[COUNT_AT]
+            answer += length + packet
+        return answer
+
+
+def bound(kind, port):
+    """Whether a socket of this kind listens on the port, or receives there."""
+    rows = Path(f"/proc/net/{kind}").read_text().splitlines()[1:]
+    return any(row.split()[1].endswith(f":{port:04X}") and row.split()[2] == "00000000:0000" for row in rows)
+
+
+def wait_bound(program, kind, *ports):
+    """Waits until the program has bound the ports, or ends with the reason."""
+    deadline = time.monotonic() + BINDING_SECONDS
+    while not all(bound(kind, port) for port in ports):
+        if program.poll() is not None or time.monotonic() > deadline:
+            sys.exit(f"{kind} ports {ports} were not bound: {program.args[1]}, status {program.poll()}")
+        time.sleep(0.02)
+
+
+def send_all(own, port):
+    """Sends each participant's bytes, all participants at once; answers when the first byte was sent."""
+    texts = {letter: b"".join(messages) for letter, messages in own.items()}
+    connections = connect(list(own), port)
+    threads = [threading.Thread(target=connections[letter].sendall, args=(text,)) for letter, text in texts.items()]
+    began = time.perf_counter()
+    for thread in threads:
+        thread.start()
+    for thread in threads:
+        thread.join()
+    for connection in connections.values():
+        connection.close()
+    return began
+
+
+class Programs:
+    """The programs that run, ended at the latest with the measure or when the time is over."""
+
+    def __init__(self, ending):
+        self.started = []
+        self.ending = ending
+        timer = threading.Timer(LIMIT_SECONDS, self.end)
+        timer.daemon = True
+        timer.start()
+        ending.callback(self.end)
+        ending.callback(timer.cancel)
+
+    def start(self, written, *words):
+        file = self.ending.enter_context(open(written, "wb"))
+        program = subprocess.Popen([str(word) for word in words], stdout=file)
+        self.started.append(program)
+        return program
+
+    def end(self):
+        for program in self.started:
+            program.kill()
+
+
+def live_run(words, symbols, own, lose):
+    """Runs the day once; answers the seconds, the counted retransmission and the reports' files, or ends with the reason."""
+    port = free_ports(len(own) + 6)
+    retransmission, asked, sent_a, sent_b, a, b = range(port + len(own), port + len(own) + 6)
+    names = [",".join(symbols), ",".join(own)]
+    reports = [DAYS / f"live.{program}" for program in ("live", "follow")]
+    with contextlib.ExitStack() as ending:
+        programs = Programs(ending)
+        ways = (sent_a, sent_b) if lose else (a, b)
+        live = programs.start(reports[0], words.tapebox, "live", *names, port, *ways, retransmission, 1, SESSION)
+        wait_bound(live, "tcp", retransmission)
+        counted = Retransmission(asked, retransmission)
+        counted.start()
+        if lose:
+            lossy = [SAMPLES / "lossy_relay.py", "--lose", lose, "--seed", words.seed, sent_a, sent_b, a, b]
+            relay = programs.start(DAYS / "live.relay", sys.executable, *lossy)
+            wait_bound(relay, "udp", sent_a, sent_b)
+        follow = programs.start(reports[1], words.tapebox, "follow", *names, a, b, asked, SESSION)
+        wait_bound(follow, "udp", a, b)
+        began = send_all(own, port)
+        followed = follow.wait()
+        seconds = time.perf_counter() - began
+        lived = live.wait()
+        if followed or lived:
+            sys.exit(f"follow ended with status {followed} and live with {lived} (-9: killed after {LIMIT_SECONDS} seconds)")
+        if lose:
+            relay.terminate()
+            relay.wait()
+            print((DAYS / "live.relay").read_text(), end="")
+    return seconds, counted, reports
+
+
+def figures(report):
+    """A report's rows in what no order changes: symbol, who, volume and number of trades."""
+    rows = report[report.index("symbol,who") :].splitlines()
+    return [(*fields[:2], *fields[-2:]) for fields in (row.split(",") for row in rows)]
+
+
+def arguments():
+    parser = argparse.ArgumentParser(description="Measures tapebox live and follow over a busy day.")
+    parser.add_argument("--messages", type=int, default=200_000, help="how many messages the day has (200000)")
+    parser.add_argument("--seed", type=int, default=1, help="the day's seed, and the losses' (1)")
+    parser.add_argument("--lose", default="10", help="the percentage lost on each line (10)")
+    parser.add_argument("--tapebox", type=Path, default=ROOT / "crates" / "tapebox" / "out" / "tapebox", help="the program")
+    parser.add_argument("--no-build", action="store_true", help="take the maker of days that is there")
+    words = parser.parse_args()
+    words.tapebox = words.tapebox.resolve()
+    return words
+
+
+def main():
+    words = arguments()
+    if not words.no_build:
+        subprocess.run(["cargo", "build", "--release", "--offline", "--quiet"], cwd=BENCH, check=True)
+    DAYS.mkdir(parents=True, exist_ok=True)
+    day, symbols, own = busy_day(words.messages, words.seed)
+    messages = sum(map(len, own.values()))
+    print(f"{messages:,} messages of {len(own)} participants in {len(symbols)} symbols")
+    status, _, seconds, _ = run(words.tapebox, ["batch"], day, DAYS / "live.batch")
+    if status:
+        sys.exit(f"batch ended with status {status}")
+    print(f"batch: {seconds:.3f} s, {messages / seconds:,.0f} messages a second")
+    wanted = figures((DAYS / "live.batch").read_text())
+    right = True
+    for name, lose in (("straight", None), (f"{words.lose} % lost on each line", words.lose)):
+        seconds, counted, reports = live_run(words, symbols, own, lose)
+        live, follow = (report.read_text() for report in reports)
+        equal, agrees = live == follow, figures(live) == wanted
+        print(
+            f"{name}: {seconds:.3f} s, {messages / seconds:,.0f} messages a second, {counted.entries:,} entries retransmitted"
+            f" in {counted.requests:,} answers; reports {'equal' if equal else 'DIFFER'};"
+            f" volumes and trades {'as' if agrees else 'NOT as'} the batch's"
+        )
+        right = right and equal and agrees
+    return 0 if right else 1
+
+
+if __name__ == "__main__":
+    sys.exit(main())

@@ -1,0 +1,10 @@
+-- The report of a day as it is written.
+use Rattle.std.specs.Prelude.{ℕ, List, Option}
+use Rattle.std.specs.Io.KnownBytes.{Appends}
+use Rattle.tape_core.specs.Tape.{TapeState, IsLegal}
+use Rattle.day_report.specs.ReportText.{report_text}
+use Rattle.day_report.specs.Rows.{report_rows}
+
+-- the whole report of some legal tape was appended, and nothing else
+abbrev pub WritesOneReport : Option (List ℕ) → Option (List ℕ) → Type 0
+WritesOneReport old new = (t : TapeState) × IsLegal t × Appends old new (report_text (report_rows t))

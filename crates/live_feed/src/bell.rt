@@ -1,0 +1,46 @@
+//! What wakes the sender.
+
+use std::sync::Wait;
+use std::sync::atomic::{AtomicBool, Ordering};
+use std::thread::Parker;
+use tape_types::Gate;
+
+/// Where the lines and the sender meet: the lines ring after each message, and once they ended. The sender alone waits for it.
+/// No ring is lost: one that comes while nobody waits ends the next wait at once.
+#[derive(Drop)]
+pub(crate) struct Bell {
+    ended: AtomicBool,
+    parker: Parker,
+}
+
+impl Bell {
+    /// A bell that has not rung.
+    pub(crate) fn new() -> Bell {
+        Bell {
+            ended: AtomicBool::new(false),
+            parker: Parker::new(),
+        }
+    }
+
+    /// Rings for the last time: the lines have ended.
+    pub(crate) fn end(&self) {
+        self.ended.store(true, Ordering::SeqCst);
+        self.parker.unpark()
+    }
+
+    /// Whether the lines have ended.
+    pub(crate) fn has_ended(&self) -> bool {
+        self.ended.load(Ordering::SeqCst)
+    }
+
+    /// Waits for a ring.
+    pub(crate) fn wait<R: Wait>(&self, rt: &R) {
+        self.parker.park(rt)
+    }
+}
+
+impl Gate for Bell {
+    fn between(&self, _worker: usize, _turn: u32) {
+        self.parker.unpark()
+    }
+}

@@ -1,0 +1,47 @@
+//! What ends a day without a report.
+ghost use Rattle.std.specs.Prelude.{◌≡◌, ◌↔◌, ◌⊎◌, ◌≤◌, Some, None, IfSome};
+ghost use Rattle.live_feed.specs.Faults.{fault_status};
+
+/// What ends a day without a report, in the order of the statuses.
+#[derive(Clone, Copy, Debug, PartialEq, Eq)]
+pub enum Fault {
+    /// A socket could not be opened, or a read failed.
+    Read,
+    /// A write failed.
+    Write,
+    /// Memory ran out.
+    Memory,
+    /// No thread could be started.
+    Worker,
+    /// The tape is not what was told of it.
+    Disagrees,
+}
+
+impl Fault {
+    /// The status that is answered: 3 to 7.
+    pub fn status(self) -> u8
+        ensures status { result ≡ fault_status self }
+    {
+        match self {
+            Fault::Read => 3,
+            Fault::Write => 4,
+            Fault::Memory => 5,
+            Fault::Worker => 6,
+            Fault::Disagrees => 7,
+        }
+    }
+
+    /// The one of two that is answered: that of the least status, `None` where there is neither.
+    pub(crate) fn least(one: Option<Fault>, other: Option<Fault>) -> Option<Fault>
+        ensures none { (result ≡ None) ↔ ((one ≡ None) × (other ≡ None)) }
+        ensures either { IfSome result (λ fault. (one ≡ Some fault) ⊎ (other ≡ Some fault)) }
+        ensures one { IfSome result (λ fault. IfSome one (λ f. fault_status fault ≤ fault_status f)) }
+        ensures other { IfSome result (λ fault. IfSome other (λ f. fault_status fault ≤ fault_status f)) }
+    {
+        match (one, other) {
+            (Some(one), Some(other)) if other.status() < one.status() => Some(other),
+            (Some(fault), _) | (None, Some(fault)) => Some(fault),
+            (None, None) => None,
+        }
+    }
+}

@@ -1,0 +1,23 @@
+//! What a day is sent by.
+
+use std::alloc::Global;
+use std::net::{TcpListener, UdpSocket};
+
+/// What the sender and the retransmission work with.
+#[derive(Drop)]
+pub(crate) struct Feed<'a, L> {
+    /// What the packets of both lines are sent by.
+    pub(crate) sender: &'a UdpSocket,
+    /// Where subscribers connect for what was lost.
+    pub(crate) retransmission: &'a TcpListener,
+    /// The ports of lines A and B.
+    pub(crate) ports: [u16; 2],
+    /// Which data packets are lost.
+    pub(crate) loss: &'a L,
+    /// The session of the day.
+    pub(crate) session: u64,
+    /// How many connections are served.
+    pub(crate) serves: u16,
+    /// Where memory comes from.
+    pub(crate) alloc: Global,
+}

@@ -1,0 +1,217 @@
+//! What both lines of a follower share: its subscriber and the connection on which that asks.
+
+use crate::starting::fault_of;
+use crate::{Fault, here};
+use arbitration::Line;
+use retransmit::{AskFault, ask};
+use std::alloc::Global;
+use std::net::{Net, TcpListener, TcpStream};
+use subscriber::{DeliveryFault, DrainFault, Stop, Subscriber};
+use tape_core::Refusal;
+use tape_frames::Request;
+use tape_types::Listing;
+
+/// A subscriber, its connection, and whether the run is over.
+#[derive(Drop)]
+pub(crate) struct Follower {
+    alloc: Global,
+    subscriber: Subscriber,
+    connection: TcpStream,
+    session: u64,
+    retransmission: u16,
+    restart_after: Option<u32>,
+    over: Option<Result<(), Fault>>,
+}
+
+/// Connects to the retransmission at a port of this machine.
+fn dial<R: Net<Listener = TcpListener, Stream = TcpStream>>(
+    rt: &R,
+    port: u16,
+) -> Result<TcpStream, Fault> {
+    let Ok(stream) = TcpStream::connect(rt, here(port)) else {
+        return Err(Fault::Read);
+    };
+    // Each request is one write, which need not wait for the one before to be acknowledged.
+    let _ = stream.set_nodelay(true);
+    Ok(stream)
+}
+
+/// What a drain that stops is to the run.
+fn fault_of_drain(fault: DrainFault) -> Fault {
+    match fault.why {
+        Stop::Refused(Refusal::OutOfMemory) => Fault::Memory,
+        Stop::Refused(_) | Stop::OtherSummary | Stop::Failed => Fault::Disagrees,
+    }
+}
+
+/// What an answer that does not come is to the run.
+fn fault_of_ask(fault: AskFault) -> Fault {
+    match fault {
+        AskFault::ReadFault => Fault::Read,
+        AskFault::WriteFault => Fault::Write,
+        AskFault::OutOfMemory => Fault::Memory,
+        AskFault::BadAnswer | AskFault::Refused(_) => Fault::Disagrees,
+    }
+}
+
+/// A subscriber like another one, that holds nothing.
+fn fresh(alloc: Global, other: &Subscriber, session: u64) -> Result<Subscriber, Fault> {
+    let tape = other.tape();
+    let names = tape.listing();
+    let Ok(listing) = Listing::new(
+        alloc,
+        names.symbols().as_slice(),
+        names.participants().as_slice(),
+    ) else {
+        return Err(Fault::Memory);
+    };
+    match Subscriber::new(alloc, listing, tape.limit(), session) {
+        Ok(subscriber) => Ok(subscriber),
+        Err(fault) => Err(fault_of(fault)),
+    }
+}
+
+impl Follower {
+    /// A follower that holds nothing, with a connection of its own.
+    pub(crate) fn new<R: Net<Listener = TcpListener, Stream = TcpStream>>(
+        rt: &R,
+        alloc: Global,
+        listing: Listing,
+        limit: u32,
+        session: u64,
+        retransmission: u16,
+        restart_after: Option<u32>,
+    ) -> Result<Follower, Fault> {
+        let subscriber = match Subscriber::new(alloc, listing, limit, session) {
+            Ok(subscriber) => subscriber,
+            Err(fault) => return Err(fault_of(fault)),
+        };
+        let connection = dial(rt, retransmission)?;
+        Ok(Follower {
+            alloc,
+            subscriber,
+            connection,
+            session,
+            retransmission,
+            restart_after,
+            over: None,
+        })
+    }
+
+    /// Takes what came by a line, and replays what is ready. Bytes that are no packet of the day are dropped.
+    fn take(&mut self, line: Line, bytes: &[u8]) -> Result<(), Fault> {
+        match self.subscriber.deliver(line, bytes) {
+            Ok(_) | Err(DeliveryFault::NoPacket(_) | DeliveryFault::Refused(_)) => {}
+            Err(DeliveryFault::Failed) => return Err(Fault::Disagrees),
+        }
+        match self.subscriber.drain() {
+            Ok(_) => Ok(()),
+            Err(fault) => Err(fault_of_drain(fault)),
+        }
+    }
+
+    /// Asks for what is missing, and takes the answer. It is to bring the first number that was asked for, so that each
+    /// question brings the follower on.
+    fn ask_for(&mut self, request: &Request) -> Result<(), Fault> {
+        let asked = ask(
+            self.alloc,
+            request,
+            &mut &self.connection,
+            &mut &self.connection,
+        );
+        let packets = match asked {
+            Ok(packets) => packets,
+            Err(fault) => return Err(fault_of_ask(fault)),
+        };
+        for packet in &packets {
+            self.take(Line::R, packet)?;
+        }
+        if self.subscriber.held().len() < request.from as usize {
+            return Err(Fault::Disagrees);
+        }
+        Ok(())
+    }
+
+    /// Takes what came by a line, and asks while something is missing.
+    fn deliver(&mut self, line: Line, bytes: &[u8]) -> Result<(), Fault> {
+        self.take(line, bytes)?;
+        for _ in 0..u64::MAX {
+            let Some(request) = self.subscriber.missing() else {
+                break;
+            };
+            self.ask_for(&request)?;
+        }
+        Ok(())
+    }
+
+    /// Gives the first subscriber up for a new one, with a connection of its own, where it holds enough.
+    fn restart<R: Net<Listener = TcpListener, Stream = TcpStream>>(
+        &mut self,
+        rt: &R,
+    ) -> Result<(), Fault> {
+        let Some(most) = self.restart_after else {
+            return Ok(());
+        };
+        if self.subscriber.held().len() < most as usize {
+            return Ok(());
+        }
+        let subscriber = fresh(self.alloc, &self.subscriber, self.session)?;
+        let connection = dial(rt, self.retransmission)?;
+        self.restart_after = None;
+        self.connection = connection;
+        self.subscriber = subscriber;
+        Ok(())
+    }
+
+    /// Whether the end is known and all is held.
+    fn has_all(&self) -> bool {
+        match self.subscriber.ended() {
+            Some(count) => self.subscriber.held().len() == count as usize,
+            None => false,
+        }
+    }
+
+    /// Takes what came by a line, unless the run is over, and whether it is over then. A restart is looked at before the end is.
+    pub(crate) fn step<R: Net<Listener = TcpListener, Stream = TcpStream>>(
+        &mut self,
+        rt: &R,
+        line: Line,
+        bytes: &[u8],
+    ) -> bool {
+        if self.over.is_some() {
+            return true;
+        }
+        let stepped = match self.deliver(line, bytes) {
+            Ok(()) => self.restart(rt),
+            Err(fault) => Err(fault),
+        };
+        match stepped {
+            Ok(()) if !self.has_all() => false,
+            ended => {
+                self.over = Some(ended);
+                true
+            }
+        }
+    }
+
+    /// Ends the run by a fault, unless it is over.
+    pub(crate) fn fail(&mut self, fault: Fault) {
+        if self.over.is_none() {
+            self.over = Some(Err(fault));
+        }
+    }
+
+    /// The subscriber of a run that is over, or the fault that ended it. The connection is closed.
+    pub(crate) fn into_subscriber(self) -> Result<Subscriber, Fault> {
+        let Follower {
+            subscriber,
+            over,
+            ..
+        } = self;
+        match over {
+            Some(Ok(())) => Ok(subscriber),
+            Some(Err(fault)) => Err(fault),
+            None => Err(Fault::Read),
+        }
+    }
+}

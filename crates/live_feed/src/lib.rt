@@ -1,0 +1,25 @@
+//! A day over sockets: participants' lines in, two lossy lines and a retransmission out, and the follower that holds the same
+//! day at the other end.
+#![tactic(auto)]
+
+mod bell;
+mod fault;
+mod feed;
+mod follow;
+mod follower;
+mod following;
+mod live;
+mod loss;
+mod retransmitting;
+mod running;
+mod seated;
+mod sending;
+mod sockets;
+mod starting;
+mod writing;
+
+pub use fault::Fault;
+pub use follow::follow_over;
+pub use live::live_over;
+pub use loss::{Loss, NoLoss};
+pub use sockets::{FollowSockets, LiveSockets, here};

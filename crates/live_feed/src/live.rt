@@ -1,0 +1,231 @@
+//! A live day: it accepts the participants' lines, sends the tape that they make, and reports it.
+ghost use Rattle.std.specs.Prelude.{◌≡◌, IfOk, OnOk, length, true, vec_len};
+ghost use Rattle.tape_core.specs.Tape.{IsLegal};
+ghost use Rattle.line_ledger.specs.Cells.{FirstTokens};
+ghost use Rattle.line_ledger.specs.Ends.{IsOneEach};
+ghost use Rattle.live_feed.specs.Reports.{WritesOneReport};
+
+use crate::bell::Bell;
+use crate::feed::Feed;
+use crate::running::{Joined, run_together};
+use crate::seated::{Ran, Reader, Waiting, lines_of};
+use crate::starting::{accept_all, can_start, prepare_day};
+use crate::writing::write_day;
+use crate::{Fault, LiveSockets, Loss};
+use line_ledger::{Day, DayName, EndFault, LineSeat, Prepared, Published, SharedTape, Token};
+use std::alloc::Global;
+use std::io::Write;
+use std::marker::Brand;
+use std::rt::Clock;
+use std::sync::Wait;
+use std::thread::Threads;
+use tape_frames::Source;
+use tape_types::Listing;
+
+/// What was found published once all had ended.
+#[derive(Drop)]
+struct Found {
+    /// A token for each entry, in order.
+    tokens: Vec<Token>,
+    /// That memory ran out for them.
+    fault: Option<Fault>,
+}
+
+/// A token of each cell that was published. A cell is set once, so its token stands for whatever was sent or served of it.
+fn find_published<D: DayName>(shared: &SharedTape<D>) -> Found
+    ensures { FirstTokens shared.now result.tokens.items }
+{
+    let mut published = Published::new(shared);
+    let fault = match published.refresh() {
+        Ok(()) => None,
+        Err(_) => Some(Fault::Memory),
+    };
+    Found {
+        tokens: published.into_tokens(),
+        fault,
+    }
+}
+
+/// Ends the day with a seat of each participant.
+fn end_day<D: DayName>(shared: SharedTape<D>, seats: Vec<LineSeat<D>>) -> Result<Day, Fault>
+    requires { IsOneEach D.listing.participants seats.items }
+    ensures legal { IfOk result (λ day. IsLegal day.tape) }
+    ensures cells { IfOk result (λ day. day.names ≡ shared) }
+{
+    match shared.end(seats) {
+        Ok(day) => Ok(day),
+        Err(EndFault::Disagrees(_)) => Err(Fault::Disagrees),
+        Err(EndFault::MissingSeat(_unended)) => unreachable!(),
+    }
+}
+
+/// Whether the day has what each token shows.
+fn confirms_all(day: &Day, tokens: &[Token]) -> bool
+    requires { FirstTokens day.now.names tokens.now }
+{
+    for token in tokens {
+        if day.confirm(token).is_err() {
+            return false;
+        }
+    }
+    true
+}
+
+/// Whether the day is what was sent of it: all that was published stands on its tape, and the number that the end told is
+/// how many entries it has.
+fn is_as_sent(day: &Day, tokens: &[Token], number: u32) -> bool
+    requires { FirstTokens day.now.names tokens.now }
+    ensures { result ≡ true → (length tokens.now ≡ number) × (length day.now.tape.entries ≡ number) }
+{
+    tokens.len() == number as usize
+        && day.tape().entries().len() == number as usize
+        && confirms_all(day, tokens)
+}
+
+/// Ends the day that was joined: the day, or the fault of the least status that was met.
+fn finish_day<D: DayName>(shared: SharedTape<D>, joined: Joined<D>) -> Result<Day, Fault>
+    requires { IsOneEach D.listing.participants joined.ran.seats.items }
+    ensures legal { IfOk result (λ day. IsLegal day.tape) }
+    ensures sent { IfOk result (λ day. length day.tape.entries ≡ joined.sides.sent.number) }
+{
+    let Joined {
+        ran: Ran { seats, fault },
+        sides,
+    } = joined;
+    let found = find_published(&shared);
+    let ended = end_day(shared, seats);
+    let at_the_sides = Fault::least(sides.served, sides.sent.fault);
+    let at_the_lines = Fault::least(fault, found.fault);
+    if let Some(fault) = Fault::least(at_the_sides, at_the_lines) {
+        return Err(fault);
+    }
+    let day = ended?;
+    if !is_as_sent(&day, &found.tokens, sides.sent.number) {
+        return Err(Fault::Disagrees);
+    }
+    Ok(day)
+}
+
+/// Runs the day of what was prepared, under its name, and ends it.
+fn run_named<D: DayName + Send + Sync, R: Threads + Wait + Clock + Sync, L: Loss + Sync>(
+    rt: &R,
+    feed: &Feed<'_, L>,
+    prepared: Prepared,
+    readers: Vec<Reader>,
+) -> Result<Day, Fault>
+    requires name { prepared.blank.name ≡ D.name }
+    requires parts { prepared.blank.parts ≡ D.parts }
+    requires listing { prepared.tape.listing ≡ D.listing }
+    requires many { vec_len readers ≡ length D.listing.participants }
+    ensures { IfOk result (λ day. IsLegal day.tape) }
+{
+    let Ok(lines) = Vec::with_capacity(feed.alloc, readers.len()) else {
+        return Err(Fault::Memory);
+    };
+    let Ok(room) = Vec::with_capacity(feed.alloc, readers.len()) else {
+        lines.destroy_empty();
+        return Err(Fault::Memory);
+    };
+    let Ok((shared, seats)) = SharedTape::<D>::open(prepared) else {
+        lines.destroy_empty();
+        room.destroy_empty();
+        return Err(Fault::Memory);
+    };
+    let waiting = Waiting {
+        lines: lines_of(seats, readers, lines),
+        room,
+    };
+    let bell = Bell::new();
+    let joined = run_together(rt, feed, &shared, waiting, &bell);
+    finish_day(shared, joined)
+}
+
+/// Runs the day of what was prepared.
+fn run_day<R: Threads + Wait + Clock + Sync, L: Loss + Sync>(
+    rt: &R,
+    feed: &Feed<'_, L>,
+    prepared: Prepared,
+    readers: Vec<Reader>,
+) -> Result<Day, Fault>
+    requires { vec_len readers ≡ length prepared.tape.listing.participants }
+    ensures { IfOk result (λ day. IsLegal day.tape) }
+{
+    run_named::<Brand, R, L>(rt, feed, prepared, readers)
+}
+
+/// Prepares the day, waits for its lines and runs it.
+fn hold_day<R: Threads + Wait + Clock + Sync, L: Loss + Sync>(
+    rt: &R,
+    feed: &Feed<'_, L>,
+    listing: Listing,
+    limit: u32,
+    sockets: &LiveSockets,
+) -> Result<Day, Fault>
+    ensures { IfOk result (λ day. IsLegal day.tape) }
+{
+    if sockets.lines.len() != listing.participants().as_slice().len() {
+        return Err(Fault::Read);
+    }
+    let prepared = prepare_day(feed.alloc, listing, limit)?;
+    let readers = accept_all(feed.alloc, &sockets.lines)?;
+    if !can_start(rt) {
+        return Err(Fault::Worker);
+    }
+    run_day(rt, feed, prepared, readers)
+}
+
+/// Runs the day and writes its report.
+fn live<R: Threads + Wait + Clock + Sync, L: Loss + Sync, W: Write>(
+    rt: &R,
+    feed: &Feed<'_, L>,
+    listing: Listing,
+    limit: u32,
+    sockets: &LiveSockets,
+    writer: &mut W,
+) -> Result<(), Fault>
+    ensures { OnOk result (WritesOneReport (W.contents writer.old) (W.contents writer.new)) }
+{
+    let day = hold_day(rt, feed, listing, limit, sockets)?;
+    write_day(rt, feed.alloc, day.tape(), writer)
+}
+
+/// Runs a day over sockets, and writes its report to `writer`.
+///
+/// It waits for one connection of each participant, in listing order, and runs the lines at once. What they admit is
+/// published eight entries at a time, and each publication is sent as one packet on lines A and B, unless `loss` drops it. Once
+/// the lines have ended, the end is sent three times on each. Beside that `serves` retransmission connections are served,
+/// one after the other; with 0 of them none is awaited. After all are joined the day is ended, each entry that was published is
+/// confirmed, and the number that the end told is compared with the day's length.
+///
+/// The status is 0 exactly where the report was written whole and flushed. A connection whose peer misbehaves ends
+/// alone, and a packet that cannot be sent is lost. What else goes wrong is answered by the least status of all, and then
+/// there is no report, or a front of it after a write that failed: 3 where a connection is not accepted, or there is not one
+/// listener for each participant; 4 for a failed write of the report; 5 where memory runs out; 6 where no thread can be
+/// started; 7 where the tape disagrees with what was told, sent or served of it, and for a limit outside 1 to 1,048,576.
+pub fn live_over<R: Threads + Wait + Clock + Sync, L: Loss + Sync, W: Write>(
+    rt: &R,
+    alloc: Global,
+    listing: Listing,
+    limit: u32,
+    session: u64,
+    serves: u16,
+    sockets: LiveSockets,
+    loss: &L,
+    writer: &mut W,
+) -> u8
+    ensures report { result ≡ 0 → WritesOneReport (W.contents writer.old) (W.contents writer.new) }
+{
+    let feed = Feed {
+        sender: &sockets.sender,
+        retransmission: &sockets.retransmission,
+        ports: sockets.ports,
+        loss,
+        session,
+        serves,
+        alloc,
+    };
+    match live(rt, &feed, listing, limit, &sockets, writer) {
+        Ok(()) => 0,
+        Err(fault) => fault.status(),
+    }
+}

@@ -1,0 +1,19 @@
+//! Which data packets are lost.
+
+use arbitration::Line;
+
+/// Which data packets a line loses before they are sent. An end is never lost so.
+pub trait Loss {
+    /// Whether the line loses the data packet whose first entry has this tape number, from 1. It is asked for lines A and B.
+    fn drops(&self, line: Line, first: u32) -> bool;
+}
+
+/// Loses nothing.
+#[derive(Clone, Copy, Debug, PartialEq, Eq)]
+pub struct NoLoss;
+
+impl Loss for NoLoss {
+    fn drops(&self, _line: Line, _first: u32) -> bool {
+        false
+    }
+}

@@ -1,0 +1,42 @@
+//! The retransmission: subscribers are served one after the other.
+
+use crate::Fault;
+use crate::feed::Feed;
+use line_ledger::{DayName, Published, SharedTape};
+use retransmit::{Ended, serve};
+
+/// Waits for the next connection, and answers what it asks for until it ends. However its peer behaves, that ends the
+/// connection alone.
+fn serve_next<D: DayName, L>(feed: &Feed<'_, L>, shared: &SharedTape<D>) -> Option<Fault> {
+    let Ok((stream, _)) = feed.retransmission.accept() else {
+        return Some(Fault::Read);
+    };
+    // Each answer is one write, which need not wait for the one before to be acknowledged.
+    let _ = stream.set_nodelay(true);
+    let mut published = Published::new(shared);
+    let end = serve(
+        feed.alloc,
+        &mut published,
+        feed.session,
+        &mut &stream,
+        &mut &stream,
+    );
+    match end.ended {
+        Ended::OutOfMemory => Some(Fault::Memory),
+        Ended::Clean | Ended::Truncated | Ended::ReadFault | Ended::WriteFault | Ended::TooMany =>
+            None,
+    }
+}
+
+/// Serves as many connections as are awaited, one after the other, and answers the fault of the least status. After a fault
+/// the others are served all the same.
+pub(crate) fn serve_all<D: DayName, L>(
+    feed: &Feed<'_, L>,
+    shared: &SharedTape<D>,
+) -> Option<Fault> {
+    let mut fault = None;
+    for _ in 0..feed.serves {
+        fault = Fault::least(fault, serve_next(feed, shared));
+    }
+    fault
+}

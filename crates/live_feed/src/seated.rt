@@ -1,0 +1,154 @@
+//! The lines with their seats, before they run and after.
+ghost use Rattle.std.specs.Prelude.{◌≡◌, ◌≤◌, [], map, vec_len};
+ghost use Rattle.std.specs.Vec.{vec_capacity};
+ghost use Rattle.line_ledger.specs.Ends.{whos};
+
+use crate::Fault;
+use crate::bell::Bell;
+use line_ledger::{DayName, LineSeat, SharedTape};
+use participant_lines::{Ended, Lack, LineEnd, Unstarted, run_lines};
+use std::alloc::Global;
+use std::io::BufReader;
+use std::net::TcpStream;
+use std::sync::Wait;
+use std::thread::Threads;
+
+/// What a line's messages are read from.
+pub(crate) type Reader = BufReader<TcpStream>;
+
+/// A seat and what its line is read from.
+pub(crate) type SeatedLine<D> = (LineSeat<D>, Reader);
+
+/// Lines that wait to run, with room for their seats after it. They must be spent.
+pub(crate) struct Waiting<D: DayName> {
+    /// The lines, in listing order.
+    pub(crate) lines: Vec<SeatedLine<D>>,
+    /// Where their seats are put.
+    pub(crate) room: Vec<LineSeat<D>>,
+    pub(crate) ghost roomy: { vec_len lines ≤ vec_capacity room },
+    pub(crate) ghost unused: { room.items ≡ [] },
+}
+
+/// Lines that have run, or were not started. The seats must be spent.
+pub(crate) struct Ran<D: DayName> {
+    /// The seats of the lines, in listing order.
+    pub(crate) seats: Vec<LineSeat<D>>,
+    /// The fault of the least status.
+    pub(crate) fault: Option<Fault>,
+}
+
+/// The seats with what their lines are read from, put into a vector with room for them.
+pub(crate) fn lines_of<D: DayName>(
+    seats: Vec<LineSeat<D>>,
+    readers: Vec<Reader>,
+    lines: Vec<SeatedLine<D>>,
+) -> Vec<SeatedLine<D>>
+    requires many { vec_len seats ≡ vec_len readers }
+    requires room { vec_len seats ≤ vec_capacity lines }
+    requires empty { lines.items ≡ [] }
+    ensures len { vec_len result ≡ vec_len seats }
+    ensures whos { map (λ l. l.0.who) result.items ≡ whos seats.items }
+{
+    let mut lines = lines;
+    let mut readers = readers.into_iter();
+    let mut left = seats.into_iter();
+    while let Some(seat) = left.next() {
+        match readers.next() {
+            Some(reader) => lines.push_reserved((seat, reader)),
+            None => unreachable!(),
+        }
+    }
+    left.destroy_empty();
+    lines
+}
+
+/// What the end of a line is to the day. A peer that misbehaves ends its own line alone.
+fn fault_of(ended: Ended) -> Option<Fault> {
+    match ended {
+        Ended::OutOfMemory => Some(Fault::Memory),
+        Ended::Behind => Some(Fault::Disagrees),
+        Ended::Clean | Ended::Truncated | Ended::Oversize | Ended::ReadFault | Ended::TooMany =>
+            None,
+    }
+}
+
+/// What too little of something is to the day.
+fn fault_of_lack(lack: Lack) -> Fault {
+    match lack {
+        Lack::Memory => Fault::Memory,
+        Lack::Worker => Fault::Worker,
+    }
+}
+
+/// The fault of the least status that ended lines met.
+fn fault_of_ends<D: DayName>(ends: &[LineEnd<D>]) -> Option<Fault> {
+    let mut fault = None;
+    for end in ends {
+        fault = Fault::least(fault, fault_of(end.ended));
+    }
+    fault
+}
+
+/// The seats of ended lines, put into a vector with room for them.
+fn seats_of_ends<D: DayName>(ends: Vec<LineEnd<D>>, room: Vec<LineSeat<D>>) -> Vec<LineSeat<D>>
+    requires room { vec_len ends ≤ vec_capacity room }
+    requires empty { room.items ≡ [] }
+    ensures { whos result.items ≡ map (λ e. e.seat.who) ends.items }
+{
+    let mut seats = room;
+    let mut left = ends.into_iter();
+    while let Some(end) = left.next() {
+        let LineEnd {
+            seat,
+            refused: _,
+            ended: _,
+        } = end;
+        seats.push_reserved(seat);
+    }
+    left.destroy_empty();
+    seats
+}
+
+/// The seats of lines that were not started, put into a vector with room for them.
+fn seats_of_lines<D: DayName>(lines: Vec<SeatedLine<D>>, room: Vec<LineSeat<D>>) -> Vec<LineSeat<D>>
+    requires room { vec_len lines ≤ vec_capacity room }
+    requires empty { room.items ≡ [] }
+    ensures { whos result.items ≡ map (λ l. l.0.who) lines.items }
+{
+    let mut seats = room;
+    let mut left = lines.into_iter();
+    while let Some((seat, _)) = left.next() {
+        seats.push_reserved(seat);
+    }
+    left.destroy_empty();
+    seats
+}
+
+/// Runs the lines at once, each in a worker that rings the bell after each message.
+pub(crate) fn run_all<D: DayName + Send + Sync, R: Threads + Wait + Sync>(
+    rt: &R,
+    alloc: Global,
+    shared: &SharedTape<D>,
+    waiting: Waiting<D>,
+    bell: &Bell,
+) -> Ran<D>
+    ensures { whos result.seats.items ≡ map (λ l. l.0.who) waiting.lines.items }
+{
+    let Waiting { lines, room } = waiting;
+    match run_lines(rt, alloc, shared, lines, bell) {
+        Ok(ends) => {
+            let fault = fault_of_ends(&ends);
+            Ran {
+                seats: seats_of_ends(ends, room),
+                fault,
+            }
+        }
+        Err(Unstarted { ends, lines, lack }) => {
+            ends.destroy_empty();
+            Ran {
+                seats: seats_of_lines(lines, room),
+                fault: Some(fault_of_lack(lack)),
+            }
+        }
+    }
+}

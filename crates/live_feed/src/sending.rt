@@ -1,0 +1,174 @@
+//! The sender: what the lines admit is published and sent on both lines, and then the end.
+
+use crate::bell::Bell;
+use crate::feed::Feed;
+use crate::{Fault, Loss, here};
+use arbitration::Line;
+use line_ledger::{DayName, PublishFault, Published, SharedTape};
+use std::rt::Clock;
+use std::sync::Wait;
+use std::thread;
+use std::time::Duration;
+use tape_frames::{EntryCount, LONGEST_PACKET, MOST_ENTRIES, Packet, Source, cut, write_packet};
+
+/// How many entries are published at once: as many as one packet takes.
+const PUBLISHED_AT_ONCE: u32 = MOST_ENTRIES as u32;
+
+/// After how many packets the sender rests, so that a reader's buffer does not run over.
+const PACKETS_BEFORE_REST: u32 = 16;
+
+/// How long it rests then, in milliseconds.
+const REST: u64 = 1;
+
+/// How long the sender waits before each end, in milliseconds: a reader whose buffer is full empties it meanwhile.
+const PAUSES_BEFORE_ENDS: [u64; 3] = [0, 50, 200];
+
+/// What the sender came to.
+#[derive(Clone, Copy)]
+pub(crate) struct Sent {
+    /// The number of the last entry that was sent, which the end tells.
+    pub(crate) number: u32,
+    /// Why it did not go on to the last entry.
+    pub(crate) fault: Option<Fault>,
+}
+
+/// Why nothing is published.
+fn fault_of(fault: PublishFault) -> Fault {
+    match fault {
+        PublishFault::Unpublished(_) => Fault::Disagrees,
+        PublishFault::OutOfMemory => Fault::Memory,
+    }
+}
+
+/// Sends bytes on both lines, but for those that lose a data packet of this first number. A failed send is a lost packet.
+fn send<L: Loss>(feed: &Feed<'_, L>, first: Option<u32>, bytes: &[u8]) {
+    for (line, port) in [(Line::A, feed.ports[0]), (Line::B, feed.ports[1])] {
+        let is_lost = match first {
+            Some(first) => feed.loss.drops(line, first),
+            None => false,
+        };
+        if !is_lost {
+            let _ = feed.sender.send_to(bytes, here(port));
+        }
+    }
+}
+
+/// Publishes what the lines admitted, as many entries as one packet takes, and sends a packet of what is published after this
+/// number: the last number that was sent then. The text is only room.
+fn send_next<D: DayName, R: Wait, L: Loss>(
+    rt: &R,
+    feed: &Feed<'_, L>,
+    shared: &SharedTape<D>,
+    published: &mut Published<'_, D>,
+    sent: u32,
+    text: &mut Vec<u8>,
+) -> Result<u32, Fault> {
+    let set = match shared.publish(rt, PUBLISHED_AT_ONCE) {
+        Ok(set) => set,
+        Err(fault) => return Err(fault_of(fault)),
+    };
+    if published.refresh().is_err() {
+        return Err(Fault::Memory);
+    }
+    if published.published() <= sent {
+        // What was set is not seen.
+        return if set > 0 {
+            Err(Fault::Disagrees)
+        } else {
+            Ok(sent)
+        };
+    }
+    let packet = cut(feed.session, sent + 1, published);
+    text.clear();
+    if write_packet(&packet, text).is_err() {
+        return Err(Fault::Memory);
+    }
+    send(feed, Some(sent + 1), text);
+    Ok(packet.last())
+}
+
+/// Publishes and sends until the lines have ended and all is sent. It sleeps while there is nothing to send, until the bell
+/// rings.
+fn send_entries<D: DayName, R: Wait + Clock, L: Loss>(
+    rt: &R,
+    feed: &Feed<'_, L>,
+    shared: &SharedTape<D>,
+    bell: &Bell,
+    text: &mut Vec<u8>,
+) -> Sent {
+    let mut published = Published::new(shared);
+    let mut packets = 0u32;
+    let mut number = 0;
+    for _ in rt.forever() {
+        // Looked at first: what was admitted before the end is published after it.
+        let is_last = bell.has_ended();
+        match send_next(rt, feed, shared, &mut published, number, text) {
+            Ok(last) if last != number => {
+                number = last;
+                packets = packets.wrapping_add(1);
+                if packets % PACKETS_BEFORE_REST == 0 {
+                    thread::sleep(rt, Duration::from_millis(REST));
+                }
+            }
+            Ok(_) if is_last => break,
+            Ok(_) => bell.wait(rt),
+            Err(fault) => {
+                return Sent {
+                    number,
+                    fault: Some(fault),
+                };
+            }
+        }
+    }
+    Sent {
+        number,
+        fault: None,
+    }
+}
+
+/// Sends the end of a day of so many entries three times on each line, with a pause before each.
+fn send_ends<R: Clock, L: Loss>(
+    rt: &R,
+    feed: &Feed<'_, L>,
+    number: u32,
+    text: &mut Vec<u8>,
+) -> Option<Fault> {
+    let Some(count) = EntryCount::try_new(number) else {
+        return Some(Fault::Disagrees);
+    };
+    text.clear();
+    let end = Packet::End {
+        session: feed.session,
+        count,
+    };
+    if write_packet(&end, text).is_err() {
+        return Some(Fault::Memory);
+    }
+    for pause in PAUSES_BEFORE_ENDS {
+        thread::sleep(rt, Duration::from_millis(pause));
+        send(feed, None, text);
+    }
+    None
+}
+
+/// Sends the day: its entries while the lines admit them, and then its end, which comes after a fault too, so that
+/// subscribers go. Memory for one packet is taken first; where there is none, nothing is sent.
+pub(crate) fn send_day<D: DayName, R: Wait + Clock, L: Loss>(
+    rt: &R,
+    feed: &Feed<'_, L>,
+    shared: &SharedTape<D>,
+    bell: &Bell,
+) -> Sent {
+    let Ok(mut text) = Vec::with_capacity(feed.alloc, LONGEST_PACKET) else {
+        return Sent {
+            number: 0,
+            fault: Some(Fault::Memory),
+        };
+    };
+    let sent = send_entries(rt, feed, shared, bell, &mut text);
+    let fault = send_ends(rt, feed, sent.number, &mut text);
+    Sent {
+        number: sent.number,
+        fault: Fault::least(sent.fault, fault),
+    }
+}

@@ -1,0 +1,72 @@
+//! What a day needs before it starts.
+ghost use Rattle.std.specs.Prelude.{◌≡◌, IfOk, length, vec_len};
+
+use crate::Fault;
+use crate::seated::Reader;
+use line_ledger::{Prepared, prepare};
+use std::alloc::Global;
+use std::io::BufReader;
+use std::net::TcpListener;
+use std::thread;
+use std::thread::Threads;
+use summaries::IndexStore;
+use tape_core::{Tape, TapeFault};
+use tape_types::Listing;
+
+/// Whether a thread can be started now. It does nothing, and its end is waited for.
+pub(crate) fn can_start<R: Threads>(rt: &R) -> bool {
+    match thread::spawn(rt, || ()) {
+        Ok(worker) => {
+            worker.join(rt);
+            true
+        }
+        Err(_) => false,
+    }
+}
+
+/// What a tape that is not made is to the day.
+pub(crate) fn fault_of(fault: TapeFault) -> Fault {
+    match fault {
+        TapeFault::BadLimit => Fault::Disagrees,
+        TapeFault::OutOfMemory => Fault::Memory,
+    }
+}
+
+/// An empty tape of the listing, and the memory that its day takes.
+pub(crate) fn prepare_day(alloc: Global, listing: Listing, limit: u32) -> Result<Prepared, Fault>
+    ensures { IfOk result (λ prepared. prepared.tape.listing ≡ listing) }
+{
+    let tape: Tape<IndexStore> = match Tape::new(alloc, listing, limit) {
+        Ok(tape) => tape,
+        Err(fault) => return Err(fault_of(fault)),
+    };
+    match prepare(alloc, tape) {
+        Ok(prepared) => Ok(prepared),
+        Err(_) => Err(Fault::Memory),
+    }
+}
+
+/// Waits for one connection at a listener, to be read in large pieces.
+fn accept(alloc: Global, listener: &TcpListener) -> Result<Reader, Fault> {
+    let Ok((stream, _)) = listener.accept() else {
+        return Err(Fault::Read);
+    };
+    match BufReader::new(alloc, stream) {
+        Ok(reader) => Ok(reader),
+        Err(_) => Err(Fault::Memory),
+    }
+}
+
+/// Waits for one connection at each listener, in their order.
+pub(crate) fn accept_all(alloc: Global, listeners: &[TcpListener]) -> Result<Vec<Reader>, Fault>
+    ensures { IfOk result (λ readers. vec_len readers ≡ length listeners.now) }
+{
+    let mut readers = Vec::new(alloc);
+    for listener in listeners {
+        let reader = accept(alloc, listener)?;
+        if readers.push(reader).is_err() {
+            return Err(Fault::Memory);
+        }
+    }
+    Ok(readers)
+}

@@ -1,0 +1,223 @@
+//! What the program's words ask for.
+ghost use Rattle.std.specs.Prelude.{◌≡◌, ◌⊎◌, IfOk, Ok, Err, length, true};
+ghost use Rattle.std.specs.Iterator.{at_most};
+ghost use Rattle.tapebox.specs.Program.{AsksFor, asks_follow, asks_live, batch_words};
+ghost use Rattle.tapebox.specs.declared.command.Command.TheVariants.{Batch};
+ghost use Rattle.tapebox.specs.declared.command.Refused.TheVariants.{OutOfMemory};
+
+use crate::named::Named;
+use std::alloc::Global;
+use std::str;
+use tape_types::{Listing, ListingFault, Participant, Symbol};
+
+/// The words of a batch.
+const BATCH: &[u8] = b"batch\0";
+
+/// The first word of a tape that is made from lines.
+const LIVE: &[u8] = b"live\0";
+
+/// The first word of a tape that is followed.
+const FOLLOW: &[u8] = b"follow\0";
+
+/// How many ports there are, with port 0.
+const PORTS: usize = 65_536;
+
+/// What the program is asked for.
+#[derive(Drop)]
+pub enum Command {
+    /// A batch.
+    Batch,
+    /// A tape that is made from lines and sent.
+    Live(LiveWords),
+    /// A tape that is followed.
+    Follow(FollowWords),
+}
+
+/// Why the words ask for nothing.
+#[derive(Clone, Copy, Debug, PartialEq, Eq)]
+pub enum Refused {
+    /// They are not those of a command.
+    BadArguments,
+    /// Memory ran out for the names.
+    OutOfMemory,
+}
+
+/// The words that are left, each ended by a zero byte.
+#[derive(Drop)]
+struct Words<'a> {
+    rest: &'a [u8],
+}
+
+impl<'a> Iterator for Words<'a> {
+    type Item = &'a [u8];
+
+    ghost remaining = { λ w. at_most (length w.rest.now) };
+
+    fn next(&mut self) -> Option<&'a [u8]> {
+        let end = self.rest.iter().position(|byte| *byte == 0)?;
+        let (word, ended) = self.rest.split_at(end);
+        let (_, rest) = ended.split_first()?;
+        self.rest = rest;
+        Some(word)
+    }
+}
+
+/// A number in decimal digits alone, with no sign. Zeros before it are taken.
+fn decimal(word: &[u8]) -> Option<u64> {
+    if !word.iter().all(|byte| byte.is_ascii_digit()) {
+        return None;
+    }
+    str::from_utf8(word).ok()?.parse::<u64>().ok()
+}
+
+impl<'a> Words<'a> {
+    /// The next word.
+    fn word(&mut self) -> Result<&'a [u8], Refused> {
+        self.next().ok_or(Refused::BadArguments)
+    }
+
+    /// The next word as a number up to 18,446,744,073,709,551,615.
+    fn number(&mut self) -> Result<u64, Refused> {
+        decimal(self.word()?).ok_or(Refused::BadArguments)
+    }
+
+    /// The next word as a number up to 65,535.
+    fn short(&mut self) -> Result<u16, Refused> {
+        u16::try_from(self.number()?).map_err(|_| Refused::BadArguments)
+    }
+
+    /// The next word as a port, 1 to 65,535.
+    fn port(&mut self) -> Result<u16, Refused> {
+        match self.short()? {
+            0 => Err(Refused::BadArguments),
+            port => Ok(port),
+        }
+    }
+
+    /// Refused where a word is left.
+    fn end(&self) -> Result<(), Refused> {
+        if self.rest.is_empty() {
+            Ok(())
+        } else {
+            Err(Refused::BadArguments)
+        }
+    }
+}
+
+/// The names of a word, between single commas.
+fn names<N: Named>(alloc: Global, word: &[u8]) -> Result<Vec<N>, Refused> {
+    let mut names = Vec::new(alloc);
+    for piece in word.split(|byte| *byte == b',') {
+        let Some(name) = N::of_name(piece) else {
+            return Err(Refused::BadArguments);
+        };
+        if names.push(name).is_err() {
+            return Err(Refused::OutOfMemory);
+        }
+    }
+    Ok(names)
+}
+
+/// The listing of a word of symbols and a word of participants.
+fn listing(alloc: Global, symbols: &[u8], participants: &[u8]) -> Result<Listing, Refused> {
+    let symbols = names::<Symbol>(alloc, symbols)?;
+    let participants = names::<Participant>(alloc, participants)?;
+    match Listing::new(alloc, &symbols, &participants) {
+        Ok(listing) => Ok(listing),
+        Err(ListingFault::OutOfMemory) => Err(Refused::OutOfMemory),
+        Err(_) => Err(Refused::BadArguments),
+    }
+}
+
+/// The words of `live`.
+#[derive(Drop)]
+pub struct LiveWords {
+    /// The symbols and the participants.
+    pub listing: Listing,
+    /// The port of the first participant's line. Each further participant's is the next.
+    pub first_port: u16,
+    /// The ports that the packets are sent to.
+    pub ports: [u16; 2],
+    /// The port of the retransmission.
+    pub retransmission: u16,
+    /// How many retransmission connections are served.
+    pub serves: u16,
+    /// The session of the tape's packets.
+    pub session: u64,
+}
+
+impl LiveWords {
+    /// Reads the words behind `live`: the names last, so that memory is taken only where the other words are good.
+    fn read(alloc: Global, words: &[u8]) -> Result<LiveWords, Refused> {
+        let mut words = Words { rest: words };
+        let (symbols, participants) = (words.word()?, words.word()?);
+        let first_port = words.port()?;
+        let ports = [words.port()?, words.port()?];
+        let retransmission = words.port()?;
+        let serves = words.short()?;
+        let session = words.number()?;
+        words.end()?;
+        let listing = listing(alloc, symbols, participants)?;
+        // The last participant's line has a port too.
+        if listing.participants().len() > PORTS - usize::from(first_port) {
+            return Err(Refused::BadArguments);
+        }
+        Ok(LiveWords {
+            listing,
+            first_port,
+            ports,
+            retransmission,
+            serves,
+            session,
+        })
+    }
+}
+
+/// The words of `follow`.
+#[derive(Drop)]
+pub struct FollowWords {
+    /// The symbols and the participants.
+    pub listing: Listing,
+    /// The ports that the packets come to.
+    pub ports: [u16; 2],
+    /// The port of the retransmission.
+    pub retransmission: u16,
+    /// The session of the tape's packets.
+    pub session: u64,
+}
+
+impl FollowWords {
+    /// Reads the words behind `follow`: the names last, so that memory is taken only where the other words are good.
+    fn read(alloc: Global, words: &[u8]) -> Result<FollowWords, Refused> {
+        let mut words = Words { rest: words };
+        let (symbols, participants) = (words.word()?, words.word()?);
+        let ports = [words.port()?, words.port()?];
+        let retransmission = words.port()?;
+        let session = words.number()?;
+        words.end()?;
+        let listing = listing(alloc, symbols, participants)?;
+        Ok(FollowWords {
+            listing,
+            ports,
+            retransmission,
+            session,
+        })
+    }
+}
+
+/// What words ask for, each ended by a zero byte, or why they ask for nothing.
+pub fn read_command(alloc: Global, words: &[u8]) -> Result<Command, Refused>
+    ensures batch { words.now ≡ batch_words → result ≡ Ok Batch }
+    ensures asked { IfOk result (λ command. AsksFor command words.now) }
+    ensures memory { result ≡ Err OutOfMemory → (asks_live words.now ≡ true) ⊎ (asks_follow words.now ≡ true) }
+{
+    if words == BATCH {
+        Ok(Command::Batch)
+    } else if words.starts_with(LIVE) {
+        Ok(Command::Live(LiveWords::read(alloc, &words[LIVE.len()..])?))
+    } else if words.starts_with(FOLLOW) {
+        Ok(Command::Follow(FollowWords::read(alloc, &words[FOLLOW.len()..])?))
+    } else {
+        Err(Refused::BadArguments)
+    }
+}

@@ -1,0 +1,174 @@
+//! `live` and `follow`: their sockets, their engines, and what is said of how they end.
+ghost use Rattle.std.specs.Prelude.{◌≡◌, []};
+ghost use Rattle.live_feed.specs.Reports.{WritesOneReport};
+ghost use Rattle.tapebox.specs.Program.{RunsFeed, feed_text};
+ghost use Rattle.tapebox.specs.Writing.{WritesFront};
+
+use crate::command::{FollowWords, LiveWords};
+use crate::reading::TAPE_LIMIT;
+use crate::writing::say;
+use live_feed::{Fault, FollowSockets, LiveSockets, NoLoss, follow_over, here, live_over};
+use std::alloc::Global;
+use std::io;
+use std::io::Write;
+use std::net::{Net, TcpListener, TcpStream, UdpSocket};
+use std::rt::Clock;
+use std::sync::Wait;
+use std::thread::Threads;
+
+/// Opens a listener on each port from the first on, one for each participant.
+fn open_lines<T: Net<Listener = TcpListener, Stream = TcpStream>>(
+    rt: &T,
+    alloc: Global,
+    words: &LiveWords,
+) -> Result<Vec<TcpListener>, Fault> {
+    let mut lines = Vec::new(alloc);
+    let ports = words.first_port..=u16::MAX;
+    for (port, _) in ports.zip(words.listing.participants()) {
+        let Ok(listener) = TcpListener::bind(rt, here(port)) else {
+            return Err(Fault::Read);
+        };
+        if lines.push(listener).is_err() {
+            return Err(Fault::Memory);
+        }
+    }
+    Ok(lines)
+}
+
+/// Opens the sockets of `live`.
+fn open_live<T: Net<Listener = TcpListener, Stream = TcpStream>>(
+    rt: &T,
+    alloc: Global,
+    words: &LiveWords,
+) -> Result<LiveSockets, Fault> {
+    let lines = open_lines(rt, alloc, words)?;
+    let retransmission = TcpListener::bind(rt, here(words.retransmission));
+    let sender = UdpSocket::bind(rt, here(0));
+    let (Ok(retransmission), Ok(sender)) = (retransmission, sender) else {
+        return Err(Fault::Read);
+    };
+    Ok(LiveSockets {
+        lines,
+        retransmission,
+        sender,
+        ports: words.ports,
+    })
+}
+
+/// Opens the sockets of `follow`.
+fn open_follow<T: Net<Listener = TcpListener, Stream = TcpStream>>(
+    rt: &T,
+    words: &FollowWords,
+) -> io::Result<FollowSockets> {
+    let [a, b] = words.ports;
+    Ok(FollowSockets {
+        a: UdpSocket::bind(rt, here(a))?,
+        b: UdpSocket::bind(rt, here(b))?,
+        retransmission: words.retransmission,
+    })
+}
+
+/// What is said of a status: nothing, or one line.
+fn text_of(status: u8) -> &'static str
+    ensures { result.now ≡ feed_text status }
+{
+    match status {
+        3 => "tapebox: read fault\n",
+        4 => "tapebox: write fault\n",
+        5 => "tapebox: out of memory\n",
+        6 => "tapebox: worker not started\n",
+        7 => "tapebox: tape disagrees\n",
+        _ => "",
+    }
+}
+
+/// Says what there is to say of a status, and gives it back.
+fn report_status<E: Write>(errors: &mut E, status: u8) -> u8
+    ensures status { result ≡ status }
+    ensures quiet { feed_text status ≡ [] → errors.new ≡ errors.old }
+    ensures said { WritesFront (feed_text status) (E.contents errors.old) (E.contents errors.new) }
+{
+    say(errors, text_of(status));
+    status
+}
+
+/// The status of `live` on its words. Where it is 0, the report of the day is written.
+fn live_status<T, W>(rt: &T, alloc: Global, words: LiveWords, writer: &mut W) -> u8
+where
+    T: Threads + Wait + Clock + Net<Listener = TcpListener, Stream = TcpStream> + Sync,
+    W: Write,
+    ensures { result ≡ 0 → WritesOneReport (W.contents writer.old) (W.contents writer.new) }
+{
+    match open_live(rt, alloc, &words) {
+        Ok(sockets) => live_over(
+            rt,
+            alloc,
+            words.listing,
+            TAPE_LIMIT,
+            words.session,
+            words.serves,
+            sockets,
+            &NoLoss,
+            writer,
+        ),
+        Err(fault) => fault.status(),
+    }
+}
+
+/// Runs `live` on its words, and gives its status.
+pub fn run_live<T, W, E>(
+    rt: &T,
+    alloc: Global,
+    words: LiveWords,
+    writer: &mut W,
+    errors: &mut E,
+) -> u8
+where
+    T: Threads + Wait + Clock + Net<Listener = TcpListener, Stream = TcpStream> + Sync,
+    W: Write,
+    E: Write,
+    ensures { RunsFeed result (W.contents writer.old) (W.contents writer.new) errors.old errors.new (E.contents errors.old) (E.contents errors.new) }
+{
+    let status = live_status(rt, alloc, words, writer);
+    report_status(errors, status)
+}
+
+/// The status of `follow` on its words. Where it is 0, the report of the day is written.
+fn follow_status<T, W>(rt: &T, alloc: Global, words: FollowWords, writer: &mut W) -> u8
+where
+    T: Threads + Wait + Net<Listener = TcpListener, Stream = TcpStream> + Sync,
+    W: Write,
+    ensures { result ≡ 0 → WritesOneReport (W.contents writer.old) (W.contents writer.new) }
+{
+    match open_follow(rt, &words) {
+        Ok(sockets) => follow_over(
+            rt,
+            alloc,
+            words.listing,
+            TAPE_LIMIT,
+            words.session,
+            sockets,
+            None,
+            writer,
+        ),
+        Err(_) => Fault::Read.status(),
+    }
+}
+
+/// Runs `follow` on its words, and gives its status.
+pub fn run_follow<T, W, E>(
+    rt: &T,
+    alloc: Global,
+    words: FollowWords,
+    writer: &mut W,
+    errors: &mut E,
+) -> u8
+where
+    T: Threads + Wait + Net<Listener = TcpListener, Stream = TcpStream> + Sync,
+    W: Write,
+    E: Write,
+    ensures { RunsFeed result (W.contents writer.old) (W.contents writer.new) errors.old errors.new (E.contents errors.old) (E.contents errors.new) }
+{
+    let status = follow_status(rt, alloc, words, writer);
+    report_status(errors, status)
+}

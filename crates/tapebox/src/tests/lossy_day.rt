@@ -1,0 +1,200 @@
+//! A day that both lines lose a part of, with a subscriber that starts anew.
+
+use crate::{FollowSockets, LiveSockets, Loss, follow_over, live_over};
+use arbitration::Line;
+use live_feed::here;
+use std::alloc::Global;
+use std::io::Write;
+use std::net::{Net, TcpListener, TcpStream, UdpSocket};
+use std::process::Abort;
+use std::rt::Clock;
+use std::sync::Wait;
+use std::sync::atomic::{AtomicBool, Ordering};
+use std::test::Fail;
+use std::thread::Threads;
+use std::time::Duration;
+use std::{io, thread};
+use tape_types::{Listing, Participant, Symbol};
+
+/// The reports of each participant.
+const REPORTS: u8 = 20;
+
+/// The limit of each tape, in entries.
+const LIMIT: u32 = 1_048_576;
+
+/// The session of the day.
+const SESSION: u64 = 7;
+
+/// How many turns of a hundredth of a second the day may take.
+const MOST_TURNS: u32 = 1_000;
+
+/// A report of 100 shares of AB at 10.00.
+const REPORT: [u8; 40] = [
+    0x00, 0x26, 0x52, 0x4e, 0x00, 0x00, 0x00, 0x01, 0x00, 0x00, 0x00, 0x00, 0x00, 0x00, 0x00, 0x00,
+    0x41, 0x42, 0x20, 0x20, 0x20, 0x20, 0x20, 0x20, 0x00, 0x00, 0x00, 0x00, 0x00, 0x01, 0x86, 0xa0,
+    0x00, 0x00, 0x00, 0x64, 0x40, 0x20, 0x20, 0x20,
+];
+
+/// Loses on A each packet whose first number is odd, and on B each whose first number is no multiple of 4.
+#[derive(Drop)]
+struct Lossy;
+
+impl Loss for Lossy {
+    fn drops(&self, line: Line, first: u32) -> bool {
+        match line {
+            Line::A => first % 2 == 1,
+            Line::B => first % 4 != 0,
+            Line::R => false,
+        }
+    }
+}
+
+/// The report of a participant under this number, at a price of its own.
+fn report(who: u8, number: u8) -> [u8; 40] {
+    let mut bytes = REPORT;
+    bytes[3] = who;
+    bytes[7] = number;
+    bytes[31] = number.wrapping_mul(37);
+    bytes
+}
+
+/// The symbol AB, and the participants N and Q.
+fn listing_of_two(alloc: Global) -> Option<Listing> {
+    let symbols = [Symbol::try_new(*b"AB      ")?];
+    let participants = [Participant::try_new(b'N')?, Participant::try_new(b'Q')?];
+    Listing::new(alloc, &symbols, &participants).ok()
+}
+
+/// Sends the reports of a participant, and whether all were sent.
+fn send_line<R: Net<Listener = TcpListener, Stream = TcpStream>>(
+    rt: &R,
+    port: u16,
+    who: u8,
+) -> bool {
+    let Ok(mut stream) = TcpStream::connect(rt, here(port)) else {
+        return false;
+    };
+    for number in 1..=REPORTS {
+        if stream.write_all(&report(who, number)).is_err() {
+            return false;
+        }
+    }
+    true
+}
+
+/// Ends the test as failed where the day has not ended after its turns.
+fn watch<R: Abort + Clock>(rt: &R, ended: &AtomicBool) {
+    for _ in 0..MOST_TURNS {
+        if ended.load(Ordering::SeqCst) {
+            return;
+        }
+        thread::sleep(rt, Duration::from_millis(10));
+    }
+    panic!(rt; "the day did not end in its turns");
+}
+
+/// Whether a report's row has the volume and the trades of all reports.
+fn has_all(report: &[u8]) -> bool {
+    report
+        .windows(9)
+        .any(|text| text == b",4000,40\n".as_slice())
+}
+
+/// The sockets of a day and of its follower, and the ports of the participants' lines.
+#[derive(Drop)]
+struct Opened {
+    live: LiveSockets,
+    follow: FollowSockets,
+    ports: [u16; 2],
+}
+
+/// Opens all sockets at ports that are free.
+fn open_all<R: Net<Listener = TcpListener, Stream = TcpStream>>(
+    rt: &R,
+    alloc: Global,
+) -> io::Result<Opened> {
+    let mut lines = Vec::with_capacity(alloc, 2)?;
+    lines.push_reserved(TcpListener::bind(rt, here(0))?);
+    lines.push_reserved(TcpListener::bind(rt, here(0))?);
+    let ports = [lines[0].local_addr()?.port(), lines[1].local_addr()?.port()];
+    let (a, b) = (UdpSocket::bind(rt, here(0))?, UdpSocket::bind(rt, here(0))?);
+    let sent_to = [a.local_addr()?.port(), b.local_addr()?.port()];
+    let retransmission = TcpListener::bind(rt, here(0))?;
+    let asked_at = retransmission.local_addr()?.port();
+    Ok(Opened {
+        live: LiveSockets {
+            lines,
+            retransmission,
+            sender: UdpSocket::bind(rt, here(0))?,
+            ports: sent_to,
+        },
+        follow: FollowSockets {
+            a,
+            b,
+            retransmission: asked_at,
+        },
+        ports,
+    })
+}
+
+/// The statuses of a day and of its follower, whose reports are appended to these texts.
+fn statuses<R: Threads + Wait + Clock + Net<Listener = TcpListener, Stream = TcpStream> + Sync>(
+    rt: &R,
+    alloc: Global,
+    listings: (Listing, Listing),
+    sockets: (LiveSockets, FollowSockets),
+    texts: (&mut Vec<u8>, &mut Vec<u8>),
+) -> (u8, u8) {
+    let (listing, same) = listings;
+    let (live, follow) = sockets;
+    let (written, followed) = texts;
+    thread::join(
+        rt,
+        || live_over(rt, alloc, listing, LIMIT, SESSION, 2, live, &Lossy, written),
+        || follow_over(rt, alloc, same, LIMIT, SESSION, follow, Some(5), followed),
+    )
+}
+
+/// Whether the reports of both participants were sent.
+fn sent<R: Threads + Net<Listener = TcpListener, Stream = TcpStream> + Sync>(
+    rt: &R,
+    ports: [u16; 2],
+) -> (bool, bool) {
+    thread::join(
+        rt,
+        || send_line(rt, ports[0], b'N'),
+        || send_line(rt, ports[1], b'Q'),
+    )
+}
+
+#[test]
+fn lossy_day(rt: HostRuntime) -> Result<(), Fail> {
+    let Opened {
+        live,
+        follow,
+        ports,
+    } = open_all(&rt, rt.alloc())?;
+    let listing = listing_of_two(rt.alloc()).ok_or("listing")?;
+    let same = listing_of_two(rt.alloc()).ok_or("listing")?;
+    let (mut written, mut followed) = (Vec::new(rt.alloc()), Vec::new(rt.alloc()));
+    let texts = (&mut written, &mut followed);
+    let ended = AtomicBool::new(false);
+    let ((), (both, all_sent)) = thread::join(
+        &rt,
+        || watch(&rt, &ended),
+        || {
+            let all = thread::join(
+                &rt,
+                || statuses(&rt, rt.alloc(), (listing, same), (live, follow), texts),
+                || sent(&rt, ports),
+            );
+            ended.store(true, Ordering::SeqCst);
+            all
+        },
+    );
+    assert_eq!(rt; all_sent, (true, true));
+    assert_eq!(rt; both, (0, 0));
+    assert!(rt; has_all(&written));
+    assert_eq!(rt; written.as_slice(), followed.as_slice());
+    Ok(())
+}

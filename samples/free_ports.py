@@ -1,0 +1,42 @@
+#!/usr/bin/env python3
+"""Prints the first of COUNT ports in a row that are free on 127.0.0.1 for TCP and for UDP: free_ports.py COUNT
+
+They are looked for at random, below the ports that Linux gives to outgoing connections. Nothing keeps them free afterwards.
+"""
+
+import random
+import socket
+import sys
+
+LEAST, MOST = 10_000, 32_000
+TRIES = 1_000
+
+
+def is_free(port):
+    """Whether the port can be bound for TCP and for UDP."""
+    for kind in (socket.SOCK_STREAM, socket.SOCK_DGRAM):
+        with socket.socket(socket.AF_INET, kind) as probe:
+            try:
+                probe.bind(("127.0.0.1", port))
+            except OSError:
+                return False
+    return True
+
+
+def free_ports(count):
+    """The first of so many free ports in a row."""
+    for _ in range(TRIES):
+        first = random.randint(LEAST, MOST - count)
+        if all(is_free(port) for port in range(first, first + count)):
+            return first
+    sys.exit(f"no {count} ports in a row are free")
+
+
+def main():
+    if len(sys.argv) != 2 or not sys.argv[1].isdecimal() or not 1 <= int(sys.argv[1]) <= MOST - LEAST:
+        sys.exit("usage: free_ports.py COUNT")
+    print(free_ports(int(sys.argv[1])))
+
+
+if __name__ == "__main__":
+    main()

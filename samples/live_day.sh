@@ -1,0 +1,123 @@
+#!/bin/sh
+# A day over sockets: live_day.sh [TABLE.csv]
+#
+# Starts `tapebox live`, a relay that loses, doubles and reorders packets, and `tapebox follow` behind it, sends the table's
+# messages (without a word, those of corrections.csv), and compares the two reports byte for byte. Prints the report once, and on
+# standard error what the relay did. Where anything fails, the reports differ or the time is over, the status is 1 and the reason
+# stands on standard error. Needs python3 and Linux, whose /proc/net tells which ports are bound.
+#
+#     TAPEBOX   the program (../crates/tapebox/out/tapebox, from here)
+#     LOSE      the percentage of packets that is lost: of both lines, or as 100,10 of each (30)
+#     SEED      what the relay draws from (9, which loses the third packet of a line on both)
+#     PAUSE     seconds of rest after each message, so that each has a packet of its own (0.002)
+#     LIMIT     seconds until the day must have ended (60)
+
+samples=$(cd "$(dirname "$0")" && pwd) || exit 1
+table=${1:-$samples/corrections.csv}
+tapebox=${TAPEBOX:-$samples/../crates/tapebox/out/tapebox}
+lose=${LOSE:-30}
+seed=${SEED:-9}
+pause=${PAUSE:-0.002}
+limit=${LIMIT:-60}
+session=1
+
+# The programs that run, each as NAME:PROCESS.
+running=
+work=$(mktemp -d) || exit 1
+
+clean_up() {
+    for program in $running; do
+        kill -KILL "${program#*:}" 2> /dev/null
+    done
+    wait 2> /dev/null
+    rm -rf "$work"
+}
+trap clean_up EXIT
+trap 'exit 1' HUP INT TERM
+
+fail() {
+    echo "live_day.sh: $*" >&2
+    exit 1
+}
+
+# Starts a program whose output and errors are kept under its name: start NAME COMMAND..
+start() {
+    name=$1
+    shift
+    "$@" > "$work/$name.out" 2> "$work/$name.err" &
+    running="$running $name:$!"
+}
+
+# Takes the ended programs out of those that run. Ends where one has failed, or where the time is over.
+look() {
+    still=
+    failed=
+    for program in $running; do
+        name=${program%:*}
+        process=${program#*:}
+        if kill -0 "$process" 2> /dev/null; then
+            still="$still $program"
+        else
+            wait "$process"
+            status=$?
+            [ "$status" -eq 0 ] || failed="$name ended with status $status: $(cat "$work/$name.err")"
+        fi
+    done
+    running=$still
+    [ -z "$failed" ] || fail "$failed"
+    [ "$(date +%s)" -lt "$deadline" ] || fail "after $limit seconds there still run:$running"
+}
+
+# Waits until the command answers yes.
+await() {
+    until "$@"; do
+        look
+        sleep 0.1
+    done
+}
+
+# Whether a socket listens on the port, or receives there: bound tcp|udp PORT
+bound() {
+    grep -q ": [0-9A-F]*:$(printf %04X "$2") 00000000:0000 " "/proc/net/$1"
+}
+
+# Whether the relay alone is left.
+ended() {
+    look
+    [ "$running" = " $relay" ]
+}
+
+[ -x "$tapebox" ] || fail "there is no program $tapebox"
+[ -r /proc/net/udp ] || fail "there is no /proc/net/udp"
+names=$("$samples/send_day.py" --names "$table") || fail "$table is no day"
+symbols=$(echo "$names" | sed -n 1p)
+participants=$(echo "$names" | sed -n 2p)
+lines=$(echo "$participants" | tr ',' '\n' | wc -l)
+port=$("$samples/free_ports.py" $((lines + 5))) || fail "there are no free ports"
+retransmission=$((port + lines))
+sent_a=$((retransmission + 1))
+sent_b=$((retransmission + 2))
+a=$((retransmission + 3))
+b=$((retransmission + 4))
+deadline=$(($(date +%s) + limit))
+
+# The follower connects as it starts, and a line's first packet must find the relay and the follower.
+start live "$tapebox" live "$symbols" "$participants" "$port" "$sent_a" "$sent_b" "$retransmission" 1 "$session"
+await bound tcp "$retransmission"
+start relay "$samples/lossy_relay.py" --lose "$lose" --double 10 --reorder 10 --seed "$seed" "$sent_a" "$sent_b" "$a" "$b"
+relay=relay:$!
+await bound udp "$sent_a"
+await bound udp "$sent_b"
+start follow "$tapebox" follow "$symbols" "$participants" "$a" "$b" "$retransmission" "$session"
+await bound udp "$a"
+await bound udp "$b"
+start sender "$samples/send_day.py" --pause "$pause" "$table" "$port"
+await ended
+
+running=
+kill -TERM "${relay#*:}" && wait "${relay#*:}" || fail "the relay failed: $(cat "$work/relay.err")"
+cat "$work/relay.out" >&2
+[ -s "$work/live.out" ] || fail "live wrote no report"
+diff "$work/live.out" "$work/follow.out" >&2 || fail "the reports differ"
+cat "$work/live.out"
+echo "live and follow wrote the same report" >&2

@@ -1,0 +1,188 @@
+#!/usr/bin/env python3
+"""Stands between `tapebox live` and `tapebox follow` and makes the two lines lossy.
+
+    lossy_relay.py [--lose P] [--double P] [--reorder P] [--seed N] IN_A IN_B OUT_A OUT_B
+
+It takes the UDP packets that come to ports IN_A and IN_B of 127.0.0.1 and sends them on to OUT_A and OUT_B. Each P is a
+percentage from 0 to 100, or one for each line: `--lose 100,10` loses all of line A and a tenth of line B. Of the packets that are
+not lost, the doubled ones are sent twice, and the reordered ones are held back until three later ones of their line went on, or
+a fiftieth of a second passed. What becomes of a line's packets is drawn from the seed, the line and their order alone.
+
+End packets go on at once and once, unless all of their line is lost: a follower that misses every end waits for ever, so both
+lines together can't lose everything. Runs until it is told to end (SIGTERM or SIGINT), and then prints what became of each
+line's packets.
+"""
+
+import argparse
+import collections
+import contextlib
+import random
+import selectors
+import signal
+import socket
+import sys
+import time
+
+HOST = "127.0.0.1"
+# A packet is at most 919 bytes; the kind stands after the version.
+ROOM = 2048
+KIND = slice(1, 2)
+END = b"E"
+# How long a reordered packet is held back: so many later packets, or so many seconds.
+HOLD_PACKETS = 3
+HOLD_SECONDS = 0.02
+# How many packets of a line are taken in before the other line has its turn.
+BURST = 64
+BUFFER_BYTES = 32 << 20
+# Linux's option for a buffer above the system's limit, which the superuser has; the module socket does not name it.
+SO_RCVBUFFORCE = 33
+
+
+def enlarge(receiver):
+    """Gives the socket as large a buffer as the system allows."""
+    for option in (socket.SO_RCVBUF, SO_RCVBUFFORCE):
+        with contextlib.suppress(OSError):
+            receiver.setsockopt(socket.SOL_SOCKET, option, BUFFER_BYTES)
+
+
+class Held:
+    """A packet that is held back, and how often it is to be sent."""
+
+    def __init__(self, packet, times):
+        self.packet = packet
+        self.times = times
+        self.later = HOLD_PACKETS
+        self.until = time.monotonic() + HOLD_SECONDS
+
+
+class Line:
+    """One of the two lines: its sockets, its parts, and what became of its packets."""
+
+    def __init__(self, name, ports, parts, seed):
+        self.name = name
+        self.target = (HOST, ports[1])
+        self.lose, self.double, self.reorder = parts
+        self.random = random.Random(f"{seed} {name}")
+        self.held = collections.deque()
+        self.counts = collections.Counter()
+        self.sender = socket.socket(socket.AF_INET, socket.SOCK_DGRAM)
+        self.receiver = socket.socket(socket.AF_INET, socket.SOCK_DGRAM)
+        enlarge(self.receiver)
+        self.receiver.bind((HOST, ports[0]))
+        self.receiver.setblocking(False)
+
+    def receive(self):
+        """Takes in what has come, up to a burst."""
+        for _ in range(BURST):
+            try:
+                packet = self.receiver.recv(ROOM)
+            except BlockingIOError:
+                return
+            self.take(packet)
+
+    def take(self, packet):
+        """Decides on a packet: it is lost, held back, or sent on."""
+        self.counts["came"] += 1
+        if packet[KIND] == END and self.lose < 100:
+            return self.send(packet, 1)
+        # Three draws for every packet, so that no decision changes what becomes of the packets after it.
+        lost, doubled, reordered = (
+            100 * self.random.random() < part for part in (self.lose, self.double, self.reorder)
+        )
+        if lost:
+            self.counts["lost"] += 1
+            return
+        self.counts["doubled"] += doubled
+        self.counts["reordered"] += reordered
+        if reordered:
+            self.held.append(Held(packet, 1 + doubled))
+        else:
+            self.send(packet, 1 + doubled)
+            self.count_later()
+
+    def send(self, packet, times):
+        for _ in range(times):
+            self.sender.sendto(packet, self.target)
+
+    def count_later(self):
+        """Counts a packet that went on for those that are held back, and lets go the ones that waited for it."""
+        for held in self.held:
+            held.later -= 1
+        while self.held and self.held[0].later <= 0:
+            self.release()
+
+    def release_old(self, now):
+        """Lets go what was held back for long enough."""
+        while self.held and self.held[0].until <= now:
+            self.release()
+
+    def release(self):
+        first = self.held.popleft()
+        self.send(first.packet, first.times)
+
+    def told(self):
+        counts = ", ".join(f"{self.counts[what]} {what}" for what in ("lost", "doubled", "reordered"))
+        return f"line {self.name}: {self.counts['came']} packets came, {counts}"
+
+
+def relay(lines):
+    """Passes packets on until the process is told to end."""
+    selector = selectors.DefaultSelector()
+    for line in lines:
+        selector.register(line.receiver, selectors.EVENT_READ, line)
+    while True:
+        wait = HOLD_SECONDS / 2 if any(line.held for line in lines) else None
+        for key, _ in selector.select(wait):
+            key.data.receive()
+        now = time.monotonic()
+        for line in lines:
+            line.release_old(now)
+
+
+def percentages(text):
+    """One percentage for both lines, or one for each."""
+    parts = [float(part) for part in text.split(",")]
+    if len(parts) > 2 or not all(0 <= part <= 100 for part in parts):
+        raise ValueError(text)
+    return parts[0], parts[-1]
+
+
+def port(text):
+    if not text.isdecimal() or not 1 <= int(text) <= 65_535:
+        raise ValueError(text)
+    return int(text)
+
+
+def arguments():
+    parser = argparse.ArgumentParser(description="Loses, doubles and reorders packets of the lines A and B.")
+    for part in ("lose", "double", "reorder"):
+        parser.add_argument(f"--{part}", type=percentages, default=(0, 0), metavar="P[,P]", help="percentage, or of A and B (0)")
+    parser.add_argument("--seed", type=int, default=1, metavar="N", help="what is drawn begins from it (1)")
+    for name in ("IN_A", "IN_B", "OUT_A", "OUT_B"):
+        parser.add_argument(name.lower(), type=port, metavar=name)
+    words = parser.parse_args()
+    if min(words.lose) == 100:
+        parser.error("where both lines lose everything no follower can end")
+    return words
+
+
+def main():
+    words = arguments()
+    signal.signal(signal.SIGTERM, lambda *_: sys.exit(0))
+    signal.signal(signal.SIGINT, lambda *_: sys.exit(0))
+    parts = list(zip(words.lose, words.double, words.reorder))
+    try:
+        lines = [
+            Line("A", (words.in_a, words.out_a), parts[0], words.seed),
+            Line("B", (words.in_b, words.out_b), parts[1], words.seed),
+        ]
+    except OSError as fault:
+        sys.exit(f"lossy_relay.py: {fault}")
+    try:
+        relay(lines)
+    finally:
+        print(*(line.told() for line in lines), sep="\n", flush=True)
+
+
+if __name__ == "__main__":
+    main()

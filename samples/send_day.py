@@ -1,0 +1,130 @@
+#!/usr/bin/env python3
+"""Sends a readable day to a running `tapebox live`, each participant's messages over a TCP connection of its own.
+
+    send_day.py [--pause SECONDS] TABLE.csv PORT [PARTICIPANTS]
+    send_day.py --names TABLE.csv
+
+The table is the one that encode_day.py takes. PORT and PARTICIPANTS are those of `live`: the participant at position i of the
+list, from 0, is sent to port PORT + i of 127.0.0.1. Without PARTICIPANTS they are the table's own, in the order of their
+appearance, which `--names` prints after the symbols, each list on a line of its own and with commas between the names. A
+listed participant without a row is connected too and sends nothing, since `live` waits for each.
+
+Messages leave in the order of the rows, but participants' lines run at once: without a pause after each message the tape may
+have another order between participants. Connecting is tried for ten seconds. The first bad row ends the program with status 1
+and `line N: ..` on standard error, and nothing is sent; so does the first row whose message could not be sent.
+"""
+
+import argparse
+import csv
+import socket
+import sys
+import time
+
+from encode_day import BadRow, encode
+
+HOST = "127.0.0.1"
+CONNECTING_SECONDS = 10
+# The table's line of its first message, after the header row; every row is one line.
+FIRST_ROW = 2
+
+
+def parse_batch(text):
+    """The symbols, the participants, and the messages by their lines' letters, of a batch input."""
+    symbols, participants, *lines = text.split("\n")
+    messages = [(line[0], bytes.fromhex(line[2:])) for line in lines if line]
+    return symbols.split(), participants.split(), messages
+
+
+def read_day(path):
+    """The same of a readable table."""
+    try:
+        file = open(path, newline="", encoding="utf-8-sig", errors="replace")
+    except OSError as fault:
+        sys.exit(f"send_day.py: {fault}")
+    with file:
+        table = csv.reader(file)
+        try:
+            day = parse_batch(encode(table))
+        except (BadRow, csv.Error) as fault:
+            sys.exit(f"line {max(table.line_num, 1)}: {fault}")
+    if not day[-1]:
+        sys.exit(f"send_day.py: {path} has no row after its first")
+    return day
+
+
+def dial(port, deadline):
+    """A connection to the port, tried until the deadline."""
+    while True:
+        try:
+            connection = socket.create_connection((HOST, port))
+            # A connection to a free port of the same machine may be given that port as its own, and so reach itself.
+            if connection.getsockname() != connection.getpeername():
+                connection.setsockopt(socket.IPPROTO_TCP, socket.TCP_NODELAY, 1)
+                return connection
+            connection.close()
+        except ConnectionRefusedError:
+            pass
+        if time.monotonic() > deadline:
+            sys.exit(f"send_day.py: nothing listens on port {port}")
+        time.sleep(0.05)
+
+
+def connect(participants, port):
+    """A connection for each participant, by its letter."""
+    deadline = time.monotonic() + CONNECTING_SECONDS
+    return {letter: dial(port + position, deadline) for position, letter in enumerate(participants)}
+
+
+def send(messages, connections, pause):
+    """Sends each message on its participant's connection, and then closes all."""
+    for line, (letter, message) in enumerate(messages, FIRST_ROW):
+        try:
+            connections[letter].sendall(message)
+        except OSError as fault:
+            sys.exit(f"line {line}: not sent to participant {letter}'s line: {fault}")
+        time.sleep(pause)
+    for connection in connections.values():
+        connection.close()
+
+
+def listed(word, messages):
+    """The letters of PARTICIPANTS, which has every row's participant."""
+    participants = word.split(",")
+    if len(set(participants)) != len(participants) or not all(len(letter) == 1 for letter in participants):
+        sys.exit(f"send_day.py: {word!r} is no list of different letters with commas between them")
+    for line, (letter, _) in enumerate(messages, FIRST_ROW):
+        if letter not in participants:
+            sys.exit(f"line {line}: participant {letter!r} is not among {word}")
+    return participants
+
+
+def arguments():
+    parser = argparse.ArgumentParser(description="Sends a readable day to a running tapebox live.")
+    parser.add_argument("--names", action="store_true", help="print the table's symbols and participants, and send nothing")
+    parser.add_argument("--pause", type=float, default=0, metavar="SECONDS", help="rest so long after each message (0)")
+    parser.add_argument("table", metavar="TABLE.csv")
+    parser.add_argument("port", nargs="?", type=int, metavar="PORT", help="the first participant's port")
+    parser.add_argument("participants", nargs="?", metavar="PARTICIPANTS", help="their letters as live has them")
+    words = parser.parse_args()
+    if words.names == (words.port is not None):
+        parser.error("either --names or PORT is wanted")
+    if words.pause < 0:
+        parser.error("a pause is not below 0")
+    return words, parser
+
+
+def main():
+    words, parser = arguments()
+    symbols, participants, messages = read_day(words.table)
+    if words.names:
+        print(",".join(symbols), ",".join(participants), sep="\n")
+        return
+    if words.participants is not None:
+        participants = listed(words.participants, messages)
+    if not 1 <= words.port <= 65_536 - len(participants):
+        parser.error(f"there are no {len(participants)} ports from {words.port} on")
+    send(messages, connect(participants, words.port), words.pause)
+
+
+if __name__ == "__main__":
+    main()
