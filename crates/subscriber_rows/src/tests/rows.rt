@@ -181,15 +181,18 @@ fn a_drain_stops_at_the_subscribers_own_limit(rt: HostRuntime) {
     assert_eq!(rt; row(rt.alloc(), 2, &ITS_OWN_LIMIT), Some(5));
 }
 
+/// Whether the vector is taken before the packet of the three reports, and all four are drained.
+fn takes_both(subscriber: &mut Subscriber, reports: &[u8]) -> bool {
+    let early = deliver(subscriber, B, &CORRECTION_PACKET);
+    let late = deliver(subscriber, A, reports);
+    early == Took(1, 0, 0) && late == Took(3, 1, 0) && subscriber.drain() == Ok(4)
+}
+
 /// Whether the vector comes before the three reports, and all four are held.
 fn takes_the_vector(alloc: Global, subscriber: &mut Subscriber, tape: &feed::Feed) -> Option<bool> {
     let text = feed::packet(alloc, tape, SESSION, 1)?;
-    Some(
-        deliver(subscriber, B, &CORRECTION_PACKET) == Took(1, 0, 0)
-            && deliver(subscriber, A, text.as_slice()) == Took(3, 1, 0)
-            && subscriber.drain() == Ok(4)
-            && holds(subscriber, tape)?,
-    )
+    let is_taken = takes_both(subscriber, text.as_slice());
+    Some(is_taken && holds(subscriber, tape)?)
 }
 
 /// Whether the subscriber's own tape gives the vector of entry 4.
