@@ -21,6 +21,7 @@ impl Fault {
     /// The status that is answered: 3 to 7.
     pub fn status(self) -> u8
         ensures status { result ≡ fault_status self }
+        ensures range { (3 ≤ result) × (result ≤ 7) }
     {
         match self {
             Fault::Read => 3,

@@ -1,5 +1,5 @@
 //! A follower of a day: it reads both lines, asks for what both lost, and reports the tape that it comes to hold.
-ghost use Rattle.std.specs.Prelude.{◌≡◌, OnOk};
+ghost use Rattle.std.specs.Prelude.{◌≡◌, ◌⊎◌, ◌≤◌, OnOk};
 ghost use Rattle.live_feed.specs.Reports.{WritesOneReport};
 
 use crate::follower::Follower;
@@ -101,6 +101,7 @@ pub fn follow_over<
     writer: &mut W,
 ) -> u8
     ensures report { result ≡ 0 → WritesOneReport (W.contents writer.old) (W.contents writer.new) }
+    ensures status { (result ≡ 0) ⊎ ((3 ≤ result) × (result ≤ 7)) }
 {
     let follower = Follower::new(
         rt,

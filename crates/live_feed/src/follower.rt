@@ -1,4 +1,9 @@
 //! What both lines of a follower share: its subscriber and the connection on which that asks.
+ghost use Rattle.std.specs.Prelude.{◌≡◌, ◌↔◌};
+ghost use Rattle.live_feed.specs.declared.fault.Fault.TheVariants.{Memory, Read, Write};
+ghost use Rattle.retransmit.specs.declared.ask_fault.AskFault.TheVariants.{OutOfMemory as AskOutOfMemory, ReadFault, WriteFault};
+ghost use Rattle.subscriber.specs.declared.drain_fault.Stop.TheVariants.{Refused};
+ghost use Rattle.tape_core.specs.declared.refusal.Refusal.TheVariants.{OutOfMemory};
 
 use crate::starting::fault_of;
 use crate::{Fault, here};
@@ -37,7 +42,9 @@ fn dial<R: Net<Listener = TcpListener, Stream = TcpStream>>(
 }
 
 /// What a drain that stops is to the run.
-fn fault_of_drain(fault: DrainFault) -> Fault {
+fn fault_of_drain(fault: DrainFault) -> Fault
+    ensures { (result ≡ Memory) ↔ (fault.why ≡ Refused OutOfMemory) }
+{
     match fault.why {
         Stop::Refused(Refusal::OutOfMemory) => Fault::Memory,
         Stop::Refused(_) | Stop::OtherSummary | Stop::Failed => Fault::Disagrees,
@@ -45,7 +52,11 @@ fn fault_of_drain(fault: DrainFault) -> Fault {
 }
 
 /// What an answer that does not come is to the run.
-fn fault_of_ask(fault: AskFault) -> Fault {
+fn fault_of_ask(fault: AskFault) -> Fault
+    ensures read { fault ≡ ReadFault → result ≡ Read }
+    ensures write { fault ≡ WriteFault → result ≡ Write }
+    ensures memory { fault ≡ AskOutOfMemory → result ≡ Memory }
+{
     match fault {
         AskFault::ReadFault => Fault::Read,
         AskFault::WriteFault => Fault::Write,

@@ -1,8 +1,9 @@
 //! A live day: it accepts the participants' lines, sends the tape that they make, and reports it.
-ghost use Rattle.std.specs.Prelude.{◌≡◌, IfOk, OnOk, length, true, vec_len};
+ghost use Rattle.std.specs.Prelude.{◌≡◌, ◌⊎◌, ◌≤◌, IfOk, OnOk, length, true, vec_len};
 ghost use Rattle.tape_core.specs.Tape.{IsLegal};
 ghost use Rattle.line_ledger.specs.Cells.{FirstTokens};
 ghost use Rattle.line_ledger.specs.Ends.{IsOneEach};
+ghost use Rattle.live_feed.specs.Days.{HasAll};
 ghost use Rattle.live_feed.specs.Reports.{WritesOneReport};
 
 use crate::bell::Bell;
@@ -62,6 +63,7 @@ fn end_day<D: DayName>(shared: SharedTape<D>, seats: Vec<LineSeat<D>>) -> Result
 /// Whether the day has what each token shows.
 fn confirms_all(day: &Day, tokens: &[Token]) -> bool
     requires { FirstTokens day.now.names tokens.now }
+    ensures { result ≡ true → HasAll day.now.tape tokens.now }
 {
     for token in tokens {
         if day.confirm(token).is_err() {
@@ -75,7 +77,8 @@ fn confirms_all(day: &Day, tokens: &[Token]) -> bool
 /// how many entries it has.
 fn is_as_sent(day: &Day, tokens: &[Token], number: u32) -> bool
     requires { FirstTokens day.now.names tokens.now }
-    ensures { result ≡ true → (length tokens.now ≡ number) × (length day.now.tape.entries ≡ number) }
+    ensures number { result ≡ true → (length tokens.now ≡ number) × (length day.now.tape.entries ≡ number) }
+    ensures tokens { result ≡ true → HasAll day.now.tape tokens.now }
 {
     tokens.len() == number as usize
         && day.tape().entries().len() == number as usize
@@ -214,6 +217,7 @@ pub fn live_over<R: Threads + Wait + Clock + Sync, L: Loss + Sync, W: Write>(
     writer: &mut W,
 ) -> u8
     ensures report { result ≡ 0 → WritesOneReport (W.contents writer.old) (W.contents writer.new) }
+    ensures status { (result ≡ 0) ⊎ ((3 ≤ result) × (result ≤ 7)) }
 {
     let feed = Feed {
         sender: &sockets.sender,

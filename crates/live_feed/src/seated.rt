@@ -1,7 +1,9 @@
 //! The lines with their seats, before they run and after.
-ghost use Rattle.std.specs.Prelude.{◌≡◌, ◌≤◌, [], map, vec_len};
+ghost use Rattle.std.specs.Prelude.{◌≡◌, ◌≤◌, [], Some, map, vec_len};
 ghost use Rattle.std.specs.Vec.{vec_capacity};
 ghost use Rattle.line_ledger.specs.Ends.{whos};
+ghost use Rattle.live_feed.specs.declared.fault.Fault.TheVariants.{Memory, Disagrees};
+ghost use Rattle.participant_lines.specs.declared.line_end.Ended.TheVariants.{OutOfMemory, Behind};
 
 use crate::Fault;
 use crate::bell::Bell;
@@ -48,6 +50,7 @@ pub(crate) fn lines_of<D: DayName>(
     requires empty { lines.items ≡ [] }
     ensures len { vec_len result ≡ vec_len seats }
     ensures whos { map (λ l. l.0.who) result.items ≡ whos seats.items }
+    ensures readers { map (λ l. l.1) result.items ≡ readers.items }
 {
     let mut lines = lines;
     let mut readers = readers.into_iter();
@@ -63,7 +66,10 @@ pub(crate) fn lines_of<D: DayName>(
 }
 
 /// What the end of a line is to the day. A peer that misbehaves ends its own line alone.
-fn fault_of(ended: Ended) -> Option<Fault> {
+fn fault_of(ended: Ended) -> Option<Fault>
+    ensures memory { ended ≡ OutOfMemory → result ≡ Some Memory }
+    ensures behind { ended ≡ Behind → result ≡ Some Disagrees }
+{
     match ended {
         Ended::OutOfMemory => Some(Fault::Memory),
         Ended::Behind => Some(Fault::Disagrees),

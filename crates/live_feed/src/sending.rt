@@ -1,4 +1,7 @@
 //! The sender: what the lines admit is published and sent on both lines, and then the end.
+ghost use Rattle.std.specs.Prelude.{◌≡◌};
+ghost use Rattle.line_ledger.specs.declared.publish_fault.PublishFault.TheVariants.{OutOfMemory};
+ghost use Rattle.live_feed.specs.declared.fault.Fault.TheVariants.{Memory};
 
 use crate::bell::Bell;
 use crate::feed::Feed;
@@ -33,7 +36,9 @@ pub(crate) struct Sent {
 }
 
 /// Why nothing is published.
-fn fault_of(fault: PublishFault) -> Fault {
+fn fault_of(fault: PublishFault) -> Fault
+    ensures memory { fault ≡ OutOfMemory → result ≡ Memory }
+{
     match fault {
         PublishFault::Unpublished(_) => Fault::Disagrees,
         PublishFault::OutOfMemory => Fault::Memory,

@@ -33,3 +33,9 @@ whole_slice items new len is same =
 pub map_made : {A B C : Type 0} (f : A → B) (h : B → C) (xs : List A) → map h (map f xs) ≡ map (λ x. h (f x)) xs
 map_made f h [] = refl
 map_made f h (x ∷ xs) = ap (λ l. h (f x) ∷ l) (map_made f h xs)
+
+-- the place of what is made of a list
+pub made_at : {A B : Type 0} (f : A → B) (xs : List A) (i : ℕ) (d : A) → slice_index_or (map f xs) i (f d) ≡ f (slice_index_or xs i d)
+made_at f [] i d = refl
+made_at f (x ∷ xs) zero d = refl
+made_at f (x ∷ xs) (suc i) d = made_at f xs i d

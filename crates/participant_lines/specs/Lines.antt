@@ -1,5 +1,5 @@
 -- A line's run, from its seat and its reader to its end.
-use Rattle.std.specs.Prelude.{ℕ, List, Option}
+use Rattle.std.specs.Prelude.{ℕ, List, Option, Some}
 use Rattle.line_ledger.specs.Seats.{SeatState}
 use Rattle.tape_types.specs.Names.{Names}
 use Rattle.participant_lines.specs.Runs.{Runs}
@@ -8,3 +8,7 @@ use Rattle.participant_lines.specs.declared.line_end.Ended.{Ended}
 -- the line has run, and its reader is spent
 abbrev pub HasRun : Names → SeatState → Option (List ℕ) → ℕ → Ended → SeatState → Type 0
 HasRun listing s had refused ended s' = (rest : Option (List ℕ)) × Runs listing s had rest refused ended s'
+
+-- a line whose reader is still held
+abbrev pub held : {S R : Type 0} → S × R → S × Option R
+held line = (line.0, Some line.1)

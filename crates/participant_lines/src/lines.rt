@@ -1,7 +1,7 @@
 //! All lines of a day, run at once.
-ghost use Rattle.std.specs.Prelude.{◌≡◌, ◌<◌, ◌≤◌, ℕ, IfErr, IfOk, [], length, map, slice_index_or, vec_len};
+ghost use Rattle.std.specs.Prelude.{◌≡◌, ◌<◌, ◌≤◌, ℕ, IfErr, IfOk, None, Some, [], length, map, slice_index_or, vec_len};
 ghost use Rattle.std.specs.Vec.{vec_capacity};
-ghost use Rattle.participant_lines.specs.Lines.{HasRun};
+ghost use Rattle.participant_lines.specs.Lines.{HasRun, held};
 ghost use Rattle.participant_lines.specs.declared.unstarted.Lack.TheVariants.{Worker};
 
 use crate::running::{Outcome, run_frames};
@@ -14,10 +14,10 @@ use std::thread;
 use std::thread::Threads;
 use tape_types::Gate;
 
-/// A line while it runs.
+/// A line while it runs. It has no reader once it has ended.
 struct Running<D: DayName, R> {
     seat: LineSeat<D>,
-    reader: R,
+    reader: Option<R>,
     outcome: Outcome,
 }
 
@@ -26,7 +26,7 @@ fn running_lines<D: DayName, R>(
     alloc: Global,
     lines: Vec<(LineSeat<D>, R)>,
 ) -> Result<Vec<Running<D, R>>, Vec<(LineSeat<D>, R)>>
-    ensures ok { IfOk result (λ running. map (λ r. (r.seat, r.reader)) running.items ≡ lines.items) }
+    ensures ok { IfOk result (λ running. map (λ r. (r.seat, r.reader)) running.items ≡ map held lines.items) }
     ensures err { IfErr result (λ back. back.items ≡ lines.items) }
 {
     let Ok(mut running) = Vec::with_capacity(alloc, lines.len()) else {
@@ -36,7 +36,7 @@ fn running_lines<D: DayName, R>(
     while let Some((seat, reader)) = left.next() {
         running.push_reserved(Running {
             seat,
-            reader,
+            reader: Some(reader),
             outcome: Outcome {
                 refused: 0,
                 ended: Ended::Clean,
@@ -75,14 +75,16 @@ fn line_ends<D: DayName, R: Drop>(
 }
 
 /// Runs each line in a worker of its own: the workers are started by halves, and all are joined.
-fn run_each<D: DayName + Send + Sync, R: BufRead + Send, G: Gate + Sync, T: Threads + Wait + Sync>(
-    rt: &T,
-    shared: &SharedTape<D>,
-    lines: &mut [Running<D, R>],
-    gate: &G,
-)
+fn run_each<
+    D: DayName + Send + Sync,
+    R: BufRead + Send + Drop,
+    G: Gate + Sync,
+    T: Threads + Wait + Sync,
+>(rt: &T, shared: &SharedTape<D>, lines: &mut [Running<D, R>], gate: &G)
     ensures len { length lines.new ≡ length lines.old }
-    ensures each { (i : ℕ) (d : _) → i < length lines.old → HasRun D.listing (slice_index_or lines.old i d).seat (R.remaining (slice_index_or lines.old i d).reader)
+    ensures who { (i : ℕ) (d : _) → i < length lines.old → (slice_index_or lines.new i d).seat.who ≡ (slice_index_or lines.old i d).seat.who }
+    ensures each { (i : ℕ) (d : _) → i < length lines.old → (r : _) → (slice_index_or lines.old i d).reader ≡ Some r
+        → HasRun D.listing (slice_index_or lines.old i d).seat (R.remaining r)
         (slice_index_or lines.new i d).outcome.refused (slice_index_or lines.new i d).outcome.ended (slice_index_or lines.new i d).seat }
 {
     let workers = lines.len();
@@ -90,28 +92,34 @@ fn run_each<D: DayName + Send + Sync, R: BufRead + Send, G: Gate + Sync, T: Thre
         return;
     }
     let work = |line: usize, running: &mut Running<D, R>|
-        ensures { HasRun D.listing running.entry.now.seat (R.remaining running.entry.now.reader) running.exit.now.outcome.refused
-            running.exit.now.outcome.ended running.exit.now.seat }
+        ensures who { running.exit.now.seat.who ≡ running.entry.now.seat.who }
+        ensures ran { (r : _) → running.entry.now.reader ≡ Some r → HasRun D.listing running.entry.now.seat (R.remaining r)
+            running.exit.now.outcome.refused running.exit.now.outcome.ended running.exit.now.seat }
     { run_one(rt, shared, line, running, gate) };
     thread::for_each_mut(rt, lines, workers, &work);
 }
 
-/// Runs one line.
-fn run_one<D: DayName, R: BufRead, G: Gate, W: Wait>(
+/// Runs one line, and lets go of its reader as soon as the line has ended: its peer is not kept waiting for the other lines.
+fn run_one<D: DayName, R: BufRead + Drop, G: Gate, W: Wait>(
     rt: &W,
     shared: &SharedTape<D>,
     line: usize,
     running: &mut Running<D, R>,
     gate: &G,
 )
-    ensures { HasRun D.listing running.old.seat (R.remaining running.old.reader) running.new.outcome.refused running.new.outcome.ended running.new.seat }
+    ensures who { running.new.seat.who ≡ running.old.seat.who }
+    ensures ran { (r : _) → running.old.reader ≡ Some r → HasRun D.listing running.old.seat (R.remaining r)
+        running.new.outcome.refused running.new.outcome.ended running.new.seat }
+    ensures closed { running.new.reader ≡ None }
 {
     let Running {
         seat,
         reader,
         outcome,
     } = running;
-    *outcome = run_frames(rt, shared, line, seat, reader, gate);
+    if let Some(mut open) = reader.take() {
+        *outcome = run_frames(rt, shared, line, seat, &mut open, gate);
+    }
 }
 
 /// Whether a thread can be started now. It does nothing, and its end is waited for.
@@ -126,7 +134,8 @@ fn can_start<T: Threads>(rt: &T) -> bool {
 }
 
 /// Runs all lines at once, each in a worker as `run_line` runs it, with its place from 0 as its number, and waits for their
-/// ends, which come in the order of the lines. The workers are started by halves.
+/// ends, which come in the order of the lines. The workers are started by halves. A line's reader is dropped when that line
+/// has ended, while others may still run.
 ///
 /// Nothing is started, and all lines come back with their seats, where memory runs out (`Lack::Memory`) or, with two lines or
 /// more, no thread can be started (`Lack::Worker`). Where a thread is refused later, its half of the lines is run by the
