@@ -7,6 +7,7 @@
 # stands on standard error. Needs python3 and Linux, whose /proc/net tells which ports are bound.
 #
 #     TAPEBOX   the program (../crates/tapebox/out/tapebox, from here)
+#     FOLLOWED  1, or 0 for a day that nobody follows: `live` awaits no retransmission, and its report alone is printed (1)
 #     LOSE      the percentage of packets that is lost: of both lines, or as 100,10 of each (30)
 #     SEED      what the relay draws from (9, which loses the third packet of a line on both)
 #     PAUSE     seconds of rest after each message, so that each has a packet of its own (0.002)
@@ -15,14 +16,16 @@
 samples=$(cd "$(dirname "$0")" && pwd) || exit 1
 table=${1:-$samples/corrections.csv}
 tapebox=${TAPEBOX:-$samples/../crates/tapebox/out/tapebox}
+followed=${FOLLOWED:-1}
 lose=${LOSE:-30}
 seed=${SEED:-9}
 pause=${PAUSE:-0.002}
 limit=${LIMIT:-60}
 session=1
 
-# The programs that run, each as NAME:PROCESS.
+# The programs that run, each as NAME:PROCESS, and the relay among them.
 running=
+relay=
 work=$(mktemp -d) || exit 1
 
 clean_up() {
@@ -81,10 +84,10 @@ bound() {
     grep -q ": [0-9A-F]*:$(printf %04X "$2") 00000000:0000 " "/proc/net/$1"
 }
 
-# Whether the relay alone is left.
+# Whether the relay alone is left, or nothing where there is none.
 ended() {
     look
-    [ "$running" = " $relay" ]
+    [ "$running" = "${relay:+ $relay}" ]
 }
 
 [ -x "$tapebox" ] || fail "there is no program $tapebox"
@@ -101,9 +104,18 @@ a=$((retransmission + 3))
 b=$((retransmission + 4))
 deadline=$(($(date +%s) + limit))
 
-# The follower connects as it starts, and a line's first packet must find the relay and the follower.
-start live "$tapebox" live "$symbols" "$participants" "$port" "$sent_a" "$sent_b" "$retransmission" 1 "$session"
+start live "$tapebox" live "$symbols" "$participants" "$port" "$sent_a" "$sent_b" "$retransmission" "$followed" "$session"
 await bound tcp "$retransmission"
+if [ "$followed" -eq 0 ]; then
+    start sender "$samples/send_day.py" --pause "$pause" "$table" "$port"
+    await ended
+    [ -s "$work/live.out" ] || fail "live wrote no report"
+    cat "$work/live.out"
+    echo "live wrote its report, and nobody followed" >&2
+    exit
+fi
+
+# The follower connects as it starts, and a line's first packet must find the relay and the follower.
 start relay "$samples/lossy_relay.py" --lose "$lose" --double 10 --reorder 10 --seed "$seed" "$sent_a" "$sent_b" "$a" "$b"
 relay=relay:$!
 await bound udp "$sent_a"

@@ -1,0 +1,54 @@
+//! The words of `live` and of `follow`: each number is the field that stands in its place.
+
+use crate::command::{Command, read_command};
+use std::alloc::Global;
+
+/// The words of a tape that is made, each number another one.
+const LIVE: &[u8] = b"live\0AB,CD\0N,Q,P\09000\09101\09102\09203\05\077\0";
+
+/// The words of a tape that is followed, each number another one.
+const FOLLOW: &[u8] = b"follow\0AB,CD\0N,Q,P\09101\09102\09203\077\0";
+
+/// How many symbols and participants are listed, and the numbers in the order of the words.
+fn live_numbers(alloc: Global, words: &[u8]) -> Option<([usize; 2], [u16; 5], u64)> {
+    let Ok(Command::Live(live)) = read_command(alloc, words) else {
+        return None;
+    };
+    let listing = &live.listing;
+    let listed = [
+        listing.symbols().as_slice().len(),
+        listing.participants().as_slice().len(),
+    ];
+    let [a, b] = live.ports;
+    Some((
+        listed,
+        [live.first_port, a, b, live.retransmission, live.serves],
+        live.session,
+    ))
+}
+
+/// How many symbols and participants are listed, and the numbers in the order of the words.
+fn follow_numbers(alloc: Global, words: &[u8]) -> Option<([usize; 2], [u16; 3], u64)> {
+    let Ok(Command::Follow(follow)) = read_command(alloc, words) else {
+        return None;
+    };
+    let listing = &follow.listing;
+    let listed = [
+        listing.symbols().as_slice().len(),
+        listing.participants().as_slice().len(),
+    ];
+    let [a, b] = follow.ports;
+    Some((listed, [a, b, follow.retransmission], follow.session))
+}
+
+#[test]
+fn each_word_of_live_is_its_field(rt: HostRuntime) {
+    let wanted = Some(([2, 3], [9000, 9101, 9102, 9203, 5], 77));
+    assert!(rt; live_numbers(rt.alloc(), LIVE) == wanted);
+}
+
+#[test]
+fn each_word_of_follow_is_its_field(rt: HostRuntime) {
+    let wanted = Some(([2, 3], [9101, 9102, 9203], 77));
+    assert!(rt; follow_numbers(rt.alloc(), FOLLOW) == wanted);
+}
