@@ -4,6 +4,7 @@ mod failing;
 mod feed;
 mod memory;
 mod packets;
+mod printing;
 mod requests;
 mod rows;
 mod schedules;

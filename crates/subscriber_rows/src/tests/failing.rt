@@ -1,12 +1,12 @@
 //! Readers and writers that fail, are slow or are interrupted, and a source that grows.
 ghost use Rattle.std.specs.Prelude.{take};
 
-use super::requests::{REQUEST, SESSION, put_request, request, source_of, tape_of};
-use retransmit::{AskFault, Ended, Refusal, ServeEnd, ask, serve};
+use super::feed::SESSION;
+use super::requests::{REQUEST, end, requests, served, source_of, tape_of, told};
+use retransmit::{AskFault, Ended, Refusal, ServeEnd, serve};
 use std::alloc::{AllocError, Global};
 use std::io;
 use std::io::{ErrorKind, Read, Write};
-use std::test::Fail;
 use tape_core::Entry;
 use tape_frames::{SliceSource, Source};
 
@@ -138,186 +138,156 @@ impl Source for Growing<'_> {
     }
 }
 
-/// How serving two requests of zeros ends, where the reader fails once it gave this many bytes.
-fn end_of_reads(alloc: Global, until_fault: u32, output: &mut Vec<u8>) -> Result<ServeEnd, Fail> {
-    let tape = tape_of(alloc, 0)?;
-    let mut source = source_of(&tape);
+/// How serving two requests of zeros ends, where the reader fails once it gave this many bytes, and how many are answered.
+fn end_of_reads(alloc: Global, until_fault: u32) -> (Option<ServeEnd>, usize) {
     let mut reader = slow(&[0; 28], until_fault);
-    Ok(serve(alloc, &mut source, SESSION, &mut reader, output))
+    let mut output = Vec::new(alloc);
+    let end = served(alloc, 0, &mut reader, &mut output);
+    (end, output.len())
 }
 
-/// How serving two requests of zeros ends, by this writer.
-fn end_of_writes(alloc: Global, writer: &mut SlowWrites) -> Result<ServeEnd, Fail> {
-    let tape = tape_of(alloc, 0)?;
-    let mut source = source_of(&tape);
+/// How serving two requests of zeros ends, by a writer that fails once it was called so often, and how many bytes and
+/// flushes it took.
+fn end_of_writes(alloc: Global, until_fault: u32) -> (Option<ServeEnd>, u32, u32) {
     let mut reader = [0; 28].as_slice();
-    Ok(serve(alloc, &mut source, SESSION, &mut reader, writer))
+    let mut writer = SlowWrites::new(until_fault);
+    let end = served(alloc, 0, &mut reader, &mut writer);
+    (end, writer.taken, writer.flushes)
 }
 
-/// How serving these requests ends, over a source that shows one entry more at each refresh.
-fn end_of_growing(alloc: Global, input: &[u8], output: &mut Vec<u8>) -> Result<ServeEnd, Fail> {
-    let tape = tape_of(alloc, 3)?;
-    let entries = source_of(&tape);
-    let mut source = Growing {
-        source: &entries,
-        len: 0,
-    };
+/// How serving a request for 64 of twenty entries ends, and how many writes and flushes there are.
+fn end_of_calls(alloc: Global, input: &[u8]) -> (Option<ServeEnd>, u32, u32) {
     let mut reader = input;
-    Ok(serve(alloc, &mut source, SESSION, &mut reader, output))
-}
-
-/// What asking for 64 entries from 3 tells, by this reader.
-fn told(alloc: Global, reader: &mut SlowReads<'_>) -> Result<Option<AskFault>, Fail> {
-    let asked = request(3, 64)?;
-    let mut sent = Vec::new(alloc);
-    Ok(ask(alloc, &asked, reader, &mut sent).err())
-}
-
-#[test]
-fn each_request_is_answered_over_what_is_published_then(rt: HostRuntime) -> Result<(), Fail> {
-    let mut input = Vec::new(rt.alloc());
-    for from in [2, 2, 3, 4] {
-        put_request(&mut input, SESSION, from, 1)?;
-    }
-    let mut output = Vec::new(rt.alloc());
-    let end = end_of_growing(rt.alloc(), &input, &mut output)?;
-    assert_eq!(rt;
-        end,
-        ServeEnd {
-            served: 4,
-            ended: Ended::Clean
-        }
-    );
-    // Refused, a packet of 59 bytes after its four, another one, refused.
-    assert_eq!(rt; output.len(), 1 + 63 + 63 + 1);
-    assert_eq!(rt; output.first(), Some(&0x48));
-    assert_eq!(rt; output.last(), Some(&0x48));
-    Ok(())
-}
-
-#[test]
-fn a_reader_that_fails_ends_the_serving_there(rt: HostRuntime) -> Result<(), Fail> {
-    for (given, served) in [(0, 0), (1, 0), (13, 0), (14, 1), (27, 1), (28, 2)] {
-        let mut output = Vec::new(rt.alloc());
-        let end = end_of_reads(rt.alloc(), given, &mut output)?;
-        assert_eq!(rt;
-            end,
-            ServeEnd {
-                served,
-                ended: Ended::ReadFault
-            }
-        );
-        assert_eq!(rt; output.len(), served as usize);
-    }
-    Ok(())
-}
-
-#[test]
-fn a_slow_reader_is_read_to_its_end(rt: HostRuntime) -> Result<(), Fail> {
-    let mut output = Vec::new(rt.alloc());
-    let end = end_of_reads(rt.alloc(), 29, &mut output)?;
-    assert_eq!(rt;
-        end,
-        ServeEnd {
-            served: 2,
-            ended: Ended::Clean
-        }
-    );
-    Ok(())
-}
-
-#[test]
-fn a_writer_that_fails_ends_the_serving_there(rt: HostRuntime) -> Result<(), Fail> {
-    // One write and one flush for each answer of one byte.
-    for (calls, served, taken) in [(0, 0, 0), (1, 0, 1), (2, 1, 1), (3, 1, 2)] {
-        let mut writer = SlowWrites::new(calls);
-        let end = end_of_writes(rt.alloc(), &mut writer)?;
-        assert_eq!(rt;
-            end,
-            ServeEnd {
-                served,
-                ended: Ended::WriteFault
-            }
-        );
-        assert_eq!(rt; writer.taken, taken);
-        assert_eq!(rt; writer.flushes, served);
-    }
-    Ok(())
-}
-
-#[test]
-fn a_slow_writer_is_given_all(rt: HostRuntime) -> Result<(), Fail> {
-    let mut writer = SlowWrites::new(4);
-    let end = end_of_writes(rt.alloc(), &mut writer)?;
-    assert_eq!(rt;
-        end,
-        ServeEnd {
-            served: 2,
-            ended: Ended::Clean
-        }
-    );
-    assert_eq!(rt; writer.taken, 2);
-    assert_eq!(rt; writer.flushes, 2);
-    Ok(())
-}
-
-#[test]
-fn an_answer_is_one_write_and_one_flush(rt: HostRuntime) -> Result<(), Fail> {
-    let tape = tape_of(rt.alloc(), 20)?;
-    let mut source = source_of(&tape);
-    let mut input = Vec::new(rt.alloc());
-    put_request(&mut input, SESSION, 1, 64)?;
-    let mut reader = input.as_slice();
     let mut writer = Calls {
         writes: 0,
         flushes: 0,
     };
-    let end = serve(rt.alloc(), &mut source, SESSION, &mut reader, &mut writer);
-    assert_eq!(rt;
-        end,
-        ServeEnd {
-            served: 1,
-            ended: Ended::Clean
-        }
-    );
-    assert_eq!(rt; writer.writes, 1);
-    assert_eq!(rt; writer.flushes, 1);
-    Ok(())
+    let end = served(alloc, 20, &mut reader, &mut writer);
+    (end, writer.writes, writer.flushes)
+}
+
+/// How serving these requests ends, over a source that shows one of the entries more at each refresh.
+fn serve_growing(
+    alloc: Global,
+    entries: &SliceSource<'_>,
+    input: &[u8],
+    output: &mut Vec<u8>,
+) -> ServeEnd {
+    let mut source = Growing {
+        source: entries,
+        len: 0,
+    };
+    let mut reader = input;
+    serve(alloc, &mut source, SESSION, &mut reader, output)
+}
+
+/// The same over three entries.
+fn end_of_growing(alloc: Global, input: &[u8], output: &mut Vec<u8>) -> Option<ServeEnd> {
+    let tape = tape_of(alloc, 3)?;
+    Some(serve_growing(alloc, &source_of(&tape), input, output))
+}
+
+/// What asking for 64 entries from 3 tells, by this reader.
+fn told_by(alloc: Global, reader: &mut SlowReads<'_>) -> Option<Result<usize, AskFault>> {
+    let mut sent = Vec::new(alloc);
+    told(alloc, reader, &mut sent)
+}
+
+/// Whether the answers begin and end with a refusal, and have this many bytes.
+fn are_between_refusals(answers: &[u8], len: usize) -> bool {
+    answers.len() == len && answers.first() == Some(&0x48) && answers.last() == Some(&0x48)
+}
+
+/// Whether requests for one entry each are answered over what is published when they come.
+fn is_answered_as_published(alloc: Global) -> Option<bool> {
+    let input = requests(alloc, &[(7, 2, 1), (7, 2, 1), (7, 3, 1), (7, 4, 1)])?;
+    let mut output = Vec::new(alloc);
+    let is_end = end_of_growing(alloc, &input, &mut output) == end(4, Ended::Clean);
+    // Refused, a packet of 59 bytes after its four, another one, refused.
+    Some(is_end && are_between_refusals(&output, 1 + 63 + 63 + 1))
 }
 
 #[test]
-fn a_reader_that_fails_within_an_answer_is_a_read_fault(rt: HostRuntime) -> Result<(), Fail> {
-    let bytes = [0x00, 0x01, 0x00, 0x02, 0x05, 0x06];
-    for given in 0..6 {
-        let mut reader = slow(&bytes, given);
-        assert_eq!(rt; told(rt.alloc(), &mut reader)?, Some(AskFault::ReadFault));
+fn each_request_is_answered_over_what_is_published_then(rt: HostRuntime) {
+    assert_eq!(rt; is_answered_as_published(rt.alloc()), Some(true));
+}
+
+#[test]
+fn a_reader_that_fails_ends_the_serving_there(rt: HostRuntime) {
+    for (given, served) in [(0, 0), (1, 0), (13, 0), (14, 1), (27, 1), (28, 2)] {
+        let wanted = (end(served, Ended::ReadFault), served as usize);
+        assert_eq!(rt; end_of_reads(rt.alloc(), given), wanted);
     }
-    Ok(())
 }
 
 #[test]
-fn an_answer_is_read_to_its_end_and_no_further(rt: HostRuntime) -> Result<(), Fail> {
-    let bytes = [0x00, 0x01, 0x00, 0x02, 0x05, 0x06, 0x47, 0x00];
-    let mut reader = slow(&bytes, 7);
-    assert_eq!(rt; told(rt.alloc(), &mut reader)?, None);
+fn a_slow_reader_is_read_to_its_end(rt: HostRuntime) {
+    assert_eq!(rt; end_of_reads(rt.alloc(), 29), (end(2, Ended::Clean), 2));
+}
+
+#[test]
+fn a_writer_that_fails_ends_the_serving_there(rt: HostRuntime) {
+    // One write and one flush for each answer of one byte.
+    for (calls, served, taken) in [(0, 0, 0), (1, 0, 1), (2, 1, 1), (3, 1, 2)] {
+        let wanted = (end(served, Ended::WriteFault), taken, served);
+        assert_eq!(rt; end_of_writes(rt.alloc(), calls), wanted);
+    }
+}
+
+#[test]
+fn a_slow_writer_is_given_all(rt: HostRuntime) {
+    assert_eq!(rt; end_of_writes(rt.alloc(), 4), (end(2, Ended::Clean), 2, 2));
+}
+
+/// How serving a request for 64 of twenty entries ends, and how many writes and flushes there are.
+fn end_of_an_answer(alloc: Global) -> Option<(Option<ServeEnd>, u32, u32)> {
+    let input = requests(alloc, &[(SESSION, 1, 64)])?;
+    Some(end_of_calls(alloc, &input))
+}
+
+#[test]
+fn an_answer_is_one_write_and_one_flush(rt: HostRuntime) {
     assert_eq!(rt;
-        told(rt.alloc(), &mut reader)?,
-        Some(AskFault::Refused(Refusal::OtherSession))
+        end_of_an_answer(rt.alloc()),
+        Some((end(1, Ended::Clean), 1, 1))
+    );
+}
+
+#[test]
+fn a_reader_that_fails_within_an_answer_is_a_read_fault(rt: HostRuntime) {
+    for given in 0..6 {
+        let mut reader = slow(&[0x00, 0x01, 0x00, 0x02, 0x05, 0x06], given);
+        assert_eq!(rt;
+            told_by(rt.alloc(), &mut reader),
+            Some(Err(AskFault::ReadFault))
+        );
+    }
+}
+
+#[test]
+fn an_answer_is_read_to_its_end_and_no_further(rt: HostRuntime) {
+    let mut reader = slow(&[0x00, 0x01, 0x00, 0x02, 0x05, 0x06, 0x47, 0x00], 7);
+    assert_eq!(rt; told_by(rt.alloc(), &mut reader), Some(Ok(1)));
+    assert_eq!(rt;
+        told_by(rt.alloc(), &mut reader),
+        Some(Err(AskFault::Refused(Refusal::OtherSession)))
     );
     assert_eq!(rt; reader.left.len(), 1);
-    Ok(())
+}
+
+/// What asking for 64 entries from 3 tells, by a writer that fails once it was called so often, how many bytes that took, and how
+/// many are left to be read.
+fn told_of_writes(alloc: Global, calls: u32) -> (Option<Result<usize, AskFault>>, u32, usize) {
+    let mut reader = REQUEST.as_slice();
+    let mut writer = SlowWrites::new(calls);
+    let told = told(alloc, &mut reader, &mut writer);
+    (told, writer.taken, reader.len())
 }
 
 #[test]
-fn a_request_that_is_not_written_is_a_write_fault(rt: HostRuntime) -> Result<(), Fail> {
-    let asked = request(3, 64)?;
+fn a_request_that_is_not_written_is_a_write_fault(rt: HostRuntime) {
     for calls in 0..15 {
-        let mut reader = REQUEST.as_slice();
-        let mut writer = SlowWrites::new(calls);
-        let told = ask(rt.alloc(), &asked, &mut reader, &mut writer);
-        assert_eq!(rt; told.err(), Some(AskFault::WriteFault));
-        assert_eq!(rt; writer.taken, calls.min(14));
-        assert_eq!(rt; reader.len(), 14);
+        let wanted = (Some(Err(AskFault::WriteFault)), calls.min(14), 14);
+        assert_eq!(rt; told_of_writes(rt.alloc(), calls), wanted);
     }
-    Ok(())
 }

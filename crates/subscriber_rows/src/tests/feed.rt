@@ -28,7 +28,7 @@ pub(super) fn listing(alloc: Global) -> Option<Listing> {
     Listing::new(alloc, &symbols, &participants).ok()
 }
 
-fn header(number: u32) -> Option<Header> {
+pub(super) fn header(number: u32) -> Option<Header> {
     Some(Header {
         participant: participant()?,
         number: MsgNumber::try_new(number)?,
@@ -38,7 +38,7 @@ fn header(number: u32) -> Option<Header> {
 }
 
 /// A hundred shares.
-fn content(price: u64) -> Option<Content> {
+pub(super) fn content(price: u64) -> Option<Content> {
     Some(Content {
         price: Price::try_new(price)?,
         size: Size::try_new(100)?,

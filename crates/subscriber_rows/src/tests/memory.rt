@@ -33,11 +33,16 @@ fn drains_all(subscriber: &mut Subscriber, tape: &Feed) -> bool {
 }
 
 /// The same of a new subscriber. `None` where memory ran out before.
-fn two_packets(alloc: Global) -> Option<bool> {
-    let tape = feed::reports(alloc, 16, 100_000)?;
+fn drains_anew(alloc: Global, tape: &Feed) -> Option<bool> {
     let mut subscriber = subscriber(alloc, 100)?;
     let is_taken = told_so(alloc, &mut subscriber, &TWO_PACKETS) == TWO_PACKETS.len();
-    is_taken.then_some(drains_all(&mut subscriber, &tape))
+    is_taken.then_some(drains_all(&mut subscriber, tape))
+}
+
+/// The same of a tape of sixteen reports.
+fn two_packets(alloc: Global) -> Option<bool> {
+    let tape = feed::reports(alloc, 16, 100_000)?;
+    drains_anew(alloc, &tape)
 }
 
 #[test]

@@ -2,21 +2,16 @@
 ghost use Rattle.std.specs.Prelude.{◌≡◌};
 ghost use Rattle.tape_frames.specs.Sources.{IsPublished};
 
-use reports::{Content, Header, Message, Moment};
+use super::feed::{self, SESSION};
+use super::printing::prints;
 use retransmit::{Answer, AskFault, Ended, Refusal, ServeEnd, answer, ask, serve};
-use sale_matrix::Condition;
 use scratch_fold::{Mark, Summary};
 use std::alloc::{AllocError, Global};
 use std::io;
-use std::io::Read;
-use std::test::Fail;
+use std::io::{Read, Write};
 use summaries::ScratchStore;
 use tape_core::Tape;
 use tape_frames::{Packet, Request, SliceSource, Span, decode_packet};
-use tape_types::{Listing, MsgNumber, Participant, Price, Size, Symbol};
-
-/// The session of every tape here.
-pub(super) const SESSION: u64 = 7;
 
 /// A request of session 7 for 64 entries from 3.
 pub(super) const REQUEST: [u8; 14] = [
@@ -42,48 +37,39 @@ const ANSWER: [u8; 107] = [
     0x00, 0x00, 0x00, 0x64, 0x40, 0x20, 0x20, 0x20, // size, condition
 ];
 
-/// N's report of 100 shares of AB at $10.0000.
-fn report(number: u32) -> Option<Message> {
-    Some(Message::Report {
-        header: Header {
-            participant: Participant::try_new(b'N')?,
-            number: MsgNumber::try_new(number)?,
-            moment: Moment::new(0),
-            symbol: Symbol::try_new(*b"AB      ")?,
-        },
-        content: Content {
-            price: Price::try_new(100_000)?,
-            size: Size::try_new(100)?,
-            condition: Condition::try_new(*b"@   ")?,
-        },
-    })
-}
+/// Requests that are refused over four entries, each by its session, its first entry and its count.
+const REFUSED: [(u64, u32, u16); 5] = [(7, 5, 1), (7, 0, 1), (8, 3, 1), (7, 3, 0), (8, 0, 65)];
 
 /// The highest trade of a summary, where there is one.
 fn high_of(summary: Option<Summary>) -> Option<Mark> {
     summary?.high
 }
 
-/// Admits N's report of this number, whose entry carries no summary.
-fn admit(tape: &mut Tape<ScratchStore>, number: u32) -> Result<(), Fail> {
-    let message = report(number).ok_or("report")?;
-    let entry = tape.admit(message)?;
-    if high_of(entry.after).is_some() {
-        return Err("summary".into());
+/// Whether the tape takes N's report of this number, at $10.0000, and its entry carries no summary.
+fn admits(tape: &mut Tape<ScratchStore>, number: u32) -> Option<bool> {
+    let entry = tape.admit(feed::report(number, 100_000)?).ok()?;
+    Some(high_of(entry.after).is_none())
+}
+
+/// Whether the tape takes this many reports.
+fn admits_reports(tape: &mut Tape<ScratchStore>, count: u32) -> bool {
+    for number in 1..=count {
+        if admits(tape, number) != Some(true) {
+            return false;
+        }
     }
-    Ok(())
+    true
+}
+
+/// A tape without an entry.
+fn empty_tape(alloc: Global) -> Option<Tape<ScratchStore>> {
+    Tape::new(alloc, feed::listing(alloc)?, 100).ok()
 }
 
 /// A tape of this many reports.
-pub(super) fn tape_of(alloc: Global, count: u32) -> Result<Tape<ScratchStore>, Fail> {
-    let symbol = Symbol::try_new(*b"AB      ").ok_or("symbol")?;
-    let participant = Participant::try_new(b'N').ok_or("participant")?;
-    let listing = Listing::new(alloc, &[symbol], &[participant])?;
-    let mut tape = Tape::<ScratchStore>::new(alloc, listing, 100)?;
-    for before in 0..count {
-        admit(&mut tape, before.saturating_add(1))?;
-    }
-    Ok(tape)
+pub(super) fn tape_of(alloc: Global, count: u32) -> Option<Tape<ScratchStore>> {
+    let mut tape = empty_tape(alloc)?;
+    admits_reports(&mut tape, count).then_some(tape)
 }
 
 /// The entries of a tape, to be sent.
@@ -92,219 +78,266 @@ pub(super) fn source_of(tape: &Tape<ScratchStore>) -> SliceSource<'_> {
 }
 
 /// A request of the session.
-pub(super) fn request(from: u32, count: u16) -> Result<Request, Fail> {
-    Ok(Request {
+fn request(from: u32, count: u16) -> Option<Request> {
+    Some(Request {
         session: SESSION,
         from,
-        count: Span::try_new(count).ok_or("count")?,
+        count: Span::try_new(count)?,
     })
 }
 
 /// Appends a request's bytes, whatever its count.
-pub(super) fn put_request(
-    text: &mut Vec<u8>,
-    session: u64,
-    from: u32,
-    count: u16,
-) -> Result<(), AllocError> {
+fn put_request(text: &mut Vec<u8>, session: u64, from: u32, count: u16) -> Result<(), AllocError> {
     text.extend_from_slice(&session.to_be_bytes())?;
     text.extend_from_slice(&from.to_be_bytes())?;
     text.extend_from_slice(&count.to_be_bytes())
 }
 
-/// How serving these requests over this many entries ends. The answers are appended to the output.
-fn end_of(alloc: Global, count: u32, input: &[u8], output: &mut Vec<u8>) -> Result<ServeEnd, Fail> {
+/// Appends the bytes of these requests, and tells whether memory sufficed.
+fn put_requests(text: &mut Vec<u8>, asked: &[(u64, u32, u16)]) -> bool {
+    for (session, from, count) in asked.iter().copied() {
+        if put_request(text, session, from, count).is_err() {
+            return false;
+        }
+    }
+    true
+}
+
+/// The bytes of these requests, each by its session, its first entry and its count.
+pub(super) fn requests(alloc: Global, asked: &[(u64, u32, u16)]) -> Option<Vec<u8>> {
+    let mut text = Vec::new(alloc);
+    put_requests(&mut text, asked).then_some(text)
+}
+
+/// An end of the serving.
+pub(super) fn end(served: u32, ended: Ended) -> Option<ServeEnd> {
+    Some(ServeEnd { served, ended })
+}
+
+/// How serving requests over this many entries ends.
+pub(super) fn served<R: Read, W: Write>(
+    alloc: Global,
+    count: u32,
+    reader: &mut R,
+    writer: &mut W,
+) -> Option<ServeEnd> {
     let tape = tape_of(alloc, count)?;
     let mut source = source_of(&tape);
+    Some(serve(alloc, &mut source, SESSION, reader, writer))
+}
+
+/// What serving these requests over this many entries answers, if it ends so.
+fn answers(alloc: Global, count: u32, input: &[u8], end: Option<ServeEnd>) -> Option<Vec<u8>> {
     let mut reader = input;
-    Ok(serve(alloc, &mut source, SESSION, &mut reader, output))
+    let mut output = Vec::new(alloc);
+    let is_end = served(alloc, count, &mut reader, &mut output) == end;
+    is_end.then_some(output)
+}
+
+/// Whether serving these requests over this many entries ends so, and answers these bytes.
+fn is_answered(
+    alloc: Global,
+    count: u32,
+    input: &[u8],
+    end: Option<ServeEnd>,
+    bytes: &[u8],
+) -> Option<bool> {
+    let output = answers(alloc, count, input, end)?;
+    Some(output.as_slice() == bytes)
+}
+
+/// What is answered to a request over a tape.
+fn answer_over(tape: &Tape<ScratchStore>, session: u64, asked: &Request) -> Answer {
+    answer(&source_of(tape), session, asked)
 }
 
 /// What is answered to a request of these fields over four entries.
-fn answer_to(alloc: Global, session: u64, from: u32, count: u16) -> Result<Answer, Fail> {
+fn answer_to(alloc: Global, session: u64, from: u32, count: u16) -> Option<Answer> {
+    let asked = request(from, count)?;
     let tape = tape_of(alloc, 4)?;
-    let source = source_of(&tape);
-    Ok(answer(&source, session, &request(from, count)?))
+    Some(answer_over(&tape, session, &asked))
 }
 
-/// What asking for 64 entries from 3 tells, where these bytes come back. What is sent is appended to the output.
-fn told(alloc: Global, bytes: &[u8], sent: &mut Vec<u8>) -> Result<Option<AskFault>, Fail> {
-    let asked = request(3, 64)?;
+/// How many packets asking for 64 entries from 3 brings, or the fault that it tells.
+pub(super) fn told<R: Read, W: Write>(
+    alloc: Global,
+    reader: &mut R,
+    writer: &mut W,
+) -> Option<Result<usize, AskFault>> {
+    match ask(alloc, &request(3, 64)?, reader, writer) {
+        Ok(packets) => Some(Ok(packets.len())),
+        Err(fault) => Some(Err(fault)),
+    }
+}
+
+/// The same where these bytes come back, if just the request is sent.
+fn told_of(alloc: Global, bytes: &[u8]) -> Option<Result<usize, AskFault>> {
     let mut reader = bytes;
-    Ok(ask(alloc, &asked, &mut reader, sent).err())
+    let mut sent = Vec::new(alloc);
+    let told = told(alloc, &mut reader, &mut sent);
+    if sent.as_slice() == REQUEST.as_slice() {
+        told
+    } else {
+        None
+    }
 }
 
-/// Appends the numbers of a packet's entries.
-fn put_numbers(numbers: &mut Vec<u32>, packet: &[u8]) -> Result<(), Fail> {
-    let Packet::Data { entries, .. } = decode_packet(packet)? else {
-        return Err("kind".into());
+/// The packets that these bytes bring to a request. What is sent is appended.
+fn brought(
+    alloc: Global,
+    from: u32,
+    count: u16,
+    bytes: &[u8],
+    sent: &mut Vec<u8>,
+) -> Option<Vec<Vec<u8>>> {
+    let mut reader = bytes;
+    ask(alloc, &request(from, count)?, &mut reader, sent).ok()
+}
+
+/// Whether the packet of the answer's vector is the only one.
+fn is_the_vectors_packet(packets: &[Vec<u8>]) -> bool {
+    packets.len() == 1 && packets.first().map(Vec::as_slice) == ANSWER.get(4..)
+}
+
+/// Whether the answer's vector brings its packet, and the request's vector is sent for it.
+fn brings_the_vectors_packet(alloc: Global) -> Option<bool> {
+    let mut sent = Vec::new(alloc);
+    let packets = brought(alloc, 3, 64, &ANSWER, &mut sent);
+    Some(is_the_vectors_packet(&packets?) && sent.as_slice() == REQUEST.as_slice())
+}
+
+/// Appends the numbers of a packet's entries, and tells whether the bytes are such a packet and memory sufficed.
+fn put_numbers(numbers: &mut Vec<u32>, packet: &[u8]) -> Option<()> {
+    let Packet::Data { entries, .. } = decode_packet(packet).ok()? else {
+        return None;
     };
     for entry in entries.entries() {
-        numbers.push(entry.number.value())?;
+        numbers.push(entry.number.value()).ok()?;
     }
-    Ok(())
+    Some(())
 }
 
-/// The numbers of the entries that an answer brings.
-fn numbers_of(alloc: Global, answer: &[u8]) -> Result<Vec<u32>, Fail> {
-    let mut reader = answer;
-    let mut sent = Vec::new(alloc);
-    let packets = ask(alloc, &request(2, 10)?, &mut reader, &mut sent)?;
+/// The numbers of the entries of packets.
+fn numbers_of(alloc: Global, packets: &[Vec<u8>]) -> Option<Vec<u32>> {
     let mut numbers = Vec::new(alloc);
     for packet in packets.iter() {
         put_numbers(&mut numbers, packet)?;
     }
-    Ok(numbers)
+    Some(numbers)
+}
+
+/// The numbers of the entries that an answer to a request for ten entries from 2 brings.
+fn numbers_brought(alloc: Global, bytes: &[u8]) -> Option<Vec<u32>> {
+    let mut sent = Vec::new(alloc);
+    let packets = brought(alloc, 2, 10, bytes, &mut sent)?;
+    numbers_of(alloc, &packets)
+}
+
+/// The numbers that come back to that request from a tape of twelve.
+fn numbers_read_again(alloc: Global) -> Option<Vec<u32>> {
+    let input = requests(alloc, &[(SESSION, 2, 10)])?;
+    let output = answers(alloc, 12, &input, end(1, Ended::Clean))?;
+    numbers_brought(alloc, &output)
 }
 
 #[test]
-fn a_request_is_answered_by_what_is_published(rt: HostRuntime) -> Result<(), Fail> {
+fn a_request_is_answered_by_what_is_published(rt: HostRuntime) {
+    for (session, from, count, wanted) in [
+        (7, 3, 64, Answer::Range { from: 3, to: 4 }),
+        (7, 1, 2, Answer::Range { from: 1, to: 2 }),
+        (7, 5, 1, Answer::Refused(Refusal::Beyond)),
+        (7, 0, 1, Answer::Refused(Refusal::Beyond)),
+        (8, 0, 1, Answer::Refused(Refusal::OtherSession)),
+    ] {
+        assert_eq!(rt; answer_to(rt.alloc(), session, from, count), Some(wanted));
+    }
+}
+
+#[test]
+fn a_range_has_the_bytes_of_its_vector(rt: HostRuntime) {
+    let end = end(1, Ended::Clean);
+    assert_eq!(rt;
+        is_answered(rt.alloc(), 4, &REQUEST, end, &ANSWER),
+        Some(true)
+    );
+}
+
+#[test]
+fn a_request_is_sent_as_its_vector_and_its_packet_is_given(rt: HostRuntime) {
+    assert_eq!(rt; brings_the_vectors_packet(rt.alloc()), Some(true));
+}
+
+/// Whether the refused requests are answered so.
+fn are_refused(alloc: Global, bytes: &[u8]) -> Option<bool> {
+    let input = requests(alloc, &REFUSED)?;
+    is_answered(alloc, 4, &input, end(5, Ended::Clean), bytes)
+}
+
+#[test]
+fn a_refused_request_is_answered_and_the_next_one_is_read(rt: HostRuntime) {
+    assert_eq!(rt;
+        are_refused(rt.alloc(), &[0x48, 0x48, 0x47, 0x49, 0x49]),
+        Some(true)
+    );
+}
+
+/// Whether the numbers from 2 to 11 come back.
+fn reads_a_range_again(alloc: Global) -> Option<bool> {
+    let numbers = numbers_read_again(alloc)?;
+    Some(numbers.as_slice() == [2, 3, 4, 5, 6, 7, 8, 9, 10, 11].as_slice())
+}
+
+#[test]
+fn a_range_of_two_packets_is_read_again(rt: HostRuntime) {
+    assert_eq!(rt; reads_a_range_again(rt.alloc()), Some(true));
+}
+
+/// Whether serving the first of fourteen zeros ends so, and answers these bytes.
+fn is_answered_of_zeros(
+    alloc: Global,
+    len: usize,
+    served: u32,
+    ended: Ended,
+    bytes: &[u8],
+) -> Option<bool> {
+    let zeros = [0; 14];
+    is_answered(alloc, 1, zeros.get(..len)?, end(served, ended), bytes)
+}
+
+#[test]
+fn an_input_that_ends_within_a_request_is_truncated(rt: HostRuntime) {
     let alloc = rt.alloc();
     assert_eq!(rt;
-        answer_to(alloc, 7, 3, 64)?,
-        Answer::Range { from: 3, to: 4 }
+        is_answered_of_zeros(alloc, 0, 0, Ended::Clean, &[]),
+        Some(true)
     );
     assert_eq!(rt;
-        answer_to(alloc, 7, 1, 2)?,
-        Answer::Range { from: 1, to: 2 }
+        is_answered_of_zeros(alloc, 13, 0, Ended::Truncated, &[]),
+        Some(true)
     );
     assert_eq!(rt;
-        answer_to(alloc, 7, 5, 1)?,
-        Answer::Refused(Refusal::Beyond)
+        is_answered_of_zeros(alloc, 14, 1, Ended::Clean, &[0x49]),
+        Some(true)
     );
-    assert_eq!(rt;
-        answer_to(alloc, 7, 0, 1)?,
-        Answer::Refused(Refusal::Beyond)
-    );
-    assert_eq!(rt;
-        answer_to(alloc, 8, 0, 1)?,
-        Answer::Refused(Refusal::OtherSession)
-    );
-    Ok(())
 }
 
-#[test]
-fn a_range_has_the_bytes_of_its_vector(rt: HostRuntime) -> Result<(), Fail> {
-    let mut output = Vec::new(rt.alloc());
-    let end = end_of(rt.alloc(), 4, &REQUEST, &mut output)?;
-    assert_eq!(rt;
-        end,
-        ServeEnd {
-            served: 1,
-            ended: Ended::Clean
-        }
-    );
-    assert_eq!(rt; output.as_slice(), ANSWER.as_slice());
-    Ok(())
-}
-
-#[test]
-fn a_request_is_sent_as_its_vector_and_its_packet_is_given(rt: HostRuntime) -> Result<(), Fail> {
-    let mut reader = ANSWER.as_slice();
-    let mut sent = Vec::new(rt.alloc());
-    let packets = ask(rt.alloc(), &request(3, 64)?, &mut reader, &mut sent)?;
-    assert_eq!(rt; sent.as_slice(), REQUEST.as_slice());
-    assert_eq!(rt; packets.len(), 1);
-    assert_eq!(rt; packets.first().map(Vec::as_slice), ANSWER.get(4..));
-    Ok(())
-}
-
-#[test]
-fn a_refused_request_is_answered_and_the_next_one_is_read(rt: HostRuntime) -> Result<(), Fail> {
-    let mut input = Vec::new(rt.alloc());
-    for (session, from, count) in [(7, 5, 1), (7, 0, 1), (8, 3, 1), (7, 3, 0), (8, 0, 65)] {
-        put_request(&mut input, session, from, count)?;
-    }
-    let mut output = Vec::new(rt.alloc());
-    let end = end_of(rt.alloc(), 4, &input, &mut output)?;
-    assert_eq!(rt;
-        end,
-        ServeEnd {
-            served: 5,
-            ended: Ended::Clean
-        }
-    );
-    assert_eq!(rt;
-        output.as_slice(),
-        [0x48, 0x48, 0x47, 0x49, 0x49].as_slice()
-    );
-    Ok(())
-}
-
-#[test]
-fn a_range_of_two_packets_is_read_again(rt: HostRuntime) -> Result<(), Fail> {
-    let mut input = Vec::new(rt.alloc());
-    put_request(&mut input, SESSION, 2, 10)?;
-    let mut output = Vec::new(rt.alloc());
-    let end = end_of(rt.alloc(), 12, &input, &mut output)?;
-    assert_eq!(rt;
-        end,
-        ServeEnd {
-            served: 1,
-            ended: Ended::Clean
-        }
-    );
-    let numbers = numbers_of(rt.alloc(), &output)?;
-    assert_eq!(rt;
-        numbers.as_slice(),
-        [2, 3, 4, 5, 6, 7, 8, 9, 10, 11].as_slice()
-    );
-    Ok(())
-}
-
-#[test]
-fn an_input_that_ends_within_a_request_is_truncated(rt: HostRuntime) -> Result<(), Fail> {
-    let mut output = Vec::new(rt.alloc());
-    let end = end_of(rt.alloc(), 1, &[], &mut output)?;
-    assert_eq!(rt;
-        end,
-        ServeEnd {
-            served: 0,
-            ended: Ended::Clean
-        }
-    );
-    let end = end_of(rt.alloc(), 1, &[0; 13], &mut output)?;
-    assert_eq!(rt;
-        end,
-        ServeEnd {
-            served: 0,
-            ended: Ended::Truncated
-        }
-    );
-    assert!(rt; output.is_empty());
-    let end = end_of(rt.alloc(), 1, &[0; 14], &mut output)?;
-    assert_eq!(rt;
-        end,
-        ServeEnd {
-            served: 1,
-            ended: Ended::Clean
-        }
-    );
-    assert_eq!(rt; output.as_slice(), [0x49].as_slice());
-    Ok(())
-}
-
-#[test]
-fn no_more_than_the_most_requests_are_answered(rt: HostRuntime) -> Result<(), Fail> {
-    let tape = tape_of(rt.alloc(), 0)?;
-    let mut source = source_of(&tape);
+/// How serving one request of zeros more than the most ends, and how many bytes are answered if each says that the count is none.
+fn most_served(alloc: Global) -> (Option<ServeEnd>, Option<usize>) {
     let mut reader = io::repeat(0).take(14 * 65_537);
-    let mut output = Vec::new(rt.alloc());
-    let end = serve(rt.alloc(), &mut source, SESSION, &mut reader, &mut output);
-    assert_eq!(rt;
-        end,
-        ServeEnd {
-            served: 65_536,
-            ended: Ended::TooMany
-        }
-    );
-    assert_eq!(rt; output.len(), 65_536);
-    assert!(rt; output.iter().all(|byte| *byte == 0x49));
-    Ok(())
+    let mut output = Vec::new(alloc);
+    let end = served(alloc, 0, &mut reader, &mut output);
+    let is_refused = output.iter().all(|byte| *byte == 0x49);
+    (end, is_refused.then_some(output.len()))
 }
 
 #[test]
-fn bytes_that_are_no_answer_are_told(rt: HostRuntime) -> Result<(), Fail> {
+fn no_more_than_the_most_requests_are_answered(rt: HostRuntime) {
+    let most = (end(65_536, Ended::TooMany), Some(65_536));
+    assert_eq!(rt; most_served(rt.alloc()), most);
+}
+
+#[test]
+fn bytes_that_are_no_answer_are_told(rt: HostRuntime) {
     let cases: [&[u8]; 5] = [
         &[0x05],
         &[0x00, 0x00],
@@ -313,49 +346,35 @@ fn bytes_that_are_no_answer_are_told(rt: HostRuntime) -> Result<(), Fail> {
         &[0x00, 0x01, 0x03, 0x98],
     ];
     for bytes in cases {
-        let mut sent = Vec::new(rt.alloc());
-        assert_eq!(rt;
-            told(rt.alloc(), bytes, &mut sent)?,
-            Some(AskFault::BadAnswer)
-        );
-        assert_eq!(rt; sent.as_slice(), REQUEST.as_slice());
+        assert_eq!(rt; told_of(rt.alloc(), bytes), Some(Err(AskFault::BadAnswer)));
     }
-    Ok(())
 }
 
 #[test]
-fn an_answer_that_ends_too_early_is_a_read_fault(rt: HostRuntime) -> Result<(), Fail> {
+fn an_answer_that_ends_too_early_is_a_read_fault(rt: HostRuntime) {
     let cases: [&[u8]; 3] = [&[], &[0x00], &[0x00, 0x01, 0x00, 0x67]];
     for bytes in cases {
-        let mut sent = Vec::new(rt.alloc());
-        assert_eq!(rt;
-            told(rt.alloc(), bytes, &mut sent)?,
-            Some(AskFault::ReadFault)
-        );
+        assert_eq!(rt; told_of(rt.alloc(), bytes), Some(Err(AskFault::ReadFault)));
     }
-    Ok(())
 }
 
 #[test]
-fn a_refusal_is_told(rt: HostRuntime) -> Result<(), Fail> {
+fn a_refusal_is_told(rt: HostRuntime) {
     for (byte, refusal) in [
         (0x47, Refusal::OtherSession),
         (0x48, Refusal::Beyond),
         (0x49, Refusal::BadSpan),
     ] {
-        let mut sent = Vec::new(rt.alloc());
         assert_eq!(rt;
-            told(rt.alloc(), &[byte], &mut sent)?,
-            Some(AskFault::Refused(refusal))
+            told_of(rt.alloc(), &[byte]),
+            Some(Err(AskFault::Refused(refusal)))
         );
     }
-    Ok(())
 }
 
 #[test]
-fn a_fault_prints_as_its_name(rt: HostRuntime) -> Result<(), Fail> {
+fn a_fault_prints_as_its_name(rt: HostRuntime) {
     let fault = AskFault::Refused(Refusal::Beyond);
-    assert_eq!(rt; fault.to_string(rt.alloc())?.as_str(), "Refused");
-    assert_eq!(rt; Refusal::Beyond.to_string(rt.alloc())?.as_str(), "Beyond");
-    Ok(())
+    assert_eq!(rt; prints(rt.alloc(), &fault, "Refused"), Some(true));
+    assert_eq!(rt; prints(rt.alloc(), &Refusal::Beyond, "Beyond"), Some(true));
 }

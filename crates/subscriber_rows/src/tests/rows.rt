@@ -1,6 +1,7 @@
 //! The worked rows of a subscriber.
 
 use super::feed::{self, SESSION};
+use super::packets::CORRECTION_PACKET;
 use super::steps::Sent::{Beat, End, Front, OtherPrices, OtherSession, OtherVolume, Reports};
 use super::steps::Step::{Announced, By, Drain, IsGapOpen, Missing};
 use super::steps::Told::{Drained, Gap, Is, Number, Refused, Took};
@@ -8,25 +9,6 @@ use super::steps::{Step, Told, deliver, holds, subscriber, told_so};
 use arbitration::Line::{A, B, R};
 use std::alloc::Global;
 use subscriber::Subscriber;
-
-/// The packet of session 7 with entry 4 of a tape: N corrects its message 2, and the summary after it has four marks.
-const CORRECTION_PACKET: [u8; 128] = [
-    0x01, 0x44, 0x00, 0x00, 0x00, 0x00, 0x00, 0x00, 0x00, 0x07, // version, kind, session
-    0x00, 0x00, 0x00, 0x04, 0x01, // number, count
-    0x00, 0x00, 0x00, 0x04, // tape number
-    0x00, 0x2a, 0x43, 0x4e, 0x00, 0x00, 0x00, 0x04, // len, kind, participant, number
-    0x00, 0x00, 0x00, 0x00, 0x00, 0x00, 0x00, 0x00, // moment
-    0x41, 0x42, 0x20, 0x20, 0x20, 0x20, 0x20, 0x20, // symbol
-    0x00, 0x00, 0x00, 0x02, // target
-    0x00, 0x00, 0x00, 0x00, 0x00, 0x01, 0x82, 0xb8, // price
-    0x00, 0x00, 0x00, 0x64, 0x40, 0x20, 0x20, 0x20, // size, condition
-    0x0f, // all four marks are there
-    0x00, 0x00, 0x00, 0x00, 0x00, 0x01, 0x86, 0xa0, 0x00, 0x00, 0x00, 0x01, 0x4e, // open
-    0x00, 0x00, 0x00, 0x00, 0x00, 0x01, 0x8e, 0x70, 0x00, 0x00, 0x00, 0x03, 0x4e, // high
-    0x00, 0x00, 0x00, 0x00, 0x00, 0x01, 0x82, 0xb8, 0x00, 0x00, 0x00, 0x02, 0x4e, // low
-    0x00, 0x00, 0x00, 0x00, 0x00, 0x01, 0x8e, 0x70, 0x00, 0x00, 0x00, 0x03, 0x4e, // last
-    0x00, 0x00, 0x00, 0x00, 0x00, 0x00, 0x01, 0x2c, 0x00, 0x00, 0x00, 0x03, // volume, trades
-];
 
 /// What line A brings of eight entries, and line B backwards and once more.
 const TWO_LOSSY_LINES: [(Step, Told); 17] = [
@@ -113,52 +95,62 @@ fn row(alloc: Global, limit: u32, steps: &[(Step, Told)]) -> Option<usize> {
     Some(told_so(alloc, &mut subscriber, steps))
 }
 
-/// Whether the subscriber answers the steps as it has to, and then holds the whole tape.
-fn comes_to(
+/// How many entries lines A, B and R brought, if the subscriber answers the steps as it has to, and then holds the whole tape.
+fn brought(
     alloc: Global,
     subscriber: &mut Subscriber,
     steps: &[(Step, Told)],
-    tape: Option<feed::Feed>,
-) -> Option<bool> {
-    let tape = tape?;
-    Some(told_so(alloc, subscriber, steps) == steps.len() && holds(subscriber, &tape)?)
+    tape: &feed::Feed,
+) -> Option<(u32, u32, u32)> {
+    let is_so = told_so(alloc, subscriber, steps) == steps.len() && holds(subscriber, tape)?;
+    is_so.then_some((
+        subscriber.brought(A),
+        subscriber.brought(B),
+        subscriber.brought(R),
+    ))
+}
+
+/// The same of a new subscriber.
+fn brought_anew(
+    alloc: Global,
+    steps: &[(Step, Told)],
+    tape: &feed::Feed,
+) -> Option<(u32, u32, u32)> {
+    let mut subscriber = subscriber(alloc, 100)?;
+    brought(alloc, &mut subscriber, steps, tape)
 }
 
 /// How many entries each line brought in the row of two lossy lines.
-fn two_lossy_lines(alloc: Global) -> Option<(u32, u32)> {
-    let mut subscriber = subscriber(alloc, 100)?;
-    let tape = feed::reports(alloc, 8, 100_000);
-    let held = comes_to(alloc, &mut subscriber, &TWO_LOSSY_LINES, tape) == Some(true);
-    held.then_some((subscriber.brought(A), subscriber.brought(B)))
+fn two_lossy_lines(alloc: Global) -> Option<(u32, u32, u32)> {
+    let tape = feed::reports(alloc, 8, 100_000)?;
+    brought_anew(alloc, &TWO_LOSSY_LINES, &tape)
 }
 
-/// How many entries the retransmission brought.
-fn retransmitted(alloc: Global) -> Option<u32> {
-    let mut subscriber = subscriber(alloc, 100)?;
-    let tape = feed::reports(alloc, 4, 100_000);
-    let held = comes_to(alloc, &mut subscriber, &A_GAP_AND_ITS_RETRANSMISSION, tape) == Some(true);
-    held.then_some(subscriber.brought(R))
+/// How many entries each line brought in the row of a gap.
+fn retransmitted(alloc: Global) -> Option<(u32, u32, u32)> {
+    let tape = feed::reports(alloc, 4, 100_000)?;
+    brought_anew(alloc, &A_GAP_AND_ITS_RETRANSMISSION, &tape)
 }
 
-fn another_summary(alloc: Global) -> Option<bool> {
-    let mut subscriber = subscriber(alloc, 100)?;
-    let tape = feed::cancelled(alloc);
-    comes_to(alloc, &mut subscriber, &ANOTHER_SUMMARY, tape)
+/// How many entries each line brought in the row of another summary.
+fn another_summary(alloc: Global) -> Option<(u32, u32, u32)> {
+    let tape = feed::cancelled(alloc)?;
+    brought_anew(alloc, &ANOTHER_SUMMARY, &tape)
 }
 
 #[test]
 fn what_two_lossy_lines_bring_between_them_is_held(rt: HostRuntime) {
-    assert_eq!(rt; two_lossy_lines(rt.alloc()), Some((6, 2)));
+    assert_eq!(rt; two_lossy_lines(rt.alloc()), Some((6, 2, 0)));
 }
 
 #[test]
 fn a_gap_is_filled_by_its_retransmission(rt: HostRuntime) {
-    assert_eq!(rt; retransmitted(rt.alloc()), Some(2));
+    assert_eq!(rt; retransmitted(rt.alloc()), Some((2, 0, 2)));
 }
 
 #[test]
 fn another_summary_is_not_believed(rt: HostRuntime) {
-    assert_eq!(rt; another_summary(rt.alloc()), Some(true));
+    assert_eq!(rt; another_summary(rt.alloc()), Some((1, 1, 0)));
 }
 
 #[test]
@@ -201,12 +193,17 @@ fn gives_the_vector(alloc: Global, subscriber: &Subscriber) -> Option<bool> {
     Some(text.as_slice() == CORRECTION_PACKET.as_slice())
 }
 
-fn correction_and_its_vector(alloc: Global) -> Option<(bool, bool)> {
-    let tape = feed::corrected(alloc)?;
+/// Whether a new subscriber takes the vector and comes to hold the tape, and whether its own tape then gives the vector.
+fn takes_and_gives(alloc: Global, tape: &feed::Feed) -> Option<(bool, bool)> {
     let mut subscriber = subscriber(alloc, 100)?;
-    let taken = takes_the_vector(alloc, &mut subscriber, &tape) == Some(true);
+    let taken = takes_the_vector(alloc, &mut subscriber, tape) == Some(true);
     let given = gives_the_vector(alloc, &subscriber) == Some(true);
     Some((taken, given))
+}
+
+fn correction_and_its_vector(alloc: Global) -> Option<(bool, bool)> {
+    let tape = feed::corrected(alloc)?;
+    takes_and_gives(alloc, &tape)
 }
 
 #[test]

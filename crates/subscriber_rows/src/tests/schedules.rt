@@ -78,12 +78,25 @@ fn fill(front: &mut Feed, tape: &Feed, len: usize) -> bool {
     is_filled
 }
 
+/// The figures of a tape to which another's first entries are admitted.
+fn figures_filled(front: &mut Feed, tape: &Feed, len: usize) -> Option<Figures> {
+    if fill(front, tape, len) {
+        figures_of(front)
+    } else {
+        None
+    }
+}
+
 /// The figures of the tape of another's first entries, made anew.
 fn front_figures(alloc: Global, tape: &Feed, len: usize) -> Option<Figures> {
     let mut front = feed::feed(alloc, LIMIT)?;
-    let is_filled = fill(&mut front, tape, len);
-    let figures = figures_of(&front);
-    if is_filled { figures } else { None }
+    figures_filled(&mut front, tape, len)
+}
+
+/// A subscriber starts anew.
+fn restart(old: &mut Subscriber, alloc: Global) -> Option<()> {
+    *old = subscriber(alloc, LIMIT)?;
+    Some(())
 }
 
 /// A tape and a subscriber in the middle of a schedule. Each step answers `None` where something is not as it has to be.
@@ -196,10 +209,10 @@ impl Schedule {
 
     /// One time in eight the subscriber starts anew.
     fn restarts(&mut self, alloc: Global) -> Option<()> {
-        if self.dice.below(8) == 0 {
-            self.subscriber = subscriber(alloc, LIMIT)?;
+        if self.dice.below(8) > 0 {
+            return Some(());
         }
-        Some(())
+        restart(&mut self.subscriber, alloc)
     }
 
     /// Whatever comes next.
@@ -257,11 +270,16 @@ impl Schedule {
     }
 }
 
-/// How many entries the tape of a schedule has that the subscriber holds all of at its end.
-fn entries_after(alloc: Global, seed: u32) -> Option<u32> {
-    let mut schedule = Schedule::new(alloc, seed)?;
+/// How many entries the tape has after 300 events, if the subscriber holds all of them at its end.
+fn entries_of(schedule: &mut Schedule, alloc: Global) -> Option<u32> {
     let holds_all = schedule.runs(alloc, 300) == Some(true);
     holds_all.then_some(schedule.length())
+}
+
+/// The same of the schedule of a seed.
+fn entries_after(alloc: Global, seed: u32) -> Option<u32> {
+    let mut schedule = Schedule::new(alloc, seed)?;
+    entries_of(&mut schedule, alloc)
 }
 
 #[test]
