@@ -3,11 +3,11 @@
 use super::steps::Kind::{Cancel, Correct, Report};
 use super::steps::Step::{Consolidated, Sends};
 use super::steps::Told::{Number, Shows};
-use super::steps::{Figures, Point, Step, Told, fills, indexed, told_so};
+use super::steps::{Figures, Point, Step, Told, fills, indexed, participants, told_so};
 use std::alloc::Global;
 use summaries::IndexStore;
 use tape_core::Tape;
-use tape_types::{Listing, Participant, Symbol};
+use tape_types::{Listing, Symbol};
 
 const LETTERS: &[u8; 26] = b"ABCDEFGHIJKLMNOPQRSTUVWXYZ";
 
@@ -27,17 +27,9 @@ fn symbols(alloc: Global, count: usize) -> Option<Vec<Symbol>> {
     Some(symbols)
 }
 
-fn participants(alloc: Global) -> Option<Vec<Participant>> {
-    let mut participants = Vec::new(alloc);
-    for letter in LETTERS {
-        participants.push(Participant::try_new(*letter)?).ok()?;
-    }
-    Some(participants)
-}
-
 fn listing(alloc: Global, count: usize) -> Option<Listing> {
     let symbols = symbols(alloc, count)?;
-    let participants = participants(alloc)?;
+    let participants = participants(alloc, LETTERS)?;
     Listing::new(alloc, symbols.as_slice(), participants.as_slice()).ok()
 }
 
@@ -123,15 +115,19 @@ const TO_THE_LIMIT: [(Step, Told); 8] = [
     ),
 ];
 
-/// How many reports a tape took, each by its own number, and how many of the steps after them it answered as it has to.
-fn filled(tape: Option<Tape<IndexStore>>) -> Option<(u32, usize)> {
-    let mut tape = tape?;
-    let taken = fills(&mut tape, REPORTS);
-    Some((taken, told_so(&mut tape, &TO_THE_LIMIT)))
+/// How many reports a tape takes, each by its own number, and how many of the steps after them it answers as it has to.
+fn filled(tape: &mut Tape<IndexStore>) -> (u32, usize) {
+    let taken = fills(tape, REPORTS);
+    (taken, told_so(tape, &TO_THE_LIMIT))
+}
+
+/// The same of a new tape with the greatest limit.
+fn filled_anew(alloc: Global) -> Option<(u32, usize)> {
+    Some(filled(&mut indexed(alloc, 1_048_576)?))
 }
 
 #[test]
 fn a_full_tape_is_corrected_and_cancelled_at_both_ends(rt: HostRuntime) {
-    let tape = indexed(rt.alloc(), 1_048_576);
-    assert_eq!(rt; filled(tape), Some((REPORTS, TO_THE_LIMIT.len())));
+    let filled = filled_anew(rt.alloc());
+    assert_eq!(rt; filled, Some((REPORTS, TO_THE_LIMIT.len())));
 }

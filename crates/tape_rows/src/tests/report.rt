@@ -1,17 +1,19 @@
 //! What no clause says: that rows are made where there is memory, by workers that run at once, when the gate is called, and
 //! the printed text.
-use day_report::{ReportFault, rows, write_report};
-use reports::{Content, Header, Message, Moment};
-use sale_matrix::Condition;
+
+use super::printing::prints_as;
+use super::steps::Kind::Report;
+use super::steps::Step::Sends;
+use super::steps::Told::Number;
+use super::steps::{Step, Told, listing_of, told_so};
+use day_report::{ReportFault, Row, rows, write_report};
 use std::alloc::Global;
-use std::process::Abort;
 use std::sync::atomic::{AtomicU32, Ordering};
-use std::test::Fail;
 use std::thread::Threads;
 use std::{io, thread};
 use summaries::ScratchStore;
 use tape_core::Tape;
-use tape_types::{Gate, Listing, MsgNumber, NoGate, Participant, Price, Size, Symbol};
+use tape_types::{Gate, Listing, NoGate};
 
 /// The report of five symbols with a trade each, by Q.
 const FIVE: &[u8] = b"\
@@ -27,39 +29,43 @@ GH,Q,40000,4,40000,4,40000,4,40000,4,100,1\n\
 IJ,ALL,50000,5,50000,5,50000,5,50000,5,100,1\n\
 IJ,Q,50000,5,50000,5,50000,5,50000,5,100,1\n";
 
-/// The symbol at a place of the listing, from 1 to 5.
-fn symbol(place: u32) -> Option<Symbol> {
-    Symbol::try_new(match place {
-        1 => *b"AB      ",
-        2 => *b"CD      ",
-        3 => *b"EF      ",
-        4 => *b"GH      ",
-        _ => *b"IJ      ",
-    })
-}
+/// A report by Q in each of five symbols, at as many dollars as its number.
+const REPORTS: [(Step, Told); 5] = [
+    (
+        Sends(b'Q', 1, b"AB      ", Report(b"@   ", 10_000)),
+        Number(1),
+    ),
+    (
+        Sends(b'Q', 2, b"CD      ", Report(b"@   ", 20_000)),
+        Number(2),
+    ),
+    (
+        Sends(b'Q', 3, b"EF      ", Report(b"@   ", 30_000)),
+        Number(3),
+    ),
+    (
+        Sends(b'Q', 4, b"GH      ", Report(b"@   ", 40_000)),
+        Number(4),
+    ),
+    (
+        Sends(b'Q', 5, b"IJ      ", Report(b"@   ", 50_000)),
+        Number(5),
+    ),
+];
 
 /// Five symbols and two participants.
 fn listing(alloc: Global) -> Option<Listing> {
-    let symbols = [symbol(1)?, symbol(2)?, symbol(3)?, symbol(4)?, symbol(5)?];
-    let participants = [Participant::try_new(b'N')?, Participant::try_new(b'Q')?];
-    Listing::new(alloc, &symbols, &participants).ok()
-}
-
-/// Q's report in the symbol at a place of the listing, under that number and at as many dollars.
-fn report(place: u32) -> Option<Message> {
-    Some(Message::Report {
-        header: Header {
-            participant: Participant::try_new(b'Q')?,
-            number: MsgNumber::try_new(place)?,
-            moment: Moment::new(0),
-            symbol: symbol(place)?,
-        },
-        content: Content {
-            price: Price::try_new(10_000 * u64::from(place))?,
-            size: Size::try_new(100)?,
-            condition: Condition::try_new(*b"@   ")?,
-        },
-    })
+    listing_of(
+        alloc,
+        &[
+            b"AB      ",
+            b"CD      ",
+            b"EF      ",
+            b"GH      ",
+            b"IJ      ",
+        ],
+        b"NQ",
+    )
 }
 
 /// A tape of five symbols without a report.
@@ -67,69 +73,70 @@ fn empty(alloc: Global) -> Option<Tape<ScratchStore>> {
     Tape::new(alloc, listing(alloc)?, 10).ok()
 }
 
-/// Whether the tape takes the message, if it is one.
-fn is_admitted(tape: &mut Tape<ScratchStore>, message: Option<Message>) -> bool {
-    match message {
-        Some(message) => tape.admit(message).is_ok(),
-        None => false,
-    }
-}
-
-/// Admits a report in each symbol.
-fn fill(tape: &mut Tape<ScratchStore>) {
-    for place in 1..=5 {
-        let _answer = is_admitted(tape, report(place));
-    }
-}
-
-/// A tape of five symbols with a report each.
-fn five(alloc: Global) -> Option<Tape<ScratchStore>> {
-    let mut tape = empty(alloc)?;
-    fill(&mut tape);
-    Some(tape)
-}
-
-/// The report's text, whose rows so many workers make.
-fn text_by<R: Threads + Sync>(
+/// The rows of a tape that takes the five reports, made by so many workers past a gate.
+fn made_of<R: Threads + Sync, G: Gate + Sync>(
     rt: &R,
     alloc: Global,
-    tape: &Tape<ScratchStore>,
+    tape: &mut Tape<ScratchStore>,
     workers: usize,
-) -> Option<Vec<u8>> {
-    let made = rows(rt, alloc, tape, workers, &NoGate).ok()?;
-    let mut text = Vec::new(alloc);
-    write_report(alloc, &made, &mut text).ok()?;
-    Some(text)
-}
-
-/// Asserts that so many workers make the rows of the report.
-fn assert_text<A: Abort + Threads + Sync>(
-    rt: &A,
-    alloc: Global,
-    tape: &Tape<ScratchStore>,
-    workers: usize,
-) {
-    let text = text_by(rt, alloc, tape, workers).expect(rt, "a report");
-    assert_eq!(rt; text.as_slice(), FIVE);
-}
-
-#[test]
-fn every_number_of_workers_makes_the_same_bytes(rt: HostRuntime) -> Result<(), Fail> {
-    let tape = five(rt.alloc()).ok_or("tape")?;
-    for workers in [1, 2, 64] {
-        assert_text(&rt, rt.alloc(), &tape, workers);
+    gate: &G,
+) -> Option<Result<Vec<Row>, ReportFault>> {
+    if told_so(tape, &REPORTS) != REPORTS.len() {
+        return None;
     }
-    Ok(())
+    Some(rows(rt, alloc, tape, workers, gate))
+}
+
+/// The same of a new tape.
+fn made<R: Threads + Sync, G: Gate + Sync>(
+    rt: &R,
+    alloc: Global,
+    workers: usize,
+    gate: &G,
+) -> Option<Result<Vec<Row>, ReportFault>> {
+    made_of(rt, alloc, &mut empty(alloc)?, workers, gate)
+}
+
+/// Whether the text of the rows is this.
+fn is_spelled(alloc: Global, rows: &[Row], wanted: &[u8]) -> bool {
+    let mut text = Vec::new(alloc);
+    write_report(alloc, rows, &mut text).is_ok() && text.as_slice() == wanted
+}
+
+/// Whether so many workers make the report's text.
+fn is_text_made<R: Threads + Sync>(rt: &R, alloc: Global, workers: usize) -> bool {
+    match made(rt, alloc, workers, &NoGate) {
+        Some(Ok(rows)) => is_spelled(alloc, rows.as_slice(), FIVE),
+        _ => false,
+    }
 }
 
 #[test]
-fn no_worker_and_one_too_many_are_refused(rt: HostRuntime) -> Result<(), Fail> {
-    let tape = five(rt.alloc()).ok_or("tape")?;
+fn every_number_of_workers_makes_the_same_bytes(rt: HostRuntime) {
+    for workers in [1, 2, 64] {
+        assert!(rt; is_text_made(&rt, rt.alloc(), workers), "{workers} workers");
+    }
+}
+
+/// The fault of so many workers.
+fn fault<R: Threads + Sync>(rt: &R, alloc: Global, workers: usize) -> Option<ReportFault> {
+    made(rt, alloc, workers, &NoGate)?.err()
+}
+
+#[test]
+fn no_worker_and_one_too_many_are_refused(rt: HostRuntime) {
     for workers in [0, 65, usize::MAX] {
-        let fault = rows(&rt, rt.alloc(), &tape, workers, &NoGate).err();
+        let fault = fault(&rt, rt.alloc(), workers);
         assert_eq!(rt; fault, Some(ReportFault::BadWorkers));
     }
-    Ok(())
+}
+
+/// How many rows two workers make past a gate.
+fn made_by_two<R: Threads + Sync, G: Gate + Sync>(rt: &R, alloc: Global, gate: &G) -> usize {
+    match made(rt, alloc, 2, gate) {
+        Some(Ok(rows)) => rows.len(),
+        _ => 0,
+    }
 }
 
 /// How many turns a worker waits at most.
@@ -158,17 +165,19 @@ impl Gate for Meeting {
     }
 }
 
-#[test]
-fn two_workers_run_at_once(rt: HostRuntime) -> Result<(), Fail> {
-    let tape = five(rt.alloc()).ok_or("tape")?;
-    let meeting = Meeting {
+/// A meeting where no worker is yet.
+fn nobody_met() -> Meeting {
+    Meeting {
         done: [AtomicU32::new(0), AtomicU32::new(0)],
         met: AtomicU32::new(0),
-    };
-    let made = rows(&rt, rt.alloc(), &tape, 2, &meeting)?;
-    assert_eq!(rt; made.len(), 10);
+    }
+}
+
+#[test]
+fn two_workers_run_at_once(rt: HostRuntime) {
+    let meeting = nobody_met();
+    assert_eq!(rt; made_by_two(&rt, rt.alloc(), &meeting), 10);
     assert_eq!(rt; meeting.met.load(Ordering::SeqCst), 2);
-    Ok(())
 }
 
 /// A gate that counts its calls, and those of the second worker, and adds up the turns that it is told.
@@ -189,20 +198,26 @@ impl Gate for Count {
     }
 }
 
-#[test]
-fn the_gate_is_called_after_each_symbol(rt: HostRuntime) -> Result<(), Fail> {
-    let tape = five(rt.alloc()).ok_or("tape")?;
+/// What two workers make past a count: how many rows, and its calls, those of the second worker and the sum of the turns.
+fn counted<R: Threads + Sync>(rt: &R, alloc: Global) -> (usize, u32, u32, u32) {
     let count = Count {
         calls: AtomicU32::new(0),
         second: AtomicU32::new(0),
         turns: AtomicU32::new(0),
     };
+    (
+        made_by_two(rt, alloc, &count),
+        count.calls.load(Ordering::SeqCst),
+        count.second.load(Ordering::SeqCst),
+        count.turns.load(Ordering::SeqCst),
+    )
+}
+
+#[test]
+fn the_gate_is_called_after_each_symbol(rt: HostRuntime) {
     // Worker 0 has three symbols and worker 1 two.
-    rows(&rt, rt.alloc(), &tape, 2, &count)?;
-    assert_eq!(rt; count.calls.load(Ordering::SeqCst), 5);
-    assert_eq!(rt; count.second.load(Ordering::SeqCst), 2);
-    assert_eq!(rt; count.turns.load(Ordering::SeqCst), 1 + 2 + 3 + 1 + 2);
-    Ok(())
+    let turns = 1 + 2 + 3 + 1 + 2;
+    assert_eq!(rt; counted(&rt, rt.alloc()), (10, 5, 2, turns));
 }
 
 /// A writer that takes nothing.
@@ -220,12 +235,8 @@ impl io::Write for Full {
 }
 
 #[test]
-fn a_writer_that_takes_nothing_is_a_write_fault(rt: HostRuntime) -> Result<(), Fail> {
+fn a_writer_that_takes_nothing_is_a_write_fault(rt: HostRuntime) {
     let fault = write_report(rt.alloc(), &[], &mut Full).err();
     assert_eq!(rt; fault, Some(ReportFault::WriteFault));
-    assert_eq!(rt;
-        ReportFault::WriteFault.to_string(rt.alloc())?.as_str(),
-        "WriteFault"
-    );
-    Ok(())
+    assert!(rt; prints_as(rt.alloc(), &ReportFault::WriteFault, "WriteFault"));
 }

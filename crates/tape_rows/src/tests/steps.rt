@@ -145,7 +145,7 @@ fn message(header: Header, kind: Kind) -> Option<Message> {
 }
 
 /// The message that a step sends.
-fn sent(step: Step) -> Option<Message> {
+pub(super) fn sent(step: Step) -> Option<Message> {
     match step {
         Step::Sends(who, number, symbol, kind) => message(header(who, number, symbol)?, kind),
         _ => None,
@@ -240,17 +240,32 @@ pub(super) fn fills<S: Store>(tape: &mut Tape<S>, count: u32) -> u32 {
     count
 }
 
+fn symbols(alloc: Global, names: &[&[u8; 8]]) -> Option<Vec<Symbol>> {
+    let mut symbols = Vec::new(alloc);
+    for name in names {
+        symbols.push(Symbol::try_new(**name)?).ok()?;
+    }
+    Some(symbols)
+}
+
+/// The participants of these letters.
+pub(super) fn participants(alloc: Global, letters: &[u8]) -> Option<Vec<Participant>> {
+    let mut participants = Vec::new(alloc);
+    for letter in letters {
+        participants.push(Participant::try_new(*letter)?).ok()?;
+    }
+    Some(participants)
+}
+
+/// The listing of these symbols and of the participants of these letters.
+pub(super) fn listing_of(alloc: Global, names: &[&[u8; 8]], letters: &[u8]) -> Option<Listing> {
+    let symbols = symbols(alloc, names)?;
+    let participants = participants(alloc, letters)?;
+    Listing::new(alloc, symbols.as_slice(), participants.as_slice()).ok()
+}
+
 fn listing(alloc: Global) -> Option<Listing> {
-    let symbols = [
-        Symbol::try_new(*b"AB      ")?,
-        Symbol::try_new(*b"CD      ")?,
-    ];
-    let participants = [
-        Participant::try_new(b'N')?,
-        Participant::try_new(b'P')?,
-        Participant::try_new(b'Q')?,
-    ];
-    Listing::new(alloc, &symbols, &participants).ok()
+    listing_of(alloc, &[b"AB      ", b"CD      "], b"NPQ")
 }
 
 /// An open tape of the symbols AB and CD and the participants N, P and Q, over the plain store.
