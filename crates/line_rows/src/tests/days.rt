@@ -1,4 +1,5 @@
 //! A day of the symbol AB and the participants N and Q or N alone, the bytes of their reports, and the end of a day.
+ghost use Rattle.std.specs.Prelude.{◌≡◌, IfSome};
 ghost use Rattle.line_ledger.specs.Cells.{FirstTokens};
 
 use line_ledger::{Day, DayName, EndFault, LineSeat, Prepared, SharedTape, Token, prepare};
@@ -41,22 +42,23 @@ pub(super) fn joined(alloc: Global, reports: &[[u8; 40]]) -> Option<Vec<u8>> {
     Some(bytes)
 }
 
-/// The day of N alone, which is empty.
-pub(super) fn day_of_one(alloc: Global) -> Option<Prepared> {
+/// The day of these participants, which is empty.
+fn day_of(alloc: Global, participants: &[Participant]) -> Option<Prepared> {
     let symbols = [Symbol::try_new(*b"AB      ")?];
-    let participants = [Participant::try_new(b'N')?];
-    let listing = Listing::new(alloc, &symbols, &participants).ok()?;
+    let listing = Listing::new(alloc, &symbols, participants).ok()?;
     let tape: Tape<IndexStore> = Tape::new(alloc, listing, 10).ok()?;
     prepare(alloc, tape).ok()
 }
 
+/// The day of N alone, which is empty.
+pub(super) fn day_of_one(alloc: Global) -> Option<Prepared> {
+    day_of(alloc, &[Participant::try_new(b'N')?])
+}
+
 /// The day of N and Q, which is empty.
 pub(super) fn day_of_two(alloc: Global) -> Option<Prepared> {
-    let symbols = [Symbol::try_new(*b"AB      ")?];
     let participants = [Participant::try_new(b'N')?, Participant::try_new(b'Q')?];
-    let listing = Listing::new(alloc, &symbols, &participants).ok()?;
-    let tape: Tape<IndexStore> = Tape::new(alloc, listing, 10).ok()?;
-    prepare(alloc, tape).ok()
+    day_of(alloc, &participants)
 }
 
 /// The ended day. A missing seat stops the test.
@@ -64,7 +66,9 @@ pub(super) fn ended_day<D: DayName, A: Abort>(
     rt: &A,
     shared: SharedTape<D>,
     seats: Vec<LineSeat<D>>,
-) -> Option<Day> {
+) -> Option<Day>
+    ensures { IfSome result (λ day. day.names ≡ shared) }
+{
     match shared.end(seats) {
         Ok(day) => Some(day),
         Err(EndFault::Disagrees(_)) => None,
@@ -97,9 +101,6 @@ pub(super) fn confirmed_at_end<D: DayName, A: Abort>(
 ) -> Option<Confirmed>
     requires { FirstTokens shared tokens.now }
 {
-    match shared.end(seats) {
-        Ok(day) => Some(confirmed(&day, tokens)),
-        Err(EndFault::Disagrees(_)) => None,
-        Err(EndFault::MissingSeat(_unended)) => panic!(rt; "a seat is missing"),
-    }
+    let day = ended_day(rt, shared, seats)?;
+    Some(confirmed(&day, tokens))
 }

@@ -1,8 +1,9 @@
 //! The ends of a line.
 ghost use Rattle.std.specs.Prelude.{◌≡◌};
 
-use super::days::{REPORT, day_of_one, ended_day, joined, report, without_price};
-use line_ledger::{DayName, Prepared, SharedTape};
+use super::days::{REPORT, day_of_one, joined, report, without_price};
+use super::shared_days::ended_len;
+use line_ledger::{DayName, LineSeat, Prepared, SharedTape};
 use participant_lines::{Ended, LineEnd, run_line};
 use std::alloc::Global;
 use std::io;
@@ -10,14 +11,33 @@ use std::io::{BufRead, BufReader, ErrorKind, Read};
 use std::marker::Brand;
 use std::process::Abort;
 use std::sync::Wait;
-use std::test::Fail;
 use tape_types::NoGate;
 
 /// How a line ended: how many frames were refused, why no more were done, how many the seat was told of, and how many
 /// entries the day has.
 type Figures = (u32, Ended, u32, usize);
 
-/// How the last participant's line ends over this reader.
+/// How a line ended, once its seat is back and the day has ended.
+fn figures_at_end<D: DayName, A: Abort>(
+    rt: &A,
+    shared: SharedTape<D>,
+    seats: Vec<LineSeat<D>>,
+    end: LineEnd<D>,
+) -> Option<Figures> {
+    let LineEnd {
+        seat,
+        refused,
+        ended,
+    } = end;
+    let count = seat.count();
+    let mut seats = seats;
+    assert!(rt; seats.len() < seats.capacity());
+    seats.push_reserved(seat);
+    let entries = ended_len(rt, shared, seats)?;
+    Some((refused, ended, count, entries))
+}
+
+/// How the last participant's line ends over this reader. A missing seat stops the test.
 fn figures<D: DayName, R: BufRead, W: Wait + Abort>(
     rt: &W,
     prepared: Prepared,
@@ -31,18 +51,10 @@ fn figures<D: DayName, R: BufRead, W: Wait + Abort>(
         return None;
     };
     let Some(seat) = seats.pop() else {
-        let _ = ended_day(rt, shared, seats);
-        return None;
+        panic!(rt; "there is no seat")
     };
-    let LineEnd {
-        seat,
-        refused,
-        ended,
-    } = run_line(rt, &shared, 0, seat, reader, &NoGate);
-    let count = seat.count();
-    seats.push_reserved(seat);
-    let day = ended_day(rt, shared, seats)?;
-    Some((refused, ended, count, day.tape().entries().len()))
+    let end = run_line(rt, &shared, 0, seat, reader, &NoGate);
+    figures_at_end(rt, shared, seats, end)
 }
 
 /// How N's line ends over this reader, in a day of N alone.
@@ -57,13 +69,15 @@ fn end_of_bytes<W: Wait + Abort>(rt: &W, alloc: Global, bytes: &[u8]) -> Option<
     end_of(rt, alloc, &mut reader)
 }
 
-/// How N's line ends over the front of these bytes.
-fn end_of_front<W: Wait + Abort>(
-    rt: &W,
-    alloc: Global,
-    bytes: &[u8],
-    len: usize,
-) -> Option<Figures> {
+/// How N's line ends over these frames.
+fn end_of_frames<W: Wait + Abort>(rt: &W, alloc: Global, frames: &[[u8; 40]]) -> Option<Figures> {
+    let bytes = joined(alloc, frames)?;
+    end_of_bytes(rt, alloc, &bytes)
+}
+
+/// How N's line ends over the first so many bytes of two reports.
+fn end_of_front<W: Wait + Abort>(rt: &W, alloc: Global, len: usize) -> Option<Figures> {
+    let bytes = joined(alloc, &[REPORT, REPORT])?;
     end_of_bytes(rt, alloc, bytes.get(..len)?)
 }
 
@@ -82,58 +96,53 @@ impl Read for Failing<'_> {
     }
 }
 
+/// How N's line ends over a report and a read that fails.
+fn end_of_failing<W: Wait + Abort>(rt: &W, alloc: Global) -> Option<Figures> {
+    let failing = Failing { left: &REPORT };
+    let mut reader = BufReader::with_capacity(alloc, 16, failing).ok()?;
+    end_of(rt, alloc, &mut reader)
+}
+
 #[test]
-fn a_refused_frame_is_counted(rt: HostRuntime) -> Result<(), Fail> {
+fn a_refused_frame_is_counted(rt: HostRuntime) {
     let frames = [REPORT, without_price(2), report(b'N', 3)];
-    let bytes = joined(rt.alloc(), &frames).ok_or("bytes")?;
     assert_eq!(rt;
-        end_of_bytes(&rt, rt.alloc(), &bytes),
+        end_of_frames(&rt, rt.alloc(), &frames),
         Some((1, Ended::Clean, 2, 2))
     );
-    Ok(())
 }
 
 #[test]
-fn a_message_that_the_tape_refuses_is_counted(rt: HostRuntime) -> Result<(), Fail> {
+fn a_message_that_the_tape_refuses_is_counted(rt: HostRuntime) {
     let frames = [REPORT, report(b'Q', 2), REPORT, report(b'N', 2)];
-    let bytes = joined(rt.alloc(), &frames).ok_or("bytes")?;
     assert_eq!(rt;
-        end_of_bytes(&rt, rt.alloc(), &bytes),
+        end_of_frames(&rt, rt.alloc(), &frames),
         Some((2, Ended::Clean, 2, 2))
     );
-    Ok(())
 }
 
 #[test]
-fn an_input_ends_its_line(rt: HostRuntime) -> Result<(), Fail> {
-    let bytes = joined(rt.alloc(), &[REPORT, REPORT]).ok_or("bytes")?;
+fn an_input_ends_its_line(rt: HostRuntime) {
     let alloc = rt.alloc();
-    assert_eq!(rt;
+    let ends = [
         end_of_bytes(&rt, alloc, &[]),
-        Some((0, Ended::Clean, 0, 0))
-    );
-    assert_eq!(rt;
         end_of_bytes(&rt, alloc, &[0, 0]),
-        Some((0, Ended::Oversize, 0, 0))
-    );
-    assert_eq!(rt;
-        end_of_front(&rt, alloc, &bytes, 50),
-        Some((0, Ended::Truncated, 1, 1))
-    );
-    assert_eq!(rt;
-        end_of_front(&rt, alloc, &bytes, 41),
-        Some((0, Ended::Truncated, 1, 1))
-    );
-    Ok(())
+        end_of_front(&rt, alloc, 50),
+        end_of_front(&rt, alloc, 41),
+    ];
+    let wanted = [
+        Some((0, Ended::Clean, 0, 0)),
+        Some((0, Ended::Oversize, 0, 0)),
+        Some((0, Ended::Truncated, 1, 1)),
+        Some((0, Ended::Truncated, 1, 1)),
+    ];
+    assert_eq!(rt; ends, wanted);
 }
 
 #[test]
-fn a_read_that_fails_ends_its_line(rt: HostRuntime) -> Result<(), Fail> {
-    let failing = Failing { left: &REPORT };
-    let mut reader = BufReader::with_capacity(rt.alloc(), 16, failing)?;
+fn a_read_that_fails_ends_its_line(rt: HostRuntime) {
     assert_eq!(rt;
-        end_of(&rt, rt.alloc(), &mut reader),
+        end_of_failing(&rt, rt.alloc()),
         Some((0, Ended::ReadFault, 1, 1))
     );
-    Ok(())
 }

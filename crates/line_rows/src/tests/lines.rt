@@ -178,8 +178,7 @@ fn day_after<D: DayName + Send + Sync, G: Gate + Sync, T: Threads + Wait + Abort
         return None;
     };
     let (seats, figures) = run_inputs(rt, alloc, &shared, seats, inputs, gate);
-    let day = ended_day(rt, shared, seats)?;
-    Some((figures?, day))
+    figures.zip(ended_day(rt, shared, seats))
 }
 
 /// What the lines of a day came to, one for each participant, in listing order and over these bytes, and the day that they

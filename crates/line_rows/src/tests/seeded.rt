@@ -2,7 +2,7 @@
 ghost use Rattle.std.specs.Prelude.{◌≡◌, ◌≤◌, ◌<◌};
 
 use super::lines::{LineFigures, day_of_lines};
-use line_ledger::{Prepared, prepare};
+use line_ledger::{Day, Prepared, prepare};
 use participant_lines::Ended;
 use reports::{Content, Header, Message, Moment, encode_into};
 use sale_matrix::Condition;
@@ -138,18 +138,34 @@ fn inputs(alloc: Global) -> Option<Vec<Vec<u8>>> {
     Some(inputs)
 }
 
-/// The day's tape, which is empty.
-fn empty_tape(alloc: Global) -> Option<Tape<IndexStore>> {
+/// The day's symbols.
+fn symbols(alloc: Global) -> Option<Vec<Symbol>> {
     let mut symbols = Vec::new(alloc);
     for place in 0..SYMBOLS {
         symbols.push(symbol(place)?).ok()?;
     }
+    Some(symbols)
+}
+
+/// The participants of the lines.
+fn participants(alloc: Global) -> Option<Vec<Participant>> {
     let mut participants = Vec::new(alloc);
     for line in 0..LINES {
         participants.push(participant(line)?).ok()?;
     }
-    let listing = Listing::new(alloc, &symbols, &participants).ok()?;
-    Tape::new(alloc, listing, LINES * MESSAGES).ok()
+    Some(participants)
+}
+
+/// The symbols and participants of the day.
+fn listing(alloc: Global) -> Option<Listing> {
+    let symbols = symbols(alloc)?;
+    let participants = participants(alloc)?;
+    Listing::new(alloc, &symbols, &participants).ok()
+}
+
+/// The day's tape, which is empty.
+fn empty_tape(alloc: Global) -> Option<Tape<IndexStore>> {
+    Tape::new(alloc, listing(alloc)?, LINES * MESSAGES).ok()
 }
 
 /// The day, which is empty.
@@ -157,15 +173,28 @@ fn empty_day(alloc: Global) -> Option<Prepared> {
     prepare(alloc, empty_tape(alloc)?).ok()
 }
 
-/// A tape by the messages of this one, one after the other. `None` where one of them is refused.
-fn tape_again(alloc: Global, tape: &Tape<IndexStore>) -> Option<Tape<IndexStore>> {
+/// The messages of a tape.
+fn messages(alloc: Global, tape: &Tape<IndexStore>) -> Option<Vec<Message>> {
     let mut messages = Vec::new(alloc);
     for entry in tape.entries() {
         messages.push(entry.message).ok()?;
     }
+    Some(messages)
+}
+
+/// Whether a tape takes these messages, one after the other.
+fn takes_all(alloc: Global, tape: &mut Tape<IndexStore>, messages: &[Message]) -> bool {
+    match run(alloc, tape, messages) {
+        Ok(answers) => answers.iter().all(|answer| answer.is_ok()),
+        Err(_) => false,
+    }
+}
+
+/// A tape by the messages of this one, one after the other. `None` where one of them is refused.
+fn tape_again(alloc: Global, tape: &Tape<IndexStore>) -> Option<Tape<IndexStore>> {
+    let messages = messages(alloc, tape)?;
     let mut again = empty_tape(alloc)?;
-    let answers = run(alloc, &mut again, &messages).ok()?;
-    answers.iter().all(|answer| answer.is_ok()).then_some(again)
+    takes_all(alloc, &mut again, &messages).then_some(again)
 }
 
 /// Whether two tapes have the same summaries of a symbol: the consolidated one, and each participant's.
@@ -211,21 +240,42 @@ fn are_all_of(tape: &Tape<IndexStore>, lines: &[LineFigures]) -> Option<bool> {
     Some(true)
 }
 
-/// Whether each line has the figures of its participant, whether the day's tape is the one that its messages make one after
-/// the other, and how many of all messages are on it.
-fn eight_lines<T: Threads + Wait + Abort + Sync>(
+/// What eight lines at once came to, and the day that they made.
+fn day_of_eight<T: Threads + Wait + Abort + Sync>(
     rt: &T,
     alloc: Global,
-) -> Option<(bool, bool, usize)> {
+) -> Option<(Vec<LineFigures>, Day)> {
+    let prepared = empty_day(alloc)?;
     let inputs = inputs(alloc)?;
-    let (lines, day) = day_of_lines(rt, alloc, empty_day(alloc)?, &inputs, &NoGate)?;
-    let tape = day.tape();
+    day_of_lines(rt, alloc, prepared, &inputs, &NoGate)
+}
+
+/// Whether two tapes have the same entries and summaries.
+fn is_same(tape: &Tape<IndexStore>, other: &Tape<IndexStore>) -> bool {
+    tape.entries() == other.entries() && has_all_summaries(tape, other)
+}
+
+/// Whether each line has the figures of its participant, whether the day's tape is the one that its messages make one after
+/// the other, and how many of all messages are on it.
+type Compared = (Option<bool>, bool, usize);
+
+/// What lines came to and the day's tape, compared with the one that its messages make.
+fn compared(alloc: Global, lines: &[LineFigures], tape: &Tape<IndexStore>) -> Option<Compared> {
     let again = tape_again(alloc, tape)?;
-    let is_same = tape.entries() == again.entries() && has_all_summaries(tape, &again);
-    Some((are_all_of(&again, &lines)?, is_same, tape.entries().len()))
+    let are_all = are_all_of(&again, lines);
+    Some((are_all, is_same(tape, &again), tape.entries().len()))
+}
+
+/// The same of eight lines at once.
+fn eight_lines<T: Threads + Wait + Abort + Sync>(rt: &T, alloc: Global) -> Option<Compared> {
+    let (lines, day) = day_of_eight(rt, alloc)?;
+    compared(alloc, &lines, day.tape())
 }
 
 #[test]
 fn eight_lines_make_the_tape_of_their_messages_in_its_order(rt: HostRuntime) {
-    assert_eq!(rt; eight_lines(&rt, rt.alloc()), Some((true, true, 67_575)));
+    assert_eq!(rt;
+        eight_lines(&rt, rt.alloc()),
+        Some((Some(true), true, 67_575))
+    );
 }

@@ -54,6 +54,32 @@ fn admit<D: DayName, W: Wait>(
     }
 }
 
+/// How many of three reports of N and two of Q each publication set.
+fn admit_and_publish<D: DayName, W: Wait>(
+    rt: &W,
+    shared: &SharedTape<D>,
+    seats: &mut [LineSeat<D>],
+) -> Set {
+    admit(rt, shared, seats.get_mut(0), b'N', 3);
+    admit(rt, shared, seats.get_mut(1), b'Q', 2);
+    [
+        shared.publish(rt, 2),
+        shared.publish(rt, 64),
+        shared.publish(rt, 64),
+    ]
+}
+
+/// What the request is answered from the ended day. A missing seat stops the test.
+fn answered_at_end<D: DayName, A: Abort>(
+    rt: &A,
+    alloc: Global,
+    shared: SharedTape<D>,
+    seats: Vec<LineSeat<D>>,
+) -> Option<Vec<u8>> {
+    let day = ended_day(rt, shared, seats)?;
+    Some(answered(alloc, &mut source_of(&day)))
+}
+
 /// How many of three reports of N and two of Q each publication set, what the request is answered from a source over the
 /// cells that was never refreshed, and what from the ended day.
 fn served<D: DayName, W: Wait + Abort>(
@@ -68,17 +94,10 @@ fn served<D: DayName, W: Wait + Abort>(
     let Ok((shared, mut seats)) = SharedTape::<D>::open(prepared) else {
         return None;
     };
-    admit(rt, &shared, seats.get_mut(0), b'N', 3);
-    admit(rt, &shared, seats.get_mut(1), b'Q', 2);
-    let set = [
-        shared.publish(rt, 2),
-        shared.publish(rt, 64),
-        shared.publish(rt, 64),
-    ];
+    let set = admit_and_publish(rt, &shared, seats.as_mut_slice());
     let from_cells = answered(alloc, &mut Published::new(&shared));
-    let day = ended_day(rt, shared, seats)?;
-    let from_day = answered(alloc, &mut source_of(&day));
-    Some((set, from_cells, from_day))
+    let from_day = answered_at_end(rt, alloc, shared, seats);
+    Some((set, from_cells, from_day?))
 }
 
 /// The same of a prepared day.
@@ -94,7 +113,7 @@ fn served_of<W: Wait + Abort>(
 /// day, and how long it is.
 fn served_of_a_day<W: Wait + Abort>(rt: &W, alloc: Global) -> Option<(Set, bool, bool, usize)> {
     let (set, from_cells, from_day) = served_of(rt, alloc, day_of_two(alloc)?)?;
-    let begins = from_cells.get(..4)? == FRONT.as_slice();
+    let begins = from_cells.as_slice().starts_with(&FRONT);
     let is_same = from_cells.as_slice() == from_day.as_slice();
     Some((set, begins, is_same, from_cells.len()))
 }

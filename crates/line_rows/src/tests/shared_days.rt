@@ -18,8 +18,10 @@ pub(super) const EF: &[u8; 8] = b"EF      ";
 /// A message of a participant under a number, of the symbol AB and a hundred shares where nothing else is said.
 #[derive(Clone, Copy)]
 pub(super) enum Sent {
-    /// A report under a condition, at a price.
-    Report(u8, u32, &'static [u8; 4], u64),
+    /// A regular report at a price.
+    Report(u8, u32, u64),
+    /// A sold last report at a price.
+    SoldLast(u8, u32, u64),
     /// A regular report of another symbol.
     ReportOf(&'static [u8; 8], u8, u32),
     /// A cancel of a target.
@@ -47,6 +49,11 @@ fn content(condition: &[u8; 4], price: u64) -> Option<Content> {
     })
 }
 
+/// A regular trade at a price.
+fn regular(price: u64) -> Option<Content> {
+    content(b"@   ", price)
+}
+
 fn report(header: Option<Header>, content: Option<Content>) -> Option<Message> {
     Some(Message::Report {
         header: header?,
@@ -71,18 +78,19 @@ fn correction(header: Option<Header>, target: u32, content: Option<Content>) -> 
 
 pub(super) fn message(sent: Sent) -> Option<Message> {
     match sent {
-        Sent::Report(who, number, condition, price) => {
-            report(header(who, number, AB), content(condition, price))
+        Sent::Report(who, number, price) => report(header(who, number, AB), regular(price)),
+        Sent::SoldLast(who, number, price) => {
+            report(header(who, number, AB), content(b"@ L ", price))
         }
         Sent::ReportOf(symbol, who, number) => {
-            report(header(who, number, symbol), content(b"@   ", 100_000))
+            report(header(who, number, symbol), regular(100_000))
         }
         Sent::Cancel(who, number, target) => cancel(header(who, number, AB), target),
         Sent::CancelUnder(symbol, who, number, target) => {
             cancel(header(who, number, symbol), target)
         }
         Sent::Correct(who, number, target, price) => {
-            correction(header(who, number, AB), target, content(b"@   ", price))
+            correction(header(who, number, AB), target, regular(price))
         }
     }
 }

@@ -6,7 +6,7 @@ use line_ledger::{LineRefusal, NotOnTape, OpenFault, PublishFault, Told, ViewFau
 use reports::Message;
 use scratch_fold::Mark;
 use std::alloc::Global;
-use std::test::Fail;
+use std::fmt::Display;
 use summaries::IndexStore;
 use tape_core::{Entry, Refusal, Tape};
 use tape_types::{Participant, TapeNumber};
@@ -27,36 +27,57 @@ fn entry(number: u32, message: Option<Message>) -> Option<Entry> {
 }
 
 fn regular(who: u8, number: u32, price: u64) -> Option<Message> {
-    message(Sent::Report(who, number, b"@   ", price))
+    message(Sent::Report(who, number, price))
 }
 
-/// Where what N was told, 1 and 3, first differs from the front of a tape of four entries, of which N has 1, 3 and 4.
-fn difference(many: usize, price_of_third: u64) -> Option<Option<usize>> {
-    let told = [
+/// What N was told, 1 and 3.
+fn told_to_n() -> Option<[Told; 2]> {
+    Some([
         told(1, regular(b'N', 1, 100_000))?,
         told(3, regular(b'N', 2, 100_000))?,
-    ];
-    let entries = [
+    ])
+}
+
+/// The entries of a tape, of which N has 1, 3 and 4.
+fn four_entries(price_of_third: u64) -> Option<[Entry; 4]> {
+    Some([
         entry(1, regular(b'N', 1, 100_000))?,
         entry(2, regular(b'Q', 1, 100_000))?,
         entry(3, regular(b'N', 2, price_of_third))?,
         entry(4, regular(b'N', 3, 100_000))?,
-    ];
+    ])
+}
+
+/// Where what N was told first differs from the front of the four entries.
+fn difference(many: usize, price_of_third: u64) -> Option<Option<usize>> {
+    let told = told_to_n()?;
+    let entries = four_entries(price_of_third)?;
     let who = Participant::try_new(b'N')?;
     Some(first_difference(&told, &entries[..many.min(entries.len())], who))
 }
 
 #[test]
 fn lists_first_differ_where_one_has_another_or_none(rt: HostRuntime) {
-    assert_eq!(rt; difference(3, 100_001), Some(Some(1)));
-    assert_eq!(rt; difference(1, 100_000), Some(Some(1)));
-    assert_eq!(rt; difference(3, 100_000), Some(None));
-    assert_eq!(rt; difference(0, 100_000), Some(Some(0)));
-    assert_eq!(rt; difference(4, 100_000), Some(Some(2)));
+    let found = [
+        difference(3, 100_001),
+        difference(1, 100_000),
+        difference(3, 100_000),
+        difference(0, 100_000),
+        difference(4, 100_000),
+    ];
+    let wanted = [
+        Some(Some(1)),
+        Some(Some(1)),
+        Some(None),
+        Some(Some(0)),
+        Some(Some(2)),
+    ];
+    assert_eq!(rt; found, wanted);
 }
 
 /// The price of the last report, once the tape has admitted this one.
-fn last_after(tape: &mut Tape<IndexStore>, report: Message) -> Option<Mark> {
+fn last_after(tape: &mut Tape<IndexStore>, report: Option<Message>) -> Option<Mark> {
+    let report = report?;
     tape.admit(report).ok()?;
     tape.summary(report.header().symbol)?.last
 }
@@ -65,7 +86,7 @@ fn last_after(tape: &mut Tape<IndexStore>, report: Message) -> Option<Mark> {
 fn opened(alloc: Global, is_closed: bool, is_filled: bool) -> Option<Result<(), OpenFault>> {
     let mut tape = tape(alloc)?;
     if is_filled {
-        last_after(&mut tape, regular(b'N', 1, 100_000)?)?;
+        last_after(&mut tape, regular(b'N', 1, 100_000))?;
     }
     if is_closed {
         tape.close();
@@ -75,29 +96,52 @@ fn opened(alloc: Global, is_closed: bool, is_filled: bool) -> Option<Result<(), 
 
 #[test]
 fn an_empty_open_tape_is_prepared_alone(rt: HostRuntime) {
+    let alloc = rt.alloc();
     let not_empty = Some(Err(OpenFault::NotEmpty));
-    assert_eq!(rt; opened(rt.alloc(), false, false), Some(Ok(())));
-    assert_eq!(rt; opened(rt.alloc(), true, false), not_empty);
-    assert_eq!(rt; opened(rt.alloc(), false, true), not_empty);
+    let answers = [
+        opened(alloc, false, false),
+        opened(alloc, true, false),
+        opened(alloc, false, true),
+    ];
+    assert_eq!(rt; answers, [Some(Ok(())), not_empty, not_empty]);
+}
+
+const STALE: LineRefusal = LineRefusal::Refused(Refusal::Stale);
+
+const UNPUBLISHED: PublishFault = PublishFault::Unpublished(3);
+
+/// The numbers of faults.
+fn codes() -> [u8; 4] {
+    [
+        STALE.code(),
+        LineRefusal::Behind.code(),
+        UNPUBLISHED.code(),
+        NotOnTape.code(),
+    ]
+}
+
+/// Whether a fault prints as this text.
+fn prints_as<F: Display>(alloc: Global, fault: &F, text: &str) -> bool {
+    match fault.to_string(alloc) {
+        Ok(printed) => printed.as_str() == text,
+        Err(_) => false,
+    }
+}
+
+/// Whether faults print as their names.
+fn print_as_named(alloc: Global) -> [bool; 6] {
+    [
+        prints_as(alloc, &STALE, "Stale"),
+        prints_as(alloc, &LineRefusal::Behind, "Behind"),
+        prints_as(alloc, &OpenFault::NotEmpty, "NotEmpty"),
+        prints_as(alloc, &ViewFault::Behind, "Behind"),
+        prints_as(alloc, &UNPUBLISHED, "Unpublished"),
+        prints_as(alloc, &NotOnTape, "NotOnTape"),
+    ]
 }
 
 #[test]
-fn a_fault_has_a_number_and_prints_as_its_name(rt: HostRuntime) -> Result<(), Fail> {
-    let alloc = rt.alloc();
-    let stale = LineRefusal::Refused(Refusal::Stale);
-    assert_eq!(rt; (stale.code(), LineRefusal::Behind.code()), (35, 94));
-    assert_eq!(rt; stale.to_string(alloc)?.as_str(), "Stale");
-    assert_eq!(rt; LineRefusal::Behind.to_string(alloc)?.as_str(), "Behind");
-    assert_eq!(rt; OpenFault::NotEmpty.to_string(alloc)?.as_str(), "NotEmpty");
-    assert_eq!(rt; ViewFault::Behind.to_string(alloc)?.as_str(), "Behind");
-    assert_eq!(rt;
-        (PublishFault::Unpublished(3).code(), NotOnTape.code()),
-        (81, 93)
-    );
-    assert_eq!(rt;
-        PublishFault::Unpublished(3).to_string(alloc)?.as_str(),
-        "Unpublished"
-    );
-    assert_eq!(rt; NotOnTape.to_string(alloc)?.as_str(), "NotOnTape");
-    Ok(())
+fn a_fault_has_a_number_and_prints_as_its_name(rt: HostRuntime) {
+    assert_eq!(rt; codes(), [35, 94, 81, 93]);
+    assert_eq!(rt; print_as_named(rt.alloc()), [true; 6]);
 }

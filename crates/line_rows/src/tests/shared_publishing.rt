@@ -94,12 +94,26 @@ fn looked_twice<D: DayName + Send + Sync, R: Threads + Sync>(
     )
 }
 
-/// What is set and found of three reports of N and two of Q, whether two threads found the fifth entry, and what the day
-/// confirms of what was found.
+/// Whether two threads find one entry in the fifth cell.
+fn is_found_twice<D: DayName + Send + Sync, R: Threads + Sync>(
+    rt: &R,
+    shared: &SharedTape<D>,
+) -> bool {
+    let Some(token) = shared.look(5) else {
+        return false;
+    };
+    let (one, other) = looked_twice(rt, shared, &token);
+    one.entry() == other.entry()
+}
+
+/// What is set, found and shown, whether two threads found the fifth entry, and what the day confirms of what was found.
+type Found = (Set, (u32, u32), u32, bool, Option<Confirmed>);
+
+/// The same of three reports of N and two of Q.
 fn five_published<D: DayName + Send + Sync, R: Threads + Wait + Abort + Sync>(
     rt: &R,
     prepared: Prepared,
-) -> Option<(Set, (u32, u32), u32, bool, Confirmed)>
+) -> Option<Found>
     requires name { prepared.blank.name ≡ D.name }
     requires parts { prepared.blank.parts ≡ D.parts }
     requires listing { prepared.tape.listing ≡ D.listing }
@@ -110,14 +124,8 @@ fn five_published<D: DayName + Send + Sync, R: Threads + Wait + Abort + Sync>(
     send_all(rt, &shared, &mut seats, &[3, 0, 2], 0);
     let (set, found, tokens) = publications(rt, &shared);
     let shown = numbers_shown(&shared);
-    let is_same = match shared.look(5) {
-        Some(token) => {
-            let (one, other) = looked_twice(rt, &shared, &token);
-            one.entry() == other.entry()
-        }
-        None => false,
-    };
-    let confirmed = confirmed_at_end(rt, shared, seats, tokens.as_slice())?;
+    let is_same = is_found_twice(rt, &shared);
+    let confirmed = confirmed_at_end(rt, shared, seats, tokens.as_slice());
     Some((set, found, shown, is_same, confirmed))
 }
 
@@ -125,7 +133,7 @@ fn five_published<D: DayName + Send + Sync, R: Threads + Wait + Abort + Sync>(
 fn admit_one<D: DayName>(locked: &mut Locked<D>, seat: &mut LineSeat<D>, number: u32)
     ensures { seat.new.who ≡ seat.old.who }
 {
-    if let Some(report) = message(Sent::Report(b'N', number, b"@   ", 100_000)) {
+    if let Some(report) = message(Sent::Report(b'N', number, 100_000)) {
         let _ = locked.admit(seat, report);
     }
 }
@@ -143,6 +151,22 @@ fn admit_two<D: DayName>(locked: &mut Locked<D>, seats: &mut Vec<LineSeat<D>>)
     admit_one(locked, &mut seats[0], 2);
 }
 
+/// How many entries are set in a row of cells.
+fn set_in<D: DayName>(locked: &mut Locked<D>, row: &CellRow) -> Result<usize, PublishFault> {
+    let tokens = locked.publish(row, 64)?;
+    Ok(tokens.len())
+}
+
+/// How many entries the day's end finds.
+fn found_at_end<D: DayName>(locked: Locked<D>, row: CellRow, seats: Vec<LineSeat<D>>) -> Option<u32>
+    requires { IsOneEach D.listing.participants seats.items }
+{
+    match locked.finish(row, seats) {
+        Ok(day) => Some(day.published()),
+        Err(_) => None,
+    }
+}
+
 /// How many of two entries are set in a row of one cell, then in the day's own row, and how many the day's end finds.
 fn set_in_two_rows<D: DayName>(prepared: Prepared, short: &CellRow) -> Option<SetInTwo>
     requires name { prepared.blank.name ≡ D.name }
@@ -153,12 +177,10 @@ fn set_in_two_rows<D: DayName>(prepared: Prepared, short: &CellRow) -> Option<Se
         return None;
     };
     admit_two(&mut locked, &mut seats);
-    let first = locked.publish(short, 64).map(|tokens| tokens.len());
-    let second = locked.publish(&row, 64).map(|tokens| tokens.len());
-    match locked.finish(row, seats) {
-        Ok(day) => Some((first, second, day.published())),
-        Err(_) => None,
-    }
+    let first = set_in(&mut locked, short);
+    let second = set_in(&mut locked, &row);
+    let found = found_at_end(locked, row, seats)?;
+    Some((first, second, found))
 }
 
 /// The same, with the row of a day of one cell.
@@ -171,7 +193,7 @@ fn set_beside<D: DayName>(alloc: Global, one: Prepared) -> Option<SetInTwo>
         return None;
     };
     let set = set_of_a_day(alloc, &short);
-    let _ = locked.finish(short, seats);
+    let _ = found_at_end(locked, short, seats);
     set
 }
 
@@ -188,7 +210,7 @@ fn set_in_two_rows_of_a_day(alloc: Global) -> Option<SetInTwo> {
 fn five_published_in_a_day<R: Threads + Wait + Abort + Sync>(
     rt: &R,
     alloc: Global,
-) -> Option<(Set, (u32, u32), u32, bool, Confirmed)> {
+) -> Option<Found> {
     let prepared = prepared(alloc)?;
     five_published::<Brand, _>(rt, prepared)
 }
@@ -197,7 +219,7 @@ fn five_published_in_a_day<R: Threads + Wait + Abort + Sync>(
 fn published_entries_are_found_and_confirmed(rt: HostRuntime) {
     assert_eq!(rt;
         five_published_in_a_day(&rt, rt.alloc()),
-        Some(((Ok(2), Ok(3), Ok(0)), (2, 5), 15, true, (5, 5, 5)))
+        Some(((Ok(2), Ok(3), Ok(0)), (2, 5), 15, true, Some((5, 5, 5))))
     );
 }
 

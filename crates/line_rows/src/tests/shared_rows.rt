@@ -1,7 +1,7 @@
 //! The worked rows of a tape, each through a shared one.
 ghost use Rattle.std.specs.Prelude.{◌≡◌};
 
-use super::shared_days::Sent::{Cancel, CancelUnder, Correct, Report, ReportOf};
+use super::shared_days::Sent::{Cancel, CancelUnder, Correct, Report, ReportOf, SoldLast};
 use super::shared_days::{AB, CD, EF, Sent, ended_len, message, prepared};
 use Answer::{Number, Refused, Shown};
 use Step::{Admit, Show};
@@ -36,13 +36,16 @@ enum Answer {
     Shown(u32, u32, Figures),
 }
 
+/// How many steps are answered as they have to be, and how many entries the day has.
+type Played = Option<(usize, usize)>;
+
 const NOTHING: Figures = ((0, 0), (0, 0), (0, 0), (0, 0), 0, 0);
 
 /// The lines of N, P and Q are 0, 1 and 2.
 const A_CANCEL_GIVES_THE_LAST_BACK: [(usize, Step, Answer); 6] = [
-    (2, Admit(Report(b'Q', 1, b"@   ", 100_000)), Number(1)),
-    (0, Admit(Report(b'N', 1, b"@   ", 101_000)), Number(2)),
-    (2, Admit(Report(b'Q', 2, b"@ L ", 100_500)), Number(3)),
+    (2, Admit(Report(b'Q', 1, 100_000)), Number(1)),
+    (0, Admit(Report(b'N', 1, 101_000)), Number(2)),
+    (2, Admit(SoldLast(b'Q', 2, 100_500)), Number(3)),
     (
         1,
         Show(AB),
@@ -79,9 +82,9 @@ const A_CANCEL_GIVES_THE_LAST_BACK: [(usize, Step, Answer); 6] = [
 ];
 
 const A_CORRECTION_KEEPS_ITS_PLACE: [(usize, Step, Answer); 6] = [
-    (0, Admit(Report(b'N', 1, b"@   ", 100_000)), Number(1)),
-    (0, Admit(Report(b'N', 2, b"@   ", 102_000)), Number(2)),
-    (0, Admit(Report(b'N', 3, b"@   ", 102_000)), Number(3)),
+    (0, Admit(Report(b'N', 1, 100_000)), Number(1)),
+    (0, Admit(Report(b'N', 2, 102_000)), Number(2)),
+    (0, Admit(Report(b'N', 3, 102_000)), Number(3)),
     (
         0,
         Show(AB),
@@ -118,7 +121,7 @@ const A_CORRECTION_KEEPS_ITS_PLACE: [(usize, Step, Answer); 6] = [
 ];
 
 const TARGETS_OF_EVERY_KIND: [(usize, Step, Answer); 9] = [
-    (0, Admit(Report(b'N', 1, b"@   ", 100_000)), Number(1)),
+    (0, Admit(Report(b'N', 1, 100_000)), Number(1)),
     (0, Admit(Correct(b'N', 2, 1, 100_500)), Number(2)),
     (0, Admit(Correct(b'N', 3, 2, 100_500)), Refused(37)),
     (0, Admit(CancelUnder(CD, b'N', 3, 1)), Refused(38)),
@@ -130,13 +133,13 @@ const TARGETS_OF_EVERY_KIND: [(usize, Step, Answer); 9] = [
 ];
 
 const A_REFUSED_NUMBER_IS_USED_AGAIN: [(usize, Step, Answer); 8] = [
-    (0, Admit(Report(b'N', 1, b"@   ", 100_000)), Number(1)),
-    (0, Admit(Report(b'N', 1, b"@   ", 100_000)), Refused(35)),
+    (0, Admit(Report(b'N', 1, 100_000)), Number(1)),
+    (0, Admit(Report(b'N', 1, 100_000)), Refused(35)),
     (0, Admit(ReportOf(EF, b'N', 5)), Refused(36)),
     (0, Show(EF), Refused(36)),
-    (0, Admit(Report(b'N', 5, b"@   ", 100_000)), Number(2)),
-    (0, Admit(Report(b'Z', 1, b"@   ", 100_000)), Refused(33)),
-    (0, Admit(Report(b'Q', 1, b"@   ", 100_000)), Refused(33)),
+    (0, Admit(Report(b'N', 5, 100_000)), Number(2)),
+    (0, Admit(Report(b'Z', 1, 100_000)), Refused(33)),
+    (0, Admit(Report(b'Q', 1, 100_000)), Refused(33)),
     (
         0,
         Show(AB),
@@ -216,12 +219,12 @@ fn answered<D: DayName, R: Wait>(
     steps.len()
 }
 
-/// How many steps are answered as they have to be, and how many entries the day has.
+/// What comes of the steps in this day.
 fn played<D: DayName, R: Wait + Abort>(
     rt: &R,
     prepared: Prepared,
     steps: &[(usize, Step, Answer)],
-) -> Option<(usize, usize)>
+) -> Played
     requires name { prepared.blank.name ≡ D.name }
     requires parts { prepared.blank.parts ≡ D.parts }
     requires listing { prepared.tape.listing ≡ D.listing }
@@ -233,29 +236,38 @@ fn played<D: DayName, R: Wait + Abort>(
     Some((many, ended_len(rt, shared, seats)?))
 }
 
-fn row<R: Wait + Abort>(
-    rt: &R,
-    alloc: Global,
-    steps: &[(usize, Step, Answer)],
-) -> Option<(usize, usize)> {
+fn row<R: Wait + Abort>(rt: &R, alloc: Global, steps: &[(usize, Step, Answer)]) -> Played {
     let prepared = prepared(alloc)?;
     played::<Brand, _>(rt, prepared, steps)
+}
+
+fn a_cancel_gives_the_last_back<R: Wait + Abort>(rt: &R, alloc: Global) -> Played {
+    row(rt, alloc, &A_CANCEL_GIVES_THE_LAST_BACK)
+}
+
+fn a_correction_keeps_its_place<R: Wait + Abort>(rt: &R, alloc: Global) -> Played {
+    row(rt, alloc, &A_CORRECTION_KEEPS_ITS_PLACE)
+}
+
+fn targets_of_every_kind<R: Wait + Abort>(rt: &R, alloc: Global) -> Played {
+    row(rt, alloc, &TARGETS_OF_EVERY_KIND)
+}
+
+fn a_refused_number_is_used_again<R: Wait + Abort>(rt: &R, alloc: Global) -> Played {
+    row(rt, alloc, &A_REFUSED_NUMBER_IS_USED_AGAIN)
 }
 
 #[test]
 fn a_shared_tape_answers_the_worked_rows(rt: HostRuntime) {
     let alloc = rt.alloc();
+    let played = [
+        a_cancel_gives_the_last_back(&rt, alloc),
+        a_correction_keeps_its_place(&rt, alloc),
+        targets_of_every_kind(&rt, alloc),
+        a_refused_number_is_used_again(&rt, alloc),
+    ];
     assert_eq!(rt;
-        row(&rt, alloc, &A_CANCEL_GIVES_THE_LAST_BACK),
-        Some((6, 4))
-    );
-    assert_eq!(rt;
-        row(&rt, alloc, &A_CORRECTION_KEEPS_ITS_PLACE),
-        Some((6, 4))
-    );
-    assert_eq!(rt; row(&rt, alloc, &TARGETS_OF_EVERY_KIND), Some((9, 3)));
-    assert_eq!(rt;
-        row(&rt, alloc, &A_REFUSED_NUMBER_IS_USED_AGAIN),
-        Some((8, 2))
+        played,
+        [Some((6, 4)), Some((6, 4)), Some((9, 3)), Some((8, 2))]
     );
 }

@@ -21,7 +21,7 @@ fn send<D: DayName, R: Wait>(
 ) {
     let who = seat.participant().value();
     for number in 1..=many {
-        if let Some(report) = message(Sent::Report(who, number, b"@   ", 100_000)) {
+        if let Some(report) = message(Sent::Report(who, number, 100_000)) {
             let _ = shared.admit(rt, seat, report);
         }
         let _ = shared.publish(rt, most);
@@ -96,12 +96,15 @@ fn late_end<D: DayName, A: Abort>(
     Some((code, ended_len(rt, shared, seats)?))
 }
 
-/// What the lines of N, P and Q counted, and what the end without seats and the day's end came to.
+/// What three lines counted, and what the end without seats and the day's end came to.
+type Whole = (Option<(u32, u32, u32)>, Option<(u8, usize)>);
+
+/// The same of the lines of N, P and Q.
 fn lines_at_once<D: DayName + Send + Sync, R: Threads + Wait + Abort + Sync>(
     rt: &R,
     alloc: Global,
     prepared: Prepared,
-) -> Option<((u32, u32, u32), (u8, usize))>
+) -> Option<Whole>
     requires name { prepared.blank.name ≡ D.name }
     requires parts { prepared.blank.parts ≡ D.parts }
     requires listing { prepared.tape.listing ≡ D.listing }
@@ -111,19 +114,18 @@ fn lines_at_once<D: DayName + Send + Sync, R: Threads + Wait + Abort + Sync>(
     };
     send_all(rt, &shared, &mut seats, &[3, 2, 1], 0);
     let counts = own_counts(rt, &shared, seats.as_slice());
-    let ended = late_end(rt, alloc, shared, seats)?;
-    Some((counts?, ended))
+    Some((counts, late_end(rt, alloc, shared, seats)))
 }
 
-fn day_of_lines<R: Threads + Wait + Abort + Sync>(
-    rt: &R,
-    alloc: Global,
-) -> Option<((u32, u32, u32), (u8, usize))> {
+fn day_of_lines<R: Threads + Wait + Abort + Sync>(rt: &R, alloc: Global) -> Option<Whole> {
     let prepared = prepared(alloc)?;
     lines_at_once::<Brand, _>(rt, alloc, prepared)
 }
 
 #[test]
 fn lines_at_once_make_one_tape(rt: HostRuntime) {
-    assert_eq!(rt; day_of_lines(&rt, rt.alloc()), Some(((3, 2, 1), (91, 6))));
+    assert_eq!(rt;
+        day_of_lines(&rt, rt.alloc()),
+        Some((Some((3, 2, 1)), Some((91, 6))))
+    );
 }

@@ -13,7 +13,6 @@ use std::marker::Brand;
 use std::process::Abort;
 use std::sync::Wait;
 use std::sync::atomic::{AtomicU32, Ordering};
-use std::test::Fail;
 use std::thread;
 use std::thread::Threads;
 use tape_frames::Source;
@@ -64,12 +63,23 @@ fn counts(figures: &[LineFigures]) -> Option<(u32, u32)> {
     (is_clean(first) && is_clean(second)).then_some((first.count, second.count))
 }
 
+/// The same of lines that were run.
+fn counts_of(figures: Option<Vec<LineFigures>>) -> Option<(u32, u32)> {
+    counts(figures?.as_slice())
+}
+
 /// What two publications set, how many entries a source then finds, and whether the sixth cell shows one.
 type Publications = ([Result<u32, PublishFault>; 2], u32, bool);
 
 /// What is seen of a day of two lines: how many messages each was told of, how many its view shows, what is published, the
 /// number of the fault of an end without Q's seat, and what the day confirms.
-type Whole = ((u32, u32), (u32, u32), Publications, u8, Confirmed);
+type Whole = (
+    Option<(u32, u32)>,
+    Option<(u32, u32)>,
+    Publications,
+    u8,
+    Option<Confirmed>,
+);
 
 /// How many entries the view of a line shows of it, where it was told of as many.
 fn shown<D: DayName, W: Wait>(rt: &W, shared: &SharedTape<D>, seat: &LineSeat<D>) -> Option<u32> {
@@ -164,10 +174,11 @@ fn two_lines<D: DayName + Send + Sync, T: Threads + Wait + Abort + Sync>(
         return None;
     };
     let (seats, figures) = run_inputs(rt, alloc, &shared, seats, inputs, meeting);
+    let counts = counts_of(figures);
     let shown = views(rt, &shared, seats.as_slice());
     let (published, tokens) = publications(rt, &shared);
     let (code, confirmed) = late_end(rt, shared, seats, tokens.as_slice());
-    Some((counts(&figures?)?, shown?, published, code, confirmed?))
+    Some((counts, shown, published, code, confirmed))
 }
 
 fn two_lines_of<T: Threads + Wait + Abort + Sync>(
@@ -190,16 +201,16 @@ fn two_lines_of_a_day<T: Threads + Wait + Abort + Sync>(
 }
 
 #[test]
-fn two_lines_run_at_once(rt: HostRuntime) -> Result<(), Fail> {
+fn two_lines_run_at_once(rt: HostRuntime) {
     let meeting = Meeting {
         done: [AtomicU32::new(0), AtomicU32::new(0)],
         met: AtomicU32::new(0),
     };
+    let counts = Some((3, 2));
     let published = ([Ok(5), Ok(0)], 5, false);
     assert_eq!(rt;
         two_lines_of_a_day(&rt, rt.alloc(), &meeting),
-        Some(((3, 2), (3, 2), published, 91, (5, 5, 5)))
+        Some((counts, counts, published, 91, Some((5, 5, 5))))
     );
     assert_eq!(rt; meeting.met.load(Ordering::SeqCst), 2);
-    Ok(())
 }
