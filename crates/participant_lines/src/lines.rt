@@ -54,6 +54,7 @@ fn line_ends<D: DayName, R: Drop>(
 ) -> Vec<LineEnd<D>>
     requires room { vec_len running ≤ vec_capacity ends }
     requires empty { ends.items ≡ [] }
+    requires closed { (i : ℕ) (d : _) → i < length running.items → (slice_index_or running.items i d).reader ≡ None }
     ensures { result.items ≡ map (λ r. record { seat = r.seat; refused = r.outcome.refused; ended = r.outcome.ended }) running.items }
 {
     let mut ends = ends;
@@ -86,6 +87,7 @@ fn run_each<
     ensures each { (i : ℕ) (d : _) → i < length lines.old → (r : _) → (slice_index_or lines.old i d).reader ≡ Some r
         → HasRun D.listing (slice_index_or lines.old i d).seat (R.remaining r)
         (slice_index_or lines.new i d).outcome.refused (slice_index_or lines.new i d).outcome.ended (slice_index_or lines.new i d).seat }
+    ensures closed { (i : ℕ) (d : _) → i < length lines.old → (slice_index_or lines.new i d).reader ≡ None }
 {
     let workers = lines.len();
     if workers == 0 {
@@ -95,6 +97,7 @@ fn run_each<
         ensures who { running.exit.now.seat.who ≡ running.entry.now.seat.who }
         ensures ran { (r : _) → running.entry.now.reader ≡ Some r → HasRun D.listing running.entry.now.seat (R.remaining r)
             running.exit.now.outcome.refused running.exit.now.outcome.ended running.exit.now.seat }
+        ensures closed { running.exit.now.reader ≡ None }
     { run_one(rt, shared, line, running, gate) };
     thread::for_each_mut(rt, lines, workers, &work);
 }

@@ -1,4 +1,4 @@
-use Rattle.std.proofs.Common.{rules, ◌≡◌, ◌<◌, ℕ, List, Option, Some, length, map, slice_index_or, refl, subst, sym, ap, ◌∙◌, arith}
+use Rattle.std.proofs.Common.{rules, ◌≡◌, ◌<◌, ℕ, List, None, Option, Some, length, map, slice_index_or, refl, subst, sym, ap, ◌∙◌, arith}
 use Rattle.std.proofs.lemmas.List.{length-map}
 use Rattle.line_ledger.specs.declared.locked.LineSeat.{LineSeat}
 use Rattle.participant_lines.specs.Lines.{HasRun, held}
@@ -61,3 +61,15 @@ returns-clause-same g c =
     ∙ sym (map_made line (λ (x : Line). x.0.who) running)
     ∙ ap (map (λ (x : Line). x.0.who)) lines
     ∙ map_made seated (λ (x : Line). x.0.who) c.args.lines.items
+
+-- no line that has run holds its reader
+pub line_ends-requires-clause-closed : goal.line_ends-requires-clause-closed
+line_ends-requires-clause-closed g c =
+    let Run : Type 0 = Running g.row.D.Denot g.row.R.Denot in
+    let running = c.in-Ok-running_lines.running.items in
+    let after = c.run_each.new.lines in
+    let lent : c.as_mut_slice.result.now ≡ running = c.as_mut_slice.ensures.value in
+    let long : length after ≡ length running = c.run_each.ensures.len ∙ ap length lent in
+    let whole = whole_slice running after c.in-Ok-running_lines.running.len (search rules) long in
+    subst (λ (xs : List Run). (k : ℕ) (d : Run) → k < length xs → (slice_index_or xs k d).reader ≡ None) (sym whole)
+    (λ k d less. c.run_each.ensures.closed k d (omega (arith, less, c.run_each.ensures.len)))
