@@ -21,7 +21,8 @@ lose=${LOSE:-30}
 seed=${SEED:-9}
 pause=${PAUSE:-0.002}
 limit=${LIMIT:-60}
-session=1
+# Above 32 bits: a session is a number of 64.
+session=4294967303
 
 # The programs that run, each as NAME:PROCESS, and the relay among them.
 running=

@@ -1,6 +1,7 @@
 -- The report of a day as it is written.
-use Rattle.std.specs.Prelude.{ℕ, List, Option}
+use Rattle.std.specs.Prelude.{◌≡◌, ℕ, List, Option}
 use Rattle.std.specs.Io.KnownBytes.{Appends}
+use Rattle.tape_types.specs.Names.{Names}
 use Rattle.tape_core.specs.Tape.{TapeState, IsLegal}
 use Rattle.day_report.specs.ReportText.{report_text}
 use Rattle.day_report.specs.Rows.{report_rows}
@@ -8,3 +9,7 @@ use Rattle.day_report.specs.Rows.{report_rows}
 -- the whole report of some legal tape was appended, and nothing else
 abbrev pub WritesOneReport : Option (List ℕ) → Option (List ℕ) → Type 0
 WritesOneReport old new = (t : TapeState) × IsLegal t × Appends old new (report_text (report_rows t))
+
+-- the whole report of some legal tape of the listing was appended, and nothing else
+abbrev pub WritesItsReport : Names → Option (List ℕ) → Option (List ℕ) → Type 0
+WritesItsReport listing old new = (t : TapeState) × IsLegal t × (t.listing ≡ listing) × Appends old new (report_text (report_rows t))

@@ -4,7 +4,7 @@ ghost use Rattle.tape_core.specs.Tape.{IsLegal};
 ghost use Rattle.line_ledger.specs.Cells.{FirstTokens};
 ghost use Rattle.line_ledger.specs.Ends.{IsOneEach};
 ghost use Rattle.live_feed.specs.Days.{HasAll};
-ghost use Rattle.live_feed.specs.Reports.{WritesOneReport};
+ghost use Rattle.live_feed.specs.Reports.{WritesItsReport, WritesOneReport};
 
 use crate::bell::Bell;
 use crate::feed::Feed;
@@ -51,6 +51,7 @@ fn find_published<D: DayName>(shared: &SharedTape<D>) -> Found
 fn end_day<D: DayName>(shared: SharedTape<D>, seats: Vec<LineSeat<D>>) -> Result<Day, Fault>
     requires { IsOneEach D.listing.participants seats.items }
     ensures legal { IfOk result (λ day. IsLegal day.tape) }
+    ensures listed { IfOk result (λ day. day.tape.listing ≡ D.listing) }
     ensures cells { IfOk result (λ day. day.names ≡ shared) }
 {
     match shared.end(seats) {
@@ -89,6 +90,7 @@ fn is_as_sent(day: &Day, tokens: &[Token], number: u32) -> bool
 fn finish_day<D: DayName>(shared: SharedTape<D>, joined: Joined<D>) -> Result<Day, Fault>
     requires { IsOneEach D.listing.participants joined.ran.seats.items }
     ensures legal { IfOk result (λ day. IsLegal day.tape) }
+    ensures listed { IfOk result (λ day. day.tape.listing ≡ D.listing) }
     ensures sent { IfOk result (λ day. length day.tape.entries ≡ joined.sides.sent.number) }
 {
     let Joined {
@@ -120,7 +122,8 @@ fn run_named<D: DayName + Send + Sync, R: Threads + Wait + Clock + Sync, L: Loss
     requires parts { prepared.blank.parts ≡ D.parts }
     requires listing { prepared.tape.listing ≡ D.listing }
     requires many { vec_len readers ≡ length D.listing.participants }
-    ensures { IfOk result (λ day. IsLegal day.tape) }
+    ensures legal { IfOk result (λ day. IsLegal day.tape) }
+    ensures listed { IfOk result (λ day. day.tape.listing ≡ D.listing) }
 {
     let Ok(lines) = Vec::with_capacity(feed.alloc, readers.len()) else {
         return Err(Fault::Memory);
@@ -151,7 +154,8 @@ fn run_day<R: Threads + Wait + Clock + Sync, L: Loss + Sync>(
     readers: Vec<Reader>,
 ) -> Result<Day, Fault>
     requires { vec_len readers ≡ length prepared.tape.listing.participants }
-    ensures { IfOk result (λ day. IsLegal day.tape) }
+    ensures legal { IfOk result (λ day. IsLegal day.tape) }
+    ensures listed { IfOk result (λ day. day.tape.listing ≡ prepared.tape.listing) }
 {
     run_named::<Brand, R, L>(rt, feed, prepared, readers)
 }
@@ -164,7 +168,8 @@ fn hold_day<R: Threads + Wait + Clock + Sync, L: Loss + Sync>(
     limit: u32,
     sockets: &LiveSockets,
 ) -> Result<Day, Fault>
-    ensures { IfOk result (λ day. IsLegal day.tape) }
+    ensures legal { IfOk result (λ day. IsLegal day.tape) }
+    ensures listed { IfOk result (λ day. day.tape.listing ≡ listing) }
 {
     if sockets.lines.len() != listing.participants().as_slice().len() {
         return Err(Fault::Read);
@@ -186,7 +191,8 @@ fn live<R: Threads + Wait + Clock + Sync, L: Loss + Sync, W: Write>(
     sockets: &LiveSockets,
     writer: &mut W,
 ) -> Result<(), Fault>
-    ensures { OnOk result (WritesOneReport (W.contents writer.old) (W.contents writer.new)) }
+    ensures report { OnOk result (WritesOneReport (W.contents writer.old) (W.contents writer.new)) }
+    ensures listed { OnOk result (WritesItsReport listing (W.contents writer.old) (W.contents writer.new)) }
 {
     let day = hold_day(rt, feed, listing, limit, sockets)?;
     write_day(rt, feed.alloc, day.tape(), writer)
@@ -217,6 +223,7 @@ pub fn live_over<R: Threads + Wait + Clock + Sync, L: Loss + Sync, W: Write>(
     writer: &mut W,
 ) -> u8
     ensures report { result ≡ 0 → WritesOneReport (W.contents writer.old) (W.contents writer.new) }
+    ensures listed { result ≡ 0 → WritesItsReport listing (W.contents writer.old) (W.contents writer.new) }
     ensures status { (result ≡ 0) ⊎ ((3 ≤ result) × (result ≤ 7)) }
 {
     let feed = Feed {

@@ -1,6 +1,7 @@
-//! A day that both lines lose a part of, with a subscriber that starts anew.
+//! A day over sockets: one that both lines lose a part of, with a subscriber that starts anew, and one that nothing is lost of and
+//! nothing is asked for.
 
-use crate::{FollowSockets, LiveSockets, Loss, follow_over, live_over};
+use crate::{FollowSockets, LiveSockets, Loss, NoLoss, follow_over, live_over};
 use arbitration::Line;
 use live_feed::here;
 use std::alloc::Global;
@@ -137,29 +138,68 @@ fn open_all<R: Net<Listener = TcpListener, Stream = TcpStream>>(
     })
 }
 
+/// What a day loses, how many connections it serves, and after how many entries its follower starts anew.
+#[derive(Drop)]
+struct Plan<L> {
+    loss: L,
+    serves: u16,
+    restart_after: Option<u32>,
+}
+
+/// What became of a day: whether both participants' reports were sent, the statuses of the day and of its follower, and their
+/// reports.
+#[derive(Drop)]
+struct Played {
+    sent: (bool, bool),
+    statuses: (u8, u8),
+    written: Vec<u8>,
+    followed: Vec<u8>,
+}
+
 /// The statuses of a day and of its follower, whose reports are appended to these texts.
-fn statuses<R: Threads + Wait + Clock + Net<Listener = TcpListener, Stream = TcpStream> + Sync>(
+fn statuses<
+    R: Threads + Wait + Clock + Net<Listener = TcpListener, Stream = TcpStream> + Sync,
+    L: Loss + Sync,
+>(
     rt: &R,
     alloc: Global,
+    plan: &Plan<L>,
     listings: (Listing, Listing),
     sockets: (LiveSockets, FollowSockets),
     texts: (&mut Vec<u8>, &mut Vec<u8>),
 ) -> (u8, u8) {
+    let Plan {
+        loss,
+        serves,
+        restart_after,
+    } = plan;
     let (listing, same) = listings;
     let (live, follow) = sockets;
     let (written, followed) = texts;
     thread::join(
         rt,
-        || live_over(rt, alloc, listing, LIMIT, SESSION, 2, live, &Lossy, written),
-        || follow_over(rt, alloc, same, LIMIT, SESSION, follow, Some(5), followed),
+        || live_over(
+            rt, alloc, listing, LIMIT, SESSION, *serves, live, loss, written,
+        ),
+        || follow_over(
+            rt,
+            alloc,
+            same,
+            LIMIT,
+            SESSION,
+            follow,
+            *restart_after,
+            followed,
+        ),
     )
 }
 
-/// Whether the reports of both participants were sent.
-fn sent<R: Threads + Net<Listener = TcpListener, Stream = TcpStream> + Sync>(
+/// Whether the reports of both participants were sent. A follower that is not awaited has a while to come first.
+fn sent<R: Threads + Clock + Net<Listener = TcpListener, Stream = TcpStream> + Sync>(
     rt: &R,
     ports: [u16; 2],
 ) -> (bool, bool) {
+    thread::sleep(rt, Duration::from_millis(200));
     thread::join(
         rt,
         || send_line(rt, ports[0], b'N'),
@@ -167,34 +207,69 @@ fn sent<R: Threads + Net<Listener = TcpListener, Stream = TcpStream> + Sync>(
     )
 }
 
-#[test]
-fn lossy_day(rt: HostRuntime) -> Result<(), Fail> {
+/// Plays a day in one process, and fails where it does not end in its turns.
+fn play<
+    R: Abort + Threads + Wait + Clock + Net<Listener = TcpListener, Stream = TcpStream> + Sync,
+    L: Loss + Sync,
+>(rt: &R, alloc: Global, plan: &Plan<L>) -> Result<Played, Fail> {
     let Opened {
         live,
         follow,
         ports,
-    } = open_all(&rt, rt.alloc())?;
-    let listing = listing_of_two(rt.alloc()).ok_or("listing")?;
-    let same = listing_of_two(rt.alloc()).ok_or("listing")?;
-    let (mut written, mut followed) = (Vec::new(rt.alloc()), Vec::new(rt.alloc()));
+    } = open_all(rt, alloc)?;
+    let listing = listing_of_two(alloc).ok_or("listing")?;
+    let same = listing_of_two(alloc).ok_or("listing")?;
+    let (mut written, mut followed) = (Vec::new(alloc), Vec::new(alloc));
     let texts = (&mut written, &mut followed);
     let ended = AtomicBool::new(false);
-    let ((), (both, all_sent)) = thread::join(
-        &rt,
-        || watch(&rt, &ended),
+    let ((), (statuses, sent)) = thread::join(
+        rt,
+        || watch(rt, &ended),
         || {
             let all = thread::join(
-                &rt,
-                || statuses(&rt, rt.alloc(), (listing, same), (live, follow), texts),
-                || sent(&rt, ports),
+                rt,
+                || statuses(rt, alloc, plan, (listing, same), (live, follow), texts),
+                || sent(rt, ports),
             );
             ended.store(true, Ordering::SeqCst);
             all
         },
     );
-    assert_eq!(rt; all_sent, (true, true));
-    assert_eq!(rt; both, (0, 0));
-    assert!(rt; has_all(&written));
-    assert_eq!(rt; written.as_slice(), followed.as_slice());
+    Ok(Played {
+        sent,
+        statuses,
+        written,
+        followed,
+    })
+}
+
+/// Asserts that all was sent, and that the day and its follower wrote the whole report, the same.
+fn assert_whole<R: Abort>(rt: &R, played: &Played) {
+    assert_eq!(rt; played.sent, (true, true));
+    assert_eq!(rt; played.statuses, (0, 0));
+    assert!(rt; has_all(&played.written));
+    assert_eq!(rt; played.written.as_slice(), played.followed.as_slice());
+}
+
+#[test]
+fn lossy_day(rt: HostRuntime) -> Result<(), Fail> {
+    let plan = Plan {
+        loss: Lossy,
+        serves: 2,
+        restart_after: Some(5),
+    };
+    assert_whole(&rt, &play(&rt, rt.alloc(), &plan)?);
+    Ok(())
+}
+
+/// No connection is served, so all that the follower holds came by lines A and B.
+#[test]
+fn straight_day(rt: HostRuntime) -> Result<(), Fail> {
+    let plan = Plan {
+        loss: NoLoss,
+        serves: 0,
+        restart_after: None,
+    };
+    assert_whole(&rt, &play(&rt, rt.alloc(), &plan)?);
     Ok(())
 }

@@ -52,3 +52,20 @@ fn each_word_of_follow_is_its_field(rt: HostRuntime) {
     let wanted = Some(([2, 3], [9101, 9102, 9203], 77));
     assert!(rt; follow_numbers(rt.alloc(), FOLLOW) == wanted);
 }
+
+#[test]
+fn the_greatest_numbers_are_taken(rt: HostRuntime) {
+    let live = b"live\0AB\0N\065535\065535\01\065535\065535\018446744073709551615\0";
+    let wanted = Some(([1, 1], [65_535, 65_535, 1, 65_535, 65_535], u64::MAX));
+    assert!(rt; live_numbers(rt.alloc(), live) == wanted);
+    let follow = b"follow\0AB\0N\065535\01\065535\018446744073709551615\0";
+    let wanted = Some(([1, 1], [65_535, 1, 65_535], u64::MAX));
+    assert!(rt; follow_numbers(rt.alloc(), follow) == wanted);
+}
+
+#[test]
+fn no_connection_need_be_served(rt: HostRuntime) {
+    let live = b"live\0AB\0N\01\02\03\04\00\00\0";
+    let wanted = Some(([1, 1], [1, 2, 3, 4, 0], 0));
+    assert!(rt; live_numbers(rt.alloc(), live) == wanted);
+}
