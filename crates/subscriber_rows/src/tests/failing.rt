@@ -1,8 +1,8 @@
-//! Readers and writers that fail, are slow or are interrupted, and a source that grows.
+//! Readers and writers that fail, are slow, are interrupted or take nothing, and sources that grow or fail.
 ghost use Rattle.std.specs.Prelude.{take};
 
 use super::feed::SESSION;
-use super::requests::{REQUEST, end, requests, served, source_of, tape_of, told};
+use super::requests::{ANSWER, REQUEST, end, requests, served, source_of, tape_of, told};
 use retransmit::{AskFault, Ended, Refusal, ServeEnd, serve};
 use std::alloc::{AllocError, Global};
 use std::io;
@@ -91,16 +91,63 @@ impl Write for SlowWrites {
     }
 }
 
-/// A writer that takes all, and counts its calls.
+/// A reader and a writer whose every call times out.
 #[derive(Drop)]
-struct Calls {
-    writes: u32,
-    flushes: u32,
+struct TimesOut;
+
+impl Read for TimesOut {
+    fn read(&mut self, _buf: &mut [u8]) -> io::Result<usize> {
+        Err(io::Error::from(ErrorKind::TimedOut))
+    }
+}
+
+impl Write for TimesOut {
+    fn write(&mut self, _buf: &[u8]) -> io::Result<usize> {
+        Err(io::Error::from(ErrorKind::TimedOut))
+    }
+
+    fn flush(&mut self) -> io::Result<()> {
+        Err(io::Error::from(ErrorKind::TimedOut))
+    }
+}
+
+/// A writer that takes nothing, though no call of it fails.
+#[derive(Drop)]
+struct TakesNothing;
+
+impl Write for TakesNothing {
+    fn write(&mut self, _buf: &[u8]) -> io::Result<usize> {
+        Ok(0)
+    }
+
+    fn flush(&mut self) -> io::Result<()> {
+        Ok(())
+    }
+}
+
+/// A writer that takes all, and counts its calls and their bytes.
+#[derive(Drop)]
+pub(super) struct Calls {
+    pub(super) writes: u32,
+    pub(super) flushes: u32,
+    pub(super) bytes: usize,
+}
+
+impl Calls {
+    /// A writer that was not called yet.
+    pub(super) fn new() -> Self {
+        Calls {
+            writes: 0,
+            flushes: 0,
+            bytes: 0,
+        }
+    }
 }
 
 impl Write for Calls {
     fn write(&mut self, buf: &[u8]) -> io::Result<usize> {
         self.writes = self.writes.saturating_add(1);
+        self.bytes = self.bytes.saturating_add(buf.len());
         Ok(buf.len())
     }
 
@@ -138,6 +185,28 @@ impl Source for Growing<'_> {
     }
 }
 
+/// A source each of whose refreshes is out of memory.
+#[derive(Drop)]
+struct Exhausted<'a> {
+    source: &'a SliceSource<'a>,
+}
+
+impl Source for Exhausted<'_> {
+    ghost list = { λ e. e.source.now };
+
+    fn refresh(&mut self) -> Result<(), AllocError> {
+        Err(AllocError)
+    }
+
+    fn published(&self) -> u32 {
+        self.source.published()
+    }
+
+    fn entry(&self, number: u32) -> Option<Entry> {
+        self.source.entry(number)
+    }
+}
+
 /// How serving two requests of zeros ends, where the reader fails once it gave this many bytes, and how many are answered.
 fn end_of_reads(alloc: Global, until_fault: u32) -> (Option<ServeEnd>, usize) {
     let mut reader = slow(&[0; 28], until_fault);
@@ -158,10 +227,7 @@ fn end_of_writes(alloc: Global, until_fault: u32) -> (Option<ServeEnd>, u32, u32
 /// How serving a request for 64 of twenty entries ends, and how many writes and flushes there are.
 fn end_of_calls(alloc: Global, input: &[u8]) -> (Option<ServeEnd>, u32, u32) {
     let mut reader = input;
-    let mut writer = Calls {
-        writes: 0,
-        flushes: 0,
-    };
+    let mut writer = Calls::new();
     let end = served(alloc, 20, &mut reader, &mut writer);
     (end, writer.writes, writer.flushes)
 }
@@ -188,7 +254,7 @@ fn end_of_growing(alloc: Global, input: &[u8], output: &mut Vec<u8>) -> Option<S
 }
 
 /// What asking for 64 entries from 3 tells, by this reader.
-fn told_by(alloc: Global, reader: &mut SlowReads<'_>) -> Option<Result<usize, AskFault>> {
+fn told_by<R: Read>(alloc: Global, reader: &mut R) -> Option<Result<usize, AskFault>> {
     let mut sent = Vec::new(alloc);
     told(alloc, reader, &mut sent)
 }
@@ -290,4 +356,108 @@ fn a_request_that_is_not_written_is_a_write_fault(rt: HostRuntime) {
         let wanted = (Some(Err(AskFault::WriteFault)), calls.min(14), 14);
         assert_eq!(rt; told_of_writes(rt.alloc(), calls), wanted);
     }
+}
+
+/// How serving the request ends over a source of these entries that is out of memory.
+fn serve_exhausted(alloc: Global, entries: &SliceSource<'_>, output: &mut Vec<u8>) -> ServeEnd {
+    let mut source = Exhausted { source: entries };
+    let mut reader = REQUEST.as_slice();
+    serve(alloc, &mut source, SESSION, &mut reader, output)
+}
+
+/// The same over three entries.
+fn end_of_exhausted(alloc: Global, output: &mut Vec<u8>) -> Option<ServeEnd> {
+    let tape = tape_of(alloc, 3)?;
+    Some(serve_exhausted(alloc, &source_of(&tape), output))
+}
+
+/// The same, and how many bytes are answered.
+fn end_without_memory(alloc: Global) -> (Option<ServeEnd>, usize) {
+    let mut output = Vec::new(alloc);
+    let end = end_of_exhausted(alloc, &mut output);
+    (end, output.len())
+}
+
+#[test]
+fn a_refresh_without_memory_ends_the_serving_and_nothing_is_answered(rt: HostRuntime) {
+    let wanted = (end(0, Ended::OutOfMemory), 0);
+    assert_eq!(rt; end_without_memory(rt.alloc()), wanted);
+}
+
+/// How serving one request of zeros ends by this reader. What is answered is let go.
+fn end_by_reader<R: Read>(alloc: Global, reader: &mut R) -> Option<ServeEnd> {
+    let mut output = Vec::new(alloc);
+    served(alloc, 0, reader, &mut output)
+}
+
+/// How serving one request of zeros ends by this writer.
+fn end_by_writer<W: Write>(alloc: Global, writer: &mut W) -> Option<ServeEnd> {
+    let mut reader = [0; 14].as_slice();
+    served(alloc, 0, &mut reader, writer)
+}
+
+/// What asking for 64 entries from 3 tells by this writer.
+fn told_by_writer<W: Write>(alloc: Global, writer: &mut W) -> Option<Result<usize, AskFault>> {
+    let mut reader = REQUEST.as_slice();
+    told(alloc, &mut reader, writer)
+}
+
+#[test]
+fn a_writer_that_takes_nothing_is_a_write_fault(rt: HostRuntime) {
+    let mut writer = TakesNothing;
+    assert_eq!(rt;
+        end_by_writer(rt.alloc(), &mut writer),
+        end(0, Ended::WriteFault)
+    );
+    assert_eq!(rt;
+        told_by_writer(rt.alloc(), &mut writer),
+        Some(Err(AskFault::WriteFault))
+    );
+}
+
+#[test]
+fn a_write_that_times_out_is_a_write_fault(rt: HostRuntime) {
+    let mut writer = TimesOut;
+    assert_eq!(rt;
+        end_by_writer(rt.alloc(), &mut writer),
+        end(0, Ended::WriteFault)
+    );
+    assert_eq!(rt;
+        told_by_writer(rt.alloc(), &mut writer),
+        Some(Err(AskFault::WriteFault))
+    );
+}
+
+#[test]
+fn a_read_that_times_out_is_a_read_fault(rt: HostRuntime) {
+    let mut reader = TimesOut;
+    assert_eq!(rt;
+        end_by_reader(rt.alloc(), &mut reader),
+        end(0, Ended::ReadFault)
+    );
+    assert_eq!(rt;
+        told_by(rt.alloc(), &mut reader),
+        Some(Err(AskFault::ReadFault))
+    );
+}
+
+/// How serving the request over four entries ends by a slow writer that never fails, and how many bytes and flushes it took.
+fn end_of_a_slow_answer(alloc: Global) -> (Option<ServeEnd>, u32, u32) {
+    let mut reader = REQUEST.as_slice();
+    let mut writer = SlowWrites::new(1_000);
+    let end = served(alloc, 4, &mut reader, &mut writer);
+    (end, writer.taken, writer.flushes)
+}
+
+/// What asking for 64 entries from 3 tells by a slow reader of the answer's vector.
+fn told_of_a_slow_answer(alloc: Global) -> Option<Result<usize, AskFault>> {
+    let mut reader = slow(&ANSWER, 107);
+    told_by(alloc, &mut reader)
+}
+
+#[test]
+fn an_answer_leaves_and_comes_in_as_many_pieces_as_it_has_bytes(rt: HostRuntime) {
+    let wanted = (end(1, Ended::Clean), 107, 1);
+    assert_eq!(rt; end_of_a_slow_answer(rt.alloc()), wanted);
+    assert_eq!(rt; told_of_a_slow_answer(rt.alloc()), Some(Ok(1)));
 }

@@ -115,6 +115,25 @@ pub(super) fn corrected(alloc: Global) -> Option<Feed> {
     admits_a_correction(&mut tape).then_some(tape)
 }
 
+/// Admits 71 corrections of report 1, each at a hundredth of a cent more than the one before.
+fn admits_corrections(tape: &mut Feed, price: u64) -> bool {
+    for number in 2..=72 {
+        if !admits(
+            tape,
+            correction(number, 1, price.wrapping_add(u64::from(number))),
+        ) {
+            return false;
+        }
+    }
+    true
+}
+
+/// A report and 71 corrections of it.
+pub(super) fn corrected_often(alloc: Global) -> Option<Feed> {
+    let mut tape = reports(alloc, 1, 100_000)?;
+    admits_corrections(&mut tape, 100_000).then_some(tape)
+}
+
 fn bytes_of(alloc: Global, packet: &Packet) -> Option<Vec<u8>> {
     let mut text = Vec::new(alloc);
     write_packet(packet, &mut text).is_ok().then_some(text)

@@ -19,7 +19,7 @@ pub(super) const REQUEST: [u8; 14] = [
 ];
 
 /// The answer to it over four entries: one packet of 103 bytes, with entries 3 and 4.
-const ANSWER: [u8; 107] = [
+pub(super) const ANSWER: [u8; 107] = [
     0x00, 0x01, 0x00, 0x67, // a range, one packet, its length
     0x01, 0x44, 0x00, 0x00, 0x00, 0x00, 0x00, 0x00, 0x00, 0x07, // version, kind, session
     0x00, 0x00, 0x00, 0x03, 0x02, // number, count

@@ -3,15 +3,15 @@
 use super::feed::{self, SESSION};
 use super::packets::CORRECTION_PACKET;
 use super::steps::Sent::{Beat, End, Front, OtherPrices, OtherSession, OtherVolume, Reports};
-use super::steps::Step::{Announced, By, Drain, IsGapOpen, Missing};
+use super::steps::Step::{Announced, Asks, By, Drain, IsGapOpen, Missing};
 use super::steps::Told::{Drained, Gap, Is, Number, Refused, Took};
 use super::steps::{Step, Told, deliver, holds, subscriber, told_so};
 use arbitration::Line::{A, B, R};
 use std::alloc::Global;
 use subscriber::Subscriber;
 
-/// What line A brings of eight entries, and line B backwards and once more.
-const TWO_LOSSY_LINES: [(Step, Told); 17] = [
+/// What line A brings of eight entries, and line B backwards, twice.
+const TWO_LOSSY_LINES: [(Step, Told); 23] = [
     (By(A, Reports(1, 1)), Took(1, 0, 0)),
     (By(A, Reports(3, 3)), Took(1, 0, 0)),
     (By(A, Reports(4, 4)), Took(1, 0, 0)),
@@ -25,7 +25,13 @@ const TWO_LOSSY_LINES: [(Step, Told); 17] = [
     (By(B, Reports(4, 4)), Took(0, 1, 0)),
     (By(B, Reports(3, 3)), Took(0, 1, 0)),
     (By(B, Reports(2, 2)), Took(1, 0, 0)),
-    (By(B, Reports(2, 8)), Took(0, 7, 0)),
+    (By(B, Reports(8, 8)), Took(0, 1, 0)),
+    (By(B, Reports(7, 7)), Took(0, 1, 0)),
+    (By(B, Reports(6, 6)), Took(0, 1, 0)),
+    (By(B, Reports(5, 5)), Took(0, 1, 0)),
+    (By(B, Reports(4, 4)), Took(0, 1, 0)),
+    (By(B, Reports(3, 3)), Took(0, 1, 0)),
+    (By(B, Reports(2, 2)), Took(0, 1, 0)),
     (Missing, Gap(0, 0)),
     (Drain, Drained(8, 0)),
     (IsGapOpen, Is(false)),
@@ -39,6 +45,20 @@ const A_GAP_AND_ITS_RETRANSMISSION: [(Step, Told); 10] = [
     (IsGapOpen, Is(true)),
     (Missing, Gap(3, 2)),
     (By(R, Reports(3, 4)), Took(2, 0, 0)),
+    (Drain, Drained(2, 0)),
+    (IsGapOpen, Is(false)),
+    (Missing, Gap(0, 0)),
+];
+
+/// The same gap, closed by what `ask` reads of what `serve` answers.
+const A_GAP_THAT_IS_ASKED_FOR: [(Step, Told); 10] = [
+    (By(A, Reports(1, 1)), Took(1, 0, 0)),
+    (By(A, Reports(2, 2)), Took(1, 0, 0)),
+    (By(A, Beat(4)), Took(0, 0, 0)),
+    (Drain, Drained(2, 0)),
+    (IsGapOpen, Is(true)),
+    (Missing, Gap(3, 2)),
+    (Asks(4), Took(2, 0, 0)),
     (Drain, Drained(2, 0)),
     (IsGapOpen, Is(false)),
     (Missing, Gap(0, 0)),
@@ -126,10 +146,10 @@ fn two_lossy_lines(alloc: Global) -> Option<(u32, u32, u32)> {
     brought_anew(alloc, &TWO_LOSSY_LINES, &tape)
 }
 
-/// How many entries each line brought in the row of a gap.
-fn retransmitted(alloc: Global) -> Option<(u32, u32, u32)> {
+/// How many entries each line brought in a row of a gap.
+fn retransmitted(alloc: Global, steps: &[(Step, Told)]) -> Option<(u32, u32, u32)> {
     let tape = feed::reports(alloc, 4, 100_000)?;
-    brought_anew(alloc, &A_GAP_AND_ITS_RETRANSMISSION, &tape)
+    brought_anew(alloc, steps, &tape)
 }
 
 /// How many entries each line brought in the row of another summary.
@@ -145,7 +165,18 @@ fn what_two_lossy_lines_bring_between_them_is_held(rt: HostRuntime) {
 
 #[test]
 fn a_gap_is_filled_by_its_retransmission(rt: HostRuntime) {
-    assert_eq!(rt; retransmitted(rt.alloc()), Some((2, 0, 2)));
+    assert_eq!(rt;
+        retransmitted(rt.alloc(), &A_GAP_AND_ITS_RETRANSMISSION),
+        Some((2, 0, 2))
+    );
+}
+
+#[test]
+fn a_gap_is_asked_for_and_answered_over_memory(rt: HostRuntime) {
+    assert_eq!(rt;
+        retransmitted(rt.alloc(), &A_GAP_THAT_IS_ASKED_FOR),
+        Some((2, 0, 2))
+    );
 }
 
 #[test]

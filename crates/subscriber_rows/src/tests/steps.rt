@@ -2,9 +2,11 @@
 
 use super::feed::{self, Feed, SESSION};
 use arbitration::{Line, Taken};
+use retransmit::{Ended, ServeEnd, ask, serve};
 use std::alloc::Global;
+use std::io::Write;
 use subscriber::{DeliveryFault, DrainFault, Subscriber};
-use tape_frames::Request;
+use tape_frames::{Request, SliceSource, write_request};
 
 /// What a line brings: a packet of session 7 where nothing else is said.
 #[derive(Clone, Copy)]
@@ -30,6 +32,8 @@ pub(super) enum Sent {
 pub(super) enum Step {
     /// A line brings bytes.
     By(Line, Sent),
+    /// What is missing is asked for, is answered over so many reports, and comes by retransmission.
+    Asks(u32),
     /// The subscriber drains.
     Drain,
     /// The subscriber is asked for what is missing.
@@ -43,7 +47,7 @@ pub(super) enum Step {
 /// What the subscriber answers, each fault by its number.
 #[derive(Clone, Copy, PartialEq, Eq)]
 pub(super) enum Told {
-    /// How many entries were fresh, repeated, and beyond.
+    /// How many entries were fresh, repeated, and beyond, in all packets that came.
     Took(u32, u32, u32),
     /// The packet was refused.
     Refused(u8),
@@ -130,14 +134,88 @@ pub(super) fn drain(subscriber: &mut Subscriber) -> Told {
     told_drain(subscriber.drain())
 }
 
-fn brings(alloc: Global, subscriber: &mut Subscriber, line: Line, sent: Sent) -> Option<Told> {
+/// A line brings something.
+pub(super) fn brings(
+    alloc: Global,
+    subscriber: &mut Subscriber,
+    line: Line,
+    sent: Sent,
+) -> Option<Told> {
     let text = bytes(alloc, sent)?;
     Some(deliver(subscriber, line, text.as_slice()))
+}
+
+/// Packets come by retransmission: what they bring in all, or the first refusal.
+pub(super) fn deliver_all(subscriber: &mut Subscriber, packets: &[Vec<u8>]) -> Told {
+    let mut fresh = 0_u32;
+    let mut repeated = 0_u32;
+    let mut beyond = 0_u32;
+    for packet in packets.iter() {
+        match deliver(subscriber, Line::R, packet) {
+            Told::Took(new, known, far) => {
+                fresh = fresh.wrapping_add(new);
+                repeated = repeated.wrapping_add(known);
+                beyond = beyond.wrapping_add(far);
+            }
+            refused => return refused,
+        }
+    }
+    Told::Took(fresh, repeated, beyond)
+}
+
+/// Whether this request alone is answered to the writer, over the tape.
+pub(super) fn is_served<W: Write>(
+    alloc: Global,
+    tape: &Feed,
+    asked: &Request,
+    writer: &mut W,
+) -> bool {
+    let text = write_request(asked);
+    let mut reader = text.as_slice();
+    let mut source = SliceSource::of(tape);
+    let end = serve(alloc, &mut source, SESSION, &mut reader, writer);
+    end == ServeEnd {
+        served: 1,
+        ended: Ended::Clean,
+    }
+}
+
+/// The bytes that answer a request over the tape.
+fn served(alloc: Global, tape: &Feed, asked: &Request) -> Option<Vec<u8>> {
+    let mut text = Vec::new(alloc);
+    is_served(alloc, tape, asked, &mut text).then_some(text)
+}
+
+/// The packets that asking takes out of an answer.
+fn packets_of(alloc: Global, asked: &Request, answer: &[u8]) -> Option<Vec<Vec<u8>>> {
+    let mut reader = answer;
+    let mut sent = Vec::new(alloc);
+    ask(alloc, asked, &mut reader, &mut sent).ok()
+}
+
+/// The packets that answer a request over the tape.
+pub(super) fn answered(alloc: Global, tape: &Feed, asked: &Request) -> Option<Vec<Vec<u8>>> {
+    let text = served(alloc, tape, asked)?;
+    packets_of(alloc, asked, &text)
+}
+
+/// The packets that answer a request over so many reports.
+fn answered_over(alloc: Global, count: u32, asked: &Request) -> Option<Vec<Vec<u8>>> {
+    let tape = feed::reports(alloc, count, 100_000)?;
+    answered(alloc, &tape, asked)
+}
+
+/// What is missing is asked for over so many reports, and comes.
+fn asks(alloc: Global, subscriber: &mut Subscriber, count: u32) -> Option<Told> {
+    let asked = subscriber.missing()?;
+    let packets = answered_over(alloc, count, &asked)?;
+    Some(deliver_all(subscriber, &packets))
 }
 
 fn take(alloc: Global, subscriber: &mut Subscriber, step: Step) -> Option<Told> {
     match step {
         Step::By(line, sent) => brings(alloc, subscriber, line, sent),
+        Step::Asks(count) => asks(alloc, subscriber, count),
         Step::Drain => Some(drain(subscriber)),
         Step::Missing => Some(told_missing(subscriber.missing())),
         Step::IsGapOpen => Some(Told::Is(subscriber.open_gap())),
