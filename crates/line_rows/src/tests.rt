@@ -1,5 +1,6 @@
 //! Shared tapes, the ends of a line, two lines at once, a seeded day of eight lines, and a retransmission while a day is open.
 
+mod closing;
 mod days;
 mod ends;
 mod lines;

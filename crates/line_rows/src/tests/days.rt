@@ -80,7 +80,7 @@ pub(super) fn ended_day<D: DayName, A: Abort>(
 pub(super) type Confirmed = (usize, u32, usize);
 
 /// What the day confirms.
-fn confirmed(day: &Day, tokens: &[Token]) -> Confirmed
+pub(super) fn confirmed(day: &Day, tokens: &[Token]) -> Confirmed
     requires { FirstTokens day.now.names tokens.now }
 {
     let mut many: usize = 0;

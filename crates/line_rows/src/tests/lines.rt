@@ -6,6 +6,7 @@ use super::days::ended_day;
 use line_ledger::{Day, DayName, LineSeat, Prepared, SharedTape};
 use participant_lines::{Ended, LineEnd, Unstarted, run_lines};
 use std::alloc::Global;
+use std::io::BufRead;
 use std::marker::Brand;
 use std::process::Abort;
 use std::sync::Wait;
@@ -73,7 +74,10 @@ fn seats_of_ends<D: DayName>(ends: Vec<LineEnd<D>>, seats: Vec<LineSeat<D>>) -> 
 }
 
 /// The seats of lines that were not started, put into a vector with room for them.
-fn seats_of_lines<D: DayName>(lines: Vec<Line<'_, D>>, seats: Vec<LineSeat<D>>) -> Vec<LineSeat<D>>
+fn seats_of_lines<D: DayName, R: Drop>(
+    lines: Vec<(LineSeat<D>, R)>,
+    seats: Vec<LineSeat<D>>,
+) -> Vec<LineSeat<D>>
     requires room { vec_len lines ≤ vec_capacity seats }
     requires empty { seats.items ≡ [] }
 {
@@ -107,11 +111,16 @@ fn all_figures<D: DayName>(alloc: Global, ends: &[LineEnd<D>]) -> Option<Vec<Lin
 }
 
 /// Runs the lines at once: the seats after it, and what the lines came to.
-fn run_all<D: DayName + Send + Sync, G: Gate + Sync, T: Threads + Wait + Sync>(
+pub(super) fn run_all<
+    D: DayName + Send + Sync,
+    R: BufRead + Send + Drop,
+    G: Gate + Sync,
+    T: Threads + Wait + Sync,
+>(
     rt: &T,
     alloc: Global,
     shared: &SharedTape<D>,
-    lines: Vec<Line<'_, D>>,
+    lines: Vec<(LineSeat<D>, R)>,
     seats: Vec<LineSeat<D>>,
     gate: &G,
 ) -> (Vec<LineSeat<D>>, Option<Vec<LineFigures>>)

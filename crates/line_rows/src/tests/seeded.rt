@@ -1,17 +1,22 @@
-//! A seeded day of eight lines at once, beside the same messages admitted one after the other in the day's order.
+//! A seeded day of eight lines at once, beside the same messages admitted one after the other in the day's order. All its
+//! entries are published, found and confirmed.
 ghost use Rattle.std.specs.Prelude.{◌≡◌, ◌≤◌, ◌<◌};
+ghost use Rattle.line_ledger.specs.Cells.{FirstTokens};
 
-use super::lines::{LineFigures, day_of_lines};
-use line_ledger::{Day, Prepared, prepare};
+use super::days::{Confirmed, confirmed, ended_day};
+use super::lines::{LineFigures, run_inputs};
+use line_ledger::{Day, DayName, LineSeat, Prepared, Published, SharedTape, Token, prepare};
 use participant_lines::Ended;
 use reports::{Content, Header, Message, Moment, encode_into};
 use sale_matrix::Condition;
 use std::alloc::Global;
+use std::marker::Brand;
 use std::process::Abort;
 use std::sync::Wait;
 use std::thread::Threads;
 use summaries::IndexStore;
 use tape_core::{Tape, run};
+use tape_frames::Source;
 use tape_types::{Listing, MsgNumber, NoGate, Participant, Price, Size, Symbol};
 
 /// How many lines the day has.
@@ -19,6 +24,12 @@ const LINES: u32 = 8;
 
 /// How many messages each line brings.
 const MESSAGES: u32 = 10_000;
+
+/// How many of the messages are admitted, whatever the lines' order.
+const ENTRIES: u32 = 67_575;
+
+/// How many entries a publication sets at most.
+const MOST: u32 = 1_000;
 
 /// How many symbols the day has.
 const SYMBOLS: u32 = 20;
@@ -240,14 +251,87 @@ fn are_all_of(tape: &Tape<IndexStore>, lines: &[LineFigures]) -> Option<bool> {
     Some(true)
 }
 
-/// What eight lines at once came to, and the day that they made.
-fn day_of_eight<T: Threads + Wait + Abort + Sync>(
+/// How many entries were set by publications until one set none. `None` where one failed.
+fn publish_all<D: DayName, W: Wait>(rt: &W, shared: &SharedTape<D>) -> Option<u32> {
+    let mut all: u32 = 0;
+    for _ in 0..=LINES * MESSAGES {
+        let set = shared.publish(rt, MOST).ok()?;
+        if set == 0 {
+            return Some(all);
+        }
+        all = all.saturating_add(set);
+    }
+    None
+}
+
+/// How many entries were published, how many a source then finds at once, and whether the cell of the last entry and the one
+/// beyond it show one.
+type Found = (Option<u32>, u32, bool, bool);
+
+/// What is published and found, and a token for each entry.
+fn found<D: DayName, W: Wait>(rt: &W, shared: &SharedTape<D>) -> (Found, Vec<Token>)
+    ensures { FirstTokens shared.now result.1.items }
+{
+    let set = publish_all(rt, shared);
+    let mut published = Published::new(shared);
+    let _ = published.refresh();
+    let many = published.published();
+    let last = shared.look(ENTRIES).is_some();
+    let is_beyond = shared.look(ENTRIES + 1).is_some();
+    ((set, many, last, is_beyond), published.into_tokens())
+}
+
+/// The ended day, and what it confirms.
+fn confirmed_day<D: DayName, A: Abort>(
+    rt: &A,
+    shared: SharedTape<D>,
+    seats: Vec<LineSeat<D>>,
+    tokens: &[Token],
+) -> Option<(Day, Confirmed)>
+    requires { FirstTokens shared tokens.now }
+{
+    let day = ended_day(rt, shared, seats)?;
+    let confirmed = confirmed(&day, tokens);
+    Some((day, confirmed))
+}
+
+/// What was published and found of a day, and what its lines came to, with the day and what it confirms.
+type DayOfLines = (Found, Option<(Vec<LineFigures>, (Day, Confirmed))>);
+
+/// The same of lines over these bytes.
+fn lines_of_a_day<D: DayName + Send + Sync, T: Threads + Wait + Abort + Sync>(
     rt: &T,
     alloc: Global,
-) -> Option<(Vec<LineFigures>, Day)> {
+    prepared: Prepared,
+    inputs: &[Vec<u8>],
+) -> Option<DayOfLines>
+    requires name { prepared.blank.name ≡ D.name }
+    requires parts { prepared.blank.parts ≡ D.parts }
+    requires listing { prepared.tape.listing ≡ D.listing }
+{
+    let Ok((shared, seats)) = SharedTape::<D>::open(prepared) else {
+        return None;
+    };
+    let (seats, figures) = run_inputs(rt, alloc, &shared, seats, inputs, &NoGate);
+    let (found, tokens) = found(rt, &shared);
+    let ended = confirmed_day(rt, shared, seats, tokens.as_slice());
+    Some((found, figures.zip(ended)))
+}
+
+fn lines_of_prepared<T: Threads + Wait + Abort + Sync>(
+    rt: &T,
+    alloc: Global,
+    prepared: Prepared,
+    inputs: &[Vec<u8>],
+) -> Option<DayOfLines> {
+    lines_of_a_day::<Brand, T>(rt, alloc, prepared, inputs)
+}
+
+/// What eight lines at once came to, and the day that they made.
+fn day_of_eight<T: Threads + Wait + Abort + Sync>(rt: &T, alloc: Global) -> Option<DayOfLines> {
     let prepared = empty_day(alloc)?;
     let inputs = inputs(alloc)?;
-    day_of_lines(rt, alloc, prepared, &inputs, &NoGate)
+    lines_of_prepared(rt, alloc, prepared, &inputs)
 }
 
 /// Whether two tapes have the same entries and summaries.
@@ -266,16 +350,23 @@ fn compared(alloc: Global, lines: &[LineFigures], tape: &Tape<IndexStore>) -> Op
     Some((are_all, is_same(tape, &again), tape.entries().len()))
 }
 
-/// The same of eight lines at once.
-fn eight_lines<T: Threads + Wait + Abort + Sync>(rt: &T, alloc: Global) -> Option<Compared> {
-    let (lines, day) = day_of_eight(rt, alloc)?;
-    compared(alloc, &lines, day.tape())
+/// The same of eight lines at once, with what was published, found and confirmed.
+fn eight_lines<T: Threads + Wait + Abort + Sync>(
+    rt: &T,
+    alloc: Global,
+) -> Option<(Found, Confirmed, Option<Compared>)> {
+    let (found, ended) = day_of_eight(rt, alloc)?;
+    let (lines, (day, confirmed)) = ended?;
+    Some((found, confirmed, compared(alloc, &lines, day.tape())))
 }
 
 #[test]
 fn eight_lines_make_the_tape_of_their_messages_in_its_order(rt: HostRuntime) {
+    let many = ENTRIES as usize;
+    let found = (Some(ENTRIES), ENTRIES, true, false);
+    let compared = Some((Some(true), true, many));
     assert_eq!(rt;
         eight_lines(&rt, rt.alloc()),
-        Some((Some(true), true, 67_575))
+        Some((found, (many, ENTRIES, many), compared))
     );
 }

@@ -95,7 +95,8 @@ pub(super) fn message(sent: Sent) -> Option<Message> {
     }
 }
 
-fn listing(alloc: Global) -> Option<Listing> {
+/// The symbols and participants of the day.
+pub(super) fn listing(alloc: Global) -> Option<Listing> {
     let symbols = [Symbol::try_new(*AB)?, Symbol::try_new(*CD)?];
     let participants = [
         Participant::try_new(b'N')?,

@@ -1,6 +1,6 @@
-//! Where lists first differ, what is no empty open tape, and what faults print.
+//! Where lists first differ, the limits of a tape, what is no empty open tape, and what faults print.
 
-use super::shared_days::{Sent, message, tape};
+use super::shared_days::{Sent, listing, message, tape};
 use line_ledger::laws::first_difference;
 use line_ledger::{LineRefusal, NotOnTape, OpenFault, PublishFault, Told, ViewFault, prepare};
 use reports::Message;
@@ -8,7 +8,7 @@ use scratch_fold::Mark;
 use std::alloc::Global;
 use std::fmt::Display;
 use summaries::IndexStore;
-use tape_core::{Entry, Refusal, Tape};
+use tape_core::{Entry, Refusal, Tape, TapeFault};
 use tape_types::{Participant, TapeNumber};
 
 fn told(number: u32, message: Option<Message>) -> Option<Told> {
@@ -73,6 +73,25 @@ fn lists_first_differ_where_one_has_another_or_none(rt: HostRuntime) {
         Some(Some(2)),
     ];
     assert_eq!(rt; found, wanted);
+}
+
+/// What is answered to a tape's limit.
+fn limited(alloc: Global, limit: u32) -> Option<Result<(), TapeFault>> {
+    let tape = Tape::<IndexStore>::new(alloc, listing(alloc)?, limit);
+    Some(tape.map(|_| ()))
+}
+
+#[test]
+fn a_tape_has_a_limit_of_one_to_1048576_entries(rt: HostRuntime) {
+    let alloc = rt.alloc();
+    let answers = [
+        limited(alloc, 0),
+        limited(alloc, 1),
+        limited(alloc, 1_048_576),
+        limited(alloc, 1_048_577),
+    ];
+    let bad = Some(Err(TapeFault::BadLimit));
+    assert_eq!(rt; answers, [bad, Some(Ok(())), Some(Ok(())), bad]);
 }
 
 /// The price of the last report, once the tape has admitted this one.

@@ -15,6 +15,7 @@ use std::process::Abort;
 use std::sync::Wait;
 use std::thread::{Threads, join};
 use tape_frames::Source;
+use tape_types::NoGate;
 
 /// How many entries were set by publications of at most 2, 64 and 64.
 type Set = (
@@ -47,12 +48,13 @@ fn publications<D: DayName, R: Wait>(
     (set, (found, all), published.into_tokens())
 }
 
-/// The numbers of the cells that show an entry, up to the eleventh, which is one beyond the tape's limit, added up.
+/// The numbers of the cells that show an entry, each with one more, so that a cell of number 0 would be seen, added up. The
+/// last that is looked at is the eleventh, which is one beyond the tape's limit.
 fn numbers_shown<D: DayName>(shared: &SharedTape<D>) -> u32 {
     let mut sum: u32 = 0;
     for number in 0..12 {
         if shared.look(number).is_some() {
-            sum = sum.saturating_add(number);
+            sum = sum.saturating_add(number + 1);
         }
     }
     sum
@@ -121,7 +123,7 @@ fn five_published<D: DayName + Send + Sync, R: Threads + Wait + Abort + Sync>(
     let Ok((shared, mut seats)) = SharedTape::<D>::open(prepared) else {
         return None;
     };
-    send_all(rt, &shared, &mut seats, &[3, 0, 2], 0);
+    send_all(rt, &shared, &mut seats, &[3, 0, 2], 0, &NoGate);
     let (set, found, tokens) = publications(rt, &shared);
     let shown = numbers_shown(&shared);
     let is_same = is_found_twice(rt, &shared);
@@ -219,7 +221,7 @@ fn five_published_in_a_day<R: Threads + Wait + Abort + Sync>(
 fn published_entries_are_found_and_confirmed(rt: HostRuntime) {
     assert_eq!(rt;
         five_published_in_a_day(&rt, rt.alloc()),
-        Some(((Ok(2), Ok(3), Ok(0)), (2, 5), 15, true, Some((5, 5, 5))))
+        Some(((Ok(2), Ok(3), Ok(0)), (2, 5), 20, true, Some((5, 5, 5))))
     );
 }
 

@@ -9,15 +9,16 @@ use std::process::Abort;
 use std::sync::Wait;
 use std::thread;
 use std::thread::Threads;
-use tape_types::Symbol;
+use tape_types::{Gate, NoGate, Symbol};
 
-/// Sends so many reports on a line, and publishes at most so many entries after each.
-fn send<D: DayName, R: Wait>(
+/// Sends so many reports on a line, and publishes at most so many entries after each. The gate is called after that.
+fn send<D: DayName, G: Gate, R: Wait>(
     rt: &R,
     shared: &SharedTape<D>,
+    line: usize,
     seat: &mut LineSeat<D>,
-    many: u32,
-    most: u32,
+    (many, most): (u32, u32),
+    gate: &G,
 ) {
     let who = seat.participant().value();
     for number in 1..=many {
@@ -25,16 +26,19 @@ fn send<D: DayName, R: Wait>(
             let _ = shared.admit(rt, seat, report);
         }
         let _ = shared.publish(rt, most);
+        gate.between(line, number);
     }
 }
 
-/// Sends so many reports on each line, each line in a thread, and publishes at most so many entries after each report.
-pub(super) fn send_all<D: DayName + Send + Sync, R: Threads + Wait + Sync>(
+/// Sends so many reports on each line, each line in a thread, and publishes at most so many entries after each report, with
+/// the gate after that.
+pub(super) fn send_all<D: DayName + Send + Sync, G: Gate + Sync, R: Threads + Wait + Sync>(
     rt: &R,
     shared: &SharedTape<D>,
     seats: &mut Vec<LineSeat<D>>,
     counts: &[u32],
     most: u32,
+    gate: &G,
 ) {
     let workers = seats.len();
     if workers == 0 {
@@ -42,7 +46,7 @@ pub(super) fn send_all<D: DayName + Send + Sync, R: Threads + Wait + Sync>(
     }
     let work = |line: usize, seat: &mut LineSeat<D>| {
         let many = counts.get(line).copied().unwrap_or(0);
-        send(rt, shared, seat, many, most)
+        send(rt, shared, line, seat, (many, most), gate)
     };
     thread::for_each_mut(rt, seats.as_mut_slice(), workers, &work);
 }
@@ -112,7 +116,7 @@ fn lines_at_once<D: DayName + Send + Sync, R: Threads + Wait + Abort + Sync>(
     let Ok((shared, mut seats)) = SharedTape::<D>::open(prepared) else {
         return None;
     };
-    send_all(rt, &shared, &mut seats, &[3, 2, 1], 0);
+    send_all(rt, &shared, &mut seats, &[3, 2, 1], 0, &NoGate);
     let counts = own_counts(rt, &shared, seats.as_slice());
     Some((counts, late_end(rt, alloc, shared, seats)))
 }

@@ -1,9 +1,10 @@
-//! Two lines at once, and what they publish.
+//! Two lines at once, and what they publish; three lines at once, and the turns that their gate is given.
 ghost use Rattle.std.specs.Prelude.{◌≡◌};
 ghost use Rattle.line_ledger.specs.Cells.{FirstTokens};
 
-use super::days::{Confirmed, confirmed_at_end, day_of_two, joined, report};
-use super::lines::{LineFigures, run_inputs};
+use super::days::{Confirmed, confirmed_at_end, day_of_two, joined, report, without_price};
+use super::lines::{LineFigures, day_of_lines, run_inputs};
+use super::shared_days::prepared;
 use line_ledger::{
     Day, DayName, EndFault, LineSeat, Prepared, PublishFault, Published, SharedTape, Token, Unended,
 };
@@ -21,25 +22,67 @@ use tape_types::{Gate, Symbol};
 /// How many turns a line waits at most.
 const TURNS: u32 = 1_000_000_000;
 
-/// Holds each of two lines after its first message until the other's first message is done.
+/// Holds each of so many lines after its first message until all have done theirs, and notes the turns that it is given for
+/// each of the first three lines, as the digits of a number.
 #[derive(Drop)]
 struct Meeting {
-    done: [AtomicU32; 2],
+    lines: u32,
+    done: AtomicU32,
     met: AtomicU32,
+    turns: [AtomicU32; 3],
 }
 
-impl Gate for Meeting {
-    fn between(&self, line: usize, turn: u32) {
-        if line > 1 || turn != 1 {
-            return;
+impl Meeting {
+    /// A meeting of so many lines, of which none has come.
+    fn of(lines: u32) -> Meeting {
+        Meeting {
+            lines,
+            done: AtomicU32::new(0),
+            met: AtomicU32::new(0),
+            turns: [AtomicU32::new(0), AtomicU32::new(0), AtomicU32::new(0)],
         }
-        self.done[line].store(1, Ordering::SeqCst);
+    }
+
+    /// Notes a turn of a line.
+    fn note(&self, line: usize, turn: u32) {
+        let Some(turns) = self.turns.get(line) else {
+            return;
+        };
+        let before = turns.load(Ordering::SeqCst);
+        turns.store(
+            before.saturating_mul(10).saturating_add(turn),
+            Ordering::SeqCst,
+        );
+    }
+
+    /// Holds a line that has done its first message until all lines have.
+    fn meet(&self) {
+        self.done.fetch_add(1, Ordering::SeqCst);
         for _ in 0..TURNS {
-            if self.done[1 - line].load(Ordering::SeqCst) == 1 {
+            if self.done.load(Ordering::SeqCst) == self.lines {
                 self.met.fetch_add(1, Ordering::SeqCst);
                 return;
             }
             thread::yield_now();
+        }
+    }
+
+    /// How many lines found that all had come, and the turns of the first three lines.
+    fn noted(&self) -> (u32, [u32; 3]) {
+        let turns = [
+            self.turns[0].load(Ordering::SeqCst),
+            self.turns[1].load(Ordering::SeqCst),
+            self.turns[2].load(Ordering::SeqCst),
+        ];
+        (self.met.load(Ordering::SeqCst), turns)
+    }
+}
+
+impl Gate for Meeting {
+    fn between(&self, line: usize, turn: u32) {
+        self.note(line, turn);
+        if turn == 1 {
+            self.meet();
         }
     }
 }
@@ -64,7 +107,7 @@ fn counts(figures: &[LineFigures]) -> Option<(u32, u32)> {
 }
 
 /// The same of lines that were run.
-fn counts_of(figures: Option<Vec<LineFigures>>) -> Option<(u32, u32)> {
+pub(super) fn counts_of(figures: Option<Vec<LineFigures>>) -> Option<(u32, u32)> {
     counts(figures?.as_slice())
 }
 
@@ -202,15 +245,66 @@ fn two_lines_of_a_day<T: Threads + Wait + Abort + Sync>(
 
 #[test]
 fn two_lines_run_at_once(rt: HostRuntime) {
-    let meeting = Meeting {
-        done: [AtomicU32::new(0), AtomicU32::new(0)],
-        met: AtomicU32::new(0),
-    };
+    let meeting = Meeting::of(2);
     let counts = Some((3, 2));
     let published = ([Ok(5), Ok(0)], 5, false);
     assert_eq!(rt;
         two_lines_of_a_day(&rt, rt.alloc(), &meeting),
         Some((counts, counts, published, 91, Some((5, 5, 5))))
     );
-    assert_eq!(rt; meeting.met.load(Ordering::SeqCst), 2);
+    assert_eq!(rt; meeting.noted(), (2, [123, 12, 0]));
+}
+
+/// The bytes of N's, P's and Q's line: a report at no price between two reports, a report that comes again, and one report.
+fn inputs_of_three(alloc: Global) -> Option<Vec<Vec<u8>>> {
+    let mut inputs = Vec::new(alloc);
+    let first = joined(alloc, &[report(b'N', 1), without_price(2), report(b'N', 3)])?;
+    inputs.push(first).ok()?;
+    let second = joined(alloc, &[report(b'P', 1), report(b'P', 1)])?;
+    inputs.push(second).ok()?;
+    let third = joined(alloc, &[report(b'Q', 1)])?;
+    inputs.push(third).ok()?;
+    Some(inputs)
+}
+
+/// How many frames of a line were refused, why it ended, and how many messages it was told of.
+type End = (u32, Ended, u32);
+
+/// How a line ended.
+fn end_of(line: &LineFigures) -> End {
+    (line.refused, line.ended, line.count)
+}
+
+/// How each of three lines ended.
+fn three_ends(figures: &[LineFigures]) -> Option<[End; 3]> {
+    let [first, second, third] = figures else {
+        return None;
+    };
+    Some([end_of(first), end_of(second), end_of(third)])
+}
+
+/// How three lines at once ended, and how many entries their day has.
+fn three_lines<T: Threads + Wait + Abort + Sync>(
+    rt: &T,
+    alloc: Global,
+    meeting: &Meeting,
+) -> Option<(Option<[End; 3]>, usize)> {
+    let inputs = inputs_of_three(alloc)?;
+    let (figures, day) = day_of_lines(rt, alloc, prepared(alloc)?, &inputs, meeting)?;
+    Some((three_ends(&figures), day.tape().entries().len()))
+}
+
+#[test]
+fn three_lines_run_at_once_and_the_gate_is_given_each_turn(rt: HostRuntime) {
+    let meeting = Meeting::of(3);
+    let ends = [
+        (1, Ended::Clean, 2),
+        (1, Ended::Clean, 1),
+        (0, Ended::Clean, 1),
+    ];
+    assert_eq!(rt;
+        three_lines(&rt, rt.alloc(), &meeting),
+        Some((Some(ends), 4))
+    );
+    assert_eq!(rt; meeting.noted(), (3, [123, 12, 1]));
 }
