@@ -1,10 +1,10 @@
 #!/bin/sh
 # A day over sockets: live_day.sh [TABLE.csv]
 #
-# Starts `tapebox live`, a relay that loses, doubles and reorders packets, and `tapebox follow` behind it, sends the table's
-# messages (without a word, those of corrections.csv), and compares the two reports byte for byte. Prints the report once, and on
-# standard error what the relay did. Where anything fails, the reports differ or the time is over, the status is 1 and the reason
-# stands on standard error. Needs python3 and Linux, whose /proc/net tells which ports are bound.
+# Starts `tapebox live`, a relay that loses, doubles and reorders packets and sends bytes that are none between them, and `tapebox
+# follow` behind it, sends the table's messages (without a word, those of corrections.csv), and compares the two reports byte for
+# byte. Prints the report once, and on standard error what the relay did. Where anything fails, the reports differ or the time is
+# over, the status is 1 and the reason stands on standard error. Needs python3 and Linux, whose /proc/net tells which ports are bound.
 #
 #     TAPEBOX   the program (../crates/tapebox/out/tapebox, from here)
 #     FOLLOWED  1, or 0 for a day that nobody follows: `live` awaits no retransmission, and its report alone is printed (1)
@@ -117,7 +117,7 @@ if [ "$followed" -eq 0 ]; then
 fi
 
 # The follower connects as it starts, and a line's first packet must find the relay and the follower.
-start relay "$samples/lossy_relay.py" --lose "$lose" --double 10 --reorder 10 --seed "$seed" "$sent_a" "$sent_b" "$a" "$b"
+start relay "$samples/lossy_relay.py" --lose "$lose" --double 10 --reorder 10 --garble 30 --seed "$seed" "$sent_a" "$sent_b" "$a" "$b"
 relay=relay:$!
 await bound udp "$sent_a"
 await bound udp "$sent_b"

@@ -1,12 +1,12 @@
 #!/usr/bin/env python3
 """Stands between `tapebox live` and `tapebox follow` and makes the two lines lossy.
 
-    lossy_relay.py [--lose P] [--double P] [--reorder P] [--seed N] IN_A IN_B OUT_A OUT_B
+    lossy_relay.py [--lose P] [--double P] [--reorder P] [--garble P] [--seed N] IN_A IN_B OUT_A OUT_B
 
 It takes the UDP packets that come to ports IN_A and IN_B of 127.0.0.1 and sends them on to OUT_A and OUT_B. Each P is a
 percentage from 0 to 100, or one for each line: `--lose 100,10` loses all of line A and a tenth of line B. Of the packets that are
 not lost, the doubled ones are sent twice, and the reordered ones are held back until three later ones of their line went on, or
-a fiftieth of a second passed. What becomes of a line's packets is drawn from the seed, the line and their order alone.
+a fiftieth of a second passed. Before a garbled one goes a datagram of its own that is no packet. What becomes of a line's packets is drawn from the seed, the line and their order alone.
 
 End packets go on at once and once, unless all of their line is lost: a follower that misses every end waits for ever, so both
 lines together can't lose everything. Runs until it is told to end (SIGTERM or SIGINT), and then prints what became of each
@@ -61,8 +61,9 @@ class Line:
     def __init__(self, name, ports, parts, seed):
         self.name = name
         self.target = (HOST, ports[1])
-        self.lose, self.double, self.reorder = parts
+        self.lose, self.double, self.reorder, self.garble = parts
         self.random = random.Random(f"{seed} {name}")
+        self.garbling = random.Random(f"{seed} {name} garbled")
         self.held = collections.deque()
         self.counts = collections.Counter()
         self.sender = socket.socket(socket.AF_INET, socket.SOCK_DGRAM)
@@ -83,6 +84,8 @@ class Line:
     def take(self, packet):
         """Decides on a packet: it is lost, held back, or sent on."""
         self.counts["came"] += 1
+        if 100 * self.garbling.random() < self.garble:
+            self.send_garbage(packet)
         if packet[KIND] == END and self.lose < 100:
             return self.send(packet, 1)
         # Three draws for every packet, so that no decision changes what becomes of the packets after it.
@@ -104,6 +107,13 @@ class Line:
         for _ in range(times):
             self.sender.sendto(packet, self.target)
 
+    def send_garbage(self, packet):
+        """Sends a datagram that is no packet: an empty one, a front of this packet, it with a byte more, or bytes at random."""
+        self.counts["garbled"] += 1
+        front = packet[: self.garbling.randrange(1, len(packet))]
+        garbage = self.garbling.choice([b"", front, packet + b"\0", self.garbling.randbytes(64)])
+        self.sender.sendto(garbage, self.target)
+
     def count_later(self):
         """Counts a packet that went on for those that are held back, and lets go the ones that waited for it."""
         for held in self.held:
@@ -121,7 +131,7 @@ class Line:
         self.send(first.packet, first.times)
 
     def told(self):
-        counts = ", ".join(f"{self.counts[what]} {what}" for what in ("lost", "doubled", "reordered"))
+        counts = ", ".join(f"{self.counts[what]} {what}" for what in ("lost", "doubled", "reordered", "garbled"))
         return f"line {self.name}: {self.counts['came']} packets came, {counts}"
 
 
@@ -154,8 +164,8 @@ def port(text):
 
 
 def arguments():
-    parser = argparse.ArgumentParser(description="Loses, doubles and reorders packets of the lines A and B.")
-    for part in ("lose", "double", "reorder"):
+    parser = argparse.ArgumentParser(description="Loses, doubles, reorders and garbles packets of the lines A and B.")
+    for part in ("lose", "double", "reorder", "garble"):
         parser.add_argument(f"--{part}", type=percentages, default=(0, 0), metavar="P[,P]", help="percentage, or of A and B (0)")
     parser.add_argument("--seed", type=int, default=1, metavar="N", help="what is drawn begins from it (1)")
     for name in ("IN_A", "IN_B", "OUT_A", "OUT_B"):
@@ -170,7 +180,7 @@ def main():
     words = arguments()
     signal.signal(signal.SIGTERM, lambda *_: sys.exit(0))
     signal.signal(signal.SIGINT, lambda *_: sys.exit(0))
-    parts = list(zip(words.lose, words.double, words.reorder))
+    parts = list(zip(words.lose, words.double, words.reorder, words.garble))
     try:
         lines = [
             Line("A", (words.in_a, words.out_a), parts[0], words.seed),

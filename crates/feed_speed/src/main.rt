@@ -13,8 +13,6 @@ mod looks;
 mod mode;
 mod report;
 mod sending;
-#[cfg(test)]
-mod tests;
 mod times;
 
 use mode::{Mode, given_mode};

@@ -7,7 +7,6 @@ use sale_matrix::LastRule;
 use scratch_fold::{Effect, Summary};
 use std::alloc::Global;
 use std::process::Abort;
-use std::test::Fail;
 use tape_types::{Size, TapeNumber};
 
 /// What is done at a place: an effect is put where there is none, and the others change or take the one that is there.
@@ -20,12 +19,7 @@ enum Change {
     Take,
 }
 
-fn make<R: Abort, S: Store>(
-    rt: &R,
-    store: &mut Settled<S>,
-    place: TapeNumber,
-    change: &Change,
-) -> Result<(), Fail> {
+fn make<R: Abort, S: Store>(rt: &R, store: &mut Settled<S>, place: TapeNumber, change: &Change) {
     match *change {
         Change::Put(effect) => store.put(rt, place, effect),
         Change::Swap(effect) => store.swap(rt, place, effect),
@@ -50,63 +44,65 @@ impl Both {
         }
     }
 
-    fn make<R: Abort>(&mut self, rt: &R, place: TapeNumber, change: &Change) -> Result<(), Fail> {
-        make(rt, &mut self.plain, place, change)?;
-        make(rt, &mut self.indexed, place, change)?;
+    fn make<R: Abort>(&mut self, rt: &R, place: TapeNumber, change: &Change) {
+        make(rt, &mut self.plain, place, change);
+        make(rt, &mut self.indexed, place, change);
         assert_eq!(rt; self.plain.get(rt, place), self.indexed.get(rt, place));
         assert_eq!(rt; self.plain.summary(rt), self.indexed.summary(rt));
-        Ok(())
     }
 
-    /// Puts the 508 effects, each at a place of its own, and takes those at every third place.
-    fn follow_the_508<R: Abort>(&mut self, rt: &R) -> Result<(), Fail> {
+    /// Puts the 508 effects, each at a place of its own.
+    fn put_the_508<R: Abort>(&mut self, rt: &R) {
         for n in 1..=508u32 {
-            let effect = effect_of(n)?;
-            self.make(rt, place(7 * n % 509)?, &Change::Put(effect))?;
+            self.make(rt, place(rt, 7 * n % 509), &Change::Put(effect_of(rt, n)));
         }
+    }
+
+    /// Takes the effects at every third place.
+    fn take_each_third<R: Abort>(&mut self, rt: &R) {
         for third in 1..=169u32 {
-            self.make(rt, place(3 * third)?, &Change::Take)?;
+            self.make(rt, place(rt, 3 * third), &Change::Take);
         }
-        assert_eq!(rt; self.indexed.summary(rt).trades, 339);
-        Ok(())
     }
 
     /// Makes `count` changes at places up to `last`.
-    fn follow_dice<R: Abort>(&mut self, rt: &R, count: u32, last: u32) -> Result<(), Fail>
+    fn follow_dice<R: Abort>(&mut self, rt: &R, count: u32, last: u32)
         requires { 0 < last }
     {
         let mut dice = Dice { state: 7 };
         for _ in 0..count {
-            self.roll(rt, &mut dice, last)?;
+            self.roll(rt, &mut dice, last);
         }
-        Ok(())
     }
 
-    fn roll<R: Abort>(&mut self, rt: &R, dice: &mut Dice, last: u32) -> Result<(), Fail>
+    fn roll<R: Abort>(&mut self, rt: &R, dice: &mut Dice, last: u32)
         requires { 0 < last }
     {
         let number = dice.roll(last);
         prove!(number < u32::MAX);
-        let place = place(number + 1)?;
-        let change = dice.change(self.plain.get(rt, place).is_some())?;
-        self.make(rt, place, &change)
+        let place = place(rt, number + 1);
+        let change = dice.change(rt, self.plain.get(rt, place).is_some());
+        self.make(rt, place, &change);
+    }
+
+    /// Takes the effect from a place, if it has one.
+    fn clear<R: Abort>(&mut self, rt: &R, place: TapeNumber) {
+        if self.plain.get(rt, place).is_some() {
+            self.make(rt, place, &Change::Take);
+        }
     }
 
     /// Takes the effects of the first places, up to `last`, one after another.
-    fn empty_to<R: Abort>(&mut self, rt: &R, last: u32) -> Result<(), Fail> {
+    fn empty_to<R: Abort>(&mut self, rt: &R, last: u32) {
         for number in 1..=last {
-            let place = place(number)?;
-            if self.plain.get(rt, place).is_some() {
-                self.make(rt, place, &Change::Take)?;
-            }
+            self.clear(rt, place(rt, number));
         }
         assert_eq!(rt; self.indexed.summary(rt), Summary::empty());
-        Ok(())
     }
 }
 
 /// The n-th effect of 508.
-fn effect_of(n: u32) -> Result<Effect, Fail>
+fn effect_of<R: Abort>(rt: &R, n: u32) -> Effect
     requires { n < 509 }
 {
     let who = match n % 3 {
@@ -120,14 +116,15 @@ fn effect_of(n: u32) -> Result<Effect, Fail>
         2 => LastRule::FirstOnly,
         _ => LastRule::Never,
     };
-    effect(who, last, 100_000 + u64::from(n * n % 97))
+    effect(rt, who, last, 100_000 + u64::from(n * n % 97))
 }
 
 #[test]
-fn both_stores_agree_while_508_effects_come_and_each_third_goes(
-    rt: HostRuntime,
-) -> Result<(), Fail> {
-    Both::empty(rt.alloc()).follow_the_508(&rt)
+fn both_stores_agree_while_508_effects_come_and_each_third_goes(rt: HostRuntime) {
+    let mut both = Both::empty(rt.alloc());
+    both.put_the_508(&rt);
+    both.take_each_third(&rt);
+    assert_eq!(rt; both.indexed.summary(&rt).trades, 339);
 }
 
 /// Numbers that look random, and come in the same order in each run.
@@ -149,7 +146,7 @@ impl Dice {
         (self.state >> 8) % sides
     }
 
-    fn effect(&mut self) -> Result<Effect, Fail> {
+    fn effect<R: Abort>(&mut self, rt: &R) -> Effect {
         let who = [b'N', b'P', b'Q'][self.roll(3) as usize];
         let last = match self.roll(4) {
             0 => LastRule::Always,
@@ -158,38 +155,36 @@ impl Dice {
             _ => LastRule::Never,
         };
         let price = 100_000 + u64::from(self.roll(50));
-        Ok(Effect {
-            size: Size::try_new(1 + self.roll(900)).ok_or("size")?,
+        let Some(size) = Size::try_new(1 + self.roll(900)) else {
+            panic!(rt; "it is no size")
+        };
+        Effect {
+            size,
             high_low: self.roll(4) > 0,
             volume: self.roll(4) > 0,
-            ..effect(who, last, price)?
-        })
+            ..effect(rt, who, last, price)
+        }
     }
 
     /// A change of a place, one of those that can be made there.
-    fn change(&mut self, stands: bool) -> Result<Change, Fail> {
-        let effect = self.effect()?;
+    fn change<R: Abort>(&mut self, rt: &R, stands: bool) -> Change {
+        let effect = self.effect(rt);
         if !stands {
-            return Ok(Change::Put(effect));
+            return Change::Put(effect);
         }
-        Ok(match self.roll(4) {
+        match self.roll(4) {
             0 => Change::Swap(effect),
             1 => Change::Commit(effect),
             2 => Change::Abort(effect),
             _ => Change::Take,
-        })
+        }
     }
 }
 
-fn changes_and_empties<R: Abort>(rt: &R, both: &mut Both) -> Result<(), Fail> {
-    both.follow_dice(rt, 10_000, 3_000)?;
-    assert!(rt; both.plain.summary(rt).trades > 2_000);
-    both.empty_to(rt, 3_000)
-}
-
 #[test]
-fn both_stores_agree_over_ten_thousand_changes_whose_blocks_split_and_empty(
-    rt: HostRuntime,
-) -> Result<(), Fail> {
-    changes_and_empties(&rt, &mut Both::empty(rt.alloc()))
+fn both_stores_agree_over_ten_thousand_changes_whose_blocks_split_and_empty(rt: HostRuntime) {
+    let mut both = Both::empty(rt.alloc());
+    both.follow_dice(&rt, 10_000, 3_000);
+    assert!(rt; both.plain.summary(&rt).trades > 2_000);
+    both.empty_to(&rt, 3_000);
 }

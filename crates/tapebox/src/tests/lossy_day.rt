@@ -11,10 +11,9 @@ use std::process::Abort;
 use std::rt::Clock;
 use std::sync::Wait;
 use std::sync::atomic::{AtomicBool, Ordering};
-use std::test::Fail;
+use std::thread;
 use std::thread::Threads;
 use std::time::Duration;
-use std::{io, thread};
 use tape_types::{Listing, Participant, Symbol};
 
 /// The reports of each participant.
@@ -60,10 +59,23 @@ fn report(who: u8, number: u8) -> [u8; 40] {
 }
 
 /// The symbol AB, and the participants N and Q.
-fn listing_of_two(alloc: Global) -> Option<Listing> {
+fn names_of_two() -> Option<([Symbol; 1], [Participant; 2])> {
     let symbols = [Symbol::try_new(*b"AB      ")?];
-    let participants = [Participant::try_new(b'N')?, Participant::try_new(b'Q')?];
-    Listing::new(alloc, &symbols, &participants).ok()
+    Some((
+        symbols,
+        [Participant::try_new(b'N')?, Participant::try_new(b'Q')?],
+    ))
+}
+
+/// Their listing. Where there is none the test stops.
+fn listing_of_two<R: Abort>(rt: &R, alloc: Global) -> Listing {
+    let Some((symbols, participants)) = names_of_two() else {
+        panic!(rt; "a name is none")
+    };
+    match Listing::new(alloc, &symbols, &participants) {
+        Ok(listing) => listing,
+        Err(_) => panic!(rt; "no listing"),
+    }
 }
 
 /// Sends the reports of a participant, and whether all were sent.
@@ -109,33 +121,60 @@ struct Opened {
     ports: [u16; 2],
 }
 
+/// A listener at a port that is free, and its port. Where there is none the test stops.
+fn listen<R: Abort + Net<Listener = TcpListener, Stream = TcpStream>>(
+    rt: &R,
+) -> (TcpListener, u16) {
+    let Ok(listener) = TcpListener::bind(rt, here(0)) else {
+        panic!(rt; "no listener")
+    };
+    let Ok(address) = listener.local_addr() else {
+        panic!(rt; "a listener has no port")
+    };
+    (listener, address.port())
+}
+
+/// A socket at a port that is free, and its port. Where there is none the test stops.
+fn open<R: Abort + Net<Listener = TcpListener, Stream = TcpStream>>(rt: &R) -> (UdpSocket, u16) {
+    let Ok(socket) = UdpSocket::bind(rt, here(0)) else {
+        panic!(rt; "no socket")
+    };
+    let Ok(address) = socket.local_addr() else {
+        panic!(rt; "a socket has no port")
+    };
+    (socket, address.port())
+}
+
 /// Opens all sockets at ports that are free.
-fn open_all<R: Net<Listener = TcpListener, Stream = TcpStream>>(
+fn open_all<R: Abort + Net<Listener = TcpListener, Stream = TcpStream>>(
     rt: &R,
     alloc: Global,
-) -> io::Result<Opened> {
-    let mut lines = Vec::with_capacity(alloc, 2)?;
-    lines.push_reserved(TcpListener::bind(rt, here(0))?);
-    lines.push_reserved(TcpListener::bind(rt, here(0))?);
-    let ports = [lines[0].local_addr()?.port(), lines[1].local_addr()?.port()];
-    let (a, b) = (UdpSocket::bind(rt, here(0))?, UdpSocket::bind(rt, here(0))?);
-    let sent_to = [a.local_addr()?.port(), b.local_addr()?.port()];
-    let retransmission = TcpListener::bind(rt, here(0))?;
-    let asked_at = retransmission.local_addr()?.port();
-    Ok(Opened {
+) -> Opened {
+    let Ok(mut lines) = Vec::with_capacity(alloc, 2) else {
+        panic!(rt; "no room for the lines")
+    };
+    let (first, at_first) = listen(rt);
+    let (second, at_second) = listen(rt);
+    lines.push_reserved(first);
+    lines.push_reserved(second);
+    let (a, at_a) = open(rt);
+    let (b, at_b) = open(rt);
+    let (sender, _) = open(rt);
+    let (retransmission, asked_at) = listen(rt);
+    Opened {
         live: LiveSockets {
             lines,
             retransmission,
-            sender: UdpSocket::bind(rt, here(0))?,
-            ports: sent_to,
+            sender,
+            ports: [at_a, at_b],
         },
         follow: FollowSockets {
             a,
             b,
             retransmission: asked_at,
         },
-        ports,
-    })
+        ports: [at_first, at_second],
+    }
 }
 
 /// What a day loses, how many connections it serves, and after how many entries its follower starts anew.
@@ -211,14 +250,14 @@ fn sent<R: Threads + Clock + Net<Listener = TcpListener, Stream = TcpStream> + S
 fn play<
     R: Abort + Threads + Wait + Clock + Net<Listener = TcpListener, Stream = TcpStream> + Sync,
     L: Loss + Sync,
->(rt: &R, alloc: Global, plan: &Plan<L>) -> Result<Played, Fail> {
+>(rt: &R, alloc: Global, plan: &Plan<L>) -> Played {
     let Opened {
         live,
         follow,
         ports,
-    } = open_all(rt, alloc)?;
-    let listing = listing_of_two(alloc).ok_or("listing")?;
-    let same = listing_of_two(alloc).ok_or("listing")?;
+    } = open_all(rt, alloc);
+    let listing = listing_of_two(rt, alloc);
+    let same = listing_of_two(rt, alloc);
     let (mut written, mut followed) = (Vec::new(alloc), Vec::new(alloc));
     let texts = (&mut written, &mut followed);
     let ended = AtomicBool::new(false);
@@ -235,12 +274,12 @@ fn play<
             all
         },
     );
-    Ok(Played {
+    Played {
         sent,
         statuses,
         written,
         followed,
-    })
+    }
 }
 
 /// Asserts that all was sent, and that the day and its follower wrote the whole report, the same.
@@ -252,24 +291,22 @@ fn assert_whole<R: Abort>(rt: &R, played: &Played) {
 }
 
 #[test]
-fn lossy_day(rt: HostRuntime) -> Result<(), Fail> {
+fn lossy_day(rt: HostRuntime) {
     let plan = Plan {
         loss: Lossy,
         serves: 2,
         restart_after: Some(5),
     };
-    assert_whole(&rt, &play(&rt, rt.alloc(), &plan)?);
-    Ok(())
+    assert_whole(&rt, &play(&rt, rt.alloc(), &plan));
 }
 
 /// No connection is served, so all that the follower holds came by lines A and B.
 #[test]
-fn straight_day(rt: HostRuntime) -> Result<(), Fail> {
+fn straight_day(rt: HostRuntime) {
     let plan = Plan {
         loss: NoLoss,
         serves: 0,
         restart_after: None,
     };
-    assert_whole(&rt, &play(&rt, rt.alloc(), &plan)?);
-    Ok(())
+    assert_whole(&rt, &play(&rt, rt.alloc(), &plan));
 }

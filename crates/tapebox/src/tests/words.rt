@@ -1,7 +1,8 @@
 //! The words of `live` and of `follow`: each number is the field that stands in its place.
 
-use crate::command::{Command, read_command};
+use crate::command::{Command, FollowWords, LiveWords, read_command};
 use std::alloc::Global;
+use tape_types::Listing;
 
 /// The words of a tape that is made, each number another one.
 const LIVE: &[u8] = b"live\0AB,CD\0N,Q,P\09000\09101\09102\09203\05\077\0";
@@ -9,36 +10,42 @@ const LIVE: &[u8] = b"live\0AB,CD\0N,Q,P\09000\09101\09102\09203\05\077\0";
 /// The words of a tape that is followed, each number another one.
 const FOLLOW: &[u8] = b"follow\0AB,CD\0N,Q,P\09101\09102\09203\077\0";
 
-/// How many symbols and participants are listed, and the numbers in the order of the words.
-fn live_numbers(alloc: Global, words: &[u8]) -> Option<([usize; 2], [u16; 5], u64)> {
-    let Ok(Command::Live(live)) = read_command(alloc, words) else {
-        return None;
-    };
-    let listing = &live.listing;
-    let listed = [
+/// How many symbols and how many participants a listing has.
+fn listed(listing: &Listing) -> [usize; 2] {
+    [
         listing.symbols().as_slice().len(),
         listing.participants().as_slice().len(),
-    ];
-    let [a, b] = live.ports;
-    Some((
-        listed,
-        [live.first_port, a, b, live.retransmission, live.serves],
-        live.session,
-    ))
+    ]
 }
 
-/// How many symbols and participants are listed, and the numbers in the order of the words.
-fn follow_numbers(alloc: Global, words: &[u8]) -> Option<([usize; 2], [u16; 3], u64)> {
-    let Ok(Command::Follow(follow)) = read_command(alloc, words) else {
-        return None;
-    };
-    let listing = &follow.listing;
-    let listed = [
-        listing.symbols().as_slice().len(),
-        listing.participants().as_slice().len(),
-    ];
+/// How many names are listed, and the numbers in the order of the words.
+fn numbers_of_live(live: &LiveWords) -> ([usize; 2], [u16; 5], u64) {
+    let [a, b] = live.ports;
+    let numbers = [live.first_port, a, b, live.retransmission, live.serves];
+    (listed(&live.listing), numbers, live.session)
+}
+
+/// The same of words that are those of `live`.
+fn live_numbers(alloc: Global, words: &[u8]) -> Option<([usize; 2], [u16; 5], u64)> {
+    match read_command(alloc, words) {
+        Ok(Command::Live(live)) => Some(numbers_of_live(&live)),
+        _ => None,
+    }
+}
+
+/// How many names are listed, and the numbers in the order of the words.
+fn numbers_of_follow(follow: &FollowWords) -> ([usize; 2], [u16; 3], u64) {
     let [a, b] = follow.ports;
-    Some((listed, [a, b, follow.retransmission], follow.session))
+    let numbers = [a, b, follow.retransmission];
+    (listed(&follow.listing), numbers, follow.session)
+}
+
+/// The same of words that are those of `follow`.
+fn follow_numbers(alloc: Global, words: &[u8]) -> Option<([usize; 2], [u16; 3], u64)> {
+    match read_command(alloc, words) {
+        Ok(Command::Follow(follow)) => Some(numbers_of_follow(&follow)),
+        _ => None,
+    }
 }
 
 #[test]
