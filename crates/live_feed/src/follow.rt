@@ -30,6 +30,7 @@ fn follow_to_end<R: Threads + Wait + Net<Listener = TcpListener, Stream = TcpStr
     sockets: &FollowSockets,
     follower: Follower,
 ) -> Result<Subscriber, Fault> {
+    let follower = Mutex::new(follower);
     let a = FollowedLine {
         line: Line::A,
         socket: &sockets.a,
@@ -40,7 +41,6 @@ fn follow_to_end<R: Threads + Wait + Net<Listener = TcpListener, Stream = TcpStr
         socket: &sockets.b,
         other: address_of(&sockets.a)?,
     };
-    let follower = Mutex::new(follower);
     follow_lines(rt, &follower, &a, &b);
     follower.into_inner().into_subscriber()
 }
@@ -69,10 +69,12 @@ fn follow<R: Threads + Wait + Net<Listener = TcpListener, Stream = TcpStream> + 
 ) -> Result<(), Fault>
     ensures { OnOk result (WritesOneReport (W.contents writer.old) (W.contents writer.new)) }
 {
-    if !can_start(rt) {
-        return Err(Fault::Worker);
-    }
-    let subscriber = follow_to_end(rt, sockets, follower?)?;
+    let started = if can_start(rt) {
+        Ok(())
+    } else {
+        Err(Fault::Worker)
+    };
+    let subscriber = follow_to_end(rt, sockets, started.and(follower)?)?;
     report(rt, alloc, &subscriber, writer)
 }
 

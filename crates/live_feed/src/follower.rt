@@ -10,6 +10,7 @@ use crate::{Fault, here};
 use arbitration::Line;
 use retransmit::{AskFault, ask};
 use std::alloc::Global;
+use std::mem;
 use std::net::{Net, TcpListener, TcpStream};
 use subscriber::{DeliveryFault, DrainFault, Stop, Subscriber};
 use tape_core::Refusal;
@@ -65,20 +66,15 @@ fn fault_of_ask(fault: AskFault) -> Fault
     }
 }
 
-/// A subscriber like another one, that holds nothing.
-fn fresh(alloc: Global, other: &Subscriber, session: u64) -> Result<Subscriber, Fault> {
-    let tape = other.tape();
-    let names = tape.listing();
-    let Ok(listing) = Listing::new(
+/// Another listing of the same names.
+fn copy_of(alloc: Global, listing: &Listing) -> Result<Listing, Fault> {
+    match Listing::new(
         alloc,
-        names.symbols().as_slice(),
-        names.participants().as_slice(),
-    ) else {
-        return Err(Fault::Memory);
-    };
-    match Subscriber::new(alloc, listing, tape.limit(), session) {
-        Ok(subscriber) => Ok(subscriber),
-        Err(fault) => Err(fault_of(fault)),
+        listing.symbols().as_slice(),
+        listing.participants().as_slice(),
+    ) {
+        Ok(listing) => Ok(listing),
+        Err(_) => Err(Fault::Memory),
     }
 }
 
@@ -166,11 +162,19 @@ impl Follower {
         if self.subscriber.held().len() < most as usize {
             return Ok(());
         }
-        let subscriber = fresh(self.alloc, &self.subscriber, self.session)?;
-        let connection = dial(rt, self.retransmission)?;
-        self.restart_after = None;
-        self.connection = connection;
-        self.subscriber = subscriber;
+        let tape = self.subscriber.tape();
+        let listing = copy_of(self.alloc, tape.listing())?;
+        let next = Follower::new(
+            rt,
+            self.alloc,
+            listing,
+            tape.limit(),
+            self.session,
+            self.retransmission,
+            None,
+        )?;
+        // The connection of the one that is given up is closed.
+        drop(mem::replace(self, next));
         Ok(())
     }
 
@@ -214,15 +218,7 @@ impl Follower {
 
     /// The subscriber of a run that is over, or the fault that ended it. The connection is closed.
     pub(crate) fn into_subscriber(self) -> Result<Subscriber, Fault> {
-        let Follower {
-            subscriber,
-            over,
-            ..
-        } = self;
-        match over {
-            Some(Ok(())) => Ok(subscriber),
-            Some(Err(fault)) => Err(fault),
-            None => Err(Fault::Read),
-        }
+        let over = self.over.unwrap_or(Err(Fault::Read));
+        over.and(Ok(self.subscriber))
     }
 }

@@ -17,6 +17,7 @@ use line_ledger::{Day, DayName, EndFault, LineSeat, Prepared, Published, SharedT
 use std::alloc::Global;
 use std::io::Write;
 use std::marker::Brand;
+use std::net::TcpListener;
 use std::rt::Clock;
 use std::sync::Wait;
 use std::thread::Threads;
@@ -102,10 +103,12 @@ fn finish_day<D: DayName>(shared: SharedTape<D>, joined: Joined<D>) -> Result<Da
     let at_the_sides = Fault::least(sides.served, sides.sent.fault);
     let at_the_lines = Fault::least(fault, found.fault);
     if let Some(fault) = Fault::least(at_the_sides, at_the_lines) {
+        drop(ended);
         return Err(fault);
     }
     let day = ended?;
     if !is_as_sent(&day, &found.tokens, sides.sent.number) {
+        drop(day);
         return Err(Fault::Disagrees);
     }
     Ok(day)
@@ -126,10 +129,12 @@ fn run_named<D: DayName + Send + Sync, R: Threads + Wait + Clock + Sync, L: Loss
     ensures listed { IfOk result (λ day. day.tape.listing ≡ D.listing) }
 {
     let Ok(lines) = Vec::with_capacity(feed.alloc, readers.len()) else {
+        drop(prepared);
         return Err(Fault::Memory);
     };
     let Ok(room) = Vec::with_capacity(feed.alloc, readers.len()) else {
         lines.destroy_empty();
+        drop(prepared);
         return Err(Fault::Memory);
     };
     let Ok((shared, seats)) = SharedTape::<D>::open(prepared) else {
@@ -160,6 +165,21 @@ fn run_day<R: Threads + Wait + Clock + Sync, L: Loss + Sync>(
     run_named::<Brand, R, L>(rt, feed, prepared, readers)
 }
 
+/// Waits for the lines, and looks whether a thread can be started for them then.
+fn readers_of<R: Threads>(
+    rt: &R,
+    alloc: Global,
+    lines: &[TcpListener],
+) -> Result<Vec<Reader>, Fault>
+    ensures { IfOk result (λ readers. vec_len readers ≡ length lines.now) }
+{
+    let readers = accept_all(alloc, lines)?;
+    if !can_start(rt) {
+        return Err(Fault::Worker);
+    }
+    Ok(readers)
+}
+
 /// Prepares the day, waits for its lines and runs it.
 fn hold_day<R: Threads + Wait + Clock + Sync, L: Loss + Sync>(
     rt: &R,
@@ -175,10 +195,13 @@ fn hold_day<R: Threads + Wait + Clock + Sync, L: Loss + Sync>(
         return Err(Fault::Read);
     }
     let prepared = prepare_day(feed.alloc, listing, limit)?;
-    let readers = accept_all(feed.alloc, &sockets.lines)?;
-    if !can_start(rt) {
-        return Err(Fault::Worker);
-    }
+    let readers = match readers_of(rt, feed.alloc, &sockets.lines) {
+        Ok(readers) => readers,
+        Err(fault) => {
+            drop(prepared);
+            return Err(fault);
+        }
+    };
     run_day(rt, feed, prepared, readers)
 }
 

@@ -59,22 +59,17 @@ fn report(who: u8, number: u8) -> [u8; 40] {
 }
 
 /// The symbol AB, and the participants N and Q.
-fn names_of_two() -> Option<([Symbol; 1], [Participant; 2])> {
+fn names_of_two(alloc: Global) -> Option<Listing> {
     let symbols = [Symbol::try_new(*b"AB      ")?];
-    Some((
-        symbols,
-        [Participant::try_new(b'N')?, Participant::try_new(b'Q')?],
-    ))
+    let participants = [Participant::try_new(b'N')?, Participant::try_new(b'Q')?];
+    Listing::new(alloc, &symbols, &participants).ok()
 }
 
 /// Their listing. Where there is none the test stops.
 fn listing_of_two<R: Abort>(rt: &R, alloc: Global) -> Listing {
-    let Some((symbols, participants)) = names_of_two() else {
-        panic!(rt; "a name is none")
-    };
-    match Listing::new(alloc, &symbols, &participants) {
-        Ok(listing) => listing,
-        Err(_) => panic!(rt; "no listing"),
+    match names_of_two(alloc) {
+        Some(listing) => listing,
+        None => panic!(rt; "no listing"),
     }
 }
 
