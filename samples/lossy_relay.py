@@ -6,7 +6,8 @@
 It takes the UDP packets that come to ports IN_A and IN_B of 127.0.0.1 and sends them on to OUT_A and OUT_B. Each P is a
 percentage from 0 to 100, or one for each line: `--lose 100,10` loses all of line A and a tenth of line B. Of the packets that are
 not lost, the doubled ones are sent twice, and the reordered ones are held back until three later ones of their line went on, or
-a fiftieth of a second passed. Before a garbled one goes a datagram of its own that is no packet. What becomes of a line's packets is drawn from the seed, the line and their order alone.
+a fiftieth of a second passed. Before a garbled one, lost or not, goes a datagram of its own that is no packet of the day, but
+nothing on a line that loses all. What becomes of a line's packets is drawn from the seed, the line and their order alone.
 
 End packets go on at once and once, unless all of their line is lost: a follower that misses every end waits for ever, so both
 lines together can't lose everything. Runs until it is told to end (SIGTERM or SIGINT), and then prints what became of each
@@ -27,6 +28,8 @@ HOST = "127.0.0.1"
 # A packet is at most 919 bytes; the kind stands after the version.
 ROOM = 2048
 KIND = slice(1, 2)
+# Where the last byte of the session stands.
+SESSION_END = 9
 END = b"E"
 # How long a reordered packet is held back: so many later packets, or so many seconds.
 HOLD_PACKETS = 3
@@ -84,7 +87,7 @@ class Line:
     def take(self, packet):
         """Decides on a packet: it is lost, held back, or sent on."""
         self.counts["came"] += 1
-        if 100 * self.garbling.random() < self.garble:
+        if self.lose < 100 and 100 * self.garbling.random() < self.garble:
             self.send_garbage(packet)
         if packet[KIND] == END and self.lose < 100:
             return self.send(packet, 1)
@@ -108,10 +111,12 @@ class Line:
             self.sender.sendto(packet, self.target)
 
     def send_garbage(self, packet):
-        """Sends a datagram that is no packet: an empty one, a front of this packet, it with a byte more, or bytes at random."""
+        """Sends a datagram that is no packet of the day: an empty one, the packet cut short, with a byte more or under another
+        session, or bytes at random."""
         self.counts["garbled"] += 1
-        front = packet[: self.garbling.randrange(1, len(packet))]
-        garbage = self.garbling.choice([b"", front, packet + b"\0", self.garbling.randbytes(64)])
+        other_session = bytes(byte ^ (at == SESSION_END) for at, byte in enumerate(packet))
+        noise = self.garbling.randbytes(64)
+        garbage = self.garbling.choice([b"", packet[:-1], packet + b"\0", other_session, noise])
         self.sender.sendto(garbage, self.target)
 
     def count_later(self):
