@@ -1,5 +1,5 @@
 -- The faults of an opening.
-use Rattle.std.proofs.Common.{◌≡◌, ◌≢◌, ◌↔◌, ◌⊎◌, inl, inr, ℕ, Bool, true, false, true≢false, List, [], Result, Err, subst, ap, sym, ◌∙◌, arith}
+use Rattle.std.proofs.Common.{◌≡◌, ◌≢◌, ◌↔◌, ◌⊎◌, inl, inr, Bool, true, false, true≢false, List, [], Result, Err, subst, ap, sym, ◌∙◌, arith}
 use Rattle.std.specs.Prelude.{IfErr}
 use Rattle.tape_core.specs.declared.entry.Entry.{Entry}
 use Rattle.line_ledger.specs.declared.open_fault.OpenFault.{OpenFault}

@@ -1,6 +1,5 @@
 -- Lists of tokens, and of what was seen, with one more, and the front of such a list.
-use Rattle.std.proofs.Common.{◌≡◌, ℕ, ◌+◌, ◌-◌, ◌<◌, ◌≤◌, List, [], ◌∷◌, ◌++◌, length, length-append, map, min, take, slice_get, slice_index_or, get_or, Some, refl, sym, subst, ap, ◌∙◌, ◌⊎◌, inl, inr, rules, arith, zero, suc}
-use Rattle.std.specs.Prelude.{All}
+use Rattle.std.proofs.Common.{◌≡◌, ℕ, ◌+◌, ◌<◌, List, [], ◌∷◌, ◌++◌, length, length-append, min, take, slice_index_or, sym, ap, ◌∙◌, ◌⊎◌, inl, inr, arith, zero, suc}
 use Rattle.std.proofs.Math.Nat.{eq-or-lt_of_le}
 use Rattle.std.proofs.lemmas.List.{append-nil, append_assoc, get_or_append_left, get_or_push, get_or-take, length-take, length-map, map-append, take_at, take-map}
 use Rattle.tape_core.specs.declared.entry.Entry.{Entry}

@@ -1,5 +1,5 @@
 -- What a publication sets, and what a reader of the cells has found.
-use Rattle.std.specs.Prelude.{◌≡◌, ℕ, ◌+◌, ◌-◌, ◌≤◌, ◌++◌, min, List, length}
+use Rattle.std.specs.Prelude.{◌≡◌, ℕ, ◌+◌, ◌-◌, ◌<◌, ◌++◌, min, List, length}
 use Rattle.line_ledger.specs.Cells.{TokenState, NextTokens}
 use Rattle.line_ledger.specs.Days.{LockedState}
 
@@ -13,11 +13,12 @@ pub record Publishes (l : LockedState) (names : List ℕ) (most : ℕ) (tokens :
   pub next : NextTokens names l.tape.entries l.set tokens
   pub counted : l' ≡ record l { set = l.set + length tokens }
 
--- fewer were set, and those are counted
-pub record Stops (l : LockedState) (most : ℕ) (l' : LockedState) : Type 0 where
-  pub tape : l'.tape ≡ l.tape
-  pub risen : l.set ≤ l'.set
-  pub fewer : l'.set - l.set ≤ min most (unset l)
+-- fewer of the next cells were set to the tape's next entries, and those are counted
+pub record Stops (l : LockedState) (names : List ℕ) (most : ℕ) (l' : LockedState) : Type 0 where
+  pub tokens : List TokenState
+  pub fewer : length tokens < min most (unset l)
+  pub next : NextTokens names l.tape.entries l.set tokens
+  pub counted : l' ≡ record l { set = l.set + length tokens }
 
 -- a reader of the cells: their names, and the tokens that it found, which are of the first of them
 pub record PublishedState : Type 0 where

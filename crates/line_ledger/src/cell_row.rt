@@ -1,5 +1,5 @@
 //! The cells beside the lock, each of which is set once and read by anyone.
-ghost use Rattle.std.specs.Prelude.{◌≡◌, ◌≤◌, [], length, IfOk, IfSome};
+ghost use Rattle.std.specs.Prelude.{◌≡◌, ◌≤◌, [], length, IfErr, IfOk, IfSome, IsTrue};
 ghost use Rattle.std.specs.Vec.{vec_capacity};
 ghost use Rattle.line_ledger.specs.Cells.{IsTokenOf, SeenAt, FirstSeen};
 
@@ -72,12 +72,20 @@ impl CellRow {
         })
     }
 
-    /// Sets the cell of a number: `Ok(None)` where it was set before, or where there is none. Where memory runs out, the cell
-    /// is as it was.
-    pub(crate) fn set(&self, number: u32, entry: &Entry) -> Result<Option<Token>, AllocError>
-        ensures { IfOk result (λ set. IfSome set (λ token. (token.entry ≡ entry.now) × (token.number ≡ number) × IsTokenOf self.now token)) }
+    /// Whether there is a cell of this number that is empty. It takes no memory.
+    pub(crate) fn is_vacant(&self, number: u32) -> bool
+        ensures { IsTrue result → (1 ≤ number) × (number ≤ length self.now) }
     {
-        if number == 0 || number as usize > self.cells.len() {
+        number > 0 && number <= self.many && self.cells[number as usize - 1].get().is_none()
+    }
+
+    /// Sets the cell of a number: `Ok(None)` where it was set before, or where there is none, and no memory is asked for. Where
+    /// memory runs out, the cell is as it was.
+    pub(crate) fn set(&self, number: u32, entry: &Entry) -> Result<Option<Token>, AllocError>
+        ensures ok { IfOk result (λ set. IfSome set (λ token. (token.entry ≡ entry.now) × (token.number ≡ number) × IsTokenOf self.now token)) }
+        ensures memory { IfErr result (λ _. number ≤ length self.now) }
+    {
+        if !self.is_vacant(number) {
             return Ok(None);
         }
         let cell = &self.cells[number as usize - 1];

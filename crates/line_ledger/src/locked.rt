@@ -3,7 +3,7 @@ ghost use Rattle.std.specs.Prelude.{◌≡◌, ◌↔◌, ◌+◌, ◌<◌, ◌�
 ghost use Rattle.tape_core.specs.Standing.{reported_size};
 ghost use Rattle.tape_core.specs.Tape.{lists_participant};
 ghost use Rattle.line_ledger.specs.declared.open_fault.OpenFault.TheVariants.{OutOfMemory};
-ghost use Rattle.line_ledger.specs.declared.publish_fault.PublishFault.TheVariants.{Unpublished};
+ghost use Rattle.line_ledger.specs.declared.publish_fault.PublishFault.TheVariants.{Unpublished, OutOfMemory as NoMemory};
 ghost use Rattle.line_ledger.specs.Admissions.{Admits, Refuses};
 ghost use Rattle.line_ledger.specs.Cells.{TokenAt};
 ghost use Rattle.line_ledger.specs.Days.{IsDay, has_figures};
@@ -326,15 +326,24 @@ impl<D: DayName> Locked<D> {
     }
 
     /// Publishes the tape's next entries, at most so many: sets the next cells to them, and answers a token of each, in order.
-    /// 81 Unpublished where the cell of the next number was set before or is not there, and 82 OutOfMemory where memory runs
-    /// out: what was set before that stays set, and is counted. The row is to be the one that `start` gave.
+    /// 81 Unpublished where the cell of the next number was set before or is not there, before any memory is asked for, and
+    /// then 82 OutOfMemory where memory runs out: what was set before that stays set, and is counted. Where nothing is left to
+    /// publish, the answer is Ok and takes no memory. The row is to be the one that `start` gave.
     pub fn publish(&mut self, row: &CellRow, most: u32) -> Result<Vec<Token>, PublishFault>
         ensures ok { IfOk result (λ tokens. Publishes self.old row.now most tokens.items self.new) }
-        ensures err { IfErr result (λ _. Stops self.old most self.new) }
+        ensures err { IfErr result (λ _. Stops self.old row.now most self.new) }
         ensures unpublished { (n : _) → result ≡ Err (Unpublished n) → n ≡ self.new.set + 1 }
+        ensures memory { result ≡ Err NoMemory → self.new.set < length row.now }
     {
         let waiting = self.tape.entries().len() as u32 - self.set;
         let many = waiting.min(most);
+        if many == 0 {
+            return Ok(Vec::new(self.alloc));
+        }
+        let next = self.set + 1;
+        if !row.is_vacant(next) {
+            return Err(PublishFault::Unpublished(next));
+        }
         let Ok(mut tokens) = Vec::with_capacity(self.alloc, many as usize) else {
             return Err(PublishFault::OutOfMemory);
         };
@@ -350,7 +359,9 @@ impl<D: DayName> Locked<D> {
         requires { self.old.set < length self.old.tape.entries }
         ensures token { IfOk result (TokenAt row.now self.old.tape.entries (self.old.set + 1)) }
         ensures counted { IfOk result (λ _. self.new ≡ record self.old { set = self.old.set + 1 }) }
-        ensures err { IfErr result (λ fault. (self.new ≡ self.old) × ((n : _) → fault ≡ Unpublished n → n ≡ self.old.set + 1)) }
+        ensures err { IfErr result (λ _. self.new ≡ self.old) }
+        ensures unpublished { (n : _) → result ≡ Err (Unpublished n) → n ≡ self.old.set + 1 }
+        ensures memory { result ≡ Err NoMemory → self.old.set < length row.now }
     {
         let entry = &self.tape.entries()[self.set as usize];
         let number = self.set + 1;

@@ -1,4 +1,4 @@
-use Rattle.std.proofs.Common.{rules, ◌≡◌, List, length, subst, ap, arith}
+use Rattle.std.proofs.Common.{◌≡◌, List, length, subst, ap, arith}
 use Rattle.tape_core.specs.declared.entry.Entry.{Entry}
 use Rattle.line_ledger.specs.Cells.{FirstSeen}
 use Rattle.line_ledger.proofs.locked.Locked.finish.Goals as goal
