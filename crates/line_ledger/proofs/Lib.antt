@@ -1,3 +1,4 @@
+pub mod Confirmed
 pub mod Differences
 pub mod Endings
 pub mod KeptSeats

@@ -1,5 +1,5 @@
 -- A row of cells by their names, and what tokens show of them.
-use Rattle.std.specs.Prelude.{◌≡◌, ℕ, ◌+◌, ◌-◌, ◌<◌, ◌≤◌, List, length, map, slice_get, slice_index_or, Some}
+use Rattle.std.specs.Prelude.{◌≡◌, ℕ, ◌+◌, ◌-◌, ◌<◌, ◌≤◌, List, length, map, slice_get, slice_index_or, Some, All}
 use Rattle.tape_core.specs.declared.entry.Entry.{Entry}
 use Rattle.seen_cells.specs.declared.Seen.{Seen}
 
@@ -32,6 +32,10 @@ FirstTokens names tokens = Each (λ i t. IsTokenOf names t × (t.number ≡ i + 
 -- the entries that tokens show
 abbrev pub shown : List TokenState → List Entry
 shown tokens = map (λ t. t.entry) tokens
+
+-- the entries have each token's entry at its number
+abbrev pub HaveAll : List Entry → List TokenState → Type 0
+HaveAll entries tokens = All (λ t. slice_get entries (t.number - 1) ≡ Some t.entry) tokens
 
 -- the cell at this place, from 0, was seen to hold the entry at this place
 abbrev pub SeenAt : List ℕ → List Entry → ℕ → Seen Entry → Type 0

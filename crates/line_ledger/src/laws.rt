@@ -1,7 +1,12 @@
-//! Where what a line was told first differs from a tape, and laws over seats and ends.
-ghost use Rattle.std.specs.Prelude.{◌≡◌, ◌↔◌, ℕ, IsTrue, MatchOption, slice_get, Some, List, length};
+//! Where what a line was told first differs from a tape, and laws over seats, ends and confirmed tokens.
+ghost use Rattle.std.specs.Prelude.{◌≡◌, ◌≤◌, ◌↔◌, ℕ, IsTrue, MatchOption, slice_get, Some, List, length};
 ghost use Rattle.tape_core.specs.declared.entry.Entry.{Entry};
+ghost use Rattle.tape_core.specs.Tape.{TapeState};
+ghost use Rattle.tape_frames.specs.declared.packet.Packet.TheVariants.{Data, Beat};
+ghost use Rattle.tape_frames.specs.Sources.{BeginsWith, cut_of};
 ghost use Rattle.line_ledger.specs.declared.told.Told.{Told};
+ghost use Rattle.line_ledger.specs.Cells.{TokenState, FirstTokens, HaveAll, shown};
+ghost use Rattle.line_ledger.specs.Cuts.{IsCutOf};
 ghost use Rattle.line_ledger.specs.Ends.{told_entry, told_of, whos, DiffersFirst, DisagreesAt, FirstTold, IsOneEach};
 ghost use Rattle.line_ledger.specs.Seats.{SeatState};
 
@@ -55,4 +60,15 @@ pub fn disagreement()
         → DisagreesAt participants entries seats who at → ¬ (FirstTold (length participants) participants entries seats) }
     ensures only { (participants : List ℕ) (entries : List Entry) (seats : List SeatState) (who at other place : ℕ)
         → DisagreesAt participants entries seats who at → DisagreesAt participants entries seats other place → (who ≡ other) × (at ≡ place) }
+{}
+
+/// Where each token is confirmed, tokens of the first cells show the first entries of the tape. So each packet that is cut of
+/// what they show was cut of the tape, whenever that was, and the tape may be the closed one of a day that has ended.
+pub fn confirmed()
+    ensures front { (names : List ℕ) (tokens : List TokenState) (entries : List Entry)
+        → FirstTokens names tokens → HaveAll entries tokens → BeginsWith (shown tokens) entries }
+    ensures data { (names : List ℕ) (tokens : List TokenState) (t : TapeState) (session from : ℕ)
+        → FirstTokens names tokens → HaveAll t.entries tokens → IsCutOf session t (Data session (cut_of (shown tokens) from)) }
+    ensures beat { (names : List ℕ) (tokens : List TokenState) (t : TapeState) (session last : ℕ)
+        → FirstTokens names tokens → HaveAll t.entries tokens → last ≤ length tokens → IsCutOf session t (Beat session last) }
 {}

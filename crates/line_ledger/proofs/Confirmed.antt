@@ -1,0 +1,54 @@
+-- What confirmed tokens show, and what is cut of it.
+use Rattle.std.proofs.Common.{◌≡◌, ℕ, zero, suc, ◌+◌, ◌-◌, ◌<◌, ◌≤◌, List, [], ◌∷◌, ◌++◌, length, length-append, take, drop, slice_get, slice_index_or, Some, refl, sym, subst, ap, ◌∙◌, arith}
+use Rattle.std.proofs.lemmas.List.{append_assoc, length-map, take-append-drop}
+use Rattle.std.proofs.lemmas.Option.{none-some, same_Some}
+use Rattle.tape_core.specs.declared.entry.Entry.{Entry}
+use Rattle.tape_core.specs.Tape.{TapeState}
+use Rattle.tape_frames.specs.Limits.{most_entries}
+use Rattle.tape_frames.specs.Sources.{BeginsWith, cut_of}
+use Rattle.line_ledger.specs.Cells.{TokenState, FirstTokens, HaveAll, shown}
+use Rattle.line_ledger.specs.Cuts.{IsPartOf}
+
+-- entries that have each token's entry at its place begin with what the tokens show
+begins : (tokens : List TokenState) (entries : List Entry)
+    → ((i : ℕ) (d : TokenState) → i < length tokens → slice_get entries i ≡ Some (slice_index_or tokens i d).entry) → BeginsWith (shown tokens) entries
+begins [] entries each = (entries, refl)
+begins (t ∷ ts) [] each = absurd (none-some t.entry (each 0 t (omega arith)))
+begins (t ∷ ts) (e ∷ es) each =
+    let here : e ≡ t.entry = same_Some e t.entry (each 0 t (omega arith)) in
+    let rest : BeginsWith (shown ts) es = begins ts es (λ i d low. each (suc i) d (omega (arith, low))) in
+    (rest.0, ap (λ x. x ∷ es) here ∙ ap (λ xs. t.entry ∷ xs) rest.1)
+
+-- confirmed tokens of the first cells show the first entries
+pub front : (names : List ℕ) (tokens : List TokenState) (entries : List Entry) → FirstTokens names tokens → HaveAll entries tokens
+    → BeginsWith (shown tokens) entries
+front names tokens entries first all = begins tokens entries (λ i d low.
+    let number : (slice_index_or tokens i d).number ≡ i + 1 = (first i d low).1 in
+    let place : (slice_index_or tokens i d).number - 1 ≡ i = omega (arith, number) in
+    subst (λ n. slice_get entries n ≡ Some (slice_index_or tokens i d).entry) place (all i d low))
+
+-- some entries of the front are consecutive entries of the whole
+part : (es tape : List Entry) (from : ℕ) → BeginsWith es tape → IsPartOf (cut_of es from) tape
+part es tape from begin =
+    let skipped = take (from - 1) es in
+    let left = drop (from - 1) es in
+    let after = drop most_entries left in (
+      skipped,
+      after ++ begin.0,
+      begin.1 ∙ ap (λ xs. xs ++ begin.0) (sym (take-append-drop (from - 1) es)) ∙ append_assoc skipped left begin.0
+          ∙ ap (λ xs. skipped ++ (xs ++ begin.0)) (sym (take-append-drop most_entries left))
+          ∙ ap (λ xs. skipped ++ xs) (append_assoc (take most_entries left) after begin.0),
+    )
+
+pub data_cut : (names : List ℕ) (tokens : List TokenState) (t : TapeState) (from : ℕ) → FirstTokens names tokens → HaveAll t.entries tokens
+    → IsPartOf (cut_of (shown tokens) from) t.entries
+data_cut names tokens t from first all = part (shown tokens) t.entries from (front names tokens t.entries first all)
+
+-- there are no more tokens than entries
+pub as_many : (names : List ℕ) (tokens : List TokenState) (t : TapeState) (last : ℕ) → FirstTokens names tokens → HaveAll t.entries tokens
+    → last ≤ length tokens → last ≤ length t.entries
+as_many names tokens t last first all low =
+    let begin = front names tokens t.entries first all in
+    let whole : length t.entries ≡ length (shown tokens) + length begin.0 = ap length begin.1 ∙ length-append (shown tokens) begin.0 in
+    let shorter : length (shown tokens) ≡ length tokens = length-map tokens (λ (t : TokenState). t.entry) in
+    omega (arith, low, whole, shorter)

@@ -1,0 +1,12 @@
+use Rattle.std.proofs.Common.{refl}
+use Rattle.line_ledger.proofs.Confirmed.{front, data_cut, as_many}
+use Rattle.line_ledger.proofs.laws.confirmed.Goals as goal
+
+pub returns-clause-front : goal.returns-clause-front
+returns-clause-front c = front
+
+pub returns-clause-data : goal.returns-clause-data
+returns-clause-data c = λ names tokens t session from first all. (refl, data_cut names tokens t from first all)
+
+pub returns-clause-beat : goal.returns-clause-beat
+returns-clause-beat c = λ names tokens t session last first all low. (refl, as_many names tokens t last first all low)

@@ -1,0 +1,16 @@
+-- A packet that was cut of a tape.
+use Rattle.std.specs.Prelude.{◌≡◌, ℕ, ◌≤◌, true, List, ◌++◌, length}
+use Rattle.tape_core.specs.declared.entry.Entry.{Entry}
+use Rattle.tape_core.specs.Tape.{TapeState}
+use Rattle.tape_frames.specs.declared.packet.Packet.{Packet}
+use Rattle.tape_frames.specs.declared.packet.Packet.TheVariants.{Data, Beat, End}
+
+-- consecutive entries of the tape
+abbrev pub IsPartOf : List Entry → List Entry → Type 0
+IsPartOf row tape = (before : List Entry) × (after : List Entry) × (tape ≡ before ++ (row ++ after))
+
+-- a packet under this session that was cut of the tape: some of its entries, or its length at some time, or its length once it is closed
+abbrev pub IsCutOf : ℕ → TapeState → Packet → Type 0
+IsCutOf own t (Data session row) = (session ≡ own) × IsPartOf row t.entries
+IsCutOf own t (Beat session last) = (session ≡ own) × (last ≤ length t.entries)
+IsCutOf own t (End session count) = (session ≡ own) × (t.closed ≡ true) × (count ≡ length t.entries)
