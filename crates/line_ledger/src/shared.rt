@@ -16,9 +16,23 @@ use crate::{
 };
 use reports::Message;
 use std::alloc::Global;
+use std::hint::spin_loop;
 use std::marker::Model;
-use std::sync::{Mutex, Wait};
+use std::sync::{Mutex, MutexGuard, Wait};
 use tape_types::Symbol;
+
+/// How often a call tries for the lock before it may sleep for it.
+const TRIES: u32 = 100;
+
+/// How many turns of `spin_loop` are between two tries: about as long as an admission takes.
+const TURNS: u32 = 20;
+
+/// Lets some time pass.
+fn pause() {
+    for _ in 0..TURNS {
+        spin_loop();
+    }
+}
 
 /// A day's tape behind one lock, with its cells beside it. Whenever the lock is free, what it guards is the day's legal open
 /// tape, and a book that counts its entries. A contract sees the names of the cells.
@@ -58,6 +72,18 @@ impl<D: DayName> SharedTape<D> {
         ))
     }
 
+    /// Takes the lock. Whoever has it is soon done, and to sleep and be woken takes longer than that: so it is tried for, some
+    /// hundred times, before the thread may sleep.
+    fn lock(&self, rt: &impl Wait) -> MutexGuard<'_, Locked<D>> {
+        for _ in 0..TRIES {
+            if let Some(guard) = self.locked.try_lock() {
+                return guard;
+            }
+            pause();
+        }
+        self.locked.lock(rt)
+    }
+
     /// Admits a message of the seat's participant under the lock, as `Locked::admit` does, with its refusals. What the tape
     /// was at that moment no clause can name, so these say what the seat's holder learns. It may wait for the lock.
     pub fn admit(
@@ -69,7 +95,7 @@ impl<D: DayName> SharedTape<D> {
         ensures ok { IfOk result (λ r. Tells seat.old message r seat.new) }
         ensures err { IfErr result (λ why. TellsWhy D.listing seat.old message why seat.new) }
     {
-        self.locked.lock(rt).admit(seat, message)
+        self.lock(rt).admit(seat, message)
     }
 
     /// Shows the seat's holder a symbol's consolidated summary under the lock, as `Locked::view` does, with its refusals: 36
@@ -84,7 +110,7 @@ impl<D: DayName> SharedTape<D> {
         ensures told { IfOk result (λ view. length seat.now.told ≤ view.count) }
         ensures unlisted { (result ≡ Err UnknownSymbol) ↔ (lists_symbol D.listing symbol ≡ false) }
     {
-        self.locked.lock(rt).view(seat, symbol)
+        self.lock(rt).view(seat, symbol)
     }
 
     /// Publishes the tape's next entries under the lock, at most so many, as `Locked::publish` does, with its faults: how many
@@ -92,7 +118,7 @@ impl<D: DayName> SharedTape<D> {
     pub fn publish(&self, rt: &impl Wait, most: u32) -> Result<u32, PublishFault>
         ensures most { IfOk result (λ set. set ≤ most) }
     {
-        let tokens = self.locked.lock(rt).publish(&self.row, most)?;
+        let tokens = self.lock(rt).publish(&self.row, most)?;
         Ok(tokens.len() as u32)
     }
 
