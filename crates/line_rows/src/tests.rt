@@ -1,4 +1,4 @@
-//! Shared tapes, the ends of a line, two lines at once, a seeded day of eight lines, and a retransmission while a day is open.
+//! Shared tapes, the ends of a line, two and eight lines at once, a seeded day of eight lines, and a retransmission while a day is open.
 
 mod closing;
 mod days;
@@ -6,10 +6,10 @@ mod ends;
 mod lines;
 mod readers;
 mod seeded;
+mod sending;
 mod served;
 mod shared_days;
 mod shared_faults;
 mod shared_publishing;
 mod shared_rows;
-mod shared_threads;
 mod together;

@@ -1,7 +1,7 @@
 //! A line that has ended lets go of its reader while another line runs.
 ghost use Rattle.std.specs.Prelude.{◌≡◌};
 
-use super::days::{REPORT, day_of_two, joined, report};
+use super::days::{REPORT, TURNS, day_of_two, joined, report};
 use super::lines::{LineFigures, run_all};
 use super::shared_days::ended_len;
 use super::together::counts_of;
@@ -15,9 +15,6 @@ use std::sync::atomic::{AtomicBool, AtomicU32, Ordering};
 use std::thread::Threads;
 use std::{io, thread};
 use tape_types::Gate;
-
-/// How many turns a line waits at most.
-const TURNS: u32 = 1_000_000_000;
 
 /// Which of two readers were dropped. As a gate it holds the second line after each message until the first line's reader
 /// is dropped, and notes how often it saw that.

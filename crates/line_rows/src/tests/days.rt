@@ -1,4 +1,4 @@
-//! A day of the symbol AB and the participants N and Q or N alone, the bytes of their reports, and the end of a day.
+//! Days of the symbol AB and one, two or eight participants, the bytes of their reports, and the end of a day.
 ghost use Rattle.std.specs.Prelude.{◌≡◌, IfSome};
 ghost use Rattle.line_ledger.specs.Cells.{FirstTokens};
 
@@ -8,6 +8,9 @@ use std::process::Abort;
 use summaries::IndexStore;
 use tape_core::Tape;
 use tape_types::{Listing, Participant, Symbol};
+
+/// How many turns a line or a reader waits for others at most.
+pub(super) const TURNS: u32 = 100_000_000;
 
 /// N's report 1 of 100 shares of AB at 10.00, out of sequence.
 pub(super) const REPORT: [u8; 40] = [
@@ -58,6 +61,18 @@ pub(super) fn day_of_one(alloc: Global) -> Option<Prepared> {
 /// The day of N and Q, which is empty.
 pub(super) fn day_of_two(alloc: Global) -> Option<Prepared> {
     let participants = [Participant::try_new(b'N')?, Participant::try_new(b'Q')?];
+    day_of(alloc, &participants)
+}
+
+/// The participants of eight lines.
+pub(super) const EIGHT: [u8; 8] = *b"NPQRSTUV";
+
+/// The day of eight participants, which is empty.
+pub(super) fn day_of_eight(alloc: Global) -> Option<Prepared> {
+    let mut participants = Vec::new(alloc);
+    for who in &EIGHT {
+        participants.push(Participant::try_new(*who)?).ok()?;
+    }
     day_of(alloc, &participants)
 }
 

@@ -2,8 +2,8 @@
 ghost use Rattle.std.specs.Prelude.{◌≡◌};
 ghost use Rattle.line_ledger.specs.Cells.{FirstTokens};
 
-use super::days::{Confirmed, confirmed, day_of_two, ended_day};
-use super::shared_threads::send_all;
+use super::days::{Confirmed, TURNS, confirmed, day_of_two, ended_day};
+use super::sending::send_all;
 use line_ledger::{DayName, LineSeat, Prepared, Published, SharedTape, Token};
 use std::alloc::Global;
 use std::marker::Brand;
@@ -14,9 +14,6 @@ use std::thread;
 use std::thread::{Threads, join};
 use tape_frames::Source;
 use tape_types::Gate;
-
-/// How many turns a reader or a line waits at most.
-const TURNS: u32 = 1_000_000_000;
 
 /// How many messages each line sends.
 const MANY: u32 = 5;

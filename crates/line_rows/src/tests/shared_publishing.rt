@@ -4,8 +4,8 @@ ghost use Rattle.line_ledger.specs.Cells.{FirstTokens, IsTokenOf};
 ghost use Rattle.line_ledger.specs.Ends.{IsOneEach};
 
 use super::days::{Confirmed, confirmed_at_end};
+use super::sending::send_all;
 use super::shared_days::{Sent, message, prepared, prepared_of};
-use super::shared_threads::send_all;
 use line_ledger::{
     CellRow, DayName, LineSeat, Locked, Prepared, PublishFault, Published, SharedTape, Token,
 };

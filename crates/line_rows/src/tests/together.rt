@@ -1,10 +1,12 @@
-//! Two lines at once, and what they publish; three lines at once, and the turns that their gate is given.
+//! Two lines at once, and what they publish; eight lines at once, and the turns that their gate is given.
 ghost use Rattle.std.specs.Prelude.{◌≡◌};
 ghost use Rattle.line_ledger.specs.Cells.{FirstTokens};
 
-use super::days::{Confirmed, confirmed_at_end, day_of_two, joined, report, without_price};
+use super::days::{
+    Confirmed, EIGHT, TURNS, confirmed_at_end, day_of_eight, day_of_two, joined, report,
+    without_price,
+};
 use super::lines::{LineFigures, day_of_lines, run_inputs};
-use super::shared_days::prepared;
 use line_ledger::{
     Day, DayName, EndFault, LineSeat, Prepared, PublishFault, Published, SharedTape, Token, Unended,
 };
@@ -18,9 +20,6 @@ use std::thread;
 use std::thread::Threads;
 use tape_frames::Source;
 use tape_types::{Gate, Symbol};
-
-/// How many turns a line waits at most.
-const TURNS: u32 = 1_000_000_000;
 
 /// Holds each of so many lines after its first message until all have done theirs, and notes the turns that it is given for
 /// each of the first three lines, as the digits of a number.
@@ -55,16 +54,17 @@ impl Meeting {
         );
     }
 
-    /// Holds a line that has done its first message until all lines have.
+    /// Holds a line that has done its first message until all lines have. One that waits in vain lets the others go.
     fn meet(&self) {
         self.done.fetch_add(1, Ordering::SeqCst);
         for _ in 0..TURNS {
-            if self.done.load(Ordering::SeqCst) == self.lines {
+            if self.done.load(Ordering::SeqCst) >= self.lines {
                 self.met.fetch_add(1, Ordering::SeqCst);
                 return;
             }
             thread::yield_now();
         }
+        self.done.fetch_add(self.lines, Ordering::SeqCst);
     }
 
     /// How many lines found that all had come, and the turns of the first three lines.
@@ -255,56 +255,63 @@ fn two_lines_run_at_once(rt: HostRuntime) {
     assert_eq!(rt; meeting.noted(), (2, [123, 12, 0]));
 }
 
-/// The bytes of N's, P's and Q's line: a report at no price between two reports, a report that comes again, and one report.
-fn inputs_of_three(alloc: Global) -> Option<Vec<Vec<u8>>> {
+/// The bytes of eight lines: a report at no price between two reports, a report that comes again, and one report of each other
+/// participant.
+fn inputs_of_eight(alloc: Global) -> Option<Vec<Vec<u8>>> {
     let mut inputs = Vec::new(alloc);
     let first = joined(alloc, &[report(b'N', 1), without_price(2), report(b'N', 3)])?;
     inputs.push(first).ok()?;
     let second = joined(alloc, &[report(b'P', 1), report(b'P', 1)])?;
     inputs.push(second).ok()?;
-    let third = joined(alloc, &[report(b'Q', 1)])?;
-    inputs.push(third).ok()?;
+    for who in &EIGHT[2..] {
+        inputs.push(joined(alloc, &[report(*who, 1)])?).ok()?;
+    }
     Some(inputs)
 }
 
 /// How many frames of a line were refused, why it ended, and how many messages it was told of.
 type End = (u32, Ended, u32);
 
-/// How a line ended.
-fn end_of(line: &LineFigures) -> End {
-    (line.refused, line.ended, line.count)
+/// How the eight lines have to end.
+const EIGHT_ENDS: [End; 8] = [
+    (1, Ended::Clean, 2),
+    (1, Ended::Clean, 1),
+    (0, Ended::Clean, 1),
+    (0, Ended::Clean, 1),
+    (0, Ended::Clean, 1),
+    (0, Ended::Clean, 1),
+    (0, Ended::Clean, 1),
+    (0, Ended::Clean, 1),
+];
+
+/// Whether lines ended so, in their order.
+fn have_ended(lines: &[LineFigures], ends: &[End]) -> bool {
+    if lines.len() != ends.len() {
+        return false;
+    }
+    for at in 0..ends.len() {
+        let line = &lines[at];
+        if (line.refused, line.ended, line.count) != ends[at] {
+            return false;
+        }
+    }
+    true
 }
 
-/// How each of three lines ended.
-fn three_ends(figures: &[LineFigures]) -> Option<[End; 3]> {
-    let [first, second, third] = figures else {
-        return None;
-    };
-    Some([end_of(first), end_of(second), end_of(third)])
-}
-
-/// How three lines at once ended, and how many entries their day has.
-fn three_lines<T: Threads + Wait + Abort + Sync>(
+/// Whether eight lines at once ended as they have to, and how many entries their day has.
+fn eight_lines<T: Threads + Wait + Abort + Sync>(
     rt: &T,
     alloc: Global,
     meeting: &Meeting,
-) -> Option<(Option<[End; 3]>, usize)> {
-    let inputs = inputs_of_three(alloc)?;
-    let (figures, day) = day_of_lines(rt, alloc, prepared(alloc)?, &inputs, meeting)?;
-    Some((three_ends(&figures), day.tape().entries().len()))
+) -> Option<(bool, usize)> {
+    let inputs = inputs_of_eight(alloc)?;
+    let (lines, day) = day_of_lines(rt, alloc, day_of_eight(alloc)?, &inputs, meeting)?;
+    Some((have_ended(&lines, &EIGHT_ENDS), day.tape().entries().len()))
 }
 
 #[test]
-fn three_lines_run_at_once_and_the_gate_is_given_each_turn(rt: HostRuntime) {
-    let meeting = Meeting::of(3);
-    let ends = [
-        (1, Ended::Clean, 2),
-        (1, Ended::Clean, 1),
-        (0, Ended::Clean, 1),
-    ];
-    assert_eq!(rt;
-        three_lines(&rt, rt.alloc(), &meeting),
-        Some((Some(ends), 4))
-    );
-    assert_eq!(rt; meeting.noted(), (3, [123, 12, 1]));
+fn eight_lines_run_at_once_and_the_gate_is_given_each_turn(rt: HostRuntime) {
+    let meeting = Meeting::of(8);
+    assert_eq!(rt; eight_lines(&rt, rt.alloc(), &meeting), Some((true, 9)));
+    assert_eq!(rt; meeting.noted(), (8, [123, 12, 1]));
 }
