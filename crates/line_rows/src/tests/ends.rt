@@ -1,8 +1,9 @@
-//! The ends of a line.
+//! The ends of a line, and the turns that its gate is given.
 ghost use Rattle.std.specs.Prelude.{◌≡◌};
 
 use super::days::{REPORT, day_of_one, joined, report, without_price};
 use super::shared_days::ended_len;
+use super::together::Meeting;
 use line_ledger::{DayName, LineSeat, Prepared, SharedTape};
 use participant_lines::{Ended, LineEnd, run_line};
 use std::alloc::Global;
@@ -11,7 +12,7 @@ use std::io::{BufRead, BufReader, ErrorKind, Read};
 use std::marker::Brand;
 use std::process::Abort;
 use std::sync::Wait;
-use tape_types::NoGate;
+use tape_types::{Gate, NoGate};
 
 /// How a line ended: how many frames were refused, why no more were done, how many the seat was told of, and how many
 /// entries the day has.
@@ -37,11 +38,12 @@ fn figures_at_end<D: DayName, A: Abort>(
     Some((refused, ended, count, entries))
 }
 
-/// How the last participant's line ends over this reader. A missing seat stops the test.
-fn figures<D: DayName, R: BufRead, W: Wait + Abort>(
+/// How the last participant's line, as line 2, ends over this reader. A missing seat stops the test.
+fn figures<D: DayName, R: BufRead, G: Gate, W: Wait + Abort>(
     rt: &W,
     prepared: Prepared,
     reader: &mut R,
+    gate: &G,
 ) -> Option<Figures>
     requires name { prepared.blank.name ≡ D.name }
     requires parts { prepared.blank.parts ≡ D.parts }
@@ -53,26 +55,37 @@ fn figures<D: DayName, R: BufRead, W: Wait + Abort>(
     let Some(seat) = seats.pop() else {
         panic!(rt; "there is no seat")
     };
-    let end = run_line(rt, &shared, 0, seat, reader, &NoGate);
+    let end = run_line(rt, &shared, 2, seat, reader, gate);
     figures_at_end(rt, shared, seats, end)
 }
 
 /// How N's line ends over this reader, in a day of N alone.
-fn end_of<R: BufRead, W: Wait + Abort>(rt: &W, alloc: Global, reader: &mut R) -> Option<Figures> {
+fn end_of<R: BufRead, G: Gate, W: Wait + Abort>(
+    rt: &W,
+    alloc: Global,
+    reader: &mut R,
+    gate: &G,
+) -> Option<Figures> {
     let prepared = day_of_one(alloc)?;
-    figures::<Brand, R, W>(rt, prepared, reader)
+    figures::<Brand, R, G, W>(rt, prepared, reader, gate)
 }
 
 /// How N's line ends over these bytes.
 fn end_of_bytes<W: Wait + Abort>(rt: &W, alloc: Global, bytes: &[u8]) -> Option<Figures> {
     let mut reader = bytes;
-    end_of(rt, alloc, &mut reader)
+    end_of(rt, alloc, &mut reader, &NoGate)
 }
 
 /// How N's line ends over these frames.
-fn end_of_frames<W: Wait + Abort>(rt: &W, alloc: Global, frames: &[[u8; 40]]) -> Option<Figures> {
+fn end_of_frames<G: Gate, W: Wait + Abort>(
+    rt: &W,
+    alloc: Global,
+    frames: &[[u8; 40]],
+    gate: &G,
+) -> Option<Figures> {
     let bytes = joined(alloc, frames)?;
-    end_of_bytes(rt, alloc, &bytes)
+    let mut reader = bytes.as_slice();
+    end_of(rt, alloc, &mut reader, gate)
 }
 
 /// How N's line ends over the first so many bytes of two reports.
@@ -100,23 +113,25 @@ impl Read for Failing<'_> {
 fn end_of_failing<W: Wait + Abort>(rt: &W, alloc: Global) -> Option<Figures> {
     let failing = Failing { left: &REPORT };
     let mut reader = BufReader::with_capacity(alloc, 16, failing).ok()?;
-    end_of(rt, alloc, &mut reader)
+    end_of(rt, alloc, &mut reader, &NoGate)
 }
 
 #[test]
-fn a_refused_frame_is_counted(rt: HostRuntime) {
+fn a_refused_frame_is_counted_and_is_a_turn(rt: HostRuntime) {
     let frames = [REPORT, without_price(2), report(b'N', 3)];
+    let alone = Meeting::of(1);
     assert_eq!(rt;
-        end_of_frames(&rt, rt.alloc(), &frames),
+        end_of_frames(&rt, rt.alloc(), &frames, &alone),
         Some((1, Ended::Clean, 2, 2))
     );
+    assert_eq!(rt; alone.noted(), (1, [0, 0, 123]));
 }
 
 #[test]
 fn a_message_that_the_tape_refuses_is_counted(rt: HostRuntime) {
     let frames = [REPORT, report(b'Q', 2), REPORT, report(b'N', 2)];
     assert_eq!(rt;
-        end_of_frames(&rt, rt.alloc(), &frames),
+        end_of_frames(&rt, rt.alloc(), &frames, &NoGate),
         Some((2, Ended::Clean, 2, 2))
     );
 }

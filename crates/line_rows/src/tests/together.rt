@@ -24,7 +24,7 @@ use tape_types::{Gate, Symbol};
 /// Holds each of so many lines after its first message until all have done theirs, and notes the turns that it is given for
 /// each of the first three lines, as the digits of a number.
 #[derive(Drop)]
-struct Meeting {
+pub(super) struct Meeting {
     lines: u32,
     done: AtomicU32,
     met: AtomicU32,
@@ -33,7 +33,7 @@ struct Meeting {
 
 impl Meeting {
     /// A meeting of so many lines, of which none has come.
-    fn of(lines: u32) -> Meeting {
+    pub(super) fn of(lines: u32) -> Meeting {
         Meeting {
             lines,
             done: AtomicU32::new(0),
@@ -68,7 +68,7 @@ impl Meeting {
     }
 
     /// How many lines found that all had come, and the turns of the first three lines.
-    fn noted(&self) -> (u32, [u32; 3]) {
+    pub(super) fn noted(&self) -> (u32, [u32; 3]) {
         let turns = [
             self.turns[0].load(Ordering::SeqCst),
             self.turns[1].load(Ordering::SeqCst),
