@@ -5,14 +5,14 @@ A beat announces four entries that never came, so the follower asks for them. Wh
 no answer, its tape disagrees with what it was told (status 7); where the connection ends instead, a read has failed (status 3).
 """
 
-import os
 import socket
 import subprocess
 import sys
 
-HOST = "127.0.0.1"
-SAMPLES = os.path.join(os.path.dirname(os.path.abspath(__file__)), "..", "samples")
-LIMIT = 30
+sys.dont_write_bytecode = True
+
+from peers import HOST, LIMIT, free_ports
+
 BEAT = bytes.fromhex("0148 0000000000000007 00000004 00")
 REQUEST = bytes.fromhex("0000000000000007 00000001 0004")
 # What the follower is answered, and its status and text then.
@@ -33,7 +33,7 @@ def receive(connection, length):
 
 def follow(program, answer):
     """The status of a follower that is answered so, and what it wrote and said."""
-    port = int(subprocess.check_output([os.path.join(SAMPLES, "free_ports.py"), "3"]))
+    port = free_ports(3)
     with socket.create_server((HOST, port + 2)) as server:
         server.settimeout(LIMIT)
         words = [program, "follow", "AB", "N", str(port), str(port + 1), str(port + 2), "7"]

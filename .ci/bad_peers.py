@@ -6,38 +6,20 @@ connections for lost packets one ends inside a request, and the other asks under
 alone: what N and Q sent before, and P's two reports after it, are the day, which ends with status 0. Prints the report.
 """
 
-import os
 import socket
 import struct
 import subprocess
 import sys
-import time
 
-HOST = "127.0.0.1"
-SAMPLES = os.path.join(os.path.dirname(os.path.abspath(__file__)), "..", "samples")
+sys.dont_write_bytecode = True
+
+from peers import LIMIT, connect, free_ports, report
+
 SESSION = 7
-LIMIT = 30
 # The sizes and the trades of four reports.
 WANTED = ",400,4"
 # The answer to a request under another session.
 OTHER_SESSION = bytes([71])
-
-
-def report(who, number):
-    """A report of 100 shares of AB at 10.00."""
-    head = b"\x00\x26R" + who + struct.pack(">IQ", number, 0) + b"AB      "
-    return head + struct.pack(">QI", 100_000, 100) + b"@   "
-
-
-def connect(port):
-    """Connects to the port once the program listens there."""
-    until = time.monotonic() + LIMIT
-    while time.monotonic() < until:
-        try:
-            return socket.create_connection((HOST, port), timeout=LIMIT)
-        except ConnectionRefusedError:
-            time.sleep(0.05)
-    sys.exit(f"nobody listens on {port}")
 
 
 def send_lines(port):
@@ -65,7 +47,7 @@ def ask(port):
 
 
 def main():
-    port = int(subprocess.check_output([os.path.join(SAMPLES, "free_ports.py"), "6"]))
+    port = free_ports(6)
     words = ["live", "AB", "N,Q,P", port, port + 3, port + 4, port + 5, 2, SESSION]
     day = subprocess.Popen([sys.argv[1], *map(str, words)], stdout=subprocess.PIPE, text=True)
     try:

@@ -1,5 +1,5 @@
 -- What ends a day without a report, by the status that is answered.
-use Rattle.std.specs.Prelude.{ℕ}
+use Rattle.std.specs.Prelude.{◌≤◌, ℕ, Option, IfSome}
 use Rattle.live_feed.specs.declared.fault.Fault.{Fault}
 use Rattle.live_feed.specs.declared.fault.Fault.TheVariants.{Read, Write, Memory, Worker, Disagrees}
 
@@ -10,3 +10,7 @@ fault_status Write = 4
 fault_status Memory = 5
 fault_status Worker = 6
 fault_status Disagrees = 7
+
+-- what was met beside it, if anything, has no lesser status
+abbrev pub NoneBefore : Fault → Option Fault → Type 0
+NoneBefore fault met = IfSome met (λ other. fault_status fault ≤ fault_status other)

@@ -1,5 +1,5 @@
 //! What both lines of a follower share: its subscriber and the connection on which that asks.
-ghost use Rattle.std.specs.Prelude.{◌≡◌, ◌↔◌};
+ghost use Rattle.std.specs.Prelude.{◌≡◌, ◌↔◌, ◌≤◌, IsSomeAnd, true};
 ghost use Rattle.live_feed.specs.declared.fault.Fault.TheVariants.{Memory, Read, Write};
 ghost use Rattle.retransmit.specs.declared.ask_fault.AskFault.TheVariants.{OutOfMemory as AskOutOfMemory, ReadFault, WriteFault};
 ghost use Rattle.subscriber.specs.declared.drain_fault.Stop.TheVariants.{Refused};
@@ -78,8 +78,19 @@ fn copy_of(alloc: Global, listing: &Listing) -> Result<Listing, Fault> {
     }
 }
 
+/// Whether a subscriber is given up that holds so many entries: it is to be after so many or fewer.
+fn is_given_up(restart_after: Option<u32>, held: usize) -> bool
+    ensures { (result ≡ true) ↔ IsSomeAnd restart_after (λ most. most ≤ held) }
+{
+    match restart_after {
+        Some(most) => most as usize <= held,
+        None => false,
+    }
+}
+
 impl Follower {
-    /// A follower that holds nothing, with a connection of its own.
+    /// A follower that holds nothing, with a connection of its own. It connects before it takes memory, so that a day that
+    /// awaits it is not kept waiting where there is none.
     pub(crate) fn new<R: Net<Listener = TcpListener, Stream = TcpStream>>(
         rt: &R,
         alloc: Global,
@@ -89,11 +100,11 @@ impl Follower {
         retransmission: u16,
         restart_after: Option<u32>,
     ) -> Result<Follower, Fault> {
+        let connection = dial(rt, retransmission)?;
         let subscriber = match Subscriber::new(alloc, listing, limit, session) {
             Ok(subscriber) => subscriber,
             Err(fault) => return Err(fault_of(fault)),
         };
-        let connection = dial(rt, retransmission)?;
         Ok(Follower {
             alloc,
             subscriber,
@@ -156,10 +167,7 @@ impl Follower {
         &mut self,
         rt: &R,
     ) -> Result<(), Fault> {
-        let Some(most) = self.restart_after else {
-            return Ok(());
-        };
-        if self.subscriber.held().len() < most as usize {
+        if !is_given_up(self.restart_after, self.subscriber.held().len()) {
             return Ok(());
         }
         let tape = self.subscriber.tape();

@@ -1,15 +1,18 @@
 //! A live day: it accepts the participants' lines, sends the tape that they make, and reports it.
-ghost use Rattle.std.specs.Prelude.{◌≡◌, ◌⊎◌, ◌≤◌, IfOk, OnOk, length, true, vec_len};
+ghost use Rattle.std.specs.Prelude.{◌≡◌, ◌⊎◌, ◌≤◌, IfErr, IfOk, None, OnOk, Some, length, true, vec_len};
 ghost use Rattle.tape_core.specs.Tape.{IsLegal};
 ghost use Rattle.line_ledger.specs.Cells.{FirstTokens};
 ghost use Rattle.line_ledger.specs.Ends.{IsOneEach};
 ghost use Rattle.live_feed.specs.Days.{HasAll};
+ghost use Rattle.live_feed.specs.Faults.{NoneBefore};
 ghost use Rattle.live_feed.specs.Reports.{WritesItsReport, WritesOneReport};
+ghost use Rattle.live_feed.specs.declared.fault.Fault.TheVariants.{Disagrees};
 
 use crate::bell::Bell;
 use crate::feed::Feed;
 use crate::running::{Joined, run_together};
 use crate::seated::{Ran, Reader, Waiting, lines_of};
+use crate::sending::room_for_a_packet;
 use crate::starting::{accept_all, can_start, prepare_day};
 use crate::writing::write_day;
 use crate::{Fault, LiveSockets, Loss};
@@ -54,6 +57,7 @@ fn end_day<D: DayName>(shared: SharedTape<D>, seats: Vec<LineSeat<D>>) -> Result
     ensures legal { IfOk result (λ day. IsLegal day.tape) }
     ensures listed { IfOk result (λ day. day.tape.listing ≡ D.listing) }
     ensures cells { IfOk result (λ day. day.names ≡ shared) }
+    ensures fault { IfErr result (λ fault. fault ≡ Disagrees) }
 {
     match shared.end(seats) {
         Ok(day) => Ok(day),
@@ -87,9 +91,20 @@ fn is_as_sent(day: &Day, tokens: &[Token], number: u32) -> bool
         && confirms_all(day, tokens)
 }
 
-/// Ends the day that was joined: the day, or the fault of the least status that was met.
-fn finish_day<D: DayName>(shared: SharedTape<D>, joined: Joined<D>) -> Result<Day, Fault>
-    requires { IsOneEach D.listing.participants joined.ran.seats.items }
+/// Ends the day that was joined and found: the day, or the fault of the least status that was met.
+fn finish_day<D: DayName>(
+    shared: SharedTape<D>,
+    joined: Joined<D>,
+    found: Found,
+) -> Result<Day, Fault>
+    requires seats { IsOneEach D.listing.participants joined.ran.seats.items }
+    requires tokens { FirstTokens shared found.tokens.items }
+    // With `least` and `met`, a fault that was met is answered by the least of all.
+    ensures none { IfOk result (λ _. (joined.sides.served ≡ None) × (joined.sides.sent.fault ≡ None) × (joined.ran.fault ≡ None) × (found.fault ≡ None)) }
+    ensures least { IfErr result (λ fault. NoneBefore fault joined.sides.served × NoneBefore fault joined.sides.sent.fault
+        × NoneBefore fault joined.ran.fault × NoneBefore fault found.fault) }
+    ensures met { IfErr result (λ fault. (joined.sides.served ≡ Some fault) ⊎ (joined.sides.sent.fault ≡ Some fault)
+        ⊎ (joined.ran.fault ≡ Some fault) ⊎ (found.fault ≡ Some fault) ⊎ (fault ≡ Disagrees)) }
     ensures legal { IfOk result (λ day. IsLegal day.tape) }
     ensures listed { IfOk result (λ day. day.tape.listing ≡ D.listing) }
     ensures sent { IfOk result (λ day. length day.tape.entries ≡ joined.sides.sent.number) }
@@ -98,7 +113,6 @@ fn finish_day<D: DayName>(shared: SharedTape<D>, joined: Joined<D>) -> Result<Da
         ran: Ran { seats, fault },
         sides,
     } = joined;
-    let found = find_published(&shared);
     let ended = end_day(shared, seats);
     let at_the_sides = Fault::least(sides.served, sides.sent.fault);
     let at_the_lines = Fault::least(fault, found.fault);
@@ -114,12 +128,13 @@ fn finish_day<D: DayName>(shared: SharedTape<D>, joined: Joined<D>) -> Result<Da
     Ok(day)
 }
 
-/// Runs the day of what was prepared, under its name, and ends it.
+/// Runs the day of what was prepared, under its name, and ends it. Packets are written in the text.
 fn run_named<D: DayName + Send + Sync, R: Threads + Wait + Clock + Sync, L: Loss + Sync>(
     rt: &R,
     feed: &Feed<'_, L>,
     prepared: Prepared,
     readers: Vec<Reader>,
+    text: &mut Vec<u8>,
 ) -> Result<Day, Fault>
     requires name { prepared.blank.name ≡ D.name }
     requires parts { prepared.blank.parts ≡ D.parts }
@@ -147,22 +162,24 @@ fn run_named<D: DayName + Send + Sync, R: Threads + Wait + Clock + Sync, L: Loss
         room,
     };
     let bell = Bell::new();
-    let joined = run_together(rt, feed, &shared, waiting, &bell);
-    finish_day(shared, joined)
+    let joined = run_together(rt, feed, &shared, waiting, &bell, text);
+    let found = find_published(&shared);
+    finish_day(shared, joined, found)
 }
 
-/// Runs the day of what was prepared.
+/// Runs the day of what was prepared. Packets are written in the text.
 fn run_day<R: Threads + Wait + Clock + Sync, L: Loss + Sync>(
     rt: &R,
     feed: &Feed<'_, L>,
     prepared: Prepared,
     readers: Vec<Reader>,
+    text: &mut Vec<u8>,
 ) -> Result<Day, Fault>
     requires { vec_len readers ≡ length prepared.tape.listing.participants }
     ensures legal { IfOk result (λ day. IsLegal day.tape) }
     ensures listed { IfOk result (λ day. day.tape.listing ≡ prepared.tape.listing) }
 {
-    run_named::<Brand, R, L>(rt, feed, prepared, readers)
+    run_named::<Brand, R, L>(rt, feed, prepared, readers, text)
 }
 
 /// Waits for the lines, and looks whether a thread can be started for them then.
@@ -194,6 +211,7 @@ fn hold_day<R: Threads + Wait + Clock + Sync, L: Loss + Sync>(
     if sockets.lines.len() != listing.participants().as_slice().len() {
         return Err(Fault::Read);
     }
+    let mut text = room_for_a_packet(feed.alloc)?;
     let prepared = prepare_day(feed.alloc, listing, limit)?;
     let readers = match readers_of(rt, feed.alloc, &sockets.lines) {
         Ok(readers) => readers,
@@ -202,7 +220,7 @@ fn hold_day<R: Threads + Wait + Clock + Sync, L: Loss + Sync>(
             return Err(fault);
         }
     };
-    run_day(rt, feed, prepared, readers)
+    run_day(rt, feed, prepared, readers, &mut text)
 }
 
 /// Runs the day and writes its report.

@@ -58,28 +58,36 @@ fn serve_and_send<D: DayName + Send + Sync, R: Threads + Wait + Clock + Sync, L:
     feed: &Feed<'_, L>,
     shared: &SharedTape<D>,
     bell: &Bell,
+    text: &mut Vec<u8>,
 ) -> Sides {
     let (served, sent) = join(
         rt,
         || serve_all(feed, shared),
-        || send_day(rt, feed, shared, bell),
+        || send_day(rt, feed, shared, bell, text),
     );
     Sides { served, sent }
 }
 
-/// Runs the lines beside the sender and the retransmission, and joins all. Where no thread can be started the lines run
+/// Runs the lines beside the sender, whose packets are written in the text, and the retransmission, and joins all. Where no thread can be started the lines run
 /// first, then the sender, and the retransmission last, so that none waits for one that has yet to start.
 pub(crate) fn run_together<
     D: DayName + Send + Sync,
     R: Threads + Wait + Clock + Sync,
     L: Loss + Sync,
->(rt: &R, feed: &Feed<'_, L>, shared: &SharedTape<D>, waiting: Waiting<D>, bell: &Bell) -> Joined<D>
+>(
+    rt: &R,
+    feed: &Feed<'_, L>,
+    shared: &SharedTape<D>,
+    waiting: Waiting<D>,
+    bell: &Bell,
+    text: &mut Vec<u8>,
+) -> Joined<D>
     ensures { whos result.ran.seats.items ≡ map (λ l. l.0.who) waiting.lines.items }
 {
     let mut waiting = Some(waiting);
     let (sides, ran) = join_mut(
         rt,
-        &mut || serve_and_send(rt, feed, shared, bell),
+        &mut || serve_and_send(rt, feed, shared, bell, text),
         &mut || -> Option<Ran<D>>
             requires { IsSync R.row × IsSome waiting }
             ensures { (waiting.exit ≡ None) × IsSome result

@@ -1,5 +1,5 @@
 //! The sender: what the lines admit is published and sent on both lines, and then the end.
-ghost use Rattle.std.specs.Prelude.{◌≡◌};
+ghost use Rattle.std.specs.Prelude.{◌≡◌, ◌↔◌, ◌%◌, true};
 ghost use Rattle.line_ledger.specs.declared.publish_fault.PublishFault.TheVariants.{OutOfMemory};
 ghost use Rattle.live_feed.specs.declared.fault.Fault.TheVariants.{Memory};
 
@@ -8,6 +8,7 @@ use crate::feed::Feed;
 use crate::{Fault, Loss, here};
 use arbitration::Line;
 use line_ledger::{DayName, PublishFault, Published, SharedTape};
+use std::alloc::Global;
 use std::rt::Clock;
 use std::sync::Wait;
 use std::thread;
@@ -45,17 +46,34 @@ fn fault_of(fault: PublishFault) -> Fault
     }
 }
 
-/// Sends bytes on both lines, but for those that lose a data packet of this first number. A failed send is a lost packet.
-fn send<L: Loss>(feed: &Feed<'_, L>, first: Option<u32>, bytes: &[u8]) {
+/// Memory for the text of one packet, which is taken before a day starts: a sender without it could send no end, and
+/// subscribers would wait for one.
+pub(crate) fn room_for_a_packet(alloc: Global) -> Result<Vec<u8>, Fault> {
+    match Vec::with_capacity(alloc, LONGEST_PACKET) {
+        Ok(room) => Ok(room),
+        Err(_) => Err(Fault::Memory),
+    }
+}
+
+/// Sends bytes to a line's port. A failed send is a lost packet.
+fn send<L>(feed: &Feed<'_, L>, port: u16, bytes: &[u8]) {
+    let _ = feed.sender.send_to(bytes, here(port));
+}
+
+/// Sends a data packet of this first number on both lines, but for those that lose it.
+fn send_data<L: Loss>(feed: &Feed<'_, L>, first: u32, bytes: &[u8]) {
     for (line, port) in [(Line::A, feed.ports[0]), (Line::B, feed.ports[1])] {
-        let is_lost = match first {
-            Some(first) => feed.loss.drops(line, first),
-            None => false,
-        };
-        if !is_lost {
-            let _ = feed.sender.send_to(bytes, here(port));
+        if !feed.loss.drops(line, first) {
+            send(feed, port, bytes);
         }
     }
+}
+
+/// Whether the sender rests after so many packets.
+fn is_rest(packets: u32) -> bool
+    ensures { (result ≡ true) ↔ (packets % 16 ≡ 0) }
+{
+    packets % PACKETS_BEFORE_REST == 0
 }
 
 /// Publishes what the lines admitted, as many entries as one packet takes, and sends a packet of what is published after this
@@ -88,7 +106,7 @@ fn send_next<D: DayName, R: Wait, L: Loss>(
     if write_packet(&packet, text).is_err() {
         return Err(Fault::Memory);
     }
-    send(feed, Some(sent + 1), text);
+    send_data(feed, sent + 1, text);
     Ok(packet.last())
 }
 
@@ -111,7 +129,7 @@ fn send_entries<D: DayName, R: Wait + Clock, L: Loss>(
             Ok(last) if last != number => {
                 number = last;
                 packets = packets.wrapping_add(1);
-                if packets % PACKETS_BEFORE_REST == 0 {
+                if is_rest(packets) {
                     thread::sleep(rt, Duration::from_millis(REST));
                 }
             }
@@ -131,8 +149,8 @@ fn send_entries<D: DayName, R: Wait + Clock, L: Loss>(
     }
 }
 
-/// Sends the end of a day of so many entries three times on each line, with a pause before each.
-fn send_ends<R: Clock, L: Loss>(
+/// Sends the end of a day of so many entries three times on each line, with a pause before each. No line loses it.
+fn send_ends<R: Clock, L>(
     rt: &R,
     feed: &Feed<'_, L>,
     number: u32,
@@ -151,27 +169,23 @@ fn send_ends<R: Clock, L: Loss>(
     }
     for pause in PAUSES_BEFORE_ENDS {
         thread::sleep(rt, Duration::from_millis(pause));
-        send(feed, None, text);
+        send(feed, feed.ports[0], text);
+        send(feed, feed.ports[1], text);
     }
     None
 }
 
 /// Sends the day: its entries while the lines admit them, and then its end, which comes after a fault too, so that
-/// subscribers go. Memory for one packet is taken first; where there is none, nothing is sent.
+/// subscribers go. The text is only room, and a packet that fits in it takes no memory.
 pub(crate) fn send_day<D: DayName, R: Wait + Clock, L: Loss>(
     rt: &R,
     feed: &Feed<'_, L>,
     shared: &SharedTape<D>,
     bell: &Bell,
+    text: &mut Vec<u8>,
 ) -> Sent {
-    let Ok(mut text) = Vec::with_capacity(feed.alloc, LONGEST_PACKET) else {
-        return Sent {
-            number: 0,
-            fault: Some(Fault::Memory),
-        };
-    };
-    let sent = send_entries(rt, feed, shared, bell, &mut text);
-    let fault = send_ends(rt, feed, sent.number, &mut text);
+    let sent = send_entries(rt, feed, shared, bell, text);
+    let fault = send_ends(rt, feed, sent.number, text);
     Sent {
         number: sent.number,
         fault: Fault::least(sent.fault, fault),

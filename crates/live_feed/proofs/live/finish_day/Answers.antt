@@ -1,5 +1,7 @@
-use Rattle.std.proofs.Common.{◌≡◌, ℕ, List, subst, sym}
+use Rattle.std.proofs.Common.{arith, ◌≡◌, ◌≤◌, ℕ, List, Option, Some, None, IfSome, refl, subst, sym}
 use Rattle.line_ledger.specs.Cells.{FirstTokens, TokenState}
+use Rattle.live_feed.specs.Faults.{NoneBefore, fault_status}
+use Rattle.live_feed.specs.declared.fault.Fault.{Fault}
 use Rattle.live_feed.proofs.live.finish_day.Goals as goal
 
 -- the tokens of the shared tape's cells are those of the day's
@@ -9,4 +11,27 @@ of_day cells names found tokens first same lent =
 
 pub is_as_sent-requires : goal.is_as_sent-requires
 is_as_sent-requires g c =
-    of_day _ c.in_ok-day.day.names _ c.deref.result.now c.find_published-found.ensures c.in_ok-day.ensures.cells c.deref.ensures.value
+    of_day _ c.in_ok-day.day.names _ c.deref.result.now c.requires.tokens c.in_ok-day.ensures.cells c.deref.ensures.value
+
+-- nothing of two is before their least
+least_of_one : (fault : Fault) (least met : Option Fault) → least ≡ Some fault
+    → IfSome least (λ f. IfSome met (λ other. fault_status f ≤ fault_status other)) → NoneBefore fault met
+least_of_one fault least met same lesser =
+    subst (λ (l : Option Fault). IfSome l (λ f. IfSome met (λ other. fault_status f ≤ fault_status other))) same lesser
+
+-- what nothing of two is before, neither is one of them before
+least_of_all : (fault : Fault) (met least : Option Fault) → NoneBefore fault least → (least ≡ None → met ≡ None)
+    → IfSome least (λ f. IfSome met (λ other. fault_status f ≤ fault_status other)) → NoneBefore fault met
+least_of_all fault None least near none lesser = tt
+least_of_all fault (Some met) None near none lesser = let h : Some met ≡ None = none refl in cc
+least_of_all fault (Some met) (Some least) near none lesser = omega arith
+
+pub returns-in-Some-clause-least : goal.returns-in-Some-clause-least
+returns-in-Some-clause-least g c =
+    let sides : NoneBefore c.in-Some.fault c.least-at_the_sides.result = least_of_one _ _ _ c.in-Some.is c.least.ensures.one in
+    let lines : NoneBefore c.in-Some.fault c.least-at_the_lines.result = least_of_one _ _ _ c.in-Some.is c.least.ensures.other in (
+      least_of_all _ _ _ sides (λ none. (c.least-at_the_sides.ensures.none.0 none).0) c.least-at_the_sides.ensures.one,
+      least_of_all _ _ _ sides (λ none. (c.least-at_the_sides.ensures.none.0 none).1) c.least-at_the_sides.ensures.other,
+      least_of_all _ _ _ lines (λ none. (c.least-at_the_lines.ensures.none.0 none).0) c.least-at_the_lines.ensures.one,
+      least_of_all _ _ _ lines (λ none. (c.least-at_the_lines.ensures.none.0 none).1) c.least-at_the_lines.ensures.other,
+    )

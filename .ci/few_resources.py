@@ -1,0 +1,153 @@
+#!/usr/bin/env python3
+"""Running days and followers for which no thread is started, or no connection opened: few_resources.py TAPEBOX
+
+Each ends by its status and text and writes no report; where two faults meet, the one of the lesser status is told. A limit of
+threads binds no superuser, so the program runs as a user of its own then. Where that can't be had, this says so
+and tries connections alone.
+"""
+
+import os
+import resource
+import shutil
+import socket
+import subprocess
+import sys
+import tempfile
+import time
+
+sys.dont_write_bytecode = True
+
+from peers import HOST, LIMIT, connect, free_ports, report
+
+READ = (3, "tapebox: read fault\n")
+WORKER = (6, "tapebox: worker not started\n")
+# A user that runs nothing else.
+USER = 61_000 + os.getpid() % 4_000
+IS_ROOT = os.geteuid() == 0
+
+
+def become_user():
+    """Makes the process one of the user."""
+    if IS_ROOT:
+        os.setgroups([])
+        os.setgid(USER)
+        os.setuid(USER)
+
+
+def limit(files, threads):
+    """Limits the files and the threads of the process that is to become the program."""
+    if threads is not None:
+        become_user()
+        resource.setrlimit(resource.RLIMIT_NPROC, (threads, threads))
+    if files is not None:
+        resource.setrlimit(resource.RLIMIT_NOFILE, (files, files))
+
+
+def start(words, files=None, threads=None, output=subprocess.PIPE):
+    """Starts the program under these limits."""
+    return subprocess.Popen(
+        [PROGRAM, *map(str, words)],
+        stdout=output,
+        stderr=subprocess.PIPE,
+        text=True,
+        preexec_fn=lambda: limit(files, threads),
+    )
+
+
+def end(name, run, wanted):
+    """Waits for the end of a program, which must be this one, and write nothing."""
+    try:
+        written, said = run.communicate(timeout=LIMIT)
+    finally:
+        run.kill()
+    if (run.returncode, said, written or "") != (*wanted, ""):
+        sys.exit(f"{name} ended with status {run.returncode}, '{said}' and '{written}'")
+    print(f"{name}: status {run.returncode}")
+
+
+def live_words(port, participants, serves):
+    """The words of a day on ports from this one on."""
+    sent = port + len(participants)
+    return ["live", "AB", ",".join(participants), port, sent, sent + 1, sent + 2, serves, 7]
+
+
+def follow_without_a_thread():
+    port = free_ports(3)
+    with socket.create_server((HOST, port + 2)):
+        run = start(["follow", "AB", "N", port, port + 1, port + 2, 7], threads=1)
+        end("follow without a thread", run, WORKER)
+
+
+def live_without_a_thread():
+    port = free_ports(4)
+    run = start(live_words(port, "N", 1), threads=1)
+    with connect(port):
+        end("live without a thread", run, WORKER)
+
+
+def forbid_files(run, is_users=False):
+    """Lets the program open no file more."""
+    def forbid():
+        if is_users:
+            become_user()
+        resource.prlimit(run.pid, resource.RLIMIT_NOFILE, (3, 3))
+
+    subprocess.run(["true"], preexec_fn=forbid, check=True)
+
+
+def live_with_one_thread(name, lacks_files, wanted):
+    """Two lines want a thread more than there is. Of two subscribers the second one's connection can't be opened either."""
+    port = free_ports(5)
+    run = start(live_words(port, "NQ", 2 if lacks_files else 1), threads=2)
+    with connect(port) as n, connect(port + 1) as q:
+        if n.recv(1) or q.recv(1):
+            sys.exit("a line was answered")
+    if lacks_files:
+        forbid_files(run, is_users=True)
+    connect(port + 4).close()
+    end(name, run, wanted)
+
+
+def live_without_a_line():
+    """The standard streams, two listeners and a socket to send by are six files."""
+    run = start(live_words(free_ports(4), "N", 1), files=6)
+    end("live without a line's connection", run, READ)
+
+
+def live_without_a_subscriber(name, output):
+    """The line is the seventh file. The first subscriber's connection may be awaited then, and the second one's is not."""
+    port = free_ports(4)
+    run = start(live_words(port, "N", 2), output=output)
+    with connect(port) as line:
+        while len(os.listdir(f"/proc/{run.pid}/fd")) < 7:
+            time.sleep(0.01)
+        forbid_files(run)
+        connect(port + 3).close()
+        line.sendall(report(b"N", 1))
+    end(name, run, READ)
+
+
+def main():
+    live_without_a_line()
+    live_without_a_subscriber("live without a subscriber's connection", subprocess.PIPE)
+    if os.path.exists("/dev/full"):
+        with open("/dev/full", "w") as full:
+            live_without_a_subscriber("live without a subscriber's connection and room", full)
+    try:
+        subprocess.run(["true"], preexec_fn=lambda: limit(None, 1), check=True)
+    except (OSError, subprocess.SubprocessError):
+        print("no other user can be had here, so no thread lacked")
+        return
+    follow_without_a_thread()
+    live_without_a_thread()
+    if IS_ROOT:
+        live_with_one_thread("live with one thread", False, WORKER)
+        live_with_one_thread("live with one thread and without a subscriber's connection", True, READ)
+
+
+if __name__ == "__main__":
+    with tempfile.TemporaryDirectory() as folder:
+        os.chmod(folder, 0o755)
+        PROGRAM = shutil.copy(sys.argv[1], folder)
+        os.chmod(PROGRAM, 0o755)
+        main()
