@@ -248,7 +248,7 @@ def feed(words, programs):
 
 
 def rows(words, programs):
-    """Measures the rows of a report by one worker, two and four: prints the figures of each run, and the ratio of the least times."""
+    """Measures the rows of a report by one worker, two and four: prints the figures of each run, and the ratios of the least times and of the middle run."""
     ((name, program),) = programs.items()
     source = make(ROWS_DAY, words.seed)
     target = DAYS / f"{source.stem}.{name}"
@@ -263,6 +263,8 @@ def rows(words, programs):
     least = {figure: min(turn[figure] for turn in turns) for figure in turns[0] if figure.startswith("seconds")}
     one = least["seconds_one_worker"]
     print("least of all: " + "   ".join(f"{figure} {value:.6f} ({value / one:.3f})" for figure, value in least.items()))
+    middle = {figure: statistics.median(turn[figure] / turn["seconds_one_worker"] for turn in turns) for figure in least}
+    print("middle ratio to one worker: " + "   ".join(f"{figure} {value:.3f}" for figure, value in middle.items()))
     return True
 
 

@@ -1,6 +1,10 @@
 -- The pieces of a listing, and the rows that workers made of them.
-use Rattle.std.specs.Prelude.{◌≡◌, ◌≤◌, ◌<◌, ◌+◌, ℕ, List, [], Result, Ok, Err, length, slice_index_or}
+use Rattle.std.specs.Prelude.{◌≡◌, ◌≤◌, ◌<◌, ◌+◌, ℕ, List, Result, IfOk, length, slice_index_or, take, drop}
+use Rattle.std.specs.List.{AllByRecursion, flat_map}
 use Rattle.std.specs.Global.{Vec}
+use Rattle.tape_core.specs.Tape.{TapeState}
+use Rattle.day_report.specs.Rows.{symbol_rows}
+use Rattle.day_report.specs.declared.pieces.Piece.{Piece}
 use Rattle.day_report.specs.declared.row.Row.{Row}
 
 -- a piece is what stands in a list from a position on
@@ -8,7 +12,22 @@ pub record IsPieceAt {X : Type 0} (whole : List X) (start : ℕ) (piece : List X
   pub within : start + length piece ≤ length whole
   pub elements : (k : ℕ) (d : X) → k < length piece → slice_index_or piece k d ≡ slice_index_or whole (start + k) d
 
--- the rows of a piece, none where memory ran out
-abbrev pub made_rows : {E : Type 0} → Result (Vec Row) E → List Row
-made_rows (Ok rows) = rows.items
-made_rows (Err fault) = []
+-- the rows of the symbols from an index of the listing on, of at most so many
+abbrev pub rows_of_piece : TapeState → ℕ → ℕ → List Row
+rows_of_piece t size start = flat_map (symbol_rows t) (take size (drop start t.listing.symbols))
+
+-- each of these pieces has the rows of the symbols from its first on
+abbrev pub AreMade : TapeState → ℕ → List Piece → Type 0
+AreMade t size pieces = AllByRecursion (λ p. p.rows.items ≡ rows_of_piece t size p.start) pieces
+
+-- what a worker made, if memory sufficed
+abbrev pub IsShare : {E : Type 0} → TapeState → ℕ → Result (Vec Piece) E → Type 0
+IsShare t size made = IfOk made (λ v. AreMade t size v.items)
+
+-- these rows are those of the piece that begins at an index, whatever the tape of which the pieces were made
+abbrev pub AreFrom : List Piece → ℕ → List Row → Type 0
+AreFrom pieces start rows = (t : TapeState) (size : ℕ) → AreMade t size pieces → rows ≡ rows_of_piece t size start
+
+-- the same, of the pieces of all workers
+abbrev pub AreFromSome : {E : Type 0} → List (Result (Vec Piece) E) → ℕ → List Row → Type 0
+AreFromSome made start rows = (t : TapeState) (size : ℕ) → AllByRecursion (IsShare t size) made → rows ≡ rows_of_piece t size start

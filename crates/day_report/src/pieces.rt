@@ -1,20 +1,33 @@
 //! The rows of a report, made by pieces of the listing.
-ghost use Rattle.std.specs.Prelude.{◌≡◌, ◌≢◌, ◌++◌, ◌+◌, ◌<◌, ◌≤◌, List, Err, Some, IfErr, IfOk, OnOk, IsOk, length, slice_get};
+ghost use Rattle.std.specs.Prelude.{◌≡◌, ◌≢◌, ◌++◌, ◌+◌, ◌<◌, ◌≤◌, List, Err, Some, None, IfErr, IfOk, IfSome, OnOk, length, slice_get, take, drop};
 ghost use Rattle.std.specs.List.{AllByRecursion, flat_map};
-ghost use Rattle.day_report.specs.Pieces.{IsPieceAt, made_rows};
+ghost use Rattle.day_report.specs.Pieces.{IsPieceAt, AreMade, AreFrom, AreFromSome, IsShare};
 ghost use Rattle.day_report.specs.Rows.{report_rows, symbol_rows};
 ghost use Rattle.day_report.specs.declared.report_fault.ReportFault.TheVariants.{BadWorkers, Unstarted, WriteFault};
 
 use crate::{ReportFault, Row};
 use std::alloc::{AllocError, Global};
+use std::sync::atomic::{AtomicUsize, Ordering};
 use std::thread;
 use std::thread::Threads;
 use summaries::Store;
 use tape_core::Tape;
-use tape_types::{Gate, Symbol};
+use tape_types::{Gate, MAX_SYMBOLS, Symbol};
 
 /// The greatest number of workers of a report.
 pub const MAX_WORKERS: usize = 64;
+
+/// How many pieces of the listing there are for each worker, at most: the workers take them one after another, so that one
+/// that is held up, or whose symbols take long, leaves more of them to the others.
+const PIECES_EACH: usize = 16;
+
+/// The rows of a piece of the listing.
+#[derive(Drop)]
+struct Piece {
+    /// The index of its first symbol in the listing.
+    start: usize,
+    rows: Vec<Row>,
+}
 
 /// Adds the rows of the symbol at an index of the listing: the consolidated one, then in listing order one for each
 /// participant with a report that stands there.
@@ -37,17 +50,19 @@ fn push_symbol<S: Store>(
     Ok(())
 }
 
-/// The rows of a piece of the listing that begins at an index of it, made by one worker.
+/// The rows of a piece of the listing that begins at an index of it, made by one worker that has done some symbols before.
 fn piece_rows<S: Store, G: Gate>(
     alloc: Global,
     tape: &Tape<S>,
     start: usize,
     piece: &[Symbol],
     worker: usize,
+    done: u32,
     gate: &G,
 ) -> Result<Vec<Row>, AllocError>
     requires place { IsPieceAt tape.now.listing.symbols start piece.now }
     requires few { start + length piece.now ≤ 4096 }
+    requires before { done ≤ 16777216 }
     ensures { IfOk result (λ rows. rows.items ≡ flat_map (symbol_rows tape.now) piece.now) }
 {
     let mut rows = Vec::new(alloc);
@@ -55,28 +70,100 @@ fn piece_rows<S: Store, G: Gate>(
     for symbol in piece {
         push_symbol(&mut rows, tape, start + turn as usize, *symbol)?;
         turn += 1;
-        gate.between(worker, turn);
+        gate.between(worker, done + turn);
     }
     Ok(rows)
 }
 
-/// The rows of all pieces, one piece after another, where each was made.
-fn joined(alloc: Global, pieces: &[Result<Vec<Row>, AllocError>]) -> Result<Vec<Row>, AllocError>
-    ensures rows { IfOk result (λ rows. rows.items ≡ flat_map made_rows pieces.now) }
-    ensures made { OnOk result (AllByRecursion IsOk pieces.now) }
+/// The symbols of the listing from an index of it on, at most so many.
+fn piece_from<S: Store>(tape: &Tape<S>, start: usize, size: usize) -> Option<&[Symbol]>
+    ensures piece { IfSome result (λ piece. piece.now ≡ take size (drop start tape.now.listing.symbols)) }
+    ensures place { IfSome result (λ piece. IsPieceAt tape.now.listing.symbols start piece.now) }
+    ensures few { IfSome result (λ piece. start + length piece.now ≤ 4096) }
+    ensures some { IfSome result (λ piece. 0 < size → 0 < length piece.now) }
+    ensures none { result ≡ None → length tape.now.listing.symbols ≤ start }
+{
+    let symbols = tape.listing().symbols().as_slice();
+    if start >= symbols.len() {
+        return None;
+    }
+    let end = symbols.len().min(start.saturating_add(size));
+    Some(&symbols[start..end])
+}
+
+/// The pieces that a worker takes, each the next one that no worker has taken, until there is none.
+fn worker_pieces<S: Store, G: Gate>(
+    alloc: Global,
+    tape: &Tape<S>,
+    size: usize,
+    next: &AtomicUsize,
+    worker: usize,
+    gate: &G,
+) -> Result<Vec<Piece>, AllocError>
+    ensures { IfOk result (λ pieces. AreMade tape.now size pieces.items) }
+{
+    let mut pieces = Vec::new(alloc);
+    let mut done = 0;
+    for _ in 0..MAX_SYMBOLS {
+        let start = next.fetch_add(size, Ordering::SeqCst);
+        let Some(piece) = piece_from(tape, start, size) else {
+            break;
+        };
+        let rows = piece_rows(alloc, tape, start, piece, worker, done, gate)?;
+        done += piece.len() as u32;
+        pieces.push(Piece { start, rows })?;
+    }
+    Ok(pieces)
+}
+
+/// The rows of the piece that begins at an index of the listing, where it is among these.
+fn rows_from(pieces: &[Piece], start: usize) -> Option<&[Row]>
+    ensures { IfSome result (λ rows. AreFrom pieces.now start rows.now) }
+{
+    let piece = pieces.iter().find(|piece| piece.start == start)?;
+    Some(piece.rows.as_slice())
+}
+
+/// The same among the pieces of all workers.
+fn taken_from(made: &[Result<Vec<Piece>, AllocError>], start: usize) -> Option<&[Row]>
+    ensures { IfSome result (λ rows. AreFromSome made.now start rows.now) }
+{
+    for pieces in made {
+        if let Ok(pieces) = pieces {
+            let rows = rows_from(pieces, start);
+            if rows.is_some() {
+                return rows;
+            }
+        }
+    }
+    None
+}
+
+/// The rows of a tape, from the pieces that workers made. Where one is missing, memory ran out for the worker that took it.
+fn joined<S: Store>(
+    alloc: Global,
+    tape: &Tape<S>,
+    size: usize,
+    made: &[Result<Vec<Piece>, AllocError>],
+) -> Result<Vec<Row>, AllocError>
+    requires size { 0 < size }
+    requires made { AllByRecursion (IsShare tape.now size) made.now }
+    ensures { IfOk result (λ rows. rows.items ≡ report_rows tape.now) }
 {
     let mut rows = Vec::new(alloc);
-    for piece in pieces {
-        match piece {
-            Ok(piece) => rows.extend_from_slice(piece)?,
-            Err(_) => return Err(AllocError),
-        }
+    let mut start = 0;
+    while let Some(piece) = piece_from(tape, start, size) {
+        let Some(made) = taken_from(made, start) else {
+            return Err(AllocError);
+        };
+        rows.extend_from_slice(made)?;
+        start += piece.len();
     }
     Ok(rows)
 }
 
 /// Starts a thread that does nothing, and waits for its end: `Unstarted` where none can be started. Where a thread is
-/// refused later, its piece is made by the caller's own thread.
+/// refused later, the caller's own thread takes its worker's place.
 fn try_start<R: Threads>(rt: &R) -> Result<(), ReportFault>
     ensures { IfErr result (λ fault. fault ≡ Unstarted) }
 {
@@ -90,13 +177,13 @@ fn try_start<R: Threads>(rt: &R) -> Result<(), ReportFault>
 }
 
 /// The rows of a tape: by symbol in listing order the consolidated row, then in listing order one row for each
-/// participant with a report that stands there. They are the same for every number of workers, 1 to 64: each worker makes
-/// those of a piece of the listing, and one alone starts no thread.
+/// participant with a report that stands there. They are the same for every number of workers, 1 to 64: each takes a piece
+/// of the listing after another and makes its rows, and one alone starts no thread.
 ///
 /// Refused: `BadWorkers` exactly outside 1 to 64, `Unstarted` where two workers or more were asked for and no thread can be
 /// started, `OutOfMemory` last. The tape is only read, and stays as it is.
 ///
-/// The gate is called once after each symbol of a worker's piece, with the worker's number from 0 and how many of its
+/// The gate is called once after each symbol of a worker's pieces, with the worker's number from 0 and how many of its
 /// symbols are done, from 1.
 pub fn rows<S: Store + Sync, G: Gate + Sync, R: Threads + Sync>(
     rt: &R,
@@ -116,18 +203,16 @@ pub fn rows<S: Store + Sync, G: Gate + Sync, R: Threads + Sync>(
     }
     let symbols = tape.listing().symbols().as_slice();
     if workers == 1 {
-        let rows = piece_rows(alloc, tape, 0, symbols, 0, gate)?;
+        let rows = piece_rows(alloc, tape, 0, symbols, 0, 0, gate)?;
         return Ok(rows);
     }
     try_start(rt)?;
-    let size = symbols.len().div_ceil(workers);
-    let made = |start: usize, piece: &[Symbol]| -> Result<Vec<Row>, AllocError>
-        requires size { 0 < size }
-        requires place { IsPieceAt tape.now.listing.symbols start piece.now }
-        requires few { start + length piece.now ≤ 4096 }
-        ensures { IfOk result (λ rows. rows.items ≡ flat_map (symbol_rows tape.entry.now) piece.entry.now) }
-    { piece_rows(alloc, tape, start, piece, start / size, gate) };
-    let pieces = thread::map_chunks(rt, alloc, symbols, size, &made)?;
-    let rows = joined(alloc, &pieces)?;
+    let size = symbols.len().div_ceil(workers * PIECES_EACH);
+    let next = AtomicUsize::new(0);
+    let share = |worker: usize| -> Result<Vec<Piece>, AllocError>
+        ensures { IsShare tape.entry.now size result }
+    { worker_pieces(alloc, tape, size, &next, worker, gate) };
+    let made = thread::map_indices(rt, alloc, workers.min(symbols.len()), &share)?;
+    let rows = joined(alloc, tape, size, &made)?;
     Ok(rows)
 }

@@ -213,11 +213,15 @@ fn counted<R: Threads + Sync>(rt: &R, alloc: Global) -> (usize, u32, u32, u32) {
     )
 }
 
+/// The sum of the turns over five symbols, by how many of them the second worker took.
+const SUMS: [u32; 6] = [15, 11, 9, 9, 11, 15];
+
 #[test]
 fn the_gate_is_called_after_each_symbol(rt: HostRuntime) {
-    // Worker 0 has three symbols and worker 1 two.
-    let turns = 1 + 2 + 3 + 1 + 2;
-    assert_eq!(rt; counted(&rt, rt.alloc()), (10, 5, 2, turns));
+    let (rows, calls, second, turns) = counted(&rt, rt.alloc());
+    assert_eq!(rt; (rows, calls), (10, 5));
+    // Each worker is told how many of its own symbols are done, however many it took.
+    assert_eq!(rt; SUMS.get(second as usize), Some(&turns));
 }
 
 /// A writer that takes nothing.
