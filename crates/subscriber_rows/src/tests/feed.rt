@@ -96,10 +96,10 @@ pub(super) fn reports(alloc: Global, count: u32, price: u64) -> Option<Feed> {
     admits_reports(&mut tape, count, price).then_some(tape)
 }
 
-/// A report and its cancel.
-pub(super) fn cancelled(alloc: Global) -> Option<Feed> {
-    let mut tape = reports(alloc, 1, 100_000)?;
-    admits(&mut tape, cancel(2, 1)).then_some(tape)
+/// This many reports, and the cancel of the first.
+pub(super) fn cancelled(alloc: Global, count: u32) -> Option<Feed> {
+    let mut tape = reports(alloc, count, 100_000)?;
+    admits(&mut tape, cancel(count.checked_add(1)?, 1)).then_some(tape)
 }
 
 fn admits_a_correction(tape: &mut Feed) -> bool {

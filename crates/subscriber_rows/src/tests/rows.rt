@@ -2,7 +2,9 @@
 
 use super::feed::{self, SESSION};
 use super::packets::CORRECTION_PACKET;
-use super::steps::Sent::{Beat, End, Front, OtherPrices, OtherSession, OtherVolume, Reports};
+use super::steps::Sent::{
+    Beat, End, Front, OtherPrices, OtherSession, OtherVolume, Reports, UnknownTarget,
+};
 use super::steps::Step::{Announced, Asks, By, Drain, IsGapOpen, Missing};
 use super::steps::Told::{Drained, Gap, Is, Number, Refused, Took};
 use super::steps::{Step, Told, deliver, holds, subscriber, told_so};
@@ -94,6 +96,15 @@ const ANOTHER_SUMMARY: [(Step, Told); 6] = [
     (Drain, Drained(0, 64)),
 ];
 
+const WHAT_ITS_OWN_TAPE_REFUSES: [(Step, Told); 6] = [
+    (By(A, Reports(1, 2)), Took(2, 0, 0)),
+    (By(B, UnknownTarget), Took(1, 0, 0)),
+    (Drain, Drained(2, 37)),
+    (Drain, Drained(0, 37)),
+    (By(A, UnknownTarget), Took(0, 1, 0)),
+    (Missing, Gap(0, 0)),
+];
+
 const ITS_OWN_LIMIT: [(Step, Told); 5] = [
     (By(A, Reports(1, 3)), Took(3, 0, 0)),
     (Drain, Drained(2, 32)),
@@ -154,8 +165,14 @@ fn retransmitted(alloc: Global, steps: &[(Step, Told)]) -> Option<(u32, u32, u32
 
 /// How many entries each line brought in the row of another summary.
 fn another_summary(alloc: Global) -> Option<(u32, u32, u32)> {
-    let tape = feed::cancelled(alloc)?;
+    let tape = feed::cancelled(alloc, 1)?;
     brought_anew(alloc, &ANOTHER_SUMMARY, &tape)
+}
+
+/// How many entries each line brought where the third is no entry of a tape.
+fn refused_entry(alloc: Global) -> Option<(u32, u32, u32)> {
+    let tape = feed::reports(alloc, 2, 100_000)?;
+    brought_anew(alloc, &WHAT_ITS_OWN_TAPE_REFUSES, &tape)
 }
 
 #[test]
@@ -182,6 +199,11 @@ fn a_gap_is_asked_for_and_answered_over_memory(rt: HostRuntime) {
 #[test]
 fn another_summary_is_not_believed(rt: HostRuntime) {
     assert_eq!(rt; another_summary(rt.alloc()), Some((1, 1, 0)));
+}
+
+#[test]
+fn an_entry_that_its_own_tape_refuses_waits(rt: HostRuntime) {
+    assert_eq!(rt; refused_entry(rt.alloc()), Some((2, 1, 0)));
 }
 
 #[test]

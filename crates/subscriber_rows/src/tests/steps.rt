@@ -19,6 +19,8 @@ pub(super) enum Sent {
     OtherSession(u32),
     /// Entry 2, the cancel of entry 1, with a volume of 100.
     OtherVolume,
+    /// Entry 3, a cancel of a report that there is not.
+    UnknownTarget,
     /// A beat with this number.
     Beat(u32),
     /// An end with this number.
@@ -82,14 +84,24 @@ fn told_missing(missing: Option<Request>) -> Told {
     }
 }
 
-/// The bytes with the lowest byte of the last entry's volume replaced, which stands before four bytes of trades.
-fn with_volume(text: Vec<u8>, volume: u8) -> Vec<u8> {
+/// The bytes with one of them replaced.
+fn with_byte(text: Vec<u8>, at: usize, byte: u8) -> Vec<u8> {
     let mut text = text;
-    let at = text.len().saturating_sub(5);
     if at < text.len() {
-        text[at] = volume;
+        text[at] = byte;
     }
     text
+}
+
+/// The bytes with the lowest byte of the last entry's volume replaced, which stands before four bytes of trades.
+fn with_volume(text: Vec<u8>, volume: u8) -> Vec<u8> {
+    let at = text.len().saturating_sub(5);
+    with_byte(text, at, volume)
+}
+
+/// The bytes of a packet of a cancel with the lowest byte of its target replaced, the last one before the summary.
+fn with_target(text: Vec<u8>, target: u8) -> Vec<u8> {
+    with_byte(text, 46, target)
 }
 
 /// The first bytes.
@@ -105,10 +117,10 @@ fn reports(alloc: Global, from: u32, to: u32, price: u64, session: u64) -> Optio
     feed::packet(alloc, &tape, session, from)
 }
 
-/// The packet of the cancel of entry 1.
-fn cancelling(alloc: Global) -> Option<Vec<u8>> {
-    let tape = feed::cancelled(alloc)?;
-    feed::packet(alloc, &tape, SESSION, 2)
+/// The packet of the cancel of entry 1, after this many reports.
+fn cancelling(alloc: Global, count: u32) -> Option<Vec<u8>> {
+    let tape = feed::cancelled(alloc, count)?;
+    feed::packet(alloc, &tape, SESSION, count.checked_add(1)?)
 }
 
 /// The bytes of what a line brings.
@@ -117,7 +129,8 @@ fn bytes(alloc: Global, sent: Sent) -> Option<Vec<u8>> {
         Sent::Reports(from, to) => reports(alloc, from, to, 100_000, SESSION),
         Sent::OtherPrices(from, to) => reports(alloc, from, to, 200_000, SESSION),
         Sent::OtherSession(number) => reports(alloc, number, number, 100_000, 8),
-        Sent::OtherVolume => Some(with_volume(cancelling(alloc)?, 100)),
+        Sent::OtherVolume => Some(with_volume(cancelling(alloc, 1)?, 100)),
+        Sent::UnknownTarget => Some(with_target(cancelling(alloc, 2)?, 9)),
         Sent::Beat(last) => feed::beat(alloc, last),
         Sent::End(count) => feed::end(alloc, count),
         Sent::Front(length) => Some(front(reports(alloc, 1, 1, 100_000, SESSION)?, length)),

@@ -1,0 +1,88 @@
+-- How many entries are ready, told by the drains that take them.
+use Rattle.std.proofs.Common.{◌≡◌, ℕ, zero, suc, ◌+◌, ◌≤◌, List, [], ◌∷◌, ◌++◌, length, drop, Option, None, Some, refl, sym, ap, subst, ◌∙◌, arith}
+use Rattle.std.specs.Prelude.{slice_get}
+use Rattle.std.proofs.lemmas.Option.{none-some}
+use Rattle.tape_core.specs.declared.entry.Entry.{Entry}
+use Rattle.arbitration.specs.Windows.{flat, next_of, ready_entries}
+use Rattle.subscriber.specs.Subscribers.{SubscriberState, with_entry, subscriber_after_entry, subscriber_after}
+use Rattle.subscriber.specs.declared.drain_fault.DrainFault.{DrainFault}
+use Rattle.subscriber.specs.Drains.{DrainsAll, DrainStops}
+use Rattle.subscriber.proofs.Turns.{after_entry-keeps, length-with_entry}
+
+-- how many entries are ready
+abbrev pub ready_count : SubscriberState → ℕ
+ready_count s = length (ready_entries s.window.slots)
+
+-- nothing is ready where the first slot is empty
+none_ready : (slots : List (Option Entry)) → flat (slice_get slots 0) ≡ None → length (ready_entries slots) ≡ 0
+none_ready [] h = refl
+none_ready (None ∷ slots) h = refl
+none_ready (Some e ∷ slots) h = absurd (none-some e (sym h))
+
+-- an empty slot at the end makes nothing ready
+ready-push : (slots : List (Option Entry)) → length (ready_entries (slots ++ None ∷ [])) ≡ length (ready_entries slots)
+ready-push [] = refl
+ready-push (None ∷ slots) = refl
+ready-push (Some e ∷ slots) = ap suc (ready-push slots)
+
+-- one less is ready once the first was taken out
+one_less : (slots : List (Option Entry)) (e : Entry) → flat (slice_get slots 0) ≡ Some e
+    → length (ready_entries slots) ≡ length (ready_entries (drop 1 slots ++ None ∷ [])) + 1
+one_less [] e h = absurd (none-some e h)
+one_less (None ∷ slots) e h = absurd (none-some e h)
+one_less (Some x ∷ slots) e h = omega (arith, ready-push slots)
+
+-- a turn holds one entry more at most
+turn_holds : (s : SubscriberState) (o : Option Entry) → length (subscriber_after_entry o s).tape.entries ≤ length s.tape.entries + 1
+turn_holds s o =
+    after_entry-keeps (λ t. length t.tape.entries ≤ length s.tape.entries + 1) s o (omega arith)
+    (λ e is running free. omega (arith, length-with_entry s e))
+
+-- n turns hold n entries more at most
+turns_hold : (n : ℕ) (s : SubscriberState) → length (subscriber_after n s).tape.entries ≤ length s.tape.entries + n
+turns_hold zero s = omega arith
+turns_hold (suc n) s =
+    omega (arith, turns_hold n (subscriber_after_entry (next_of s.window) s), turn_holds s (next_of s.window))
+
+-- where n turns hold n entries more and leave nothing ready, n were ready
+pub ready_told : (n : ℕ) (s : SubscriberState) → length (subscriber_after n s).tape.entries ≡ length s.tape.entries + n
+    → next_of (subscriber_after n s).window ≡ None → ready_count s ≡ n
+ready_told zero s held empty = none_ready s.window.slots empty
+ready_told (suc n) s held empty = turn (ready_told n) held empty
+  where
+    Told : SubscriberState → Type 0
+    Told t =
+        length (subscriber_after n t).tape.entries ≡ length s.tape.entries + suc n → next_of (subscriber_after n t).window ≡ None
+        → ready_count s ≡ suc n
+
+    turn : ((t : SubscriberState) → length (subscriber_after n t).tape.entries ≡ length t.tape.entries + n
+        → next_of (subscriber_after n t).window ≡ None → ready_count t ≡ n) → Told (subscriber_after_entry (next_of s.window) s)
+    turn later =
+        after_entry-keeps Told s (next_of s.window)
+        (λ stays none. absurd (omega (arith, turns_hold n s)))
+        (λ e is running free went none.
+        let before : ready_count (with_entry e s) ≡ n = later (with_entry e s) (omega (arith, length-with_entry s e)) none in
+        omega (arith, one_less s.window.slots e is))
+
+-- turns after turns
+after_both : (n m : ℕ) (s : SubscriberState) → subscriber_after m (subscriber_after n s) ≡ subscriber_after (n + m) s
+after_both zero m s = let same : m ≡ zero + m = omega arith in ap (λ k. subscriber_after k s) same
+after_both (suc n) m s =
+    let same : suc (n + m) ≡ suc n + m = omega arith in
+    after_both n m (subscriber_after_entry (next_of s.window) s) ∙ ap (λ k. subscriber_after k s) same
+
+-- a drain that stops and one that is Ok give between them what was ready
+pub ready_of_two : (stop : DrainFault) (more : ℕ) (old mid new : SubscriberState) → DrainStops stop old mid → DrainsAll more mid new
+    → ready_count old ≡ stop.drained + more
+ready_of_two stop more old mid new stops all =
+    let both : new ≡ subscriber_after (stop.drained + more) old =
+    all.state ∙ ap (subscriber_after more) stops.state ∙ after_both stop.drained more old in
+    ready_told (stop.drained + more) old
+    (ap (λ (t : SubscriberState). length t.tape.entries) (sym both) ∙ omega (arith, all.held, stops.held))
+    (subst (λ (t : SubscriberState). next_of t.window ≡ None) both all.nothing_ready)
+
+-- a drain that is Ok gives what was ready
+pub ready_of_one : (n : ℕ) (old new : SubscriberState) → DrainsAll n old new → ready_count old ≡ n
+ready_of_one n old new all =
+    ready_told n old (ap (λ (t : SubscriberState). length t.tape.entries) (sym all.state) ∙ all.held)
+    (subst (λ (t : SubscriberState). next_of t.window ≡ None) all.state all.nothing_ready)
