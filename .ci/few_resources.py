@@ -24,6 +24,9 @@ WORKER = (6, "tapebox: worker not started\n")
 # A user that runs nothing else.
 USER = 61_000 + os.getpid() % 4_000
 IS_ROOT = os.geteuid() == 0
+# How often a day is started again, and after how many seconds.
+TRIES = 5
+PATIENCE = 10
 
 
 def become_user():
@@ -71,6 +74,18 @@ def live_words(port, participants, serves):
     return ["live", "AB", ",".join(participants), port, sent, sent + 1, sent + 2, serves, 7]
 
 
+def threads_lack():
+    """Whether the limit lets a process become another program and start none beside it."""
+    def run(command):
+        words = ["sh", "-c", command]
+        return subprocess.run(words, preexec_fn=lambda: limit(None, 1), stderr=subprocess.DEVNULL).returncode
+
+    try:
+        return run(":") == 0 and run("sleep 0 & wait $!") != 0
+    except (OSError, subprocess.SubprocessError):
+        return False
+
+
 def follow_without_a_thread():
     port = free_ports(3)
     with socket.create_server((HOST, port + 2)):
@@ -95,13 +110,27 @@ def forbid_files(run, is_users=False):
     subprocess.run(["true"], preexec_fn=forbid, check=True)
 
 
+def start_with_one_thread(port, serves):
+    """A day whose two lines were given up, since they want a thread more than there is. Where the thread that the program tries first
+    goes too late, the lines get one and wait: then the day is started again."""
+    for _ in range(TRIES):
+        run = start(live_words(port, "NQ", serves), threads=2)
+        with connect(port) as n, connect(port + 1) as q:
+            n.settimeout(PATIENCE)
+            try:
+                if n.recv(1) or q.recv(1):
+                    sys.exit("a line was answered")
+                return run
+            except socket.timeout:
+                run.kill()
+                run.communicate()
+    sys.exit("the lines were never given up")
+
+
 def live_with_one_thread(name, lacks_files, wanted):
-    """Two lines want a thread more than there is. Of two subscribers the second one's connection can't be opened either."""
+    """Of two subscribers the second one's connection can't be opened either."""
     port = free_ports(5)
-    run = start(live_words(port, "NQ", 2 if lacks_files else 1), threads=2)
-    with connect(port) as n, connect(port + 1) as q:
-        if n.recv(1) or q.recv(1):
-            sys.exit("a line was answered")
+    run = start_with_one_thread(port, 2 if lacks_files else 1)
     if lacks_files:
         forbid_files(run, is_users=True)
     connect(port + 4).close()
@@ -133,10 +162,8 @@ def main():
     if os.path.exists("/dev/full"):
         with open("/dev/full", "w") as full:
             live_without_a_subscriber("live without a subscriber's connection and room", full)
-    try:
-        subprocess.run(["true"], preexec_fn=lambda: limit(None, 1), check=True)
-    except (OSError, subprocess.SubprocessError):
-        print("no other user can be had here, so no thread lacked")
+    if not threads_lack():
+        print("a limit of threads binds no user that can be had here, so none lacked")
         return
     follow_without_a_thread()
     live_without_a_thread()
