@@ -22,10 +22,11 @@ use std::sync::{Mutex, MutexGuard, Wait};
 use tape_types::Symbol;
 
 /// How often a call tries for the lock before it may sleep for it.
-const TRIES: u32 = 100;
+const TRIES: u32 = 30;
 
-/// How many turns of `spin_loop` are between two tries: about as long as an admission takes.
-const TURNS: u32 = 20;
+/// How many turns of `spin_loop` are between two tries: about as long as ten admissions take. Tries that come faster make the
+/// lock, and with it the tape's ends, go from one processor's caches to the next at each message.
+const TURNS: u32 = 200;
 
 /// Lets some time pass.
 fn pause() {
@@ -72,8 +73,8 @@ impl<D: DayName> SharedTape<D> {
         ))
     }
 
-    /// Takes the lock. Whoever has it is soon done, and to sleep and be woken takes longer than that: so it is tried for, some
-    /// hundred times, before the thread may sleep.
+    /// Takes the lock. Whoever has it is soon done, and to sleep and be woken takes longer than that: so it is tried for, `TRIES`
+    /// times, before the thread may sleep.
     fn lock(&self, rt: &impl Wait) -> MutexGuard<'_, Locked<D>> {
         for _ in 0..TRIES {
             if let Some(guard) = self.locked.try_lock() {
