@@ -2,7 +2,6 @@
 #![tactic(auto)]
 
 mod register;
-mod row;
 mod target;
 mod target_fault;
 

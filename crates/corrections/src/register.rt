@@ -5,18 +5,17 @@ ghost use Rattle.tape_types.specs.Ranges.{IsParticipant};
 ghost use Rattle.corrections.specs.Targets.{IsStanding, standing_target, target_answer, targets_after_cancel};
 ghost use Rattle.corrections.specs.RegisterState.{last_of, row_index};
 
-use crate::row::Row;
 use crate::{Standing, Target, TargetFault};
 use std::alloc::{AllocError, Global};
 use std::array;
 use std::marker::Model;
-use tape_types::{MsgNumber, Participant, Symbol, TapeNumber};
+use tape_types::{MsgNumber, Participant, RisingMap, Symbol, TapeNumber};
 
 /// Each report of the day by its participant and its message number, and each participant's last message number.
 #[derive(Drop)]
 pub struct Register {
     /// The reports of each participant, from `A` to `Z`.
-    rows: [Row; 26],
+    rows: [RisingMap<MsgNumber, Target>; 26],
     /// The last message number of each participant, from `A` to `Z`, and 0 for none.
     last_numbers: [u32; 26],
 }
@@ -44,7 +43,7 @@ impl Register {
         ensures last_numbers { (who : ℕ) → last_of result who ≡ 0 }
     {
         Register {
-            rows: array::from_fn(|_| Row::new(alloc)),
+            rows: array::from_fn(|_| RisingMap::new(alloc)),
             last_numbers: [0; 26],
         }
     }
@@ -68,7 +67,7 @@ impl Register {
             place,
             standing: Standing::Standing,
         };
-        self.rows[who.row_index()].record(number, target)
+        self.rows[who.row_index()].insert(number, target)
     }
 
     /// The place of the report that a participant's target names, where it is of the symbol and stands.
@@ -115,7 +114,7 @@ impl Register {
                 standing: Standing::Cancelled,
                 ..held
             };
-            row.replace(target, cancelled);
+            row.set(target, cancelled);
         }
     }
 

@@ -119,7 +119,7 @@ module _ {V : Type 0} where
       (parts-rise xs ys (and_rest (below_all nat_cmp x.0 xs) _ h) g (λ q r there other. all q r (found-rest q x xs there) other))
 
   -- keys below k: none that is found reaches it
-  under-found : (k : ℕ) (es : List (ℕ × V)) → Under k es → (q : ℕ) → IsSome (find nat_cmp q es) → q < k
+  pub under-found : (k : ℕ) (es : List (ℕ × V)) → Under k es → (q : ℕ) → IsSome (find nat_cmp q es) → q < k
   under-found k [] u q some = not-none {A = V} None some refl
   under-found k (e ∷ es) u q some = elim (eq_by_cmp nat_cmp q e.0) as (λ b. eq_by_cmp nat_cmp q e.0 ≡ b → IsSome (cond b (Some e.1) (find nat_cmp q es)) → q < k) [
     | true ↦ λ same _. subst (λ n. n < k) (sym (tied q e.0 same)) u.0
@@ -127,7 +127,7 @@ module _ {V : Type 0} where
   ] refl some
 
   -- what is found in the map of entries is found in the list, and the other way round
-  in-list : (q : ℕ) (es : List (ℕ × V)) → IsSome (map.get (map.from_entries {R = nat_cmp} es) q) → IsSome (find nat_cmp q es)
+  pub in-list : (q : ℕ) (es : List (ℕ × V)) → IsSome (map.get (map.from_entries {R = nat_cmp} es) q) → IsSome (find nat_cmp q es)
   in-list q es some = subst IsSome (map.get-from_entries nat_cmp_total es q) some
 
   in-map : (q : ℕ) (es : List (ℕ × V)) → IsSome (find nat_cmp q es) → IsSome (map.get (map.from_entries {R = nat_cmp} es) q)

@@ -6,8 +6,8 @@ ghost use Rattle.place_index.specs.Blocks.{all_values, max_block_len, AllBelow, 
 ghost use Rattle.place_index.specs.Places.{IsVacant, IsFirstPlace, IsLastPlace};
 
 use crate::block::Block;
+use crate::block_list;
 use crate::block_list::MAX_BLOCK_LEN;
-use crate::{block_list, one_block};
 use std::alloc::{AllocError, Global};
 use std::mem;
 use tape_types::TapeNumber;
@@ -18,7 +18,7 @@ pub fn find<V: Copy>(blocks: &[Block<V>], last: &Block<V>, place: TapeNumber) ->
     ensures { result ≡ map.get (all_values blocks.now last.now) place }
 {
     if last.begins_by(place) {
-        one_block::find(last, place)
+        last.find(place)
     } else {
         block_list::find(blocks, place)
     }
@@ -47,7 +47,7 @@ pub fn insert<V: Copy>(
     }
     make_room(alloc, blocks, last, MAX_BLOCK_LEN / 2)?;
     if goes_last(blocks, last, place) {
-        one_block::insert(last, place, value)
+        last.insert(place, value)
     } else {
         block_list::insert(alloc, blocks, place, value)
     }
@@ -68,7 +68,7 @@ fn push<V: Copy>(
     ensures err { OnErr result (all_values blocks.new.items last.new ≡ all_values blocks.old.items last.old) }
 {
     make_room(alloc, blocks, last, MAX_BLOCK_LEN)?;
-    one_block::push(last, place, value)
+    last.push(place, value)
 }
 
 /// Whether a place that is put in goes into the last block: it is above those of all other blocks. Otherwise it is below
@@ -135,7 +135,7 @@ pub fn remove<V: Copy>(
     ensures removed { all_values blocks.new.items last.new ≡ map.remove (all_values blocks.old.items last.old) place }
 {
     if last.begins_by(place) {
-        one_block::remove(last, place)
+        last.remove(place)
     } else {
         block_list::remove(blocks, place)
     }
@@ -155,7 +155,7 @@ pub fn set<V: Copy>(
     ensures changed { all_values blocks.new.items last.new ≡ map.insert (all_values blocks.old.items last.old) place value }
 {
     if last.begins_by(place) {
-        one_block::set(last, place, value)
+        last.set(place, value)
     } else {
         block_list::set(blocks, place, value)
     }
@@ -168,7 +168,7 @@ pub fn first<V: Copy>(blocks: &[Block<V>], last: &Block<V>) -> Option<TapeNumber
 {
     match block_list::first(blocks) {
         Some(place) => Some(place),
-        None => one_block::first(last),
+        None => last.first(),
     }
 }
 
@@ -177,7 +177,7 @@ pub fn last<V: Copy>(blocks: &[Block<V>], last: &Block<V>) -> Option<TapeNumber>
     requires { HasLastBlock blocks.now last.now }
     ensures { MatchOption result (IsVacant (all_values blocks.now last.now)) (IsLastPlace (all_values blocks.now last.now)) }
 {
-    match one_block::last(last) {
+    match last.last() {
         Some(place) => Some(place),
         None => block_list::last(blocks),
     }

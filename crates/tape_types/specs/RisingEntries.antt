@@ -1,5 +1,5 @@
 -- Entries in the order of their keys, which are numbers.
-use Rattle.std.specs.Prelude.{ℕ, ◌<◌, ◌≤◌, List, length, T}
+use Rattle.std.specs.Prelude.{◌≡◌, ℕ, ◌<◌, ◌≤◌, List, length, map as map_list, slice_index_or, T, IsSome}
 use Rattle.std.specs.List.{AllWithin}
 use Rattle.std.specs.Ordering.{nat_cmp}
 use Rattle.std.specs.FinMap as map
@@ -13,3 +13,17 @@ pub record IsPosition {X : Type 0} (key : ℕ) (es : List (ℕ × X)) (i : ℕ) 
   pub in_range : i ≤ length es
   pub below : AllWithin (λ (e : ℕ × X). e.0 < key) es 0 i
   pub not_below : AllWithin (λ (e : ℕ × X). key ≤ e.0) es i (length es)
+
+-- entries whose keys are numbers in another form, by these numbers
+abbrev pub keyed : {K X : Type 0} → (K → ℕ) → List (K × X) → List (ℕ × X)
+keyed number es = map_list (λ e. (number e.0, e.1)) es
+
+-- where a key stands that has a value
+pub record StandsIn {X : Type 0} (key : ℕ) (es : List (ℕ × X)) (i : ℕ) : Type 0 where
+  pub position : IsPosition key es i
+  pub within : i < length es
+  pub has_key : (d : ℕ × X) → (slice_index_or es i d).0 ≡ key
+
+-- a number is above each key that has a value
+abbrev pub IsAboveAll : {X : Type 0} → ℕ → map.FinMap nat_cmp X → Type 0
+IsAboveAll n m = (q : ℕ) → IsSome (map.get m q) → q < n

@@ -2,6 +2,7 @@
 ghost use Rattle.std.specs.Prelude.{◌≡◌, ℕ, ◌↔◌, IsSome, IfSome};
 ghost use Rattle.tape_types.specs.Ranges.{IsMessageNumber};
 
+use crate::NumberKey;
 use crate::four_bytes::FourBytes;
 use std::marker::Model;
 
@@ -42,5 +43,13 @@ impl MsgNumber {
         ensures in_range { IsMessageNumber self }
     {
         self.number.value()
+    }
+}
+
+impl NumberKey for MsgNumber {
+    ghost number = { λ n. n };
+
+    fn number(self) -> u32 {
+        self.value()
     }
 }

@@ -2,6 +2,7 @@
 ghost use Rattle.std.specs.Prelude.{◌≡◌, ℕ, ◌↔◌, IsSome, IfSome};
 ghost use Rattle.tape_types.specs.Ranges.{IsTapeNumber};
 
+use crate::NumberKey;
 use crate::four_bytes::FourBytes;
 use std::marker::Model;
 
@@ -42,5 +43,13 @@ impl TapeNumber {
         ensures in_range { IsTapeNumber self }
     {
         self.position.value()
+    }
+}
+
+impl NumberKey for TapeNumber {
+    ghost number = { λ n. n };
+
+    fn number(self) -> u32 {
+        self.value()
     }
 }

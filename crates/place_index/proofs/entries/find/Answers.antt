@@ -1,10 +1,7 @@
 use Rattle.std.proofs.Common.{◌∙◌, sym}
 use Rattle.place_index.specs.Blocks.{values_of, values_in}
-use Rattle.place_index.proofs.Parts.{begun, blocks-valid, both-of, get-first, get-second, last-rises, none-above, none-below, not-begun}
+use Rattle.place_index.proofs.Parts.{begun, blocks-valid, both-of, get-first, get-second, none-above, none-below, not-begun}
 use Rattle.place_index.proofs.entries.find.Goals as goal
-
-pub find-requires : goal.find-requires
-find-requires g c = last-rises c.args.blocks.now c.args.last.now c.requires
 
 pub find-requires-else-begins_by : goal.find-requires-else-begins_by
 find-requires-else-begins_by g c = blocks-valid c.args.blocks.now c.args.last.now c.requires

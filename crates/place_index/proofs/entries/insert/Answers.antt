@@ -4,7 +4,7 @@ use Rattle.std.specs.Ordering.{nat_cmp}
 use Rattle.std.proofs.lemmas.Result.{on_ok_weaker, on_err_weaker}
 use Rattle.place_index.specs.Blocks.{AllAbove, AllBelow, GoesLast, HasLastBlock, values_in, values_of}
 use Rattle.place_index.proofs.BlockOrder.{in-either}
-use Rattle.place_index.proofs.Parts.{above-top, blocks-insert_before, blocks-same, blocks-valid, both-of, last-insert, last-rises, vacant-first, vacant-second}
+use Rattle.place_index.proofs.Parts.{above-top, blocks-insert_before, blocks-same, blocks-valid, both-of, last-insert, vacant-first, vacant-second}
 use Rattle.place_index.proofs.entries.insert.Goals as goal
 
 pub push-requires-clause-above : goal.push-requires-clause-above
@@ -55,22 +55,14 @@ returns-then-not-goes_last-clause-err g c =
     let valid = c.requires.valid in
     on_err_weaker c.insert.result (λ same. (blocks-same bs es valid c.insert.new.blocks.items c.insert.ensures.valid same).1) c.insert.ensures.err
 
-pub insert-requires-then-goes_last-clause-rising : goal.insert-requires-then-goes_last-clause-rising
-insert-requires-then-goes_last-clause-rising g c =
-    let bs = c.make_room.new.blocks.items in
-    let es = c.make_room.new.last in
-    let k = c.args.place in
-    let valid = c.in_ok-make_room.ensures.valid in
-    last-rises bs es valid
-
-pub insert-requires-then-goes_last-clause-vacant : goal.insert-requires-then-goes_last-clause-vacant
-insert-requires-then-goes_last-clause-vacant g c =
+pub insert-requires-then-goes_last : goal.insert-requires-then-goes_last
+insert-requires-then-goes_last g c =
     let bs = c.make_room.new.blocks.items in
     let es = c.make_room.new.last in
     let k = c.args.place in
     let valid = c.in_ok-make_room.ensures.valid in
     let vacant = ap (λ (m : map.FinMap nat_cmp _). map.get m k) c.in_ok-make_room.ensures.values ∙ c.requires.vacant in
-    vacant-second _ _ _ (both-of bs es valid) k vacant
+    record { vacant = vacant-second _ _ _ (both-of bs es valid) k vacant }
 
 pub insert-requires-else-goes_last-clause-valid : goal.insert-requires-else-goes_last-clause-valid
 insert-requires-else-goes_last-clause-valid g c =
@@ -97,7 +89,7 @@ returns-then-goes_last-clause-valid g c =
     let valid = c.in_ok-make_room.ensures.valid in
     let below : AllBelow (values_of bs) k = subst (λ b. GoesLast b bs es k) c.if-goes_last.true (subst (λ l. GoesLast c.goes_last-2.result l es k) c.deref-2.ensures.value c.goes_last-2.ensures) in
     in-either c.insert-then-goes_last.result
-    (on_ok_weaker c.insert-then-goes_last.result (λ new. (last-insert bs es valid k c.args.value c.insert-then-goes_last.new.block below c.insert-then-goes_last.ensures.rising (omega (arith, c.insert-then-goes_last.ensures.grown, c.in_ok-make_room.ensures.room)) new).0) c.insert-then-goes_last.ensures.ok)
+    (on_ok_weaker c.insert-then-goes_last.result (λ new. (last-insert bs es valid k c.args.value c.insert-then-goes_last.new.self below c.insert-then-goes_last.ensures.rising (omega (arith, c.insert-then-goes_last.ensures.grown, c.in_ok-make_room.ensures.room)) new).0) c.insert-then-goes_last.ensures.ok)
     (on_err_weaker c.insert-then-goes_last.result (λ same. subst (HasLastBlock bs) (sym same) valid) c.insert-then-goes_last.ensures.err)
 
 pub returns-then-goes_last-clause-ok : goal.returns-then-goes_last-clause-ok
@@ -108,7 +100,7 @@ returns-then-goes_last-clause-ok g c =
     let valid = c.in_ok-make_room.ensures.valid in
     let below : AllBelow (values_of bs) k = subst (λ b. GoesLast b bs es k) c.if-goes_last.true (subst (λ l. GoesLast c.goes_last-2.result l es k) c.deref-2.ensures.value c.goes_last-2.ensures) in
     on_ok_weaker c.insert-then-goes_last.result (λ new.
-    (last-insert bs es valid k c.args.value c.insert-then-goes_last.new.block below c.insert-then-goes_last.ensures.rising (omega (arith, c.insert-then-goes_last.ensures.grown, c.in_ok-make_room.ensures.room)) new).1
+    (last-insert bs es valid k c.args.value c.insert-then-goes_last.new.self below c.insert-then-goes_last.ensures.rising (omega (arith, c.insert-then-goes_last.ensures.grown, c.in_ok-make_room.ensures.room)) new).1
     ∙ ap (λ (m : map.FinMap nat_cmp _). map.insert m k c.args.value) c.in_ok-make_room.ensures.values) c.insert-then-goes_last.ensures.ok
 
 pub returns-else-goes_last-clause-valid : goal.returns-else-goes_last-clause-valid

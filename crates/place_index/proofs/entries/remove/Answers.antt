@@ -1,10 +1,7 @@
 use Rattle.std.proofs.Common.{◌∙◌, sym}
 use Rattle.place_index.specs.Blocks.{values_of, values_in}
-use Rattle.place_index.proofs.Parts.{begun, blocks-remove_before, blocks-valid, both-of, get-first, get-second, last-remove, last-rises, none-above, none-below, not-begun}
+use Rattle.place_index.proofs.Parts.{begun, blocks-remove_before, blocks-valid, both-of, get-first, get-second, last-remove, none-above, none-below, not-begun}
 use Rattle.place_index.proofs.entries.remove.Goals as goal
-
-pub remove-requires : goal.remove-requires
-remove-requires g c = last-rises c.args.blocks.now.items c.args.last.now c.requires.valid
 
 pub remove-requires-else-begins_by : goal.remove-requires-else-begins_by
 remove-requires-else-begins_by g c = record { valid = blocks-valid c.args.blocks.now.items c.args.last.now c.requires.valid }
@@ -15,7 +12,7 @@ returns-then-begins_by-clause-valid g c =
     let es = c.args.last.now in
     let k = c.args.place in
     let below = begun bs es c.requires.valid k (sym c.begins_by.ensures ∙ c.if-begins_by.true) in
-    (last-remove bs es c.requires.valid k c.remove.new.block below c.remove.ensures.rising c.remove.ensures.shrunk c.remove.ensures.removed).0
+    (last-remove bs es c.requires.valid k c.remove.new.self below c.remove.ensures.rising c.remove.ensures.shrunk c.remove.ensures.removed).0
 
 pub returns-then-begins_by-clause-value : goal.returns-then-begins_by-clause-value
 returns-then-begins_by-clause-value g c =
@@ -31,7 +28,7 @@ returns-then-begins_by-clause-removed g c =
     let es = c.args.last.now in
     let k = c.args.place in
     let below = begun bs es c.requires.valid k (sym c.begins_by.ensures ∙ c.if-begins_by.true) in
-    (last-remove bs es c.requires.valid k c.remove.new.block below c.remove.ensures.rising c.remove.ensures.shrunk c.remove.ensures.removed).1
+    (last-remove bs es c.requires.valid k c.remove.new.self below c.remove.ensures.rising c.remove.ensures.shrunk c.remove.ensures.removed).1
 
 pub returns-else-begins_by-clause-valid : goal.returns-else-begins_by-clause-valid
 returns-else-begins_by-clause-valid g c =

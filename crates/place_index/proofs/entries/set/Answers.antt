@@ -1,18 +1,15 @@
 use Rattle.std.proofs.Common.{◌∙◌, IsSome, sym, subst, arith}
 use Rattle.place_index.specs.Blocks.{values_of, values_in}
-use Rattle.place_index.proofs.Parts.{begun, blocks-insert_before, blocks-valid, both-of, get-first, get-second, last-insert, last-rises, none-above, none-below, not-begun}
+use Rattle.place_index.proofs.Parts.{begun, blocks-insert_before, blocks-valid, both-of, get-first, get-second, last-insert, none-above, none-below, not-begun}
 use Rattle.place_index.proofs.entries.set.Goals as goal
 
-pub set-requires-clause-rising : goal.set-requires-clause-rising
-set-requires-clause-rising g c = last-rises c.args.blocks.now.items c.args.last.now c.requires.valid
-
-pub set-requires-clause-present : goal.set-requires-clause-present
-set-requires-clause-present g c =
+pub set-requires : goal.set-requires
+set-requires g c =
     let bs = c.args.blocks.now.items in
     let es = c.args.last.now in
     let k = c.args.place in
     let below = begun bs es c.requires.valid k (sym c.begins_by.ensures ∙ c.if-begins_by.true) in
-    subst IsSome (get-second _ _ _ (both-of bs es c.requires.valid) k (none-above (values_of bs) k below)) c.requires.present
+    record { present = subst IsSome (get-second _ _ _ (both-of bs es c.requires.valid) k (none-above (values_of bs) k below)) c.requires.present }
 
 pub set-requires-else-begins_by-clause-valid : goal.set-requires-else-begins_by-clause-valid
 set-requires-else-begins_by-clause-valid g c = blocks-valid c.args.blocks.now.items c.args.last.now c.requires.valid
@@ -31,7 +28,7 @@ returns-then-begins_by-clause-valid g c =
     let es = c.args.last.now in
     let k = c.args.place in
     let below = begun bs es c.requires.valid k (sym c.begins_by.ensures ∙ c.if-begins_by.true) in
-    (last-insert bs es c.requires.valid k c.args.value c.set.new.block below c.set.ensures.rising (omega (arith, c.set.ensures.same_length, c.requires.valid.short)) c.set.ensures.changed).0
+    (last-insert bs es c.requires.valid k c.args.value c.set.new.self below c.set.ensures.rising (omega (arith, c.set.ensures.same_length, c.requires.valid.short)) c.set.ensures.changed).0
 
 pub returns-then-begins_by-clause-former : goal.returns-then-begins_by-clause-former
 returns-then-begins_by-clause-former g c =
@@ -47,7 +44,7 @@ returns-then-begins_by-clause-changed g c =
     let es = c.args.last.now in
     let k = c.args.place in
     let below = begun bs es c.requires.valid k (sym c.begins_by.ensures ∙ c.if-begins_by.true) in
-    (last-insert bs es c.requires.valid k c.args.value c.set.new.block below c.set.ensures.rising (omega (arith, c.set.ensures.same_length, c.requires.valid.short)) c.set.ensures.changed).1
+    (last-insert bs es c.requires.valid k c.args.value c.set.new.self below c.set.ensures.rising (omega (arith, c.set.ensures.same_length, c.requires.valid.short)) c.set.ensures.changed).1
 
 pub returns-else-begins_by-clause-valid : goal.returns-else-begins_by-clause-valid
 returns-else-begins_by-clause-valid g c =

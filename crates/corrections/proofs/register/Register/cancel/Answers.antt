@@ -19,7 +19,7 @@ returns c =
       | in-Some w ↦
           let v : Target = cancelled_target w.in-Some.held in
           rw w.self-inside-is
-          (ap with_targets (targets-insert rows c.args.who c.args.target c.row_index.result c.index-self-row_index.result w.replace.new.self v c.row_index.ensures.letter inside w.replace.ensures)
+          (ap with_targets (targets-insert rows c.args.who c.args.target c.row_index.result c.index-self-row_index.result w.set.new.self v c.row_index.ensures.letter inside w.set.ensures.changed)
           ∙ ap (λ (r : RegisterState). record r { targets = map.insert r.targets key v }) c.self.view_is
           ∙ ap (λ o. record c.args.self.now { targets = with_cancelled c.args.self.now.targets key o }) (sym w.in-Some.is ∙ there))
       | in_default w ↦ absurd (subst IsStanding (sym there ∙ w.in_default.is) c.requires.standing)

@@ -6,8 +6,8 @@ use Rattle.corrections.specs.Targets.{Targets, standing_target}
 use Rattle.corrections.proofs.Rows.{get-row, targets-insert}
 use Rattle.corrections.proofs.register.Register.record.Goals as goal
 
-pub record-requires : goal.record-requires
-record-requires c =
+pub insert-requires : goal.insert-requires
+insert-requires c =
     let inside : c.row_index.result < length c.self.inside.rows = omega arith in
     record {
       vacant = sym (get-row c.self.inside.rows c.args.who c.args.number c.row_index.result c.index-self-row_index.result c.row_index.ensures.letter inside)
@@ -18,6 +18,6 @@ pub returns-clause-ok : goal.returns-clause-ok
 returns-clause-ok c =
     let inside : c.row_index.result < length c.self.inside.rows = omega arith in
     let with_targets : Targets → RegisterState = λ t. record { targets = t; last_numbers = c.self.inside.last_numbers } in
-    on_ok_weaker c.record.result (λ is. ap with_targets
-    (targets-insert c.self.inside.rows c.args.who c.args.number c.row_index.result c.index-self-row_index.result c.record.new.self (standing_target c.args.symbol c.args.place) c.row_index.ensures.letter inside is)
-    ∙ ap (λ (r : RegisterState). record r { targets = map.insert r.targets (c.args.who, c.args.number) (standing_target c.args.symbol c.args.place) }) c.self.view_is) c.record.ensures.ok
+    on_ok_weaker c.insert.result (λ is. ap with_targets
+    (targets-insert c.self.inside.rows c.args.who c.args.number c.row_index.result c.index-self-row_index.result c.insert.new.self (standing_target c.args.symbol c.args.place) c.row_index.ensures.letter inside is)
+    ∙ ap (λ (r : RegisterState). record r { targets = map.insert r.targets (c.args.who, c.args.number) (standing_target c.args.symbol c.args.place) }) c.self.view_is) c.insert.ensures.ok

@@ -1,0 +1,18 @@
+use Rattle.std.proofs.Common.{◌<◌, ◌-◌, subst, sym, ap, ◌∙◌, get_or, length, arith}
+use Rattle.std.proofs.lemmas.Bool.Decides.{nat_tests}
+use Rattle.tape_types.specs.RisingEntries.{IsPosition, keyed}
+use Rattle.tape_types.proofs.RisingEntries.{position-after_last, length-keyed, keyed-at}
+use Rattle.tape_types.proofs.rising_map.is_above_all.Goals as goal
+
+pub returns-in-Some : goal.returns-in-Some
+returns-in-Some g c = λ above.
+    let number = g.K.NumberKey.number in
+    let es = c.args.entries.now in
+    let last = c.in-Some.field-0.now in
+    let below : number last.0 < number c.args.key = grind (arith, nat_tests, above, c.number.ensures, c.number-in-Some.ensures) in
+    let same = length-keyed number es in
+    subst (IsPosition (number c.args.key) (keyed number es)) same
+    (position-after_last (number c.args.key) (keyed number es) (number last.0, last.1) c.requires.rising
+    (subst (λ n. (get_or (keyed number es) (n - 1) (number last.0, last.1)).0 < number c.args.key) (sym same)
+    (subst (λ e. e.0 < number c.args.key) (sym (keyed-at number es (length es - 1) last))
+    (subst (λ e. number e.0 < number c.args.key) (c.in-Some.ensures.item.3.1 last) below))))

@@ -1,0 +1,175 @@
+//! A finite map in one vector.
+ghost use Rattle.std.specs.Prelude.{◌≡◌, ◌≤◌, ℕ, length, take, drop, IfOk, OnOk, OnErr, MatchOption, IsSome, IsTrue, Some, None};
+ghost use Rattle.std.specs.Coded.{coded_ℕ};
+ghost use Rattle.std.specs.Ordering.{nat_cmp};
+ghost use Rattle.std.specs.FinMap as map;
+ghost use Rattle.tape_types.specs.RisingEntries.{HasRisingKeys, IsAboveAll, IsPosition, StandsIn, keyed};
+
+use std::alloc::{AllocError, Global};
+use std::marker::Model;
+
+/// A key that is a number.
+pub trait NumberKey: Copy {
+    /// The number that it is.
+    ghost number: { Self → ℕ };
+
+    /// The number.
+    fn number(self) -> u32
+        ensures { result ≡ number self };
+}
+
+/// A map in one vector, by rising key: a key is found by halving, and an entry above all others goes to the end.
+#[derive(Drop)]
+pub struct RisingMap<K: NumberKey, V> {
+    entries: Vec<(K, V)>,
+}
+
+impl<K: NumberKey, V> Model for RisingMap<K, V> {
+    ghost Value = { map.FinMap nat_cmp V };
+
+    ghost coded = { map.code coded_ℕ V.code };
+
+    ghost view = { λ r. map.from_entries (keyed K.number r.entries.items) };
+
+    ghost invariant = { λ r. HasRisingKeys (keyed K.number r.entries.items) };
+}
+
+impl<K: NumberKey, V: Copy> RisingMap<K, V> {
+    /// A map of no entry. It takes no memory.
+    pub fn new(alloc: Global) -> Self
+        ensures { result ≡ map.empty }
+    {
+        RisingMap {
+            entries: Vec::new(alloc),
+        }
+    }
+
+    /// How many entries it has.
+    pub fn len(&self) -> usize
+        ensures { result ≡ map.len self.now }
+    {
+        self.entries.len()
+    }
+
+    /// The entries by rising key.
+    pub fn entries(&self) -> &[(K, V)]
+        ensures { keyed K.number result.now ≡ map.entries self.now }
+    {
+        self.entries.as_slice()
+    }
+
+    /// The value of a key, if it has one.
+    pub fn get(&self, key: K) -> Option<V>
+        ensures { result ≡ map.get self.now (K.number key) }
+    {
+        let place = locate(&self.entries, key)?;
+        let (_, value) = self.entries[place];
+        Some(value)
+    }
+
+    /// Gives a value to a key that has none. Out of memory, the map is unchanged.
+    #[inline(always)]
+    pub fn insert(&mut self, key: K, value: V) -> Result<(), AllocError>
+        requires vacant { map.get self.old (K.number key) ≡ None }
+        ensures ok { OnOk result (self.new ≡ map.insert self.old (K.number key) value) }
+        ensures err { OnErr result (self.new ≡ self.old) }
+    {
+        if is_above_all(&self.entries, key) {
+            self.entries.push((key, value))?;
+        } else {
+            let place = position_of(&self.entries, key);
+            self.entries.insert(place, (key, value))?;
+        }
+        Ok(())
+    }
+
+    /// Gives a value to a key that is above all others, and looks at none of them. Out of memory, the map is unchanged.
+    pub fn push(&mut self, key: K, value: V) -> Result<(), AllocError>
+        requires above { IsAboveAll (K.number key) self.old }
+        ensures ok { OnOk result (self.new ≡ map.insert self.old (K.number key) value) }
+        ensures err { OnErr result (self.new ≡ self.old) }
+    {
+        self.entries.push((key, value))?;
+        Ok(())
+    }
+
+    /// Gives another value to a key that has one, and answers the former. It takes no memory.
+    pub fn set(&mut self, key: K, value: V) -> V
+        requires present { IsSome (map.get self.old (K.number key)) }
+        ensures former { Some result ≡ map.get self.old (K.number key) }
+        ensures changed { self.new ≡ map.insert self.old (K.number key) value }
+    {
+        let place = locate(&self.entries, key).unwrap();
+        let (_, former) = self.entries[place];
+        self.entries[place] = (key, value);
+        former
+    }
+
+    /// Takes a key out with its value, if it has one. It takes no memory.
+    pub fn remove(&mut self, key: K) -> Option<V>
+        ensures value { result ≡ map.get self.old (K.number key) }
+        ensures removed { self.new ≡ map.remove self.old (K.number key) }
+    {
+        let place = locate(&self.entries, key)?;
+        let (_, value) = self.entries.remove(place);
+        Some(value)
+    }
+
+    /// A map of the entries from an index on, which stay here too. It fails only out of memory.
+    pub fn copy_from(&self, alloc: Global, index: usize) -> Result<Self, AllocError>
+        requires { index ≤ map.len self.now }
+        ensures { IfOk result (λ m. map.entries m ≡ drop index (map.entries self.now)) }
+    {
+        let entries = copied_from(alloc, &self.entries, index)?;
+        Ok(RisingMap { entries })
+    }
+
+    /// Takes the entries from an index on out. It takes no memory.
+    pub fn truncate(&mut self, index: usize)
+        ensures { map.entries self.new ≡ take index (map.entries self.old) }
+    {
+        self.entries.truncate(index);
+    }
+}
+
+/// Whether a key is above those of all entries, whose keys rise: above the last.
+#[inline(always)]
+fn is_above_all<K: NumberKey, V>(entries: &[(K, V)], key: K) -> bool
+    requires rising { HasRisingKeys (keyed K.number entries.now) }
+    ensures { IsTrue result → IsPosition (K.number key) (keyed K.number entries.now) (length entries.now) }
+{
+    match entries.last() {
+        Some((last, _)) => last.number() < key.number(),
+        None => true,
+    }
+}
+
+/// Where a key stands among entries whose keys rise, or where it would go.
+fn position_of<K: NumberKey, V>(entries: &[(K, V)], key: K) -> usize
+    requires rising { HasRisingKeys (keyed K.number entries.now) }
+    ensures { IsPosition (K.number key) (keyed K.number entries.now) result }
+{
+    let number = key.number();
+    entries.partition_point(|(at, _)| at.number() < number)
+}
+
+/// Where a key stands, if it has a value.
+fn locate<K: NumberKey, V>(entries: &[(K, V)], key: K) -> Option<usize>
+    requires rising { HasRisingKeys (keyed K.number entries.now) }
+    ensures { MatchOption result (map.get (map.from_entries {R = nat_cmp} (keyed K.number entries.now)) (K.number key) ≡ None)
+        (λ i. StandsIn (K.number key) (keyed K.number entries.now) i) }
+{
+    let place = position_of(entries, key);
+    match entries.get(place) {
+        Some((at, _)) if at.number() == key.number() => Some(place),
+        _ => None,
+    }
+}
+
+/// The items of a slice from an index on. It fails only out of memory.
+fn copied_from<T: Copy>(alloc: Global, items: &[T], index: usize) -> Result<Vec<T>, AllocError>
+    requires { index ≤ length items.now }
+    ensures { IfOk result (λ copied. copied.items ≡ drop index items.now) }
+{
+    Vec::from_slice(alloc, &items[index..])
+}
