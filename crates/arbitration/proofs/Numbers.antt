@@ -14,6 +14,7 @@ use Rattle.tape_frames.specs.declared.packet.Packet.{Packet}
 use Rattle.tape_frames.specs.declared.packet.Packet.TheVariants.{Data, Beat, End}
 use Rattle.arbitration.proofs.Slots.{other_number}
 use Rattle.arbitration.specs.Deliveries.{entry_numbered}
+use Rattle.tape_types.specs.Ranges.{TAPE_MOST}
 
 -- the entry of a number in consecutive entries is the one at its place
 pub numbered_at : (first : ℕ) (es : List Entry) (m : ℕ) → IsNumberedFrom first es → entry_numbered (first + m) es ≡ slice_get es m
@@ -83,7 +84,7 @@ packet_numbers (Beat session last) h n e found = absurd (cc)
 packet_numbers (End session count) h n e found = absurd (cc)
 
 -- the last number of a packet is one of a tape
-pub packet_within : (q : Packet) → HasNumbers q → last_of q ≤ 1048576
+pub packet_within : (q : Packet) → HasNumbers q → last_of q ≤ TAPE_MOST
 packet_within (Data session row) h = let within = h.within in omega arith
 packet_within (Beat session last) h = h
 packet_within (End session count) h = h

@@ -9,15 +9,15 @@ use crate::{Standing, Target, TargetFault};
 use std::alloc::{AllocError, Global};
 use std::array;
 use std::marker::Model;
-use tape_types::{MsgNumber, Participant, RisingMap, Symbol, TapeNumber};
+use tape_types::{MsgNumber, PARTICIPANTS_MOST, Participant, RisingMap, Symbol, TapeNumber};
 
 /// Each report of the day by its participant and its message number, and each participant's last message number.
 #[derive(Drop)]
 pub struct Register {
     /// The reports of each participant, from `A` to `Z`.
-    rows: [RisingMap<MsgNumber, Target>; 26],
+    rows: [RisingMap<MsgNumber, Target>; PARTICIPANTS_MOST],
     /// The last message number of each participant, from `A` to `Z`, and 0 for none.
-    last_numbers: [u32; 26],
+    last_numbers: [u32; PARTICIPANTS_MOST],
 }
 
 impl Model for Register {
@@ -26,6 +26,7 @@ impl Model for Register {
     ghost use Rattle.corrections.specs.contracts.target.Target as target;
     ghost use Rattle.corrections.specs.RegisterState.{RegisterState, register_code};
     ghost use Rattle.corrections.specs.Rows.{targets_of_rows};
+    ghost use Rattle.tape_types.specs.Ranges.{PARTICIPANTS_MOST};
 
     ghost Value = { RegisterState };
 
@@ -33,7 +34,7 @@ impl Model for Register {
 
     ghost view = { λ r. record { targets = targets_of_rows r.rows; last_numbers = r.last_numbers } };
 
-    ghost invariant = { λ r. length r.rows ≡ 26 };
+    ghost invariant = { λ r. length r.rows ≡ PARTICIPANTS_MOST };
 }
 
 impl Register {
@@ -44,7 +45,7 @@ impl Register {
     {
         Register {
             rows: array::from_fn(|_| RisingMap::new(alloc)),
-            last_numbers: [0; 26],
+            last_numbers: [0; PARTICIPANTS_MOST],
         }
     }
 

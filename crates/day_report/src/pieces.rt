@@ -4,6 +4,7 @@ ghost use Rattle.std.specs.List.{AllByRecursion, flat_map};
 ghost use Rattle.day_report.specs.Pieces.{IsPieceAt, AreMade, AreFrom, AreFromSome, IsShare};
 ghost use Rattle.day_report.specs.Rows.{report_rows, symbol_rows};
 ghost use Rattle.day_report.specs.declared.report_fault.ReportFault.TheVariants.{BadWorkers, Unstarted, WriteFault};
+ghost use Rattle.tape_types.specs.Ranges.{SYMBOLS_MOST};
 
 use crate::{ReportFault, Row};
 use std::alloc::{AllocError, Global};
@@ -12,7 +13,7 @@ use std::thread;
 use std::thread::Threads;
 use summaries::Store;
 use tape_core::Tape;
-use tape_types::{Gate, MAX_SYMBOLS, Symbol};
+use tape_types::{Gate, SYMBOLS_MOST, Symbol};
 
 /// The greatest number of workers of a report.
 pub const MAX_WORKERS: usize = 64;
@@ -61,7 +62,7 @@ fn piece_rows<S: Store, G: Gate>(
     gate: &G,
 ) -> Result<Vec<Row>, AllocError>
     requires place { IsPieceAt tape.now.listing.symbols start piece.now }
-    requires few { start + length piece.now ≤ 4096 }
+    requires few { start + length piece.now ≤ SYMBOLS_MOST }
     requires before { done ≤ 16777216 }
     ensures { IfOk result (λ rows. rows.items ≡ flat_map (symbol_rows tape.now) piece.now) }
 {
@@ -79,7 +80,7 @@ fn piece_rows<S: Store, G: Gate>(
 fn piece_from<S: Store>(tape: &Tape<S>, start: usize, size: usize) -> Option<&[Symbol]>
     ensures piece { IfSome result (λ piece. piece.now ≡ take size (drop start tape.now.listing.symbols)) }
     ensures place { IfSome result (λ piece. IsPieceAt tape.now.listing.symbols start piece.now) }
-    ensures few { IfSome result (λ piece. start + length piece.now ≤ 4096) }
+    ensures few { IfSome result (λ piece. start + length piece.now ≤ SYMBOLS_MOST) }
     ensures some { IfSome result (λ piece. 0 < size → 0 < length piece.now) }
     ensures none { result ≡ None → length tape.now.listing.symbols ≤ start }
 {
@@ -104,7 +105,7 @@ fn worker_pieces<S: Store, G: Gate>(
 {
     let mut pieces = Vec::new(alloc);
     let mut done = 0;
-    for _ in 0..MAX_SYMBOLS {
+    for _ in 0..SYMBOLS_MOST {
         let start = next.fetch_add(size, Ordering::SeqCst);
         let Some(piece) = piece_from(tape, start, size) else {
             break;

@@ -8,6 +8,7 @@ use Rattle.tape_core.specs.Standing.{reported_size}
 use Rattle.tape_core.specs.Tape.{TapeState, lists_participant}
 use Rattle.line_ledger.specs.declared.told.Told.{Told}
 use Rattle.line_ledger.specs.Days.{has_figures}
+use Rattle.tape_types.specs.Ranges.{SIZE_MOST, TAPE_MOST}
 
 -- a seat: its participant, and what it was told
 pub record SeatState : Type 0 where
@@ -38,8 +39,8 @@ pub record IsCounted (listing : Names) (who parts amount sizes last : ℕ) (told
   pub counted : amount ≡ length told
   pub sizes_are : sizes ≡ sizes_told told
   pub last_is : last ≡ last_told 0 told
-  pub bounded : sizes ≤ length told * 99999999
-  pub within : length told ≤ 1048576
+  pub bounded : sizes ≤ length told * SIZE_MOST
+  pub within : length told ≤ TAPE_MOST
 
 -- whether the tape's count, sizes and last number of the seat's participant are the seat's
 abbrev pub agrees : TapeState → SeatState → Bool

@@ -3,6 +3,7 @@ ghost use Rattle.std.specs.Prelude.{◌≡◌, ◌↔◌, ◌+◌, ◌-◌, ◌<
 ghost use Rattle.std.specs.Result.{IsOk};
 ghost use Rattle.tape_types.specs.Names.{Names};
 ghost use Rattle.line_ledger.specs.Cells.{IsTokenOf};
+ghost use Rattle.tape_types.specs.Ranges.{TAPE_MOST};
 
 use crate::same_entry::is_same;
 use crate::{CellRow, NotOnTape, Token};
@@ -41,7 +42,7 @@ impl Model for Day {
     ghost view = { λ d. record { tape = d.tape; names = d.row; published = length d.seen.items } };
 
     ghost invariant = { λ d. FirstSeen d.row d.tape.entries d.seen.items × (length d.seen.items ≤ length d.tape.entries)
-        × (length d.seen.items ≤ 1048576) };
+        × (length d.seen.items ≤ TAPE_MOST) };
 }
 
 impl Day {

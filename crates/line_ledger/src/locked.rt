@@ -11,6 +11,7 @@ ghost use Rattle.line_ledger.specs.Ends.{IsOneEach, FirstTold, DisagreesAt, told
 ghost use Rattle.line_ledger.specs.Publishing.{Publishes, Stops};
 ghost use Rattle.line_ledger.specs.Seats.{untold, sizes_told, last_told};
 ghost use Rattle.line_ledger.specs.Views.{Shows, view_fault};
+ghost use Rattle.tape_types.specs.Ranges.{SIZE_MOST};
 
 use crate::ends::{find_disagreement, is_one_each};
 use crate::{
@@ -198,7 +199,7 @@ fn has_figures(
 /// The shares of a report as it was reported, 0 for another message.
 fn reported(message: &Message) -> u64
     ensures size { result ≡ reported_size message.now }
-    ensures bound { result ≤ 99999999 }
+    ensures bound { result ≤ SIZE_MOST }
 {
     match message {
         Message::Report { content, .. } => u64::from(content.size.value()),

@@ -3,7 +3,7 @@ ghost use Rattle.std.specs.Prelude.{◌≡◌};
 ghost use Rattle.scratch_fold.specs.Fold.{summary_of, PlacesRise};
 
 use crate::{Effect, Summary};
-use tape_types::TapeNumber;
+use tape_types::{SIZE_MOST, TAPE_MOST, TapeNumber};
 
 /// The summary of a list of reports whose places rise: one step of a summary after another.
 pub fn fold(reports: &[(TapeNumber, Effect)]) -> Summary
@@ -12,8 +12,8 @@ pub fn fold(reports: &[(TapeNumber, Effect)]) -> Summary
 {
     let mut summary = Summary::empty();
     for (place, effect) in reports {
-        prove!(place.value() <= 1_048_576);
-        prove!(effect.size.value() <= 99_999_999);
+        prove!(place.value() <= TAPE_MOST);
+        prove!(effect.size.value() <= SIZE_MOST);
         summary.add(*place, effect);
     }
     summary

@@ -1,5 +1,7 @@
 //! What a day comes to, and what one report does to it.
 
+ghost use Rattle.tape_types.specs.Ranges.{SIZE_MOST};
+
 use sale_matrix::LastRule;
 use tape_types::{Participant, Price, Size, TapeNumber};
 
@@ -106,7 +108,7 @@ impl Effect {
     /// How many of its shares count.
     fn counted(&self) -> u64
         ensures counted { result ≡ (if self.now.volume then self.now.size else 0) }
-        ensures few { result ≤ 99999999 }
+        ensures few { result ≤ SIZE_MOST }
     {
         if self.volume {
             u64::from(self.size.value())
@@ -139,7 +141,7 @@ impl Summary {
         requires volume { (step self.old (place, effect.now)).volume < 2 ^ 64 }
         requires trades { self.old.trades + 1 < 2 ^ 32 }
         ensures step { self.new ≡ step self.old (place, effect.now) }
-        ensures volume { self.new.volume ≤ self.old.volume + 99999999 }
+        ensures volume { self.new.volume ≤ self.old.volume + SIZE_MOST }
     {
         let is_last = effect.becomes_last(self.last);
         let is_first = is_last && self.last.is_none();

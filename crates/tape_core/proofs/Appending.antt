@@ -1,7 +1,7 @@
 -- A message of any kind: its book and register take its change, its entry is the next one, and what a tape's fields keep stays kept.
 use Rattle.std.proofs.Common.{◌≡◌, ℕ, ◌+◌, ◌≤◌, ◌==◌, if◌then◌else◌, List, length, get_or, set, Option, Some, None, refl, sym, ap, subst, ◌∙◌, arith}
 use Rattle.std.specs.Option.{option_map}
-use Rattle.tape_types.specs.Ranges.{IsParticipant}
+use Rattle.tape_types.specs.Ranges.{IsParticipant, SIZE_MOST}
 use Rattle.corrections.specs.RegisterState.{RegisterState, last_of}
 use Rattle.reports.specs.declared.message.Message.{Message}
 use Rattle.reports.specs.declared.message.Message.TheVariants.{Report, Cancel, Correct}
@@ -59,7 +59,7 @@ module _ (t : TapeState) (kept : List Trades) (register : RegisterState) (row : 
   pub KeepsTape-message : (m : Message) → refusal t m ≡ None → IsRoute t m route → (register' : RegisterState) (row' : Totals) (changed : Trades) → changed ≡ book_after book route.place m
       → register'.targets ≡ targets_after register.targets route.place m
       → ((other : ℕ) → IsParticipant other → last_of register' other ≡ (if other == (header_of m).participant then (header_of m).number else last_of register other))
-      → reported_size m ≤ 99999999
+      → reported_size m ≤ SIZE_MOST
       → ((other : ℕ) → IsParticipant other → total_at row' other ≡ (if is_of other m then option_map (total_after m) (total_at row other) else total_at row other))
       → KeepsTape (with_message t m) (set kept route.book changed) register' row'
   KeepsTape-message (Report header content) none is register' row' changed change targets numbers size totals =

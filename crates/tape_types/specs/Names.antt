@@ -4,6 +4,7 @@ use Rattle.std.specs.List.{list_any}
 use Rattle.std.specs.Str.{bytes_eq}
 use Rattle.tape_types.specs.declared.listing_fault.ListingFault.{ListingFault}
 use Rattle.tape_types.specs.declared.listing_fault.ListingFault.TheVariants.{Empty, TooMany, Repeated}
+use Rattle.tape_types.specs.Ranges.{SYMBOLS_MOST, PARTICIPANTS_MOST}
 
 -- what a contract sees of a listing
 pub record Names : Type 0 where
@@ -33,5 +34,5 @@ is_nil (x ∷ xs) = false
 abbrev pub refusal_of : List (List ℕ) → List ℕ → Option ListingFault
 refusal_of symbols participants = first_fault (
     (is_nil symbols || is_nil participants, Empty) ∷
-    (nat_lt 4096 (length symbols) || nat_lt 26 (length participants), TooMany) ∷
+    (nat_lt SYMBOLS_MOST (length symbols) || nat_lt PARTICIPANTS_MOST (length participants), TooMany) ∷
     (has_repeat symbol_eq symbols || has_repeat nat_eq participants, Repeated) ∷ [])

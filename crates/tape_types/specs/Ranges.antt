@@ -1,32 +1,56 @@
 -- The ranges of the small values.
 use Rattle.std.specs.Prelude.{◌≡◌, ℕ, ◌+◌, ◌*◌, ◌/◌, ◌%◌, ◌<◌, ◌≤◌, Bool, ◌&&◌, ◌||◌, ◌==◌, nat_le, List, length, drop, take_while, All}
 
+-- the greatest price, in ten-thousandths of a dollar
+abbrev pub PRICE_MOST : ℕ
+PRICE_MOST = 999999999999
+
+-- the greatest size, in shares
+abbrev pub SIZE_MOST : ℕ
+SIZE_MOST = 99999999
+
+-- the greatest message number
+abbrev pub NUMBER_MOST : ℕ
+NUMBER_MOST = 4294967295
+
+-- the greatest tape number, which is how many entries a tape has at most
+abbrev pub TAPE_MOST : ℕ
+TAPE_MOST = 1048576
+
+-- how many symbols a listing has at most
+abbrev pub SYMBOLS_MOST : ℕ
+SYMBOLS_MOST = 4096
+
+-- how many participants a listing has at most, one for each capital letter
+abbrev pub PARTICIPANTS_MOST : ℕ
+PARTICIPANTS_MOST = 26
+
 -- a price, in ten-thousandths of a dollar
 abbrev pub IsPrice : ℕ → Type 0
-IsPrice n = (1 ≤ n) × (n ≤ 999999999999)
+IsPrice n = (1 ≤ n) × (n ≤ PRICE_MOST)
 
--- a price of two parts, of which the low one has 4,294,967,296 values
-abbrev pub price_of : ℕ → ℕ → ℕ
-price_of low high = low + 4294967296 * high
+-- a number of two parts, of which the low one has 4,294,967,296 values
+abbrev pub of_parts : ℕ → ℕ → ℕ
+of_parts low high = low + 4294967296 * high
 
--- the parts of a price
+-- its parts
 abbrev pub low_part : ℕ → ℕ
-low_part price = price % 4294967296
+low_part number = number % 4294967296
 
 abbrev pub high_part : ℕ → ℕ
-high_part price = price / 4294967296
+high_part number = number / 4294967296
 
 -- a number of shares
 abbrev pub IsSize : ℕ → Type 0
-IsSize n = (1 ≤ n) × (n ≤ 99999999)
+IsSize n = (1 ≤ n) × (n ≤ SIZE_MOST)
 
 -- a message number, of a message or of a target
 abbrev pub IsMessageNumber : ℕ → Type 0
-IsMessageNumber n = (1 ≤ n) × (n ≤ 4294967295)
+IsMessageNumber n = (1 ≤ n) × (n ≤ NUMBER_MOST)
 
 -- a position on the tape, from 1
 abbrev pub IsTapeNumber : ℕ → Type 0
-IsTapeNumber n = (1 ≤ n) × (n ≤ 1048576)
+IsTapeNumber n = (1 ≤ n) × (n ≤ TAPE_MOST)
 
 -- a participant is a capital letter
 abbrev pub IsParticipant : ℕ → Type 0

@@ -3,6 +3,7 @@
 
 mod four_bytes;
 mod gate;
+mod limits;
 mod listing;
 mod listing_fault;
 mod msg_number;
@@ -13,8 +14,10 @@ mod size;
 mod symbol;
 mod tape_number;
 
+pub use four_bytes::{FOUR_BYTE_NUMBERS, FourBytes};
 pub use gate::{Gate, NoGate};
-pub use listing::{Listing, MAX_PARTICIPANTS, MAX_SYMBOLS};
+pub use limits::{PARTICIPANTS_MOST, PRICE_MOST, SIZE_MOST, SYMBOLS_MOST, TAPE_MOST};
+pub use listing::Listing;
 pub use listing_fault::ListingFault;
 pub use msg_number::MsgNumber;
 pub use participant::Participant;

@@ -5,18 +5,12 @@ ghost use Rattle.tape_types.specs.Names.{Names, refusal_of, symbol_eq, has_repea
 ghost use Rattle.std.specs.Slice.Iter.{iter_rest};
 ghost use Rattle.tape_types.specs.declared.listing_fault.ListingFault.TheVariants.{OutOfMemory, Repeated};
 
-use crate::{ListingFault, Participant, Symbol};
+use crate::{ListingFault, PARTICIPANTS_MOST, Participant, SYMBOLS_MOST, Symbol};
 use indexmap::IndexSet;
 use std::alloc::Global;
 use std::hash::Hash;
 use std::marker::Model;
 use std::slice;
-
-/// The greatest number of symbols of a listing.
-pub const MAX_SYMBOLS: usize = 4_096;
-
-/// The greatest number of participants of a listing, one for each capital letter.
-pub const MAX_PARTICIPANTS: usize = 26;
 
 /// The symbols and the participants of a day: each list in the order in which it was given, with no name twice.
 #[derive(Drop)]
@@ -53,7 +47,7 @@ impl Listing {
         if symbols.is_empty() || participants.is_empty() {
             return Err(ListingFault::Empty);
         }
-        if symbols.len() > MAX_SYMBOLS || participants.len() > MAX_PARTICIPANTS {
+        if symbols.len() > SYMBOLS_MOST || participants.len() > PARTICIPANTS_MOST {
             return Err(ListingFault::TooMany);
         }
         let symbols = match in_order(alloc, symbols) {

@@ -6,14 +6,12 @@ ghost use Rattle.std.specs.Ordering.{nat_cmp};
 ghost use Rattle.std.proofs.Common.{rules};
 ghost use Rattle.tape_types.specs.Ranges.{IsPrice};
 
-use crate::four_bytes::FourBytes;
+use crate::PRICE_MOST;
+use crate::four_bytes::{FOUR_BYTE_NUMBERS, FourBytes};
 use std::cmp::Ordering;
 use std::fmt;
 use std::hash::{Hash, Hasher};
 use std::marker::Model;
-
-/// How many values the low part of a price has.
-const LOW_VALUES: u64 = 4_294_967_296;
 
 /// A price, in ten-thousandths of a dollar: 1 to 999,999,999,999.
 ///
@@ -27,13 +25,13 @@ pub struct Price {
 
 impl Model for Price {
     ghost use Rattle.std.specs.Prelude.{ℕ, ◌<◌};
-    ghost use Rattle.tape_types.specs.Ranges.{IsPrice, price_of, low_part, high_part};
+    ghost use Rattle.tape_types.specs.Ranges.{IsPrice, of_parts, low_part, high_part};
 
     ghost Value = { ℕ };
 
-    ghost view = { λ p. price_of p.low p.high };
+    ghost view = { λ p. of_parts p.low p.high };
 
-    ghost invariant = { λ p. IsPrice (price_of p.low p.high) × (p.low < 4294967296) };
+    ghost invariant = { λ p. IsPrice (of_parts p.low p.high) × (p.low < 4294967296) };
 
     ghost inverse = { λ n. record { low = low_part n; high = high_part n } };
 }
@@ -44,10 +42,10 @@ impl Price {
         ensures valid { IsSome result ↔ IsPrice ten_thousandths }
         ensures value { IfSome result (λ p. p ≡ ten_thousandths) }
     {
-        if (1..=999_999_999_999).contains(&ten_thousandths) {
+        if (1..=PRICE_MOST).contains(&ten_thousandths) {
             Some(Price {
-                low: FourBytes::new((ten_thousandths % LOW_VALUES) as u32),
-                high: (ten_thousandths / LOW_VALUES) as u8,
+                low: FourBytes::new((ten_thousandths % FOUR_BYTE_NUMBERS) as u32),
+                high: (ten_thousandths / FOUR_BYTE_NUMBERS) as u8,
             })
         } else {
             None
@@ -59,7 +57,7 @@ impl Price {
         ensures value { result ≡ self }
         ensures in_range { IsPrice self }
     {
-        u64::from(self.low.value()) + LOW_VALUES * u64::from(self.high)
+        u64::from(self.low.value()) + FOUR_BYTE_NUMBERS * u64::from(self.high)
     }
 }
 

@@ -2,6 +2,7 @@
 ghost use Rattle.std.specs.Prelude.{◌≡◌, ℕ, ◌↔◌, IsSome, IfSome};
 ghost use Rattle.tape_types.specs.Ranges.{IsSize};
 
+use crate::SIZE_MOST;
 use crate::four_bytes::FourBytes;
 use std::marker::Model;
 
@@ -27,7 +28,7 @@ impl Size {
         ensures valid { IsSome result ↔ IsSize shares }
         ensures value { IfSome result (λ s. s ≡ shares) }
     {
-        if (1..=99_999_999).contains(&shares) {
+        if (1..=SIZE_MOST).contains(&shares) {
             Some(Size {
                 shares: FourBytes::new(shares),
             })

@@ -2,7 +2,7 @@
 ghost use Rattle.std.specs.Prelude.{◌≡◌, ℕ, ◌↔◌, IsSome, IfSome};
 ghost use Rattle.tape_types.specs.Ranges.{IsTapeNumber};
 
-use crate::NumberKey;
+use crate::{NumberKey, TAPE_MOST};
 use crate::four_bytes::FourBytes;
 use std::marker::Model;
 
@@ -28,7 +28,7 @@ impl TapeNumber {
         ensures valid { IsSome result ↔ IsTapeNumber position }
         ensures value { IfSome result (λ t. t ≡ position) }
     {
-        if (1..=1_048_576).contains(&position) {
+        if (1..=TAPE_MOST).contains(&position) {
             Some(TapeNumber {
                 position: FourBytes::new(position),
             })

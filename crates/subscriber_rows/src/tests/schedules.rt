@@ -1,5 +1,6 @@
 //! Seeded schedules in which packets are lost, doubled, reordered and cut short, and the subscriber starts anew.
 ghost use Rattle.std.specs.Prelude.{◌≤◌, ◌<◌};
+ghost use Rattle.tape_types.specs.Ranges.{TAPE_MOST};
 
 use super::feed::{self, Feed, SESSION};
 use super::steps::{holds, subscriber};
@@ -167,7 +168,7 @@ impl Schedule {
 
     /// How many entries the tape has.
     fn length(&self) -> u32
-        ensures { result ≤ 1048576 }
+        ensures { result ≤ TAPE_MOST }
     {
         match self.tape.entries().last() {
             None => 0,

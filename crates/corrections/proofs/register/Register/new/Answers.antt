@@ -3,12 +3,13 @@ use Rattle.std.specs.FinMap as map
 use Rattle.corrections.proofs.LastNumbers.{slice_index-replicate_zero}
 use Rattle.corrections.proofs.Rows.{targets-empty}
 use Rattle.corrections.proofs.register.Register.new.Goals as goal
+use Rattle.tape_types.specs.Ranges.{PARTICIPANTS_MOST}
 
 pub returns-clause-targets : goal.returns-clause-targets
 returns-clause-targets c = targets-empty c.from_fn.result (λ i lt.
-    let inside : i < 26 = omega (arith, c.from_fn.ensures.items.long) in
+    let inside : i < PARTICIPANTS_MOST = omega (arith, c.from_fn.ensures.items.long) in
     let made = c.from_fn.ensures.items.at i map.empty inside in
     search rules)
 
 pub returns-clause-last_numbers : goal.returns-clause-last_numbers
-returns-clause-last_numbers c = λ who. slice_index-replicate_zero 26 (who - 65)
+returns-clause-last_numbers c = λ who. slice_index-replicate_zero PARTICIPANTS_MOST (who - 65)

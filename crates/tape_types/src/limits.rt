@@ -1,0 +1,16 @@
+//! The greatest values, each once in the code and once in the definitions, which the prover holds together.
+
+/// The greatest price, in ten-thousandths of a dollar.
+pub const PRICE_MOST: u64 = 999_999_999_999;
+
+/// The greatest size, in shares.
+pub const SIZE_MOST: u32 = 99_999_999;
+
+/// The greatest tape number, which is how many entries a tape has at most.
+pub const TAPE_MOST: u32 = 1_048_576;
+
+/// How many symbols a listing has at most.
+pub const SYMBOLS_MOST: usize = 4_096;
+
+/// How many participants a listing has at most, one for each capital letter.
+pub const PARTICIPANTS_MOST: usize = 26;
