@@ -13,6 +13,7 @@ use Rattle.symbol_book.specs.declared.trade.Trade.{Trade}
 use Rattle.symbol_book.specs.Columns.{Trades, consolidated_effect_of, own_effect_of, own_effect_at, reported_trade, trades_with_content, with_content}
 use Rattle.symbol_book.specs.Stores.{trade_of, trades_of, book_trades, HoldTrades, participant_effects_with, participant_effects, AllSettled, IsBook, OwnBecomes}
 use Rattle.symbol_book.proofs.ParticipantStores.{same_key, key_itself, participant_effects-none, OwnBecomes-here, OwnBecomes-then}
+use Rattle.sale_matrix.specs.declared.content.Content.{Content}
 
 -- a value at each key, made of the key and what stood there
 pub find-keyed : {X Y : Type 0} (f : ℕ → X → Y) (q : ℕ) (es : List (ℕ × X)) → map.find nat_cmp q (map (λ e. (e.0, f e.0 e.1)) es) ≡ option_map (f q) (map.find nat_cmp q es)
@@ -236,12 +237,12 @@ module _ {S : Type 0} (effects_in : S → Effects) (change_in : S → Change) wh
       (IsBook-holds effects_in change_in (map.insert m k t) all' new h settled own'.settled, trades-unique (map.insert m k t) (effects_in all') (participant_effects effects_in new) h)
 
   -- the trades with another content, from what the consolidated store holds
-  pub trades_with_content-is : (all : S) (stores : List S) (k : ℕ) (e : Effect) (price size : ℕ) (condition : List ℕ) → map.get (effects_in all) k ≡ Some e → IsBook effects_in change_in all stores
-      → trades_with_content (book_trades effects_in all stores) k price size condition ≡ map.insert (book_trades effects_in all stores) k (reported_trade e.who price size condition)
-  trades_with_content-is all stores k e price size condition here b =
+  pub trades_with_content-is : (all : S) (stores : List S) (k : ℕ) (e : Effect) (content : Content) → map.get (effects_in all) k ≡ Some e → IsBook effects_in change_in all stores
+      → trades_with_content (book_trades effects_in all stores) k content ≡ map.insert (book_trades effects_in all stores) k (reported_trade e.who content)
+  trades_with_content-is all stores k e content here b =
       let m : Trades = book_trades effects_in all stores in
       let at = trade_there m (effects_in all) (participant_effects effects_in stores) k e b.trades here in
-      ap (λ o. with_content m k o price size condition) at.1 ∙ ap (λ (x : Effect). map.insert m k (reported_trade x.who price size condition)) at.2
+      ap (λ o. with_content m k o content) at.1 ∙ ap (λ (x : Effect). map.insert m k (reported_trade x.who content)) at.2
 
 -- one fact from those on `Ok` or those on `Err`
 pub either : {T E A B C D P : Type 0} (r : Result T E) → OnOk r A → OnOk r B → OnErr r C → OnErr r D → (A → B → P) → (C → D → P) → P

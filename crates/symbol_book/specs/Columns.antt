@@ -4,15 +4,20 @@ use Rattle.std.specs.List.{filter}
 use Rattle.std.specs.Ordering.{nat_cmp}
 use Rattle.std.specs.FinMap as map
 use Rattle.sale_matrix.specs.Matrix.{cells_of}
+use Rattle.sale_matrix.specs.declared.content.Content.{Content}
 use Rattle.scratch_fold.specs.declared.summary.Effect.{Effect}
 use Rattle.scratch_fold.specs.declared.summary.Summary.{Summary}
 use Rattle.scratch_fold.specs.Columns.{consolidated_effect, participant_effect}
 use Rattle.scratch_fold.specs.Fold.{summary_of}
 use Rattle.symbol_book.specs.declared.trade.Trade.{Trade}
 
+-- the content of a report by its parts, as a call has them
+abbrev pub content_of : ℕ → ℕ → List ℕ → Content
+content_of price size condition = record { price = price; size = size; condition = condition }
+
 -- the trade of a report
-abbrev pub reported_trade : ℕ → ℕ → ℕ → List ℕ → Trade
-reported_trade who price size condition = record { who = who; price = price; size = size; cells = cells_of condition }
+abbrev pub reported_trade : ℕ → Content → Trade
+reported_trade who content = record { who = who; price = content.price; size = content.size; cells = cells_of content.condition }
 
 -- what it does to the consolidated summary
 abbrev pub consolidated_effect_of : Trade → Effect
@@ -44,10 +49,10 @@ own_effect_at who None = None
 own_effect_at who (Some t) = cond (is_of who t) (Some (own_effect_of t)) None
 
 -- the map with another content for this trade, if there is one
-abbrev pub with_content : Trades → ℕ → Option Trade → ℕ → ℕ → List ℕ → Trades
-with_content m place None price size condition = m
-with_content m place (Some t) price size condition = map.insert m place (reported_trade t.who price size condition)
+abbrev pub with_content : Trades → ℕ → Option Trade → Content → Trades
+with_content m place None content = m
+with_content m place (Some t) content = map.insert m place (reported_trade t.who content)
 
 -- the map with another content at a place that has a trade
-abbrev pub trades_with_content : Trades → ℕ → ℕ → ℕ → List ℕ → Trades
-trades_with_content m place price size condition = with_content m place (map.get m place) price size condition
+abbrev pub trades_with_content : Trades → ℕ → Content → Trades
+trades_with_content m place content = with_content m place (map.get m place) content

@@ -1,11 +1,11 @@
 //! A symbol's book.
 ghost use Rattle.std.specs.Prelude.{◌≡◌, OnOk, OnErr, IsSome, None};
 ghost use Rattle.std.specs.FinMap as map;
-ghost use Rattle.symbol_book.specs.Columns.{reported_trade, consolidated_summary, own_summary, trades_with_content};
+ghost use Rattle.symbol_book.specs.Columns.{content_of, reported_trade, consolidated_summary, own_summary, trades_with_content};
 
 use crate::{Trade, participant_stores};
 use price_index::Searches;
-use sale_matrix::Condition;
+use sale_matrix::{Condition, Content};
 use scratch_fold::Summary;
 use std::alloc::{AllocError, Global};
 use std::marker::Model;
@@ -63,10 +63,15 @@ impl<S: Store> Book<S> {
     ) -> Result<(), AllocError>
         requires vacant { map.get self.old place ≡ None }
         ensures ok { OnOk result
-            (self.new ≡ map.insert self.old place (reported_trade who price size condition.now)) }
+            (self.new ≡ map.insert self.old place (reported_trade who (content_of price size condition.now))) }
         ensures err { OnErr result (self.new ≡ self.old) }
     {
-        let trade = Trade::new(who, price, size, condition);
+        let content = Content {
+            price,
+            size,
+            condition: *condition,
+        };
+        let trade = Trade::new(who, &content);
         let mut searches = Searches::new();
         participant_stores::put(
             &mut self.own,
@@ -99,12 +104,17 @@ impl<S: Store> Book<S> {
     ) -> Result<(), AllocError>
         requires present { IsSome (map.get self.old place) }
         ensures ok { OnOk result
-            (self.new ≡ trades_with_content self.old place price size condition.now) }
+            (self.new ≡ trades_with_content self.old place (content_of price size condition.now)) }
         ensures err { OnErr result (self.new ≡ self.old) }
     {
         let mut searches = Searches::new();
         let effect = self.consolidated.get(place, &mut searches).unwrap();
-        let trade = Trade::new(effect.who, price, size, condition);
+        let content = Content {
+            price,
+            size,
+            condition: *condition,
+        };
+        let trade = Trade::new(effect.who, &content);
         participant_stores::replace(
             &mut self.consolidated,
             &mut self.own,

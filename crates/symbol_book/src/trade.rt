@@ -1,6 +1,6 @@
 //! A report as a book sees it.
 
-use sale_matrix::{Cells, Condition, cells};
+use sale_matrix::{Cells, Content, cells};
 use scratch_fold::Effect;
 use tape_types::{Participant, Price, Size};
 
@@ -23,14 +23,14 @@ impl Trade {
 
     /// The trade of a report.
     #[inline(always)]
-    pub(crate) fn new(who: Participant, price: Price, size: Size, condition: &Condition) -> Trade
-        ensures { result ≡ reported_trade who price size condition.now }
+    pub(crate) fn new(who: Participant, content: &Content) -> Trade
+        ensures { result ≡ reported_trade who content.now }
     {
         Trade {
-            price,
-            size,
+            price: content.price,
+            size: content.size,
             who,
-            cells: cells(condition),
+            cells: cells(&content.condition),
         }
     }
 

@@ -14,9 +14,9 @@ CanChange book targets place (Correct header target content) = IsSome (map.get b
 
 -- the book after a report, a cancel or a correction
 abbrev pub book_after : Trades → ℕ → Message → Trades
-book_after book place (Report header content) = map.insert book place (reported_trade header.participant content.price content.size content.condition)
+book_after book place (Report header content) = map.insert book place (reported_trade header.participant content)
 book_after book place (Cancel header target) = map.remove book place
-book_after book place (Correct header target content) = trades_with_content book place content.price content.size content.condition
+book_after book place (Correct header target content) = trades_with_content book place content
 
 -- the register's targets after it
 abbrev pub targets_after : Targets → ℕ → Message → Targets

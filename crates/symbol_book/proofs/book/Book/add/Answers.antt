@@ -1,7 +1,7 @@
 use Rattle.std.proofs.Common.{ap, sym, ◌∙◌, subst, IsSome, refl}
 use Rattle.std.specs.FinMap as map
 use Rattle.symbol_book.specs.declared.trade.Trade.{Trade}
-use Rattle.symbol_book.specs.Columns.{reported_trade, consolidated_effect_of, own_effect_of}
+use Rattle.symbol_book.specs.Columns.{content_of, reported_trade, consolidated_effect_of, own_effect_of}
 use Rattle.symbol_book.specs.Stores.{participant_effects, OwnBecomes}
 use Rattle.symbol_book.proofs.ParticipantStores.{OwnBecomes-here}
 use Rattle.symbol_book.proofs.HeldTrades.{Book-same, Book-add, Book-undone, get-inserted, on_err_any}
@@ -17,7 +17,7 @@ returns-in_err-put-clause-err g c = on_err_any c.from_residual.result (
 
 pub invariant_of-self-in-Ok : goal.invariant_of-self-in-Ok
 invariant_of-self-in-Ok g c =
-    let t : Trade = reported_trade c.args.who c.args.price c.args.size c.args.condition.now in
+    let t : Trade = reported_trade c.args.who (content_of c.args.price c.args.size c.args.condition.now) in
     let vacant = ap (λ m. map.get m c.args.place) c.self.view_is ∙ c.requires.vacant in
     let is = c.in-Ok.ensures.ok ∙ ap (λ e. map.insert (g.S.Store.effects c.self.inside.consolidated) c.args.place e) (c.consolidated.ensures ∙ ap consolidated_effect_of c.new-trade.ensures) in
     let becomes = subst (λ e. OwnBecomes g.S.Store.effects g.S.Store.staged_change c.self.inside.own.items c.put.new.own.items c.args.who (map.insert (participant_effects g.S.Store.effects c.self.inside.own.items c.args.who) c.args.place e))
@@ -36,7 +36,7 @@ invariant_of-self-in-Err g c =
 
 pub returns-in-Ok-clause-ok : goal.returns-in-Ok-clause-ok
 returns-in-Ok-clause-ok g c =
-    let t : Trade = reported_trade c.args.who c.args.price c.args.size c.args.condition.now in
+    let t : Trade = reported_trade c.args.who (content_of c.args.price c.args.size c.args.condition.now) in
     let vacant = ap (λ m. map.get m c.args.place) c.self.view_is ∙ c.requires.vacant in
     let is = c.in-Ok.ensures.ok ∙ ap (λ e. map.insert (g.S.Store.effects c.self.inside.consolidated) c.args.place e) (c.consolidated.ensures ∙ ap consolidated_effect_of c.new-trade.ensures) in
     let becomes = subst (λ e. OwnBecomes g.S.Store.effects g.S.Store.staged_change c.self.inside.own.items c.put.new.own.items c.args.who (map.insert (participant_effects g.S.Store.effects c.self.inside.own.items c.args.who) c.args.place e))

@@ -1,7 +1,7 @@
 use Rattle.std.proofs.Common.{ap, sym, ◌∙◌, subst, refl}
 use Rattle.std.specs.FinMap as map
 use Rattle.symbol_book.specs.declared.trade.Trade.{Trade}
-use Rattle.symbol_book.specs.Columns.{reported_trade, consolidated_effect_of, own_effect_of, trades_with_content}
+use Rattle.symbol_book.specs.Columns.{content_of, reported_trade, consolidated_effect_of, own_effect_of, trades_with_content}
 use Rattle.symbol_book.specs.Stores.{participant_effects, OwnBecomes}
 use Rattle.symbol_book.proofs.HeldTrades.{Book-replace, Book-same, trades_with_content-is, either, on_ok_both, on_err_both}
 use Rattle.symbol_book.proofs.book.Book.replace.Goals as goal
@@ -11,7 +11,7 @@ invariant_of-self g c =
     let effects_in = g.S.Store.effects in
     let change_in = g.S.Store.staged_change in
     let e = c.unwrap-effect.result in
-    let t : Trade = reported_trade e.who c.args.price c.args.size c.args.condition.now in
+    let t : Trade = reported_trade e.who (content_of c.args.price c.args.size c.args.condition.now) in
     let here = sym c.get.ensures.effect ∙ c.unwrap-effect.ensures in
     either c.replace.result c.replace.ensures.ok c.replace.ensures.own_ok c.replace.ensures.err c.replace.ensures.own_err
     (λ a b. (Book-replace effects_in change_in c.self.inside.consolidated c.replace.new.consolidated c.self.inside.own.items c.replace.new.own.items c.args.place e t here refl
@@ -23,13 +23,13 @@ returns-clause-ok g c =
     let effects_in = g.S.Store.effects in
     let change_in = g.S.Store.staged_change in
     let e = c.unwrap-effect.result in
-    let t : Trade = reported_trade e.who c.args.price c.args.size c.args.condition.now in
+    let t : Trade = reported_trade e.who (content_of c.args.price c.args.size c.args.condition.now) in
     let here = sym c.get.ensures.effect ∙ c.unwrap-effect.ensures in
     on_ok_both c.replace.result (λ a b. (Book-replace effects_in change_in c.self.inside.consolidated c.replace.new.consolidated c.self.inside.own.items c.replace.new.own.items c.args.place e t here refl
     (a ∙ ap (λ (x : Trade). map.insert (effects_in c.self.inside.consolidated) c.args.place (consolidated_effect_of x)) c.new-trade.ensures) c.replace.ensures.settled
     (subst (λ (x : Trade). OwnBecomes effects_in change_in c.self.inside.own.items c.replace.new.own.items e.who (map.insert (participant_effects effects_in c.self.inside.own.items e.who) c.args.place (own_effect_of x))) c.new-trade.ensures b) c.self.invariant).1
-    ∙ sym (trades_with_content-is effects_in change_in c.self.inside.consolidated c.self.inside.own.items c.args.place e c.args.price c.args.size c.args.condition.now here c.self.invariant)
-    ∙ ap (λ m. trades_with_content m c.args.place c.args.price c.args.size c.args.condition.now) c.self.view_is) c.replace.ensures.ok c.replace.ensures.own_ok
+    ∙ sym (trades_with_content-is effects_in change_in c.self.inside.consolidated c.self.inside.own.items c.args.place e (content_of c.args.price c.args.size c.args.condition.now) here c.self.invariant)
+    ∙ ap (λ m. trades_with_content m c.args.place (content_of c.args.price c.args.size c.args.condition.now)) c.self.view_is) c.replace.ensures.ok c.replace.ensures.own_ok
 
 pub returns-clause-err : goal.returns-clause-err
 returns-clause-err g c =
