@@ -1,7 +1,7 @@
 //! How the entries of a packet are put into their slots.
 ghost use Rattle.std.specs.Prelude.{◌≡◌, ◌+◌, ◌≤◌, ◌∷◌, [], is_some, count_by};
 ghost use Rattle.tape_frames.specs.Limits.{longest_tape};
-ghost use Rattle.tape_frames.specs.Rows.{IsEmptyOrRow};
+ghost use Rattle.tape_frames.specs.EntryRows.{IsEmptyOrRow};
 ghost use Rattle.arbitration.specs.Counts.{fresh_count, placing_of, taken_of};
 ghost use Rattle.arbitration.specs.Deliveries.{slots_after};
 

@@ -1,7 +1,7 @@
 //! What a window refuses a packet for.
 ghost use Rattle.std.specs.Prelude.{◌≡◌, ◌+◌, ◌≤◌, ◌↔◌, ◌||◌, length, IsTrue, MatchOption, All};
 ghost use Rattle.tape_frames.specs.Limits.{longest_tape};
-ghost use Rattle.tape_frames.specs.Rows.{IsEmptyOrRow};
+ghost use Rattle.tape_frames.specs.EntryRows.{IsEmptyOrRow};
 ghost use Rattle.arbitration.specs.Deliveries.{Agrees, IsLeastConflict, is_beyond, is_other_end};
 
 use std::collections::VecDeque;

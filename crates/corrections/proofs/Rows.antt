@@ -9,7 +9,7 @@ use Rattle.std.proofs.lemmas.List.{get_or_default, get_or_past, get_or-set_same,
 use Rattle.corrections.specs.declared.target.Target.{Target}
 use Rattle.corrections.specs.Targets.{key_cmp}
 use Rattle.corrections.proofs.Keyed.{key_total, key_exact, tied-same, tied-other}
-use Rattle.corrections.specs.Rows.{RowTargets, row_entries, targets_of_rows}
+use Rattle.corrections.specs.TargetRows.{RowTargets, row_entries, targets_of_rows}
 
 -- a row's entries under its participant
 abbrev tagged : ℕ → List (ℕ × Target) → List ((ℕ × ℕ) × Target)

@@ -1,4 +1,4 @@
-pub mod Targets
-pub mod TargetFaults
 pub mod RegisterState
-pub mod Rows
+pub mod TargetFaults
+pub mod TargetRows
+pub mod Targets

@@ -25,7 +25,7 @@ impl Model for Register {
     ghost use Rattle.std.specs.Coded.{code_by, coded_ℕ, coded_list, coded×};
     ghost use Rattle.corrections.specs.contracts.target.Target as target;
     ghost use Rattle.corrections.specs.RegisterState.{RegisterState, register_code};
-    ghost use Rattle.corrections.specs.Rows.{targets_of_rows};
+    ghost use Rattle.corrections.specs.TargetRows.{targets_of_rows};
     ghost use Rattle.tape_types.specs.Ranges.{PARTICIPANTS_MOST};
 
     ghost Value = { RegisterState };

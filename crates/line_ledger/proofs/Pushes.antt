@@ -3,7 +3,7 @@ use Rattle.std.proofs.Common.{◌≡◌, ℕ, ◌+◌, ◌<◌, List, [], ◌∷
 use Rattle.std.proofs.Math.Nat.{eq-or-lt_of_le}
 use Rattle.std.proofs.lemmas.List.{append-nil, append_assoc, get_or_append_left, get_or_push, get_or-take, length-take, length-map, map-append, take_at, take-map}
 use Rattle.tape_core.specs.declared.entry.Entry.{Entry}
-use Rattle.tape_frames.specs.Rows.{Carries, IsNumberedFrom}
+use Rattle.tape_frames.specs.EntryRows.{Carries, IsNumberedFrom}
 use Rattle.tape_frames.specs.Sources.{BeginsWith, IsPublished}
 use Rattle.seen_cells.specs.declared.Seen.{Seen}
 use Rattle.line_ledger.specs.Cells.{TokenState, IsTokenOf, Each, TokenAt, NextTokens, FirstTokens, shown, SeenAt, FirstSeen}

@@ -1,7 +1,7 @@
 //! The published entries, as a source of packets.
 ghost use Rattle.std.specs.Prelude.{◌≡◌, ◌≤◌, ◌↔◌, [], List, take, length, IfOk, IfErr, OnOk, OnErr, IsTrue};
 ghost use Rattle.tape_core.specs.declared.entry.Entry.{Entry as EntryState};
-ghost use Rattle.tape_frames.specs.Rows.{Carries};
+ghost use Rattle.tape_frames.specs.EntryRows.{Carries};
 ghost use Rattle.tape_frames.specs.Sources.{BeginsWith, IsPublished};
 ghost use Rattle.line_ledger.specs.Cells.{FirstTokens, shown};
 ghost use Rattle.line_ledger.specs.Publishing.{GoesOn};

@@ -10,7 +10,7 @@ use Rattle.std.proofs.lemmas.List.{length-take, take_at, drop_at}
 use Rattle.reports.specs.Fields.{bytes_at, number_at, ranged_at}
 use Rattle.reports.proofs.Fields.{both_true}
 use Rattle.retransmit.specs.Asking.{Follows, answered_at, as_is, first_fault, range_at, texts_of}
-use Rattle.row_reads.specs.Rows.{ReadsFewer}
+use Rattle.row_reads.specs.FailedReads.{ReadsFewer}
 use Rattle.retransmit.specs.declared.ask_fault.AskFault.{AskFault}
 use Rattle.retransmit.specs.declared.ask_fault.AskFault.TheVariants.{ReadFault, BadAnswer}
 use Rattle.retransmit.proofs.Readings.{Follows-fault, Follows-here, Follows-same, Follows-stops, Follows-then, Tells}

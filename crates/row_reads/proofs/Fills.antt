@@ -4,7 +4,7 @@ use Rattle.std.proofs.lemmas.List.{take-append-le}
 use Rattle.std.proofs.lemmas.Slice.{take-put_mid_below}
 use Rattle.std.proofs.Math.Seq.{take-add}
 use Rattle.std.specs.Io.KnownBytes.{Consumes, Keeps}
-use Rattle.row_reads.specs.Rows.{ReadsFewer}
+use Rattle.row_reads.specs.FailedReads.{ReadsFewer}
 use Rattle.std.proofs.KnownBytes.{Consumes-trans, Consumes-kept}
 use borrow.Rule.Slice.PartMut.{put_mid, post_of}
 

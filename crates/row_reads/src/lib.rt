@@ -3,7 +3,7 @@
 
 ghost use Rattle.std.specs.Prelude.{◌≡◌, ◌≤◌, ◌<◌, IfNone, IfSome, take, length};
 ghost use Rattle.std.specs.Io.KnownBytes.{Consumes, IsAtEnd};
-ghost use Rattle.row_reads.specs.Rows.{ReadsFewer};
+ghost use Rattle.row_reads.specs.FailedReads.{ReadsFewer};
 
 use std::io::{ErrorKind, Read};
 

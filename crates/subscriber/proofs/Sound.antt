@@ -17,7 +17,7 @@ use Rattle.tape_core.proofs.LegalNext.{IsLegal-with_message, admissible}
 use Rattle.tape_core.proofs.LegalPrefix.{refusal-next, entry-next}
 use Rattle.tape_frames.specs.declared.packet.Packet.{Packet}
 use Rattle.tape_frames.specs.declared.packet.Packet.TheVariants.{Data, Beat, End}
-use Rattle.tape_frames.specs.Rows.{last_number}
+use Rattle.tape_frames.specs.EntryRows.{last_number}
 use Rattle.tape_frames.specs.Packets.{session_of, entries_of, last_of, end_of}
 use Rattle.tape_frames.proofs.Legal.{legal-IsPublished}
 use Rattle.tape_frames.proofs.Numbers.{slice_get-append-add, slice_get-append-lt}

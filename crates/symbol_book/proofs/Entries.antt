@@ -11,7 +11,7 @@ use Rattle.std.proofs.lemmas.Map.Entries.{option_filter}
 use Rattle.scratch_fold.specs.Fold.{summary_of, empty_summary}
 use Rattle.summaries.specs.Effects.{Effects, map_summary}
 use Rattle.symbol_book.specs.declared.trade.Trade.{Trade}
-use Rattle.symbol_book.specs.Columns.{Trades, consolidated_effect_of, own_effect_of, own_effect_at, is_of, consolidated_summary, own_summary}
+use Rattle.symbol_book.specs.Columns.{Trades, consolidated_effect_of, own_effect_of, own_effect_at, is_trade_of, consolidated_summary, own_summary}
 use Rattle.symbol_book.specs.Stores.{HoldTrades}
 use Rattle.symbol_book.proofs.ParticipantStores.{same_key}
 use Rattle.symbol_book.proofs.HeldTrades.{find-keyed}
@@ -99,16 +99,16 @@ consolidated-is m all of_who h = ap summary_of (entries-is all (map (λ r. (r.0,
 
 -- what a participant's own store comes to
 pub own-is : (m : Trades) (all : Effects) (of_who : ℕ → Effects) (who : ℕ) → HoldTrades m all of_who → map_summary (of_who who) ≡ own_summary m who
-own-is m all of_who who h = ap summary_of (entries-is (of_who who) (map (λ r. (r.0, own_effect_of r.1)) (filter (λ r. is_of who r.1) (map.entries m)))
-    (is_sorted-map own_effect_of (filter (λ r. is_of who r.1) (map.entries m)) (is_sorted-filter (is_of who) (map.entries m) (map.entries_sorted m)))
+own-is m all of_who who h = ap summary_of (entries-is (of_who who) (map (λ r. (r.0, own_effect_of r.1)) (filter (λ r. is_trade_of who r.1) (map.entries m)))
+    (is_sorted-map own_effect_of (filter (λ r. is_trade_of who r.1) (map.entries m)) (is_sorted-filter (is_trade_of who) (map.entries m) (map.entries_sorted m)))
     (λ q. h.own_are who q ∙ as_filter (map.get m q)
-    ∙ ap (λ o. option_map own_effect_of (option_filter (is_of who) o)) (map.get-entries m q)
-    ∙ ap (option_map own_effect_of) (sym (find-filter (is_of who) q (map.entries m) (map.entries_sorted m)))
-    ∙ sym (find-keyed (λ _ t. own_effect_of t) q (filter (λ r. is_of who r.1) (map.entries m)))))
+    ∙ ap (λ o. option_map own_effect_of (option_filter (is_trade_of who) o)) (map.get-entries m q)
+    ∙ ap (option_map own_effect_of) (sym (find-filter (is_trade_of who) q (map.entries m) (map.entries_sorted m)))
+    ∙ sym (find-keyed (λ _ t. own_effect_of t) q (filter (λ r. is_trade_of who r.1) (map.entries m)))))
   where
-    as_filter : (o : Option Trade) → own_effect_at who o ≡ option_map own_effect_of (option_filter (is_of who) o)
+    as_filter : (o : Option Trade) → own_effect_at who o ≡ option_map own_effect_of (option_filter (is_trade_of who) o)
     as_filter None = refl
-    as_filter (Some t) = elim (is_of who t) as (λ b. cond b (Some (own_effect_of t)) None ≡ option_map own_effect_of (cond b (Some t) None)) [ true ↦ refl | false ↦ refl ]
+    as_filter (Some t) = elim (is_trade_of who t) as (λ b. cond b (Some (own_effect_of t)) None ≡ option_map own_effect_of (cond b (Some t) None)) [ true ↦ refl | false ↦ refl ]
 
 -- the summary of no effect
 pub summary-none : map_summary map.empty ≡ empty_summary

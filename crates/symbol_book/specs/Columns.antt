@@ -32,8 +32,8 @@ abbrev pub Trades : Type 0
 Trades = map.FinMap nat_cmp Trade
 
 -- whether a trade is the participant's
-abbrev pub is_of : ℕ → Trade → Bool
-is_of who t = t.who == who
+abbrev pub is_trade_of : ℕ → Trade → Bool
+is_trade_of who t = t.who == who
 
 -- the fold of the trades by rising place, in the consolidated columns
 abbrev pub consolidated_summary : Trades → Summary
@@ -41,12 +41,12 @@ consolidated_summary m = summary_of (map (λ r. (r.0, consolidated_effect_of r.1
 
 -- the fold of one participant's trades by rising place, in the participant columns
 abbrev pub own_summary : Trades → ℕ → Summary
-own_summary m who = summary_of (map (λ r. (r.0, own_effect_of r.1)) (filter (λ r. is_of who r.1) (map.entries m)))
+own_summary m who = summary_of (map (λ r. (r.0, own_effect_of r.1)) (filter (λ r. is_trade_of who r.1) (map.entries m)))
 
 -- the effect in the participant's own store, if the trade is the participant's
 abbrev pub own_effect_at : ℕ → Option Trade → Option Effect
 own_effect_at who None = None
-own_effect_at who (Some t) = cond (is_of who t) (Some (own_effect_of t)) None
+own_effect_at who (Some t) = cond (is_trade_of who t) (Some (own_effect_of t)) None
 
 -- the map with another content for this trade, if there is one
 abbrev pub with_content : Trades → ℕ → Option Trade → Content → Trades

@@ -12,7 +12,7 @@ use Rattle.tape_core.specs.declared.entry.Entry.{Entry}
 use Rattle.tape_frames.specs.declared.packet.Packet.TheVariants.{Data, Beat, End}
 use Rattle.tape_frames.specs.Limits.{most_entries, summary_length, longest_entry, longest_packet}
 use Rattle.tape_frames.specs.Lengths.{EntryLengths, PacketLengths, RequestLengths, entry_length}
-use Rattle.tape_frames.specs.Rows.{CarriesFor, first_number}
+use Rattle.tape_frames.specs.EntryRows.{CarriesFor, first_number}
 use Rattle.tape_frames.specs.Spelling as frames
 use Rattle.tape_frames.specs.Spelling.{IsEntry, carried_text, entry_text, packet_text}
 use Rattle.tape_frames.proofs.Summaries.{length-summary_text}

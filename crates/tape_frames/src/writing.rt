@@ -1,14 +1,14 @@
 //! A packet written as its spelling.
 ghost use Rattle.std.specs.Prelude.{◌≡◌, ◌+◌, ◌*◌, ◌≤◌, ◌++◌, ◌∷◌, [], All, length, take, drop, OnOk, OnErr, IfSome, List, flat_map, is_some};
 ghost use Rattle.std.specs.Int.{w8, w16, w32, w64, to_be_bytes};
-ghost use Rattle.reports.specs.Rows.{Puts};
+ghost use Rattle.reports.specs.ByteRows.{Puts};
 ghost use Rattle.tape_frames.specs.Limits.{most_entries, header_length, mark_length, summary_length, longest_entry, longest_packet, all_marks};
-ghost use Rattle.tape_frames.specs.Rows.{Carries, IsRow, first_number};
+ghost use Rattle.tape_frames.specs.EntryRows.{Carries, IsRow, first_number};
 ghost use Rattle.tape_frames.specs.Spelling.{IsEntry, IsFigure, IsMark, IsPacket, IsSummary, bit, carried_text, entry_text};
 ghost use Rattle.tape_frames.specs.Spelling.{figure_text, header_text, mark_text, packet_text, presence, summary_text};
 
 use crate::limits::{LONGEST_MESSAGE, LONGEST_PACKET, MARK_LENGTH, VERSION};
-use crate::{EntryCount, Packet, Row};
+use crate::{EntryCount, Packet, EntryRow};
 use reports::{encode_into, put};
 use scratch_fold::{Mark, Summary};
 use std::alloc::AllocError;
