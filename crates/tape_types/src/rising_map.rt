@@ -89,7 +89,8 @@ impl<K: NumberKey, V: Copy> RisingMap<K, V> {
         ensures ok { OnOk result (self.new ≡ map.insert self.old (K.number key) value) }
         ensures err { OnErr result (self.new ≡ self.old) }
     {
-        self.entries.push((key, value))?;
+        let entry = (key, value);
+        self.entries.push(entry)?;
         Ok(())
     }
 
