@@ -24,7 +24,8 @@ fn address_of(socket: &UdpSocket) -> Result<SocketAddr, Fault> {
     }
 }
 
-/// Reads both lines until all is held: the subscriber that holds it. The connection is closed then.
+/// Reads both lines until all is held: the subscriber that holds it. The connection is closed then. Where no thread can be
+/// started, nothing is read.
 fn follow_to_end<R: Threads + Wait + Net<Listener = TcpListener, Stream = TcpStream> + Sync>(
     rt: &R,
     sockets: &FollowSockets,
@@ -41,6 +42,9 @@ fn follow_to_end<R: Threads + Wait + Net<Listener = TcpListener, Stream = TcpStr
         socket: &sockets.b,
         other: address_of(&sockets.a)?,
     };
+    if !can_start(rt) {
+        return Err(Fault::Worker);
+    }
     follow_lines(rt, &follower, &a, &b);
     follower.into_inner().into_subscriber()
 }
@@ -69,12 +73,7 @@ fn follow<R: Threads + Wait + Net<Listener = TcpListener, Stream = TcpStream> + 
 ) -> Result<(), Fault>
     ensures { OnOk result (WritesOneReport (W.contents writer.old) (W.contents writer.new)) }
 {
-    let started = if can_start(rt) {
-        Ok(())
-    } else {
-        Err(Fault::Worker)
-    };
-    let subscriber = follow_to_end(rt, sockets, started.and(follower)?)?;
+    let subscriber = follow_to_end(rt, sockets, follower?)?;
     report(rt, alloc, &subscriber, writer)
 }
 

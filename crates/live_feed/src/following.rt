@@ -6,9 +6,10 @@ use arbitration::Line;
 use std::net::{Net, SocketAddr, TcpListener, TcpStream, UdpSocket};
 use std::sync::{Mutex, Wait};
 use std::thread::{Threads, join};
+use tape_frames::LONGEST_PACKET;
 
 /// Room for a datagram: more than the longest packet has, so that none longer is taken for one.
-const ROOM: usize = 1_024;
+const ROOM: usize = LONGEST_PACKET + 1;
 
 /// A line of the follower, and where the other one's read is ended.
 #[derive(Drop)]

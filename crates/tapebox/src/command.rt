@@ -8,7 +8,7 @@ ghost use Rattle.tapebox.specs.declared.command.Refused.TheVariants.{OutOfMemory
 use crate::named::Named;
 use std::alloc::Global;
 use std::str;
-use tape_types::{Listing, ListingFault, Participant, Symbol};
+use tape_types::{Listing, ListingFault, PARTICIPANTS_MOST, Participant, SYMBOLS_MOST, Symbol};
 
 /// The words of a batch.
 const BATCH: &[u8] = b"batch\0";
@@ -104,27 +104,48 @@ impl<'a> Words<'a> {
     }
 }
 
-/// The names of a word, between single commas.
-fn names<N: Named>(alloc: Global, word: &[u8]) -> Result<Vec<N>, Refused> {
-    let mut names = Vec::new(alloc);
-    for piece in word.split(|byte| *byte == b',') {
-        let Some(name) = N::of_name(piece) else {
-            return Err(Refused::BadArguments);
-        };
-        if names.push(name).is_err() {
-            return Err(Refused::OutOfMemory);
-        }
-    }
-    Ok(names)
+/// Whether each piece of a word, between single commas, is a name, and there are at most so many. It takes no memory.
+fn are_names<N: Named>(word: &[u8], most: usize) -> bool {
+    let pieces = || word.split(|byte| *byte == b',');
+    pieces().all(|piece| N::of_name(piece).is_some()) && pieces().count() <= most
 }
 
-/// The listing of a word of symbols and a word of participants.
-fn listing(alloc: Global, symbols: &[u8], participants: &[u8]) -> Result<Listing, Refused> {
-    let symbols = names::<Symbol>(alloc, symbols)?;
-    let participants = names::<Participant>(alloc, participants)?;
-    match Listing::new(alloc, &symbols, &participants) {
+/// Whether a piece of a word stands twice in it, found by comparing all pairs: asked for only where memory ran out.
+fn has_repeat(word: &[u8]) -> bool {
+    let pieces = || word.split(|byte| *byte == b',');
+    pieces().any(|piece| pieces().filter(|other| *other == piece).count() > 1)
+}
+
+/// The names of a word, or `None` where memory runs out or one is no name.
+fn names<N: Named>(alloc: Global, word: &[u8]) -> Option<Vec<N>> {
+    let mut names = Vec::new(alloc);
+    for piece in word.split(|byte| *byte == b',') {
+        names.push(N::of_name(piece)?).ok()?;
+    }
+    Some(names)
+}
+
+/// The listing of a word of symbols and a word of participants, of which there are to be at most so many. Out of memory is
+/// answered only where nothing is wrong with the words.
+fn listing(
+    alloc: Global,
+    symbols: &[u8],
+    participants: &[u8],
+    most: usize,
+) -> Result<Listing, Refused> {
+    if !are_names::<Symbol>(symbols, SYMBOLS_MOST) || !are_names::<Participant>(participants, most) {
+        return Err(Refused::BadArguments);
+    }
+    let names = (names(alloc, symbols), names(alloc, participants));
+    let listed = match names {
+        (Some(symbols), Some(participants)) => Listing::new(alloc, &symbols, &participants),
+        _ => Err(ListingFault::OutOfMemory),
+    };
+    match listed {
         Ok(listing) => Ok(listing),
-        Err(ListingFault::OutOfMemory) => Err(Refused::OutOfMemory),
+        Err(ListingFault::OutOfMemory) if !has_repeat(symbols) && !has_repeat(participants) => {
+            Err(Refused::OutOfMemory)
+        }
         Err(_) => Err(Refused::BadArguments),
     }
 }
@@ -147,7 +168,8 @@ pub struct LiveWords {
 }
 
 impl LiveWords {
-    /// Reads the words behind `live`: the names last, so that memory is taken only where the other words are good.
+    /// Reads the words behind `live`. Memory is taken for the names, once all else is right: the last participant's line has
+    /// a port, too.
     fn read(alloc: Global, words: &[u8]) -> Result<LiveWords, Refused> {
         let mut words = Words { rest: words };
         let (symbols, participants) = (words.word()?, words.word()?);
@@ -157,11 +179,8 @@ impl LiveWords {
         let serves = words.short()?;
         let session = words.number()?;
         words.end()?;
-        let listing = listing(alloc, symbols, participants)?;
-        // The last participant's line has a port too.
-        if listing.participants().len() > PORTS - usize::from(first_port) {
-            return Err(Refused::BadArguments);
-        }
+        let most = (PORTS - usize::from(first_port)).min(PARTICIPANTS_MOST);
+        let listing = listing(alloc, symbols, participants, most)?;
         Ok(LiveWords {
             listing,
             first_port,
@@ -187,7 +206,7 @@ pub struct FollowWords {
 }
 
 impl FollowWords {
-    /// Reads the words behind `follow`: the names last, so that memory is taken only where the other words are good.
+    /// Reads the words behind `follow`. Memory is taken for the names, once all else is right.
     fn read(alloc: Global, words: &[u8]) -> Result<FollowWords, Refused> {
         let mut words = Words { rest: words };
         let (symbols, participants) = (words.word()?, words.word()?);
@@ -195,7 +214,7 @@ impl FollowWords {
         let retransmission = words.port()?;
         let session = words.number()?;
         words.end()?;
-        let listing = listing(alloc, symbols, participants)?;
+        let listing = listing(alloc, symbols, participants, PARTICIPANTS_MOST)?;
         Ok(FollowWords {
             listing,
             ports,

@@ -109,9 +109,12 @@ impl Read for Failing<'_> {
     }
 }
 
-/// How N's line ends over a report and a read that fails.
-fn end_of_failing<W: Wait + Abort>(rt: &W, alloc: Global) -> Option<Figures> {
-    let failing = Failing { left: &REPORT };
+/// How N's line ends over the first so many bytes of two reports and a read that fails.
+fn end_of_failing<W: Wait + Abort>(rt: &W, alloc: Global, len: usize) -> Option<Figures> {
+    let bytes = joined(alloc, &[REPORT, report(b'N', 2)])?;
+    let failing = Failing {
+        left: bytes.get(..len)?,
+    };
     let mut reader = BufReader::with_capacity(alloc, 16, failing).ok()?;
     end_of(rt, alloc, &mut reader, &NoGate)
 }
@@ -156,8 +159,11 @@ fn an_input_ends_its_line(rt: HostRuntime) {
 
 #[test]
 fn a_read_that_fails_ends_its_line(rt: HostRuntime) {
-    assert_eq!(rt;
-        end_of_failing(&rt, rt.alloc()),
-        Some((0, Ended::ReadFault, 1, 1))
-    );
+    for len in 0..81 {
+        let count = len / 40;
+        assert_eq!(rt;
+            end_of_failing(&rt, rt.alloc(), len),
+            Some((0, Ended::ReadFault, count as u32, count))
+        );
+    }
 }
