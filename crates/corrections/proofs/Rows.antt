@@ -1,5 +1,6 @@
 -- The rows of the participants seen as one finite map.
-use Rattle.std.proofs.Common.{map as map_list, ◌≡◌, ◌≢◌, ℕ, zero, suc, ◌+◌, ◌-◌, ◌<◌, cond, List, [], ◌∷◌, ◌++◌, length, get_or, set, Some, None, refl, sym, ap, ◌∙◌, inl, inr, arith}
+use Rattle.std.proofs.Common.{map as map_list, ◌≡◌, ◌≢◌, ℕ, zero, suc, ◌+◌, ◌-◌, ◌<◌, cond, List, [], ◌∷◌, ◌++◌, length, get_or, set, Some, None, refl, sym, ap}
+use Rattle.std.proofs.Common.{◌∙◌, inl, inr, arith}
 use Rattle.std.specs.Ordering.{nat_cmp, eq_by_cmp}
 use Rattle.std.specs.Cmp.{nat_cmp_total}
 use Rattle.std.specs.FinMap as map
@@ -16,13 +17,15 @@ abbrev tagged : ℕ → List (ℕ × Target) → List ((ℕ × ℕ) × Target)
 tagged who es = map_list (λ e. ((who, e.0), e.1)) es
 
 -- another participant's key is not among them
-find-other : (w n who : ℕ) (es : List (ℕ × Target)) (rest : List ((ℕ × ℕ) × Target)) → w ≢ who → find key_cmp (w, n) (tagged who es ++ rest) ≡ find key_cmp (w, n) rest
+find-other : (w n who : ℕ) (es : List (ℕ × Target)) (rest : List ((ℕ × ℕ) × Target)) → w ≢ who
+    → find key_cmp (w, n) (tagged who es ++ rest) ≡ find key_cmp (w, n) rest
 find-other w n who [] rest other = refl
 find-other w n who (e ∷ es) rest other =
     ap (λ b. cond b (Some e.1) (find key_cmp (w, n) (tagged who es ++ rest))) (tied-other w n who e.0 other) ∙ find-other w n who es rest other
 
 -- a key of this participant is among them, or nowhere
-find-same : (w n who : ℕ) (es : List (ℕ × Target)) (rest : List ((ℕ × ℕ) × Target)) → w ≡ who → find key_cmp (w, n) rest ≡ None → find key_cmp (w, n) (tagged who es ++ rest) ≡ find nat_cmp n es
+find-same : (w n who : ℕ) (es : List (ℕ × Target)) (rest : List ((ℕ × ℕ) × Target)) → w ≡ who → find key_cmp (w, n) rest ≡ None
+    → find key_cmp (w, n) (tagged who es ++ rest) ≡ find nat_cmp n es
 find-same w n who [] rest same none = none
 find-same w n who (e ∷ es) rest same none =
     ap (λ b. cond b (Some e.1) (find key_cmp (w, n) (tagged who es ++ rest))) (tied-same w n who e.0 same)
@@ -43,9 +46,11 @@ find-row w n who (suc i) (row ∷ rows) at =
     find-other w n who (map.entries row) (row_entries (who + 1) rows) (λ same. omega arith) ∙ find-row w n (who + 1) i rows (omega arith)
 
 -- what is found under a participant's number is what its row has
-pub get-row : (rows : List RowTargets) (w n i : ℕ) (d : RowTargets) → i + 65 ≡ w → i < length rows → map.get (targets_of_rows rows) (w, n) ≡ map.get (get_or rows i d) n
+pub get-row : (rows : List RowTargets) (w n i : ℕ) (d : RowTargets) → i + 65 ≡ w → i < length rows
+    → map.get (targets_of_rows rows) (w, n) ≡ map.get (get_or rows i d) n
 get-row rows w n i d at inside =
-    map.get-from_entries key_total (row_entries 65 rows) (w, n) ∙ find-row w n 65 i rows (omega arith) ∙ ap (λ r. map.get r n) (get_or_default rows i map.empty d inside)
+    map.get-from_entries key_total (row_entries 65 rows) (w, n) ∙ find-row w n 65 i rows (omega arith)
+    ∙ ap (λ r. map.get r n) (get_or_default rows i map.empty d inside)
 
 -- or nothing, where it has none
 get-else : (rows : List RowTargets) (w n i : ℕ) → 65 + i ≡ w → map.get (targets_of_rows rows) (w, n) ≡ map.get (get_or rows i map.empty) n

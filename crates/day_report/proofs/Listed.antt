@@ -19,7 +19,8 @@ each_among : {X : Type 0} (eq : X → X → Bool) → ((x : X) → eq x x ≡ tr
 each_among eq eq-refl before [] = tt
 each_among {X} eq eq-refl before (x ∷ xs) = (
   list_any-middle (λ y. eq x y) before x xs (eq-refl x),
-  subst (λ (all : List X). AllByRecursion (λ x. list_any (λ y. eq x y) all ≡ true) xs) (append_assoc before (x ∷ []) xs) (each_among eq eq-refl (before ++ x ∷ []) xs),
+  subst (λ (all : List X). AllByRecursion (λ x. list_any (λ y. eq x y) all ≡ true) xs) (append_assoc before (x ∷ []) xs)
+      (each_among eq eq-refl (before ++ x ∷ []) xs),
 )
 
 -- each of these participants is listed

@@ -38,5 +38,6 @@ pub part_added : {X Y : Type 0} (f : X → List Y) (xs : List X) (start size : �
     → old ≡ flat_map f (take start xs) → new ≡ old ++ flat_map f part → new ≡ flat_map f (take (start + length part) xs)
 part_added {X} {Y} f xs start size part old new is before added =
     added ∙ ap (λ (l : List Y). l ++ flat_map f part) before
-    ∙ ap (λ (l : List X). flat_map f (take start xs) ++ flat_map f l) (is ∙ sym (take-length-take size (drop start xs)) ∙ ap (λ (l : List X). take (length l) (drop start xs)) (sym is))
+    ∙ ap (λ (l : List X). flat_map f (take start xs) ++ flat_map f l) (is ∙ sym (take-length-take size (drop start xs))
+    ∙ ap (λ (l : List X). take (length l) (drop start xs)) (sym is))
     ∙ sym (flat_map-take-add f xs start (length part))

@@ -1,5 +1,6 @@
 -- Which participants have a row.
-use Rattle.std.proofs.Common.{◌≡◌, ◌≢◌, ◌+◌, ◌==◌, ◌∷◌, ◌∙◌, [], ℕ, List, Bool, true, false, Some, None, refl, sym, ap, inl, inr, arith, zero-add, length, fold, filter, map, slice_get}
+use Rattle.std.proofs.Common.{◌≡◌, ◌≢◌, ◌+◌, ◌==◌, ◌∷◌, ◌∙◌, [], ℕ, List, Bool, true, false, Some, None, refl, sym, ap, inl, inr, arith, zero-add, length, fold}
+use Rattle.std.proofs.Common.{filter, map, slice_get}
 use Rattle.std.specs.List.{list_any}
 use Rattle.std.proofs.lemmas.Bool.{cases_Bool}
 use Rattle.std.proofs.lemmas.List.{length-map}
@@ -15,7 +16,8 @@ fold-step-trades z [] = omega arith
 fold-step-trades z (r ∷ reports) = fold-step-trades (step z r) reports ∙ omega arith
 
 -- a filter keeps something exactly where some element passes
-list_any-filter : {X : Type 0} (p : X → Bool) (xs : List X) → (length (filter p xs) ≡ 0 → list_any p xs ≡ false) × (length (filter p xs) ≢ 0 → list_any p xs ≡ true)
+list_any-filter : {X : Type 0} (p : X → Bool) (xs : List X)
+    → (length (filter p xs) ≡ 0 → list_any p xs ≡ false) × (length (filter p xs) ≢ 0 → list_any p xs ≡ true)
 list_any-filter p [] = (λ _. refl, λ some. absurd (some refl))
 list_any-filter p (x ∷ xs) = elim (cases_Bool (p x)) [
   | inl passes ↦ rw passes ((λ none. absurd (omega arith)), λ _. refl)
@@ -40,11 +42,16 @@ pub participant_row-None : (t : TapeState) (index : ℕ) (symbol : List ℕ) (wh
     → z.trades ≡ 0 → participant_row t symbol who ≡ None
 participant_row-None t index symbol who z at_index has_participant is none =
     let there = summary_there t index symbol who z at_index has_participant is in
-    rw ((list_any-filter (λ r. r.who == who) (standing_reports (messages_of t.entries) symbol)).0 (sym (participant_summary-trades t symbol who) ∙ ap (λ (s : Summary). s.trades) there ∙ none)) refl
+    rw ((list_any-filter (λ r. r.who == who) (standing_reports (messages_of t.entries) symbol)).0 (sym (participant_summary-trades t symbol who)
+    ∙ ap (λ (s : Summary). s.trades) there ∙ none)) refl
 
 pub participant_row-Some : (t : TapeState) (index : ℕ) (symbol : List ℕ) (who : ℕ) (z : Summary)
     → slice_get t.listing.symbols index ≡ Some symbol → lists_participant t.listing who ≡ true → participant_summary_at_index t index who ≡ Some z
     → z.trades ≢ 0 → participant_row t symbol who ≡ Some (record { symbol = symbol; who = Some who; summary = z })
 participant_row-Some t index symbol who z at_index has_participant is some =
     let there = summary_there t index symbol who z at_index has_participant is in
-    rw ((list_any-filter (λ r. r.who == who) (standing_reports (messages_of t.entries) symbol)).1 (λ none. some (sym (ap (λ (s : Summary). s.trades) there) ∙ participant_summary-trades t symbol who ∙ none)), there) refl
+    rw (
+      (list_any-filter (λ r. r.who == who) (standing_reports (messages_of t.entries) symbol)).1
+          (λ none. some (sym (ap (λ (s : Summary). s.trades) there) ∙ participant_summary-trades t symbol who ∙ none)),
+      there,
+    ) refl

@@ -1,7 +1,9 @@
 -- Lists of tokens, and of what was seen, with one more, and the front of such a list.
-use Rattle.std.proofs.Common.{◌≡◌, ℕ, ◌+◌, ◌<◌, List, [], ◌∷◌, ◌++◌, length, length-append, min, take, slice_index_or, sym, ap, ◌∙◌, ◌⊎◌, inl, inr, arith, zero, suc}
+use Rattle.std.proofs.Common.{◌≡◌, ℕ, ◌+◌, ◌<◌, List, [], ◌∷◌, ◌++◌, length, length-append, min, take, slice_index_or, sym, ap, ◌∙◌, ◌⊎◌, inl, inr, arith, zero}
+use Rattle.std.proofs.Common.{suc}
 use Rattle.std.proofs.Math.Nat.{eq-or-lt_of_le}
-use Rattle.std.proofs.lemmas.List.{append-nil, append_assoc, get_or_append_left, get_or_push, get_or-take, length-take, length-map, map-append, take_at, take-map}
+use Rattle.std.proofs.lemmas.List.{append-nil, append_assoc, get_or_append_left, get_or_push, get_or-take, length-take, length-map, map-append, take_at}
+use Rattle.std.proofs.lemmas.List.{take-map}
 use Rattle.tape_core.specs.declared.entry.Entry.{Entry}
 use Rattle.tape_frames.specs.EntryRows.{Carries, IsNumberedFrom}
 use Rattle.tape_frames.specs.Sources.{BeginsWith, IsPublished}

@@ -1,5 +1,6 @@
 -- What a refusal under the lock tells the seat's holder.
-use Rattle.std.proofs.Common.{◌≡◌, ◌≢◌, ◌≤◌, ◌==◌, ℕ, Bool, true, false, not, nat_le, List, [], ◌∷◌, length, refl, ap, subst, ◌∙◌, sym, arith, Option, Some, None, unwrap_or, true≢false}
+use Rattle.std.proofs.Common.{◌≡◌, ◌≢◌, ◌≤◌, ◌==◌, ℕ, Bool, true, false, not, nat_le, List, [], ◌∷◌, length, refl, ap, subst, ◌∙◌, sym, arith, Option, Some}
+use Rattle.std.proofs.Common.{None, unwrap_or, true≢false}
 use Rattle.std.specs.Option.{option_map}
 use Rattle.std.proofs.lemmas.Bool.Decides.{nat_tests}
 use Rattle.std.proofs.lemmas.Option.{none-some, same_Some}

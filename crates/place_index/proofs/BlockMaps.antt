@@ -1,5 +1,6 @@
 -- A block seen as a finite map, and its entries after an edit of the map.
-use Rattle.std.proofs.Common.{◌≡◌, ◌≢◌, ℕ, ◌+◌, ◌-◌, ◌<◌, ◌≤◌, true, false, cond, refl, Option, Some, List, [], ◌∷◌, ◌++◌, length, set, get_or, None, IsSome, sym, ap, subst, inl, inr, ◌∙◌, arith}
+use Rattle.std.proofs.Common.{◌≡◌, ◌≢◌, ℕ, ◌+◌, ◌-◌, ◌<◌, ◌≤◌, true, false, cond, refl, Option, Some, List, [], ◌∷◌, ◌++◌, length, set, get_or, None, IsSome}
+use Rattle.std.proofs.Common.{sym, ap, subst, inl, inr, ◌∙◌, arith}
 use Rattle.std.specs.List.{insert, remove}
 use Rattle.std.specs.Ordering.{nat_cmp}
 use Rattle.std.specs.Cmp.{nat_cmp_total}
@@ -10,10 +11,12 @@ use Rattle.std.proofs.lemmas.Result.{on_err_weaker, on_ok_weaker}
 use Rattle.std.proofs.lemmas.List.{get_or_default}
 use Rattle.std.proofs.lemmas.List.Edits.{insert_end, length-remove}
 use Rattle.tape_types.specs.RisingEntries.{HasRisingKeys, IsPosition, StandsIn, keyed}
-use Rattle.tape_types.proofs.RisingEntries.{entries-inserted, entries-removed, entries-replaced, find-absent, find-at, itself-seen, keyed-itself, position-above, position-exists, removed-absent, stands-exists, vacant-above}
+use Rattle.tape_types.proofs.RisingEntries.{entries-inserted, entries-removed, entries-replaced, find-absent, find-at, itself-seen, keyed-itself}
+use Rattle.tape_types.proofs.RisingEntries.{position-above, position-exists, removed-absent, stands-exists, vacant-above}
 use Rattle.place_index.specs.Blocks.{AllBelow, EndsAt, IsBlockFor, IsBlockList, StandsAt, StartsAt, joined, max_block_len, values_in, values_of}
 use Rattle.place_index.specs.Places.{IsFirstPlace, IsLastPlace}
-use Rattle.place_index.proofs.BlockOrder.{absent-behind, absent-in, block-rising, blocks-insert, found-in, in-either, inside, set-back, stands-remove, stands-set, under-top, Under}
+use Rattle.place_index.proofs.BlockOrder.{absent-behind, absent-in, block-rising, blocks-insert, found-in, in-either, inside, set-back, stands-remove}
+use Rattle.place_index.proofs.BlockOrder.{stands-set, under-top, Under}
 use Rattle.place_index.proofs.Parts.{first-in, in-list, last-in, under-found}
 
 -- with an item of a list that has one
@@ -44,7 +47,8 @@ module _ {V : Type 0} (m : map.FinMap nat_cmp V) (es : List (ℕ × V)) (is : ma
     some-seen some = subst (λ n. IsSome (map.get n k)) (sym seen) some
 
     -- the entries once a value was put in at a position
-    pub put-in : (n : map.FinMap nat_cmp V) (v : V) (i : ℕ) → n ≡ map.insert m k v → map.get (values_in es) k ≡ None → IsPosition k es i → map.entries n ≡ insert es i (k, v)
+    pub put-in : (n : map.FinMap nat_cmp V) (v : V) (i : ℕ) → n ≡ map.insert m k v → map.get (values_in es) k ≡ None → IsPosition k es i
+        → map.entries n ≡ insert es i (k, v)
     put-in n v i new vacant p =
         ap map.entries new ∙ entries-inserted m k i (subst (λ l. IsPosition k l i) (sym is) p) v (vacant-seen vacant) ∙ ap (λ l. insert l i (k, v)) is
 
@@ -79,7 +83,11 @@ module _ {V : Type 0} (m : map.FinMap nat_cmp V) (es : List (ℕ × V)) (is : ma
         let many = sym (map.len-entries n) ∙ ap map.len new ∙ map.len-insert nat_cmp_total m k v in
         let before = map.len-entries m ∙ ap length is in
         subst (λ c. c ≤ length es + 1) (sym many)
-        (elim (map.contains_key m k) as (λ b. cond b (map.len m) (map.len m + 1) ≤ length es + 1) [ true ↦ omega (arith, before) | false ↦ omega (arith, before) ])
+        (elim (map.contains_key m k) as (λ b. cond b (map.len m) (map.len m + 1) ≤ length es + 1) [
+          | true ↦ omega (arith, before)
+          | false ↦
+              omega (arith, before)
+        ])
 
     pub length-written : (n : map.FinMap nat_cmp V) (v : V) → n ≡ map.insert m k v → IsSome (map.get (values_in es) k) → length (map.entries n) ≡ length es
     length-written n v new some =
@@ -117,16 +125,19 @@ module _ {V : Type 0} where
   ends-last (e ∷ es) place rise at = subst (IsLastPlace (values_in (e ∷ es))) (sym (at.1 e)) (last-in (e ∷ es) e rise at.0)
 
   -- what is found at a place is what its block has there
-  pub found-in_block : (k : ℕ) (bs : List (List (ℕ × V))) → IsBlockList bs → (b : ℕ) → IsBlockFor k bs b → b < length bs → map.get (values_of bs) k ≡ map.get (values_in (get_or bs b [])) k
+  pub found-in_block : (k : ℕ) (bs : List (List (ℕ × V))) → IsBlockList bs → (b : ℕ) → IsBlockFor k bs b → b < length bs
+      → map.get (values_of bs) k ≡ map.get (values_in (get_or bs b [])) k
   found-in_block k bs valid b at lt =
       let x = get_or bs b [] in
       let rise = block-rising bs b valid.rising in
       let place = position-exists k x rise in
       let within = inside k bs valid b place.0 at lt place.1 in
       with-item x place.0 within (λ d. elim (cases_eq (get_or {A = ℕ × V} x place.0 d).0 k) [
-        | inl same ↦ found-in k bs valid b place.0 at lt place.1 d same ∙ sym (map.get-from_entries nat_cmp_total x k ∙ find-at k x place.0 d place.1 within same)
+        | inl same ↦ found-in k bs valid b place.0 at lt place.1 d same
+            ∙ sym (map.get-from_entries nat_cmp_total x k ∙ find-at k x place.0 d place.1 within same)
         | inr other ↦ absent-in k bs valid b place.0 at lt place.1 d other
-            ∙ sym (map.get-from_entries nat_cmp_total x k ∙ find-absent k x place.0 rise place.1 (λ f _ same. other (ap (λ y. y.0) (get_or_default x place.0 d f within) ∙ same)))
+            ∙ sym (map.get-from_entries nat_cmp_total x k
+            ∙ find-absent k x place.0 rise place.1 (λ f _ same. other (ap (λ y. y.0) (get_or_default x place.0 d f within) ∙ same)))
       ])
 
   -- a place that has a value is in a block
@@ -140,7 +151,8 @@ module _ {V : Type 0} where
   ]
 
   -- an edit of the block where a place belongs
-  module _ (k : ℕ) (bs : List (List (ℕ × V))) (valid : IsBlockList bs) (b : ℕ) (at : IsBlockFor k bs b) (lt : b < length bs) (y y2 : List (ℕ × V)) (is : y ≡ get_or bs b []) where
+  module _ (k : ℕ) (bs : List (List (ℕ × V))) (valid : IsBlockList bs) (b : ℕ) (at : IsBlockFor k bs b) (lt : b < length bs) (y y2 : List (ℕ × V))
+      (is : y ≡ get_or bs b []) where
     -- that block rises
     rises : HasRisingKeys (get_or bs b [])
     rises = block-rising bs b valid.rising
@@ -157,7 +169,8 @@ module _ {V : Type 0} where
     stands some = let s = standing some in record { block = at; within = lt; position = s.1.position; has_place = s.1.has_key }
 
     -- another value written there
-    pub set-in_block : IsSome (map.get (values_of bs) k) → (v : V) → ((i : ℕ) → StandsIn k y i → y2 ≡ set y i (k, v)) → IsBlockList (set bs b y2) × (values_of (set bs b y2) ≡ map.insert (values_of bs) k v)
+    pub set-in_block : IsSome (map.get (values_of bs) k) → (v : V) → ((i : ℕ) → StandsIn k y i → y2 ≡ set y i (k, v))
+        → IsBlockList (set bs b y2) × (values_of (set bs b y2) ≡ map.insert (values_of bs) k v)
     set-in_block some v written =
         let s = standing some in
         let new = written s.0 (subst (λ x. StandsIn k x s.0) (sym is) s.1) ∙ ap (λ x. set x s.0 (k, v)) is in
@@ -170,11 +183,10 @@ module _ {V : Type 0} where
         let s = standing some in
         let new = taken s.0 (subst (λ x. StandsIn k x s.0) (sym is) s.1) ∙ ap (λ x. remove x s.0) is in
         with-item (get_or bs b []) s.0 s.1.within (λ d.
-            let done = stands-remove k bs valid b s.0 (stands some) d in
-            (
-              subst (λ x. HasRisingKeys (joined (set bs b x))) (sym new) done.0,
-              (ap (λ x. values_of (set bs b x)) new ∙ done.1, omega (arith, ap length new, length-remove (get_or bs b []) s.0 s.1.within)),
-            ))
+        let done = stands-remove k bs valid b s.0 (stands some) d in (
+          subst (λ x. HasRisingKeys (joined (set bs b x))) (sym new) done.0,
+          (ap (λ x. values_of (set bs b x)) new ∙ done.1, omega (arith, ap length new, length-remove (get_or bs b []) s.0 s.1.within)),
+        ))
 
     -- a value put in at a vacant place
     pub vacant-in_block : map.get (values_of bs) k ≡ None → map.get (values_in y) k ≡ None
@@ -187,8 +199,7 @@ module _ {V : Type 0} where
         let p = position-exists k (get_or bs b []) rises in
         let done = blocks-insert k bs valid b p.0 at lt p.1 v vacant room in
         let put = placed p.0 (subst (λ x. IsPosition k x p.0) (sym is) p.1) in
-        let as_put = λ (new : y2 ≡ insert y p.0 (k, v)). sym (new ∙ ap (λ x. insert x p.0 (k, v)) is) in
-        (
+        let as_put = λ (new : y2 ≡ insert y p.0 (k, v)). sym (new ∙ ap (λ x. insert x p.0 (k, v)) is) in (
           in-either r
               (on_ok_weaker r (λ new. subst (λ x. IsBlockList (set bs b x)) (as_put new) done.0) put)
               (on_err_weaker r (λ old. subst IsBlockList (sym (ap (set bs b) (old ∙ is) ∙ set-back bs b lt)) valid) same),
@@ -196,6 +207,8 @@ module _ {V : Type 0} where
         )
 
   -- a place above all blocks is above those of each
-  pub above-block : (k : ℕ) (bs : List (List (ℕ × V))) → IsBlockList bs → IsBlockFor k bs (length bs) → (b : ℕ) → b < length bs → (y : List (ℕ × V)) → y ≡ get_or bs b [] → AllBelow (values_in y) k
+  pub above-block : (k : ℕ) (bs : List (List (ℕ × V))) → IsBlockList bs → IsBlockFor k bs (length bs) → (b : ℕ) → b < length bs → (y : List (ℕ × V))
+      → y ≡ get_or bs b [] → AllBelow (values_in y) k
   above-block k bs valid at b lt y is = λ q some.
-      under-found k y (subst (λ x. Under k x) (sym is) (under-top k (get_or bs b []) (block-rising bs b valid.rising) (at.below b [] (omega arith) lt))) q (in-list q y some)
+      under-found k y (subst (λ x. Under k x) (sym is) (under-top k (get_or bs b []) (block-rising bs b valid.rising) (at.below b [] (omega arith) lt))) q
+      (in-list q y some)

@@ -1,5 +1,6 @@
 -- A list of entries in two parts, the second above the first: what is found in which part, and what an edit of a part does.
-use Rattle.std.proofs.Common.{◌≡◌, ℕ, zero, suc, ◌-◌, ◌<◌, ◌≤◌, Bool, true, false, cond, set, List, [], ◌∷◌, ◌++◌, length, get_or, take, drop, Option, Some, None, IsSome, refl, sym, ap, subst, ◌∙◌, inl, inr, arith}
+use Rattle.std.proofs.Common.{◌≡◌, ℕ, zero, suc, ◌-◌, ◌<◌, ◌≤◌, Bool, true, false, cond, set, List, [], ◌∷◌, ◌++◌, length, get_or, take, drop, Option, Some}
+use Rattle.std.proofs.Common.{None, IsSome, refl, sym, ap, subst, ◌∙◌, inl, inr, arith}
 use Rattle.std.specs.Prelude.{T, MatchOption}
 use Rattle.std.specs.Ordering.{nat_cmp, eq_by_cmp, is_lt}
 use Rattle.std.specs.Cmp.{nat_cmp_total}
@@ -10,9 +11,11 @@ use Rattle.std.proofs.lemmas.Bool.Decides.{nat_tests}
 use Rattle.std.proofs.lemmas.List.{append-nil, length-take-le, length-drop}
 use Rattle.tape_types.specs.RisingEntries.{IsPosition}
 use Rattle.place_index.specs.Places.{IsVacant, IsFirstPlace, IsLastPlace}
-use Rattle.place_index.specs.Blocks.{joined, max_block_len, top, values_of, values_in, all_values, begins_by, AllBelow, AllAbove, IsBlockList, IsBlockFor, HasLastBlock}
+use Rattle.place_index.specs.Blocks.{joined, max_block_len, top, values_of, values_in, all_values, begins_by, AllBelow, AllAbove, IsBlockList, IsBlockFor}
+use Rattle.place_index.specs.Blocks.{HasLastBlock}
 use Rattle.place_index.proofs.BlockLists.{append-assoc, joined-append, sized-push}
-use Rattle.place_index.proofs.BlockOrder.{and_left, and_rest, and_both, lt_from, itself, tied, take_drop, Under, sorted-left, sorted-right, under-top, top-right, find-top, absent-behind, first-entry, position-under, top-at}
+use Rattle.place_index.proofs.BlockOrder.{and_left, and_rest, and_both, lt_from, itself, tied, take_drop, Under, sorted-left, sorted-right, under-top}
+use Rattle.place_index.proofs.BlockOrder.{top-right, find-top, absent-behind, first-entry, position-under, top-at}
 
 -- a number below another compares as less
 less_is : (x y : ℕ) → x < y → T (is_lt (nat_cmp x y))
@@ -66,18 +69,21 @@ module _ {V : Type 0} where
   -- an entry of two lists is found in the first, and else in the second
   find-append : (q : ℕ) (xs ys : List (ℕ × V)) → find nat_cmp q (xs ++ ys) ≡ either (find nat_cmp q xs) (find nat_cmp q ys)
   find-append q [] ys = refl
-  find-append q (x ∷ xs) ys = elim (eq_by_cmp nat_cmp q x.0) as (λ b. cond b (Some x.1) (find nat_cmp q (xs ++ ys)) ≡ either (cond b (Some x.1) (find nat_cmp q xs)) (find nat_cmp q ys)) [
-    | true ↦ refl
-    | false ↦ find-append q xs ys
-  ]
+  find-append q (x ∷ xs) ys =
+      elim (eq_by_cmp nat_cmp q x.0) as
+      (λ b. cond b (Some x.1) (find nat_cmp q (xs ++ ys)) ≡ either (cond b (Some x.1) (find nat_cmp q xs)) (find nat_cmp q ys)) [
+        | true ↦ refl
+        | false ↦ find-append q xs ys
+      ]
 
   -- a key below all entries is below each that is found
   below-found : (k r : ℕ) (ys : List (ℕ × V)) → T (below_all nat_cmp k ys) → IsSome (find nat_cmp r ys) → k < r
   below-found k r [] h some = not-none {A = V} None some (refl)
-  below-found k r (y ∷ ys) h some = elim (eq_by_cmp nat_cmp r y.0) as (λ b. eq_by_cmp nat_cmp r y.0 ≡ b → IsSome (cond b (Some y.1) (find nat_cmp r ys)) → k < r) [
-    | true ↦ λ same _. subst (λ n. k < n) (sym (tied r y.0 same)) (lt_from k y.0 (and_left _ (below_all nat_cmp k ys) h))
-    | false ↦ λ _ there. below-found k r ys (and_rest (is_lt (nat_cmp k y.0)) _ h) there
-  ] refl some
+  below-found k r (y ∷ ys) h some = elim (eq_by_cmp nat_cmp r y.0) as (λ b. eq_by_cmp nat_cmp r y.0 ≡ b → IsSome (cond b (Some y.1) (find nat_cmp r ys))
+      → k < r) [
+        | true ↦ λ same _. subst (λ n. k < n) (sym (tied r y.0 same)) (lt_from k y.0 (and_left _ (below_all nat_cmp k ys) h))
+        | false ↦ λ _ there. below-found k r ys (and_rest (is_lt (nat_cmp k y.0)) _ h) there
+      ] refl some
 
   -- what is found in the rest is found
   found-rest : (q : ℕ) (x : ℕ × V) (xs : List (ℕ × V)) → IsSome (find nat_cmp q xs) → IsSome (find nat_cmp q (x ∷ xs))
@@ -90,12 +96,14 @@ module _ {V : Type 0} where
   -- a key below each that is found is below all entries
   found-below : (k : ℕ) (ys : List (ℕ × V)) → ((r : ℕ) → IsSome (find nat_cmp r ys) → k < r) → T (below_all nat_cmp k ys)
   found-below k [] all = tt
-  found-below k (y ∷ ys) all = and_both (is_lt (nat_cmp k y.0)) (below_all nat_cmp k ys) (less_is k y.0 (all y.0 (found-head y ys))) (found-below k ys (λ r some. all r (found-rest r y ys some)))
+  found-below k (y ∷ ys) all = and_both (is_lt (nat_cmp k y.0)) (below_all nat_cmp k ys) (less_is k y.0 (all y.0 (found-head y ys)))
+      (found-below k ys (λ r some. all r (found-rest r y ys some)))
 
   -- what is below all of a first part and of a second is below all
   below-append : (k : ℕ) (xs ys : List (ℕ × V)) → T (below_all nat_cmp k xs) → T (below_all nat_cmp k ys) → T (below_all nat_cmp k (xs ++ ys))
   below-append k [] ys p q = q
-  below-append k (x ∷ xs) ys p q = and_both (is_lt (nat_cmp k x.0)) (below_all nat_cmp k (xs ++ ys)) (and_left _ (below_all nat_cmp k xs) p) (below-append k xs ys (and_rest (is_lt (nat_cmp k x.0)) _ p) q)
+  below-append k (x ∷ xs) ys p q = and_both (is_lt (nat_cmp k x.0)) (below_all nat_cmp k (xs ++ ys)) (and_left _ (below_all nat_cmp k xs) p)
+      (below-append k xs ys (and_rest (is_lt (nat_cmp k x.0)) _ p) q)
 
   -- what is below all is below all of the second part
   below-right : (k : ℕ) (xs ys : List (ℕ × V)) → T (below_all nat_cmp k (xs ++ ys)) → T (below_all nat_cmp k ys)
@@ -105,13 +113,16 @@ module _ {V : Type 0} where
   -- in a rising list each key of the first part is below each of the second
   pub parts-apart : (xs ys : List (ℕ × V)) → T (is_sorted nat_cmp (xs ++ ys)) → (q r : ℕ) → IsSome (find nat_cmp q xs) → IsSome (find nat_cmp r ys) → q < r
   parts-apart [] ys h q r there other = not-none {A = V} None there refl
-  parts-apart (x ∷ xs) ys h q r there other = elim (eq_by_cmp nat_cmp q x.0) as (λ b. eq_by_cmp nat_cmp q x.0 ≡ b → IsSome (cond b (Some x.1) (find nat_cmp q xs)) → q < r) [
-    | true ↦ λ same _. subst (λ n. n < r) (sym (tied q x.0 same)) (below-found x.0 r ys (below-right x.0 xs ys (and_left _ (is_sorted nat_cmp (xs ++ ys)) h)) other)
-    | false ↦ λ _ some. parts-apart xs ys (and_rest (below_all nat_cmp x.0 (xs ++ ys)) _ h) q r some other
-  ] refl there
+  parts-apart (x ∷ xs) ys h q r there other = elim (eq_by_cmp nat_cmp q x.0) as (λ b. eq_by_cmp nat_cmp q x.0 ≡ b
+      → IsSome (cond b (Some x.1) (find nat_cmp q xs)) → q < r) [
+        | true ↦ λ same _. subst (λ n. n < r) (sym (tied q x.0 same))
+            (below-found x.0 r ys (below-right x.0 xs ys (and_left _ (is_sorted nat_cmp (xs ++ ys)) h)) other)
+        | false ↦ λ _ some. parts-apart xs ys (and_rest (below_all nat_cmp x.0 (xs ++ ys)) _ h) q r some other
+      ] refl there
 
   -- two rising parts are one rising list where each key of the first is below each of the second
-  pub parts-rise : (xs ys : List (ℕ × V)) → T (is_sorted nat_cmp xs) → T (is_sorted nat_cmp ys) → ((q r : ℕ) → IsSome (find nat_cmp q xs) → IsSome (find nat_cmp r ys) → q < r) → T (is_sorted nat_cmp (xs ++ ys))
+  pub parts-rise : (xs ys : List (ℕ × V)) → T (is_sorted nat_cmp xs) → T (is_sorted nat_cmp ys)
+      → ((q r : ℕ) → IsSome (find nat_cmp q xs) → IsSome (find nat_cmp r ys) → q < r) → T (is_sorted nat_cmp (xs ++ ys))
   parts-rise [] ys h g all = g
   parts-rise (x ∷ xs) ys h g all =
       and_both (below_all nat_cmp x.0 (xs ++ ys)) (is_sorted nat_cmp (xs ++ ys))
@@ -121,10 +132,11 @@ module _ {V : Type 0} where
   -- keys below k: none that is found reaches it
   pub under-found : (k : ℕ) (es : List (ℕ × V)) → Under k es → (q : ℕ) → IsSome (find nat_cmp q es) → q < k
   under-found k [] u q some = not-none {A = V} None some refl
-  under-found k (e ∷ es) u q some = elim (eq_by_cmp nat_cmp q e.0) as (λ b. eq_by_cmp nat_cmp q e.0 ≡ b → IsSome (cond b (Some e.1) (find nat_cmp q es)) → q < k) [
-    | true ↦ λ same _. subst (λ n. n < k) (sym (tied q e.0 same)) u.0
-    | false ↦ λ _ there. under-found k es u.1 q there
-  ] refl some
+  under-found k (e ∷ es) u q some = elim (eq_by_cmp nat_cmp q e.0) as (λ b. eq_by_cmp nat_cmp q e.0 ≡ b → IsSome (cond b (Some e.1) (find nat_cmp q es))
+      → q < k) [
+        | true ↦ λ same _. subst (λ n. n < k) (sym (tied q e.0 same)) u.0
+        | false ↦ λ _ there. under-found k es u.1 q there
+      ] refl some
 
   -- what is found in the map of entries is found in the list, and the other way round
   pub in-list : (q : ℕ) (es : List (ℕ × V)) → IsSome (map.get (map.from_entries {R = nat_cmp} es) q) → IsSome (find nat_cmp q es)
@@ -154,7 +166,8 @@ module _ {V : Type 0} where
   none-below m k all = none-unless (map.get m k) (λ some. let less : k < k = all k some in omega arith)
 
   -- a key that has a value once one is put in is that one, or had a value
-  some-insert : (m : map.FinMap nat_cmp V) (k : ℕ) (v : V) (P : ℕ → Type 0) → P k → ((q : ℕ) → IsSome (map.get m q) → P q) → (q : ℕ) → IsSome (map.get (map.insert m k v) q) → P q
+  some-insert : (m : map.FinMap nat_cmp V) (k : ℕ) (v : V) (P : ℕ → Type 0) → P k → ((q : ℕ) → IsSome (map.get m q) → P q) → (q : ℕ)
+      → IsSome (map.get (map.insert m k v) q) → P q
   some-insert m k v P here all q some = elim (eq_by_cmp nat_cmp q k) as (λ b. eq_by_cmp nat_cmp q k ≡ b → IsSome (cond b (Some v) (map.get m q)) → P q) [
     | true ↦ λ same _. subst P (sym (tied q k same)) here
     | false ↦ λ _ there. all q there
@@ -212,7 +225,8 @@ module _ {V : Type 0} where
           both2 q
           ∙ ap (λ (o : map.FinMap nat_cmp V). either (map.get m q) (map.get o q)) is
           ∙ ap (λ o. either (map.get m q) o) (map.get-insert nat_cmp_total n k v q)
-          ∙ elim (eq_by_cmp nat_cmp q k) as (λ b. eq_by_cmp nat_cmp q k ≡ b → either (map.get m q) (cond b (Some v) (map.get n q)) ≡ cond b (Some v) (either (map.get m q) (map.get n q))) [
+          ∙ elim (eq_by_cmp nat_cmp q k) as (λ b. eq_by_cmp nat_cmp q k ≡ b
+          → either (map.get m q) (cond b (Some v) (map.get n q)) ≡ cond b (Some v) (either (map.get m q) (map.get n q))) [
             | true ↦ λ same. ap (λ o. either o (Some v)) (ap (map.get m) (tied q k same) ∙ none)
             | false ↦ λ _. refl
           ] refl
@@ -224,7 +238,8 @@ module _ {V : Type 0} where
           both2 q
           ∙ ap (λ (o : map.FinMap nat_cmp V). either (map.get o q) (map.get n q)) is
           ∙ ap (λ o. either o (map.get n q)) (map.get-remove nat_cmp_total m k q)
-          ∙ elim (eq_by_cmp nat_cmp q k) as (λ b. eq_by_cmp nat_cmp q k ≡ b → either (cond b None (map.get m q)) (map.get n q) ≡ cond b None (either (map.get m q) (map.get n q))) [
+          ∙ elim (eq_by_cmp nat_cmp q k) as (λ b. eq_by_cmp nat_cmp q k ≡ b
+          → either (cond b None (map.get m q)) (map.get n q) ≡ cond b None (either (map.get m q) (map.get n q))) [
             | true ↦ λ same. ap (map.get n) (tied q k same) ∙ none
             | false ↦ λ _. refl
           ] refl
@@ -236,7 +251,8 @@ module _ {V : Type 0} where
           both2 q
           ∙ ap (λ (o : map.FinMap nat_cmp V). either (map.get m q) (map.get o q)) is
           ∙ ap (λ o. either (map.get m q) o) (map.get-remove nat_cmp_total n k q)
-          ∙ elim (eq_by_cmp nat_cmp q k) as (λ b. eq_by_cmp nat_cmp q k ≡ b → either (map.get m q) (cond b None (map.get n q)) ≡ cond b None (either (map.get m q) (map.get n q))) [
+          ∙ elim (eq_by_cmp nat_cmp q k) as (λ b. eq_by_cmp nat_cmp q k ≡ b
+          → either (map.get m q) (cond b None (map.get n q)) ≡ cond b None (either (map.get m q) (map.get n q))) [
             | true ↦ λ same. ap (λ o. either o None) (ap (map.get m) (tied q k same) ∙ none)
             | false ↦ λ _. refl
           ] refl
@@ -263,7 +279,8 @@ module _ {V : Type 0} where
     pub begun : (k : ℕ) → begins_by k es ≡ true → AllBelow (values_of bs) k
     begun k is q some = begun_by es is (blocks-apart q)
       where
-        begun_by : (xs : List (ℕ × V)) → begins_by k xs ≡ true → ((r : ℕ) → IsSome (map.get (values_of bs) q) → IsSome (map.get (values_in xs) r) → q < r) → q < k
+        begun_by : (xs : List (ℕ × V)) → begins_by k xs ≡ true → ((r : ℕ) → IsSome (map.get (values_of bs) q) → IsSome (map.get (values_in xs) r) → q < r)
+            → q < k
         begun_by [] e far = absurd (cc)
         begun_by (x ∷ xs) e far =
             let low : x.0 ≤ k = grind (arith, nat_tests) in
@@ -295,7 +312,8 @@ module _ {V : Type 0} where
     below-second k all q some = all q (some-second _ _ _ both-of q some)
 
     -- a value put into the last block
-    pub last-insert : (k : ℕ) (v : V) (es2 : List (ℕ × V)) → AllBelow (values_of bs) k → T (is_sorted nat_cmp es2) → length es2 ≤ max_block_len → values_in es2 ≡ map.insert (values_in es) k v → HasLastBlock bs es2 × (all_values bs es2 ≡ map.insert (all_values bs es) k v)
+    pub last-insert : (k : ℕ) (v : V) (es2 : List (ℕ × V)) → AllBelow (values_of bs) k → T (is_sorted nat_cmp es2) → length es2 ≤ max_block_len
+        → values_in es2 ≡ map.insert (values_in es) k v → HasLastBlock bs es2 × (all_values bs es2 ≡ map.insert (all_values bs es) k v)
     last-insert k v es2 below h short is = (
       record {
         rising = parts-rise (joined bs) es2 blocks-valid.rising h (λ q r there other.
@@ -308,7 +326,8 @@ module _ {V : Type 0} where
     )
 
     -- a value put into the blocks before it
-    pub blocks-insert_before : (k : ℕ) (v : V) (bs2 : List (List (ℕ × V))) → AllAbove (values_in es) k → IsBlockList bs2 → values_of bs2 ≡ map.insert (values_of bs) k v → HasLastBlock bs2 es × (all_values bs2 es ≡ map.insert (all_values bs es) k v)
+    pub blocks-insert_before : (k : ℕ) (v : V) (bs2 : List (List (ℕ × V))) → AllAbove (values_in es) k → IsBlockList bs2
+        → values_of bs2 ≡ map.insert (values_of bs) k v → HasLastBlock bs2 es × (all_values bs2 es ≡ map.insert (all_values bs es) k v)
     blocks-insert_before k v bs2 above valid2 is = (
       record {
         rising = parts-rise (joined bs2) es valid2.rising last-rises (λ q r there other.
@@ -321,7 +340,8 @@ module _ {V : Type 0} where
     )
 
     -- blocks that have the same values
-    pub blocks-same : (bs2 : List (List (ℕ × V))) → IsBlockList bs2 → values_of bs2 ≡ values_of bs → HasLastBlock bs2 es × (all_values bs2 es ≡ all_values bs es)
+    pub blocks-same : (bs2 : List (List (ℕ × V))) → IsBlockList bs2 → values_of bs2 ≡ values_of bs
+        → HasLastBlock bs2 es × (all_values bs2 es ≡ all_values bs es)
     blocks-same bs2 valid2 is = (
       record {
         rising = parts-rise (joined bs2) es valid2.rising last-rises (λ q r there other.
@@ -334,11 +354,13 @@ module _ {V : Type 0} where
     )
 
     -- a value taken from the last block
-    pub last-remove : (k : ℕ) (es2 : List (ℕ × V)) → AllBelow (values_of bs) k → T (is_sorted nat_cmp es2) → length es2 ≤ length es → values_in es2 ≡ map.remove (values_in es) k → HasLastBlock bs es2 × (all_values bs es2 ≡ map.remove (all_values bs es) k)
+    pub last-remove : (k : ℕ) (es2 : List (ℕ × V)) → AllBelow (values_of bs) k → T (is_sorted nat_cmp es2) → length es2 ≤ length es
+        → values_in es2 ≡ map.remove (values_in es) k → HasLastBlock bs es2 × (all_values bs es2 ≡ map.remove (all_values bs es) k)
     last-remove k es2 below h fewer is = (
       record {
         rising = parts-rise (joined bs) es2 blocks-valid.rising h (λ q r there other.
-            blocks-apart q r (in-map q (joined bs) there) (some-remove (values_in es) k r (subst (λ (o : map.FinMap nat_cmp V). IsSome (map.get o r)) is (in-map r es2 other))));
+            blocks-apart q r (in-map q (joined bs) there)
+            (some-remove (values_in es) k r (subst (λ (o : map.FinMap nat_cmp V). IsSome (map.get o r)) is (in-map r es2 other))));
         sized = valid.sized;
         short = omega (arith, fewer, valid.short);
       },
@@ -346,11 +368,13 @@ module _ {V : Type 0} where
     )
 
     -- a value taken from the blocks before it
-    pub blocks-remove_before : (k : ℕ) (bs2 : List (List (ℕ × V))) → AllAbove (values_in es) k → IsBlockList bs2 → values_of bs2 ≡ map.remove (values_of bs) k → HasLastBlock bs2 es × (all_values bs2 es ≡ map.remove (all_values bs es) k)
+    pub blocks-remove_before : (k : ℕ) (bs2 : List (List (ℕ × V))) → AllAbove (values_in es) k → IsBlockList bs2 → values_of bs2 ≡ map.remove (values_of bs) k
+        → HasLastBlock bs2 es × (all_values bs2 es ≡ map.remove (all_values bs es) k)
     blocks-remove_before k bs2 above valid2 is = (
       record {
         rising = parts-rise (joined bs2) es valid2.rising last-rises (λ q r there other.
-            blocks-apart q r (some-remove (values_of bs) k q (subst (λ (o : map.FinMap nat_cmp V). IsSome (map.get o q)) is (in-map q (joined bs2) there))) (in-map r es other));
+            blocks-apart q r (some-remove (values_of bs) k q (subst (λ (o : map.FinMap nat_cmp V). IsSome (map.get o q)) is (in-map q (joined bs2) there)))
+            (in-map r es other));
         sized = valid2.sized;
         short = valid.short;
       },
@@ -358,7 +382,8 @@ module _ {V : Type 0} where
     )
 
     -- the last block cut in two, the lower part of it put after the others
-    pub last-cut : (i : ℕ) → 0 < i → i ≤ length es → let bs2 = bs ++ take i es ∷ [] in HasLastBlock bs2 (drop i es) × (all_values bs2 (drop i es) ≡ all_values bs es)
+    pub last-cut : (i : ℕ) → 0 < i → i ≤ length es → let bs2 = bs ++ take i es ∷ [] in
+        HasLastBlock bs2 (drop i es) × (all_values bs2 (drop i es) ≡ all_values bs es)
     last-cut i some within =
         let count = length-take-le i es within in
         let is : joined (bs ++ take i es ∷ []) ++ drop i es ≡ joined bs ++ es =
@@ -416,7 +441,8 @@ module _ {V : Type 0} where
   -- a key above all that is found belongs at the end
   pub above-position : (k : ℕ) (es : List (ℕ × V)) → T (is_sorted nat_cmp es) → AllBelow (values_in es) k → IsPosition k es (length es)
   above-position k [] h all = position-under k [] tt
-  above-position k (e ∷ es) h all = position-under k (e ∷ es) (under-top k (e ∷ es) h (all (top (e ∷ es)) (in-map (top (e ∷ es)) (e ∷ es) (find-top (e ∷ es) h (omega arith)))))
+  above-position k (e ∷ es) h all =
+      position-under k (e ∷ es) (under-top k (e ∷ es) h (all (top (e ∷ es)) (in-map (top (e ∷ es)) (e ∷ es) (find-top (e ∷ es) h (omega arith)))))
 
   -- without an entry no place has a value
   pub none-in : (es : List (ℕ × V)) (q : ℕ) → length es ≡ 0 → map.get (values_in es) q ≡ None

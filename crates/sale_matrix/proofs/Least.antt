@@ -1,10 +1,12 @@
 -- The least rank is the rank of the weaker rule.
-use Rattle.std.proofs.Common.{◌≡◌, ℕ, ◌==◌, Bool, true, false, ◌&&◌, if◌then◌else◌, List, [], ◌∷◌, Option, Some, None, unwrap_or, is_some, map, fold, slice_index, min, refl, sym, ap, ◌∙◌}
+use Rattle.std.proofs.Common.{◌≡◌, ℕ, ◌==◌, Bool, true, false, ◌&&◌, if◌then◌else◌, List, [], ◌∷◌, Option, Some, None, unwrap_or, is_some, map, fold}
+use Rattle.std.proofs.Common.{slice_index, min, refl, sym, ap, ◌∙◌}
 use Rattle.std.specs.Option.{option_map}
 use Rattle.sale_matrix.specs.declared.matrix.Cells.{Cells}
 use Rattle.sale_matrix.specs.declared.matrix.LastRule.{LastRule}
 use Rattle.sale_matrix.specs.declared.matrix.LastRule.TheVariants.{Always, SameMarket, FirstOnly, Never}
-use Rattle.sale_matrix.specs.Matrix.{rank_of, rule_of, is_yes, weaker, cells_in, cells_by, cells_of, cells_of_row, least_cells, first_rows, second_rows, third_rows, fourth_rows}
+use Rattle.sale_matrix.specs.Matrix.{rank_of, rule_of, is_yes, weaker, cells_in, cells_by, cells_of, cells_of_row, least_cells, first_rows, second_rows}
+use Rattle.sale_matrix.specs.Matrix.{third_rows, fourth_rows}
 
 abbrev pub rank : LastRule → ℕ
 rank Never = 0
@@ -79,7 +81,8 @@ module _ (w x y z : ℕ) where
       of (a, p) (b, q) (c, r) (d, s) =
           (λ j. rule_of (least4 (p j) (q j) (r j) (s j)))
           ∙ ap rule_of (least4-rank a b c d) ∙ rule_of-rank (weaker (weaker (weaker a b) c) d)
-          ∙ sym (λ j. weaker (weaker (weaker ((ap rule_of p ∙ rule_of-rank a) j) ((ap rule_of q ∙ rule_of-rank b) j)) ((ap rule_of r ∙ rule_of-rank c) j)) ((ap rule_of s ∙ rule_of-rank d) j))
+          ∙ sym (λ j. weaker (weaker (weaker ((ap rule_of p ∙ rule_of-rank a) j) ((ap rule_of q ∙ rule_of-rank b) j)) ((ap rule_of r ∙ rule_of-rank c) j))
+          ((ap rule_of s ∙ rule_of-rank d) j))
 
   least_flag : is_yes (least4 (rank_of w) (rank_of x) (rank_of y) (rank_of z))
       ≡ (((is_yes (rank_of w) && is_yes (rank_of x)) && is_yes (rank_of y)) && is_yes (rank_of z))
@@ -103,10 +106,13 @@ pub joined_cells : (codes : List ℕ) (a b c d : Cells)
     → Some d ≡ option_map cells_of_row (cells_in fourth_rows (slice_index codes 3))
     → least_cells (least_cells (least_cells a b) c) d ≡ cells_of codes
 unfolding cells_of
-joined_cells codes a b c d = of (cells_in first_rows (slice_index codes 0)) (cells_in second_rows (slice_index codes 1)) (cells_in third_rows (slice_index codes 2)) (cells_in fourth_rows (slice_index codes 3))
+joined_cells codes a b c d = of (cells_in first_rows (slice_index codes 0)) (cells_in second_rows (slice_index codes 1))
+    (cells_in third_rows (slice_index codes 2)) (cells_in fourth_rows (slice_index codes 3))
   where
-    of : (o p q r : Option (List ℕ)) → Some a ≡ option_map cells_of_row o → Some b ≡ option_map cells_of_row p → Some c ≡ option_map cells_of_row q → Some d ≡ option_map cells_of_row r
-        → least_cells (least_cells (least_cells a b) c) d ≡ cells_by (λ column. fold min 3 (map (λ row. rank_of (slice_index (unwrap_or row []) column)) (o ∷ p ∷ q ∷ r ∷ [])))
+    of : (o p q r : Option (List ℕ)) → Some a ≡ option_map cells_of_row o → Some b ≡ option_map cells_of_row p → Some c ≡ option_map cells_of_row q
+        → Some d ≡ option_map cells_of_row r
+        → least_cells (least_cells (least_cells a b) c) d ≡ cells_by
+        (λ column. fold min 3 (map (λ row. rank_of (slice_index (unwrap_or row []) column)) (o ∷ p ∷ q ∷ r ∷ [])))
     of (Some w) (Some x) (Some y) (Some z) e f g h =
         let ea : a ≡ cells_of_row w = cc in
         let eb : b ≡ cells_of_row x = cc in

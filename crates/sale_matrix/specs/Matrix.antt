@@ -1,7 +1,8 @@
 -- The sale condition matrix, as it is printed: for each of the four positions its rows, each with its codes
 -- and its cells in the columns consolidated high/low, consolidated last, participant high/low, participant
 -- last, volume. A space restricts nothing and is allowed after the first position.
-use Rattle.std.specs.Prelude.{◌≡◌, ℕ, Bool, true, ◌==◌, nat_le, ◌&&◌, List, [], ◌∷◌, length, Option, Some, None, unwrap_or, is_some, min, fold, map, if◌then◌else◌, codes, slice_index}
+use Rattle.std.specs.Prelude.{◌≡◌, ℕ, Bool, true, ◌==◌, nat_le, ◌&&◌, List, [], ◌∷◌, length, Option, Some, None, unwrap_or, is_some, min, fold, map}
+use Rattle.std.specs.Prelude.{if◌then◌else◌, codes, slice_index}
 use Rattle.std.specs.List.{list_any, list_all}
 use Rattle.sale_matrix.specs.declared.matrix.LastRule.{LastRule}
 use Rattle.sale_matrix.specs.declared.matrix.LastRule.TheVariants.{Always, SameMarket, FirstOnly, Never}

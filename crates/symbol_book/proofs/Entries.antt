@@ -32,7 +32,8 @@ second true b p = p
 second false b p = absurd p
 
 -- a map is known by a sorted list that answers alike
-pub entries-is : {X : Type 0} (m : FinMap nat_cmp X) (es : List (ℕ × X)) → T (is_sorted nat_cmp es) → ((q : ℕ) → map.get m q ≡ map.find nat_cmp q es) → map.entries m ≡ es
+pub entries-is : {X : Type 0} (m : FinMap nat_cmp X) (es : List (ℕ × X)) → T (is_sorted nat_cmp es) → ((q : ℕ) → map.get m q ≡ map.find nat_cmp q es)
+    → map.entries m ≡ es
 entries-is m es h is =
     ap map.entries (map.same_map nat_cmp_total nat_cmp-IsAntisymmetric m (map.from_sorted es) (λ q. is q ∙ sym (map.get-from_sorted nat_cmp es q h)))
     ∙ map.entries-from_sorted nat_cmp es h
@@ -46,7 +47,8 @@ module _ {X Y : Type 0} (f : X → Y) where
   -- the keys still rise where values change
   pub is_sorted-map : (es : List (ℕ × X)) → T (is_sorted nat_cmp es) → T (is_sorted nat_cmp (map (λ e. (e.0, f e.1)) es))
   is_sorted-map [] h = tt
-  is_sorted-map (e ∷ es) h = both (below_all nat_cmp e.0 (map (λ x. (x.0, f x.1)) es)) _ (below-map e.0 es (first _ _ h)) (is_sorted-map es (second (below_all nat_cmp e.0 es) _ h))
+  is_sorted-map (e ∷ es) h = both (below_all nat_cmp e.0 (map (λ x. (x.0, f x.1)) es)) _ (below-map e.0 es (first _ _ h))
+      (is_sorted-map es (second (below_all nat_cmp e.0 es) _ h))
 
 module _ {X : Type 0} (p : X → Bool) where
   -- a key stays below those that pass
@@ -54,7 +56,11 @@ module _ {X : Type 0} (p : X → Bool) where
   below-filter x [] h = tt
   below-filter x (e ∷ es) h =
       let rest = below-filter x es (second (is_lt (nat_cmp x e.0)) _ h) in
-      elim (p e.1) as (λ b. T (below_all nat_cmp x (cond b (e ∷ filter (λ y. p y.1) es) (filter (λ y. p y.1) es)))) [ true ↦ both (is_lt (nat_cmp x e.0)) _ (first _ _ h) rest | false ↦ rest ]
+      elim (p e.1) as (λ b. T (below_all nat_cmp x (cond b (e ∷ filter (λ y. p y.1) es) (filter (λ y. p y.1) es)))) [
+        | true ↦
+            both (is_lt (nat_cmp x e.0)) _ (first _ _ h) rest
+        | false ↦ rest
+      ]
 
   -- the keys of those that pass still rise
   pub is_sorted-filter : (es : List (ℕ × X)) → T (is_sorted nat_cmp es) → T (is_sorted nat_cmp (filter (λ e. p e.1) es))
@@ -73,22 +79,27 @@ module _ {X : Type 0} (p : X → Bool) where
   -- a key below all others is not found
   find-below : (q : ℕ) (es : List (ℕ × X)) → T (below_all nat_cmp q es) → map.find nat_cmp q es ≡ None
   find-below q [] h = refl
-  find-below q (e ∷ es) h = ap (λ (b : Bool). cond b (Some e.1) (map.find nat_cmp q es)) (lt_apart q e.0 (first _ _ h)) ∙ find-below q es (second (is_lt (nat_cmp q e.0)) _ h)
+  find-below q (e ∷ es) h = ap (λ (b : Bool). cond b (Some e.1) (map.find nat_cmp q es)) (lt_apart q e.0 (first _ _ h))
+      ∙ find-below q es (second (is_lt (nat_cmp q e.0)) _ h)
 
   -- what is found among those that pass
-  pub find-filter : (q : ℕ) (es : List (ℕ × X)) → T (is_sorted nat_cmp es) → map.find nat_cmp q (filter (λ e. p e.1) es) ≡ option_filter p (map.find nat_cmp q es)
+  pub find-filter : (q : ℕ) (es : List (ℕ × X)) → T (is_sorted nat_cmp es)
+      → map.find nat_cmp q (filter (λ e. p e.1) es) ≡ option_filter p (map.find nat_cmp q es)
   find-filter q [] h = refl
   find-filter q (e ∷ es) h =
       let rest = find-filter q es (second (below_all nat_cmp e.0 es) _ h) in
-      elim (eq_by_cmp nat_cmp q e.0) as (λ t. eq_by_cmp nat_cmp q e.0 ≡ t → map.find nat_cmp q (cond (p e.1) (e ∷ filter (λ y. p y.1) es) (filter (λ y. p y.1) es)) ≡ option_filter p (cond t (Some e.1) (map.find nat_cmp q es))) [
+      elim (eq_by_cmp nat_cmp q e.0) as (λ t. eq_by_cmp nat_cmp q e.0 ≡ t
+      → map.find nat_cmp q (cond (p e.1) (e ∷ filter (λ y. p y.1) es) (filter (λ y. p y.1) es)) ≡ option_filter p
+      (cond t (Some e.1) (map.find nat_cmp q es))) [
         | true ↦ λ t. elim (p e.1) as (λ b. map.find nat_cmp q (cond b (e ∷ filter (λ y. p y.1) es) (filter (λ y. p y.1) es)) ≡ cond b (Some e.1) None) [
           | true ↦ ap (λ (b : Bool). cond b (Some e.1) (map.find nat_cmp q (filter (λ y. p y.1) es))) t
           | false ↦ rest ∙ ap (option_filter p) (ap (λ x. map.find nat_cmp x es) (same_key q e.0 t) ∙ find-below e.0 es (first _ _ h))
         ]
-        | false ↦ λ t. elim (p e.1) as (λ b. map.find nat_cmp q (cond b (e ∷ filter (λ y. p y.1) es) (filter (λ y. p y.1) es)) ≡ option_filter p (map.find nat_cmp q es)) [
-          | true ↦ ap (λ (b : Bool). cond b (Some e.1) (map.find nat_cmp q (filter (λ y. p y.1) es))) t ∙ rest
-          | false ↦ rest
-        ]
+        | false ↦ λ t. elim (p e.1) as
+            (λ b. map.find nat_cmp q (cond b (e ∷ filter (λ y. p y.1) es) (filter (λ y. p y.1) es)) ≡ option_filter p (map.find nat_cmp q es)) [
+              | true ↦ ap (λ (b : Bool). cond b (Some e.1) (map.find nat_cmp q (filter (λ y. p y.1) es))) t ∙ rest
+              | false ↦ rest
+            ]
       ] refl
 
 -- what the consolidated store comes to
@@ -100,7 +111,8 @@ consolidated-is m all of_who h = ap summary_of (entries-is all (map (λ r. (r.0,
 -- what a participant's own store comes to
 pub own-is : (m : Trades) (all : Effects) (of_who : ℕ → Effects) (who : ℕ) → HoldTrades m all of_who → map_summary (of_who who) ≡ own_summary m who
 own-is m all of_who who h = ap summary_of (entries-is (of_who who) (map (λ r. (r.0, own_effect_of r.1)) (filter (λ r. is_trade_of who r.1) (map.entries m)))
-    (is_sorted-map own_effect_of (filter (λ r. is_trade_of who r.1) (map.entries m)) (is_sorted-filter (is_trade_of who) (map.entries m) (map.entries_sorted m)))
+    (is_sorted-map own_effect_of (filter (λ r. is_trade_of who r.1) (map.entries m))
+    (is_sorted-filter (is_trade_of who) (map.entries m) (map.entries_sorted m)))
     (λ q. h.own_are who q ∙ as_filter (map.get m q)
     ∙ ap (λ o. option_map own_effect_of (option_filter (is_trade_of who) o)) (map.get-entries m q)
     ∙ ap (option_map own_effect_of) (sym (find-filter (is_trade_of who) q (map.entries m) (map.entries_sorted m)))
@@ -108,7 +120,11 @@ own-is m all of_who who h = ap summary_of (entries-is (of_who who) (map (λ r. (
   where
     as_filter : (o : Option Trade) → own_effect_at who o ≡ option_map own_effect_of (option_filter (is_trade_of who) o)
     as_filter None = refl
-    as_filter (Some t) = elim (is_trade_of who t) as (λ b. cond b (Some (own_effect_of t)) None ≡ option_map own_effect_of (cond b (Some t) None)) [ true ↦ refl | false ↦ refl ]
+    as_filter (Some t) = elim (is_trade_of who t) as (λ b. cond b (Some (own_effect_of t)) None ≡ option_map own_effect_of (cond b (Some t) None)) [
+      | true ↦
+          refl
+      | false ↦ refl
+    ]
 
 -- the summary of no effect
 pub summary-none : map_summary map.empty ≡ empty_summary

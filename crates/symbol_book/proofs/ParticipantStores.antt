@@ -1,5 +1,6 @@
 -- The participants' own stores, one of them changed.
-use Rattle.std.proofs.Common.{◌≡◌, ℕ, ◌+◌, ◌-◌, ◌<◌, ◌≤◌, ◌≢◌, nat_le, Bool, true, false, true≢false, cond, List, [], ◌∷◌, length, get_or, set, map, Option, None, refl, sym, ap, subst, ◌∙◌, arith, IsSome, zero, suc}
+use Rattle.std.proofs.Common.{◌≡◌, ℕ, ◌+◌, ◌-◌, ◌<◌, ◌≤◌, ◌≢◌, nat_le, Bool, true, false, true≢false, cond, List, [], ◌∷◌, length, get_or, set, map, Option}
+use Rattle.std.proofs.Common.{None, refl, sym, ap, subst, ◌∙◌, arith, IsSome, zero, suc}
 use Rattle.std.specs.Ordering.{nat_cmp, eq_by_cmp}
 use Rattle.std.specs.FinMap as map
 use Rattle.std.proofs.lemmas.Bool.{leb-true}
@@ -24,17 +25,20 @@ key_of w i who at letter same = let above : 65 ≤ w = leb-true 65 w letter in o
 
 -- what is not the default stands before the end
 get_or-inside : (effects : List Effects) (i place : ℕ) → IsSome (map.get (get_or effects i map.empty) place) → i < length effects
-get_or-inside [] i place there = let none : IsSome {T = Effect} None = subst (λ (o : Option Effect). IsSome o) (map.get-empty nat_cmp place) there in absurd (cc)
+get_or-inside [] i place there = let none : IsSome {T = Effect} None = subst (λ (o : Option Effect). IsSome o) (map.get-empty nat_cmp place) there in
+    absurd (cc)
 get_or-inside (e ∷ effects) zero place there = omega arith
 get_or-inside (e ∷ effects) (suc i) place there = let rest : i < length effects = get_or-inside effects i place there in omega (arith, rest)
 
 module _ {S : Type 0} (effects_in : S → Effects) where
   -- what a participant's store holds, by its index in the row
-  pub participant_effects-at : (stores : List S) (i who : ℕ) → i + 65 ≡ who → participant_effects effects_in stores who ≡ get_or (map effects_in stores) i map.empty
+  pub participant_effects-at : (stores : List S) (i who : ℕ) → i + 65 ≡ who
+      → participant_effects effects_in stores who ≡ get_or (map effects_in stores) i map.empty
   participant_effects-at stores i who at =
       let letter : nat_le 65 who ≡ true = grind (arith, nat_tests) in
       let index : who - 65 ≡ i = omega arith in
-      ap (λ (b : Bool). cond b (get_or (map effects_in stores) (who - 65) map.empty) map.empty) letter ∙ ap (λ k. get_or (map effects_in stores) k map.empty) index
+      ap (λ (b : Bool). cond b (get_or (map effects_in stores) (who - 65) map.empty) map.empty) letter
+      ∙ ap (λ k. get_or (map effects_in stores) k map.empty) index
 
   -- nothing is held beyond the row
   pub participant_effects-past : (stores : List S) (i who : ℕ) → i + 65 ≡ who → length stores ≤ i → participant_effects effects_in stores who ≡ map.empty
@@ -50,13 +54,18 @@ module _ {S : Type 0} (effects_in : S → Effects) where
   pub participant_effects-set : (stores : List S) (i who : ℕ) (s : S) → i + 65 ≡ who → i < length stores
       → (w : ℕ) → participant_effects effects_in (set stores i s) w ≡ cond (eq_by_cmp nat_cmp w who) (effects_in s) (participant_effects effects_in stores w)
   participant_effects-set stores i who s at inside w =
-      elim (eq_by_cmp nat_cmp w who) as (λ b. eq_by_cmp nat_cmp w who ≡ b → participant_effects effects_in (set stores i s) w ≡ cond b (effects_in s) (participant_effects effects_in stores w)) [
+      elim (eq_by_cmp nat_cmp w who) as (λ b. eq_by_cmp nat_cmp w who ≡ b
+      → participant_effects effects_in (set stores i s) w ≡ cond b (effects_in s) (participant_effects effects_in stores w)) [
         | true ↦ λ e. let within : i < length (map effects_in stores) = subst (λ n. i < n) (sym (length-map stores effects_in)) inside in
             ap (participant_effects effects_in (set stores i s)) (same_key w who e) ∙ participant_effects-at (set stores i s) i who at
-            ∙ ap (λ (es : List Effects). get_or es i map.empty) (map-set effects_in stores i s) ∙ get_or-set_same (map effects_in stores) i (effects_in s) map.empty within
+            ∙ ap (λ (es : List Effects). get_or es i map.empty) (map-set effects_in stores i s)
+            ∙ get_or-set_same (map effects_in stores) i (effects_in s) map.empty within
         | false ↦ λ e. ap (λ (es : List Effects). cond (nat_le 65 w) (get_or es (w - 65) map.empty) map.empty) (map-set effects_in stores i s)
-            ∙ elim (nat_le 65 w) as (λ b. nat_le 65 w ≡ b → cond b (get_or (set (map effects_in stores) i (effects_in s)) (w - 65) map.empty) map.empty ≡ cond b (get_or (map effects_in stores) (w - 65) map.empty) map.empty) [
-              | true ↦ λ l. let other : w - 65 ≢ i = λ same. true≢false (sym (ap (λ x. eq_by_cmp nat_cmp x who) (key_of w i who at l same) ∙ key_itself who) ∙ e) in
+            ∙ elim (nat_le 65 w) as (λ b. nat_le 65 w ≡ b
+            → cond b (get_or (set (map effects_in stores) i (effects_in s)) (w - 65) map.empty) map.empty ≡ cond b
+            (get_or (map effects_in stores) (w - 65) map.empty) map.empty) [
+              | true ↦ λ l. let other : w - 65 ≢ i = λ same. true≢false (sym (ap (λ x. eq_by_cmp nat_cmp x who) (key_of w i who at l same) ∙ key_itself who)
+                  ∙ e) in
                   get_or-set_other (map effects_in stores) i (w - 65) (effects_in s) map.empty other
               | false ↦ λ _. refl
             ] refl
@@ -68,20 +77,24 @@ module _ {S : Type 0} (effects_in : S → Effects) where
       (get_or-inside (map effects_in stores) i place (subst (λ (e : Effects). IsSome (map.get e place)) (participant_effects-at stores i who at) there))
 
   -- what a participant's store holds, as it is read at its index
-  pub participant_effects-read : (stores : List S) (i who : ℕ) (s : S) → i + 65 ≡ who → i < length stores → s ≡ get_or stores i s → participant_effects effects_in stores who ≡ effects_in s
-  participant_effects-read stores i who s at inside read = participant_effects-at stores i who at ∙ get_or-map effects_in stores i s map.empty inside ∙ ap effects_in (sym read)
+  pub participant_effects-read : (stores : List S) (i who : ℕ) (s : S) → i + 65 ≡ who → i < length stores → s ≡ get_or stores i s
+      → participant_effects effects_in stores who ≡ effects_in s
+  participant_effects-read stores i who s at inside read = participant_effects-at stores i who at ∙ get_or-map effects_in stores i s map.empty inside
+      ∙ ap effects_in (sym read)
 
 module _ {S : Type 0} (effects_in : S → Effects) (change_in : S → Change) where
   -- the store of `who` was written at its index
   pub OwnBecomes-set : (old : List S) (i who : ℕ) (s : S) (effects : Effects) → i + 65 ≡ who → i < length old
       → AllSettled change_in old → change_in s ≡ None → effects_in s ≡ effects → OwnBecomes effects_in change_in old (set old i s) who effects
   OwnBecomes-set old i who s effects at inside settled here is = record {
-    held_now = λ w. participant_effects-set effects_in old i who s at inside w ∙ ap (λ (e : Effects). cond (eq_by_cmp nat_cmp w who) e (participant_effects effects_in old w)) is;
+    held_now = λ w. participant_effects-set effects_in old i who s at inside w
+        ∙ ap (λ (e : Effects). cond (eq_by_cmp nat_cmp w who) e (participant_effects effects_in old w)) is;
     settled = All-set (λ x. change_in x ≡ None) old i s here settled;
   }
 
   -- a row that holds the same stands for the one before
-  pub OwnBecomes-from : (old mid new : List S) (who : ℕ) (effects : Effects) → ((w : ℕ) → participant_effects effects_in mid w ≡ participant_effects effects_in old w)
+  pub OwnBecomes-from : (old mid new : List S) (who : ℕ) (effects : Effects)
+      → ((w : ℕ) → participant_effects effects_in mid w ≡ participant_effects effects_in old w)
       → OwnBecomes effects_in change_in mid new who effects → OwnBecomes effects_in change_in old new who effects
   OwnBecomes-from old mid new who effects same h = record {
     held_now = λ w. h.held_now w ∙ ap (λ (e : Effects). cond (eq_by_cmp nat_cmp w who) effects e) (same w);
@@ -89,13 +102,16 @@ module _ {S : Type 0} (effects_in : S → Effects) (change_in : S → Change) wh
   }
 
   -- what the changed store holds
-  pub OwnBecomes-here : (old new : List S) (who : ℕ) (effects : Effects) → OwnBecomes effects_in change_in old new who effects → participant_effects effects_in new who ≡ effects
+  pub OwnBecomes-here : (old new : List S) (who : ℕ) (effects : Effects) → OwnBecomes effects_in change_in old new who effects
+      → participant_effects effects_in new who ≡ effects
   OwnBecomes-here old new who effects h = h.held_now who ∙ ap (λ (b : Bool). cond b effects (participant_effects effects_in old who)) (key_itself who)
 
   -- one write after another
-  pub OwnBecomes-then : (old mid new : List S) (who : ℕ) (a b : Effects) → OwnBecomes effects_in change_in old mid who a → OwnBecomes effects_in change_in mid new who b → OwnBecomes effects_in change_in old new who b
+  pub OwnBecomes-then : (old mid new : List S) (who : ℕ) (a b : Effects) → OwnBecomes effects_in change_in old mid who a
+      → OwnBecomes effects_in change_in mid new who b → OwnBecomes effects_in change_in old new who b
   OwnBecomes-then old mid new who a b h k = record {
     held_now = λ w. k.held_now w ∙ ap (λ (e : Effects). cond (eq_by_cmp nat_cmp w who) b e) (h.held_now w)
-        ∙ elim (eq_by_cmp nat_cmp w who) as (λ t. cond t b (cond t a (participant_effects effects_in old w)) ≡ cond t b (participant_effects effects_in old w)) [ true ↦ refl | false ↦ refl ];
+        ∙ elim (eq_by_cmp nat_cmp w who) as
+        (λ t. cond t b (cond t a (participant_effects effects_in old w)) ≡ cond t b (participant_effects effects_in old w)) [ true ↦ refl | false ↦ refl ];
     settled = k.settled;
   }

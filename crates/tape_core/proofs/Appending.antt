@@ -16,62 +16,78 @@ use Rattle.tape_core.specs.Routes.{IsRoute}
 use Rattle.tape_core.specs.Standing.{is_of, reported_size}
 use Rattle.tape_core.specs.Tape.{TapeState, refusal, messages_of, next_entry, with_message}
 use Rattle.tape_core.specs.Totals.{total_at, total_after}
-use Rattle.tape_core.proofs.Keeping.{place-vacant, number-vacant, place-present, entry-cancel, entry-correct, KeepsTape-report, KeepsTape-cancel, KeepsTape-correct}
+use Rattle.tape_core.proofs.Keeping.{place-vacant, number-vacant, place-present, entry-cancel, entry-correct, KeepsTape-report, KeepsTape-cancel}
+use Rattle.tape_core.proofs.Keeping.{KeepsTape-correct}
 use Rattle.tape_core.proofs.LegalNext.{admissible}
 use Rattle.tape_core.proofs.NamedTargets.{IsTarget, IsTarget-faultless, IsTarget-standing}
 use Rattle.std.specs.FinMap as map
 
-module _ (t : TapeState) (kept : List Trades) (register : RegisterState) (row : Totals) (keeps : KeepsTape t kept register row) (route : Route) (book : Trades) (read : book ≡ get_or kept route.book book) where
+module _ (t : TapeState) (kept : List Trades) (register : RegisterState) (row : Totals) (keeps : KeepsTape t kept register row) (route : Route) (book : Trades)
+    (read : book ≡ get_or kept route.book book) where
   -- book and register can take the change
   pub can-change : (m : Message) → refusal t m ≡ None → IsRoute t m route → CanChange book register.targets route.place m
   can-change (Report header content) none is = (
-    subst (λ n. map.get book n ≡ None) (sym is.number ∙ placed is.place) (place-vacant t kept register row keeps header content none route.book book is.book read),
+    subst (λ n. map.get book n ≡ None) (sym is.number ∙ placed is.place)
+        (place-vacant t kept register row keeps header content none route.book book is.book read),
     number-vacant t kept register row keeps header content none route.book book is.book read,
   )
     where
       placed : Some route.number ≡ Some route.place → route.number ≡ route.place
       placed e = cc
   can-change (Cancel header target) none is =
-      let there = IsTarget-faultless (messages_of t.entries) header.symbol header.participant target route.place (admissible t (Cancel header target) none).target is.place in (
+      let there = IsTarget-faultless (messages_of t.entries) header.symbol header.participant target route.place
+      (admissible t (Cancel header target) none).target is.place in (
         place-present t kept register row keeps header target route.place route.book book is.book read there,
         IsTarget-standing (messages_of t.entries) header.symbol register.targets header.participant target route.place keeps.targets there,
       )
   can-change (Correct header target content) none is =
       place-present t kept register row keeps header target route.place route.book book is.book read
-      (IsTarget-faultless (messages_of t.entries) header.symbol header.participant target route.place (admissible t (Correct header target content) none).target is.place)
+      (IsTarget-faultless (messages_of t.entries) header.symbol header.participant target route.place
+      (admissible t (Correct header target content) none).target is.place)
 
   -- the entry is the next one
-  pub entry-next : (m : Message) → refusal t m ≡ None → IsRoute t m route → (after : Option Summary) (changed : Trades) → changed ≡ book_after book route.place m
-      → after ≡ option_map (λ _. consolidated_summary changed) (named_target m) → record { number = route.number; message = m; after = after } ≡ next_entry t.entries m
-  entry-next (Report header content) none is after changed change carried = λ i. record { number = is.number i; message = Report header content; after = carried i }
+  pub entry-next : (m : Message) → refusal t m ≡ None → IsRoute t m route → (after : Option Summary) (changed : Trades)
+      → changed ≡ book_after book route.place m
+      → after ≡ option_map (λ _. consolidated_summary changed) (named_target m)
+      → record { number = route.number; message = m; after = after } ≡ next_entry t.entries m
+  entry-next (Report header content) none is after changed change carried =
+      λ i. record { number = is.number i; message = Report header content; after = carried i }
   entry-next (Cancel header target) none is after changed change carried =
       (λ i. record { number = route.number; message = Cancel header target; after = carried i })
       ∙ entry-cancel t kept register row keeps header target route.place route.book book is.book read
-      (IsTarget-faultless (messages_of t.entries) header.symbol header.participant target route.place (admissible t (Cancel header target) none).target is.place)
+      (IsTarget-faultless (messages_of t.entries) header.symbol header.participant target route.place
+      (admissible t (Cancel header target) none).target is.place)
       route.number (consolidated_summary changed) changed is.number refl change
   entry-next (Correct header target content) none is after changed change carried =
       (λ i. record { number = route.number; message = Correct header target content; after = carried i })
       ∙ entry-correct t kept register row keeps header target route.place route.book book is.book read
-      (IsTarget-faultless (messages_of t.entries) header.symbol header.participant target route.place (admissible t (Correct header target content) none).target is.place)
+      (IsTarget-faultless (messages_of t.entries) header.symbol header.participant target route.place
+      (admissible t (Correct header target content) none).target is.place)
       content route.number (consolidated_summary changed) changed is.number refl change
 
   -- what the fields keep stays kept
-  pub KeepsTape-message : (m : Message) → refusal t m ≡ None → IsRoute t m route → (register' : RegisterState) (row' : Totals) (changed : Trades) → changed ≡ book_after book route.place m
+  pub KeepsTape-message : (m : Message) → refusal t m ≡ None → IsRoute t m route → (register' : RegisterState) (row' : Totals) (changed : Trades)
+      → changed ≡ book_after book route.place m
       → register'.targets ≡ targets_after register.targets route.place m
-      → ((other : ℕ) → IsParticipant other → last_of register' other ≡ (if other == (header_of m).participant then (header_of m).number else last_of register other))
+      → ((other : ℕ) → IsParticipant other
+      → last_of register' other ≡ (if other == (header_of m).participant then (header_of m).number else last_of register other))
       → reported_size m ≤ SIZE_MOST
-      → ((other : ℕ) → IsParticipant other → total_at row' other ≡ (if is_of other m then option_map (total_after m) (total_at row other) else total_at row other))
+      → ((other : ℕ) → IsParticipant other
+      → total_at row' other ≡ (if is_of other m then option_map (total_after m) (total_at row other) else total_at row other))
       → KeepsTape (with_message t m) (set kept route.book changed) register' row'
   KeepsTape-message (Report header content) none is register' row' changed change targets numbers size totals =
-      KeepsTape-report t kept register row keeps header content none route.book book is.book read register' row' changed route.place (sym (placed is.place) ∙ is.number) change targets numbers size totals
+      KeepsTape-report t kept register row keeps header content none route.book book is.book read register' row' changed route.place (sym (placed is.place)
+      ∙ is.number) change targets numbers size totals
     where
       placed : Some route.number ≡ Some route.place → route.number ≡ route.place
       placed e = cc
   KeepsTape-message (Cancel header target) none is register' row' changed change targets numbers size totals =
       KeepsTape-cancel t kept register row keeps header target route.place route.book book is.book read
-      (IsTarget-faultless (messages_of t.entries) header.symbol header.participant target route.place (admissible t (Cancel header target) none).target is.place)
+      (IsTarget-faultless (messages_of t.entries) header.symbol header.participant target route.place
+      (admissible t (Cancel header target) none).target is.place)
       register' row' changed none change targets numbers totals
   KeepsTape-message (Correct header target content) none is register' row' changed change targets numbers size totals =
       KeepsTape-correct t kept register row keeps header target route.place route.book book is.book read
-      (IsTarget-faultless (messages_of t.entries) header.symbol header.participant target route.place (admissible t (Correct header target content) none).target is.place)
+      (IsTarget-faultless (messages_of t.entries) header.symbol header.participant target route.place
+      (admissible t (Correct header target content) none).target is.place)
       content register' row' changed none change targets numbers totals

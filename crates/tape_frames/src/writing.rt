@@ -8,7 +8,7 @@ ghost use Rattle.tape_frames.specs.Spelling.{IsEntry, IsFigure, IsMark, IsPacket
 ghost use Rattle.tape_frames.specs.Spelling.{figure_text, header_text, mark_text, packet_text, presence, summary_text};
 
 use crate::limits::{LONGEST_MESSAGE, LONGEST_PACKET, MARK_LENGTH, VERSION};
-use crate::{EntryCount, Packet, EntryRow};
+use crate::{EntryCount, EntryRow, Packet};
 use reports::{encode_into, put};
 use scratch_fold::{Mark, Summary};
 use std::alloc::AllocError;

@@ -1,5 +1,6 @@
 -- Entries in the order of their keys, and the finite map that they make.
-use Rattle.std.proofs.Common.{map as map_list, add-one, ◌≡◌, ℕ, zero, suc, ◌-◌, ◌<◌, ◌≤◌, ◌≢◌, ltb, Bool, true, false, cond, not, List, [], ◌∷◌, ◌++◌, length, get_or, set, take, drop, Option, Some, None, IsSome, refl, sym, ap, subst, ◌∙◌, inl, inr, arith}
+use Rattle.std.proofs.Common.{map as map_list, add-one, ◌≡◌, ℕ, zero, suc, ◌-◌, ◌<◌, ◌≤◌, ◌≢◌, ltb, Bool, true, false, cond, not, List, [], ◌∷◌, ◌++◌, length}
+use Rattle.std.proofs.Common.{get_or, set, take, drop, Option, Some, None, IsSome, refl, sym, ap, subst, ◌∙◌, inl, inr, arith}
 use Rattle.std.specs.declared.cmp.Ordering.TheVariants.{Less, Equal, Greater}
 use Rattle.std.specs.Prelude.{T, ◌&&◌, All}
 use Rattle.std.specs.List.{AllWithin, insert, remove}
@@ -76,7 +77,8 @@ module _ {X : Type 0} where
   keys-increase (e ∷ es) h k lt =
       let within : suc k < length (e ∷ es) = omega (arith, length-map (e ∷ es) (λ (x : ℕ × X). x.0)) in
       let here : get_or (map_list (λ (x : ℕ × X). x.0) (e ∷ es)) k 0 ≡ (get_or (e ∷ es) k e).0 = get_or-map (λ x. x.0) (e ∷ es) k e 0 (omega arith) in
-      let next : get_or (map_list (λ (x : ℕ × X). x.0) (e ∷ es)) (suc k) 0 ≡ (get_or (e ∷ es) (suc k) e).0 = get_or-map (λ x. x.0) (e ∷ es) (suc k) e 0 within in
+      let next : get_or (map_list (λ (x : ℕ × X). x.0) (e ∷ es)) (suc k) 0 ≡ (get_or (e ∷ es) (suc k) e).0 =
+      get_or-map (λ x. x.0) (e ∷ es) (suc k) e 0 within in
       rw (add-one, here, next) (keys-step (e ∷ es) h k e within)
 
   -- a position in the tail is one less
@@ -109,7 +111,8 @@ module _ {X : Type 0} where
       ∙ ap (λ r. by_order r ((k, v) ∷ e ∷ es) ((e.0, v) ∷ es) (e ∷ put nat_cmp k v es)) (sym (greater-is k e.0 low))
 
   -- another value written at the position of a key that stands there
-  pub set-put : (k : ℕ) (v : X) (es : List (ℕ × X)) (i : ℕ) (d : ℕ × X) → IsPosition k es i → i < length es → (get_or es i d).0 ≡ k → set es i (k, v) ≡ put nat_cmp k v es
+  pub set-put : (k : ℕ) (v : X) (es : List (ℕ × X)) (i : ℕ) (d : ℕ × X) → IsPosition k es i → i < length es → (get_or es i d).0 ≡ k
+      → set es i (k, v) ≡ put nat_cmp k v es
   set-put k v [] i d p lt same = absurd (omega arith)
   set-put k v (e ∷ es) zero d p lt same =
       ap (λ n. (n, v) ∷ es) (sym same)
@@ -138,7 +141,8 @@ module _ {X : Type 0} where
       find-there k e es (λ same. omega arith) ∙ find-above k es (λ j d lt. above (suc j) d (omega arith))
 
   -- the entry taken out at the position of a key that stands there
-  pub remove-without : (k : ℕ) (es : List (ℕ × X)) (i : ℕ) (d : ℕ × X) → T (is_sorted nat_cmp es) → IsPosition k es i → i < length es → (get_or es i d).0 ≡ k → remove es i ≡ without k es
+  pub remove-without : (k : ℕ) (es : List (ℕ × X)) (i : ℕ) (d : ℕ × X) → T (is_sorted nat_cmp es) → IsPosition k es i → i < length es → (get_or es i d).0 ≡ k
+      → remove es i ≡ without k es
   remove-without k [] i d h p lt same = absurd (omega arith)
   remove-without k (e ∷ es) zero d h p lt same =
       without-above k es (λ j f in_range. let above : e.0 < (get_or es j f).0 = below-each e.0 es (first _ _ h) j f in_range in omega arith)
@@ -149,14 +153,16 @@ module _ {X : Type 0} where
       ∙ ap (λ b. cond (not b) (e ∷ without k es) (without k es)) (sym (apart k e.0 (λ same. omega arith)))
 
   -- what is found of a key: the entry at its position, if that has the key
-  pub find-at : (k : ℕ) (es : List (ℕ × X)) (i : ℕ) (d : ℕ × X) → IsPosition k es i → i < length es → (get_or es i d).0 ≡ k → find nat_cmp k es ≡ Some (get_or es i d).1
+  pub find-at : (k : ℕ) (es : List (ℕ × X)) (i : ℕ) (d : ℕ × X) → IsPosition k es i → i < length es → (get_or es i d).0 ≡ k
+      → find nat_cmp k es ≡ Some (get_or es i d).1
   find-at k [] i d p lt same = absurd (omega arith)
   find-at k (e ∷ es) zero d p lt same = find-here k e es (sym same)
   find-at k (e ∷ es) (suc i) d p lt same =
       let low : e.0 < k = p.below 0 e (omega arith) (omega arith) in
       find-there k e es (λ same. omega arith) ∙ find-at k es i d (position-tail k e es i p) (omega arith) same
 
-  pub find-absent : (k : ℕ) (es : List (ℕ × X)) (i : ℕ) → T (is_sorted nat_cmp es) → IsPosition k es i → ((d : ℕ × X) → i < length es → (get_or es i d).0 ≢ k) → find nat_cmp k es ≡ None
+  pub find-absent : (k : ℕ) (es : List (ℕ × X)) (i : ℕ) → T (is_sorted nat_cmp es) → IsPosition k es i → ((d : ℕ × X) → i < length es → (get_or es i d).0 ≢ k)
+      → find nat_cmp k es ≡ None
   find-absent k [] i h p other = refl
   find-absent k (e ∷ es) zero h p other =
       let low : k ≤ e.0 = p.not_below 0 e (omega arith) (omega arith) in
@@ -168,7 +174,8 @@ module _ {X : Type 0} where
       find-there k e es (λ same. omega arith) ∙ find-absent k es i (second _ _ h) (position-tail k e es i p) (λ d lt. other d (omega arith))
 
   -- a key that is found stands at its position
-  pub at-position : (k : ℕ) (es : List (ℕ × X)) (i : ℕ) → T (is_sorted nat_cmp es) → IsPosition k es i → IsSome (map.get (map.from_entries {R = nat_cmp} es) k) → (i < length es) × ((d : ℕ × X) → (get_or es i d).0 ≡ k)
+  pub at-position : (k : ℕ) (es : List (ℕ × X)) (i : ℕ) → T (is_sorted nat_cmp es) → IsPosition k es i → IsSome (map.get (map.from_entries {R = nat_cmp} es) k)
+      → (i < length es) × ((d : ℕ × X) → (get_or es i d).0 ≡ k)
   at-position k [] i h p present = let never = subst (λ o. IsSome o) (map.get-from_entries nat_cmp_total [] k) present in absurd (cc)
   at-position k (e ∷ es) i h p present = elim (cases_lt i (length (e ∷ es))) [
     | inl lt ↦ elim (cases_eq (get_or (e ∷ es) i e).0 k) [
@@ -193,7 +200,8 @@ module _ {X : Type 0} where
   seen-without : (k : ℕ) (es : List (ℕ × X)) → map.from_entries {R = nat_cmp} (without k es) ≡ map.remove (map.from_entries es) k
   seen-without k es = map.same_map nat_cmp_total nat_cmp-IsAntisymmetric _ _ (λ q.
       map.get-from_entries nat_cmp_total (without k es) q
-      ∙ find-where_key nat_cmp (λ x. not (eq_by_cmp nat_cmp k x)) q (λ x tied. ap (λ y. not (eq_by_cmp nat_cmp k y)) (sym (nat_cmp-IsAntisymmetric q x tied))) es
+      ∙ find-where_key nat_cmp (λ x. not (eq_by_cmp nat_cmp k x)) q
+      (λ x tied. ap (λ y. not (eq_by_cmp nat_cmp k y)) (sym (nat_cmp-IsAntisymmetric q x tied))) es
       ∙ turned (eq_by_cmp nat_cmp k q) (find nat_cmp q es) None
       ∙ ap (λ (b : Bool). cond b None (find nat_cmp q es)) ((eq_by_cmp_equiv nat_cmp_total).symm k q)
       ∙ ap (λ (w : Option X). cond (eq_by_cmp nat_cmp q k) None w) (sym (map.get-from_entries nat_cmp_total es q))
@@ -211,7 +219,8 @@ module _ {X : Type 0} where
       ∙ map.entries-from_sorted nat_cmp es h
 
   -- what a partition by the keys below k says
-  pub position-parted : (k : ℕ) (es : List (ℕ × X)) (i : ℕ) → i ≤ length es → IsPartitionPoint (λ (e : ℕ × X). ltb e.0 k ≡ true) (λ (e : ℕ × X). ltb e.0 k ≡ false) es i → IsPosition k es i
+  pub position-parted : (k : ℕ) (es : List (ℕ × X)) (i : ℕ) → i ≤ length es
+      → IsPartitionPoint (λ (e : ℕ × X). ltb e.0 k ≡ true) (λ (e : ℕ × X). ltb e.0 k ≡ false) es i → IsPosition k es i
   position-parted k es i le parted = record {
     in_range = le;
     below = λ j d low lt. let test : ltb (get_or es j d).0 k ≡ true = parted.0 j d low lt in grind (arith, nat_tests);
@@ -227,7 +236,8 @@ module _ {X : Type 0} where
   }
 
   -- and so does one above the last
-  pub position-after_last : (k : ℕ) (es : List (ℕ × X)) (d : ℕ × X) → T (is_sorted nat_cmp es) → (get_or es (length es - 1) d).0 < k → IsPosition k es (length es)
+  pub position-after_last : (k : ℕ) (es : List (ℕ × X)) (d : ℕ × X) → T (is_sorted nat_cmp es) → (get_or es (length es - 1) d).0 < k
+      → IsPosition k es (length es)
   position-after_last k es d h above = record {
     in_range = omega arith;
     below = λ j e low lt.
@@ -239,14 +249,20 @@ module _ {X : Type 0} where
 
   module _ (k : ℕ) (es : List (ℕ × X)) (h : T (is_sorted nat_cmp es)) where
     -- an entry put in at the position of a vacant key: the order, and the map
-    pub inserted : (v : X) (i : ℕ) → IsPosition k es i → map.get (map.from_entries {R = nat_cmp} es) k ≡ None → T (is_sorted nat_cmp (insert es i (k, v))) × (map.from_entries {R = nat_cmp} (insert es i (k, v)) ≡ map.insert (map.from_entries es) k v)
+    pub inserted : (v : X) (i : ℕ) → IsPosition k es i → map.get (map.from_entries {R = nat_cmp} es) k ≡ None
+        → T (is_sorted nat_cmp (insert es i (k, v))) × (map.from_entries {R = nat_cmp} (insert es i (k, v)) ≡ map.insert (map.from_entries es) k v)
     inserted v i p vacant =
-        let is : insert es i (k, v) ≡ put nat_cmp k v es = insert-put k v es i p (sym (map.get-from_entries nat_cmp_total es k) ∙ vacant) in
-        (subst (λ l. T (is_sorted nat_cmp l)) (sym is) (is_sorted-put nat_cmp nat_cmp_total k v es h), ap (λ l. map.from_entries {R = nat_cmp} l) is ∙ seen-put k v es)
+        let is : insert es i (k, v) ≡ put nat_cmp k v es = insert-put k v es i p (sym (map.get-from_entries nat_cmp_total es k) ∙ vacant) in (
+          subst (λ l. T (is_sorted nat_cmp l)) (sym is) (is_sorted-put nat_cmp nat_cmp_total k v es h),
+          ap (λ l. map.from_entries {R = nat_cmp} l) is
+              ∙ seen-put k v es,
+        )
 
     -- an entry put at the end, where all keys are below
-    pub pushed : (v : X) → IsPosition k es (length es) → map.get (map.from_entries {R = nat_cmp} es) k ≡ None → T (is_sorted nat_cmp (es ++ (k, v) ∷ [])) × (map.from_entries {R = nat_cmp} (es ++ (k, v) ∷ []) ≡ map.insert (map.from_entries es) k v)
-    pushed v p vacant = subst (λ l. T (is_sorted nat_cmp l) × (map.from_entries {R = nat_cmp} l ≡ map.insert (map.from_entries es) k v)) (insert_end es (k, v)) (inserted v (length es) p vacant)
+    pub pushed : (v : X) → IsPosition k es (length es) → map.get (map.from_entries {R = nat_cmp} es) k ≡ None
+        → T (is_sorted nat_cmp (es ++ (k, v) ∷ [])) × (map.from_entries {R = nat_cmp} (es ++ (k, v) ∷ []) ≡ map.insert (map.from_entries es) k v)
+    pushed v p vacant = subst (λ l. T (is_sorted nat_cmp l) × (map.from_entries {R = nat_cmp} l ≡ map.insert (map.from_entries es) k v)) (insert_end es (k, v))
+        (inserted v (length es) p vacant)
 
     module _ (i : ℕ) (p : IsPosition k es i) (present : IsSome (map.get (map.from_entries {R = nat_cmp} es) k)) where
       -- the position of a key that is found is that of an entry
@@ -258,18 +274,25 @@ module _ {X : Type 0} where
       found-there d = let at = at-position k es i h p present in map.get-from_entries nat_cmp_total es k ∙ find-at k es i d p at.0 (at.1 d)
 
       -- another value written there
-      pub replaced : (v : X) → T (is_sorted nat_cmp (set es i (k, v))) × (map.from_entries {R = nat_cmp} (set es i (k, v)) ≡ map.insert (map.from_entries es) k v)
+      pub replaced : (v : X)
+          → T (is_sorted nat_cmp (set es i (k, v))) × (map.from_entries {R = nat_cmp} (set es i (k, v)) ≡ map.insert (map.from_entries es) k v)
       replaced v =
           let at = at-position k es i h p present in
-          let is : set es i (k, v) ≡ put nat_cmp k v es = set-put k v es i (k, v) p at.0 (at.1 (k, v)) in
-          (subst (λ l. T (is_sorted nat_cmp l)) (sym is) (is_sorted-put nat_cmp nat_cmp_total k v es h), ap (λ l. map.from_entries {R = nat_cmp} l) is ∙ seen-put k v es)
+          let is : set es i (k, v) ≡ put nat_cmp k v es = set-put k v es i (k, v) p at.0 (at.1 (k, v)) in (
+            subst (λ l. T (is_sorted nat_cmp l)) (sym is) (is_sorted-put nat_cmp nat_cmp_total k v es h),
+            ap (λ l. map.from_entries {R = nat_cmp} l) is
+                ∙ seen-put k v es,
+          )
 
       -- that entry taken out
       pub removed : (d : ℕ × X) → T (is_sorted nat_cmp (remove es i)) × (map.from_entries {R = nat_cmp} (remove es i) ≡ map.remove (map.from_entries es) k)
       removed d =
           let at = at-position k es i h p present in
-          let is : remove es i ≡ without k es = remove-without k es i d h p at.0 (at.1 d) in
-          (subst (λ l. T (is_sorted nat_cmp l)) (sym is) (is_sorted-where_key nat_cmp (λ x. not (eq_by_cmp nat_cmp k x)) es h), ap (λ l. map.from_entries {R = nat_cmp} l) is ∙ seen-without k es)
+          let is : remove es i ≡ without k es = remove-without k es i d h p at.0 (at.1 d) in (
+            subst (λ l. T (is_sorted nat_cmp l)) (sym is) (is_sorted-where_key nat_cmp (λ x. not (eq_by_cmp nat_cmp k x)) es h),
+            ap
+                (λ l. map.from_entries {R = nat_cmp} l) is ∙ seen-without k es,
+          )
 
 -- entries by the numbers of their keys: edits go through
 module _ {K X : Type 0} (number : K → ℕ) where
@@ -309,13 +332,15 @@ module _ {K X : Type 0} (number : K → ℕ) where
   keyed-remove (x ∷ es) (suc i) = ap (λ l. (number x.0, x.1) ∷ l) (keyed-remove es i)
 
   -- the numbers of rising entries do not fall
-  pub keyed-rise : (es : List (K × X)) → T (is_sorted nat_cmp (keyed number es)) → (i j : ℕ) (d : K × X) → i ≤ j → j < length es → number (get_or es i d).0 ≤ number (get_or es j d).0
+  pub keyed-rise : (es : List (K × X)) → T (is_sorted nat_cmp (keyed number es)) → (i j : ℕ) (d : K × X) → i ≤ j → j < length es
+      → number (get_or es i d).0 ≤ number (get_or es j d).0
   keyed-rise es h i j d le lt =
       let up = keys-rise (keyed number es) h i j (number d.0, d.1) le (subst (λ n. j < n) (sym (length-keyed es)) lt) in
       omega (arith, up, ap (λ e. e.0) (keyed-at es i d), ap (λ e. e.0) (keyed-at es j d))
 
   -- where the numbers below one end is its position
-  pub keyed-parted : (k : ℕ) (es : List (K × X)) (i : ℕ) → i ≤ length es → IsPartitionPoint (λ (e : K × X). ltb (number e.0) k ≡ true) (λ (e : K × X). ltb (number e.0) k ≡ false) es i → IsPosition k (keyed number es) i
+  pub keyed-parted : (k : ℕ) (es : List (K × X)) (i : ℕ) → i ≤ length es
+      → IsPartitionPoint (λ (e : K × X). ltb (number e.0) k ≡ true) (λ (e : K × X). ltb (number e.0) k ≡ false) es i → IsPosition k (keyed number es) i
   keyed-parted k [] i le parted = record {
     in_range = le;
     below = λ j d low lt. absurd (omega arith);
@@ -345,23 +370,30 @@ module _ {K X : Type 0} (number : K → ℕ) where
 
   module _ (k : K) (es : List (K × X)) (h : T (is_sorted nat_cmp (keyed number es))) where
     -- an entry put in at the position of a vacant key
-    pub keyed-inserted : (v : X) (i : ℕ) → IsPosition (number k) (keyed number es) i → map.get (map.from_entries {R = nat_cmp} (keyed number es)) (number k) ≡ None
-        → T (is_sorted nat_cmp (keyed number (insert es i (k, v)))) × (map.from_entries {R = nat_cmp} (keyed number (insert es i (k, v))) ≡ map.insert (map.from_entries (keyed number es)) (number k) v)
+    pub keyed-inserted : (v : X) (i : ℕ) → IsPosition (number k) (keyed number es) i
+        → map.get (map.from_entries {R = nat_cmp} (keyed number es)) (number k) ≡ None
+        → T (is_sorted nat_cmp (keyed number (insert es i (k, v))))
+        × (map.from_entries {R = nat_cmp} (keyed number (insert es i (k, v))) ≡ map.insert (map.from_entries (keyed number es)) (number k) v)
     keyed-inserted v i p vacant =
-        subst (λ l. T (is_sorted nat_cmp l) × (map.from_entries {R = nat_cmp} l ≡ map.insert (map.from_entries (keyed number es)) (number k) v)) (sym (keyed-insert es i (k, v)))
+        subst (λ l. T (is_sorted nat_cmp l) × (map.from_entries {R = nat_cmp} l ≡ map.insert (map.from_entries (keyed number es)) (number k) v))
+        (sym (keyed-insert es i (k, v)))
         (inserted (number k) (keyed number es) h v i p vacant)
 
     -- an entry put at the end, where all keys are below
-    pub keyed-pushed : (v : X) → IsPosition (number k) (keyed number es) (length es) → map.get (map.from_entries {R = nat_cmp} (keyed number es)) (number k) ≡ None
-        → T (is_sorted nat_cmp (keyed number (es ++ (k, v) ∷ []))) × (map.from_entries {R = nat_cmp} (keyed number (es ++ (k, v) ∷ [])) ≡ map.insert (map.from_entries (keyed number es)) (number k) v)
+    pub keyed-pushed : (v : X) → IsPosition (number k) (keyed number es) (length es)
+        → map.get (map.from_entries {R = nat_cmp} (keyed number es)) (number k) ≡ None
+        → T (is_sorted nat_cmp (keyed number (es ++ (k, v) ∷ [])))
+        × (map.from_entries {R = nat_cmp} (keyed number (es ++ (k, v) ∷ [])) ≡ map.insert (map.from_entries (keyed number es)) (number k) v)
     keyed-pushed v p vacant =
-        subst (λ l. T (is_sorted nat_cmp l) × (map.from_entries {R = nat_cmp} l ≡ map.insert (map.from_entries (keyed number es)) (number k) v)) (sym (keyed-push es (k, v)))
+        subst (λ l. T (is_sorted nat_cmp l) × (map.from_entries {R = nat_cmp} l ≡ map.insert (map.from_entries (keyed number es)) (number k) v))
+        (sym (keyed-push es (k, v)))
         (pushed (number k) (keyed number es) h v (subst (IsPosition (number k) (keyed number es)) (sym (length-keyed es)) p) vacant)
 
     module _ (i : ℕ) (at : StandsIn (number k) (keyed number es) i) where
       -- a key that stands there is found
       pub keyed-found : (d : ℕ × X) → map.get (map.from_entries {R = nat_cmp} (keyed number es)) (number k) ≡ Some (get_or (keyed number es) i d).1
-      keyed-found d = map.get-from_entries nat_cmp_total (keyed number es) (number k) ∙ find-at (number k) (keyed number es) i d at.position at.within (at.has_key d)
+      keyed-found d = map.get-from_entries nat_cmp_total (keyed number es) (number k)
+          ∙ find-at (number k) (keyed number es) i d at.position at.within (at.has_key d)
 
       keyed-present : IsSome (map.get (map.from_entries {R = nat_cmp} (keyed number es)) (number k))
       keyed-present = elim (keyed number es) as (λ l. l ≡ keyed number es → IsSome (map.get (map.from_entries {R = nat_cmp} (keyed number es)) (number k))) [
@@ -370,15 +402,21 @@ module _ {K X : Type 0} (number : K → ℕ) where
       ] refl
 
       -- another value written there
-      pub keyed-replaced : (v : X) → T (is_sorted nat_cmp (keyed number (set es i (k, v)))) × (map.from_entries {R = nat_cmp} (keyed number (set es i (k, v))) ≡ map.insert (map.from_entries (keyed number es)) (number k) v)
+      pub keyed-replaced : (v : X)
+          → T (is_sorted nat_cmp (keyed number (set es i (k, v))))
+          × (map.from_entries {R = nat_cmp} (keyed number (set es i (k, v))) ≡ map.insert (map.from_entries (keyed number es)) (number k) v)
       keyed-replaced v =
-          subst (λ l. T (is_sorted nat_cmp l) × (map.from_entries {R = nat_cmp} l ≡ map.insert (map.from_entries (keyed number es)) (number k) v)) (sym (keyed-set es i (k, v)))
+          subst (λ l. T (is_sorted nat_cmp l) × (map.from_entries {R = nat_cmp} l ≡ map.insert (map.from_entries (keyed number es)) (number k) v))
+          (sym (keyed-set es i (k, v)))
           (replaced (number k) (keyed number es) h i at.position keyed-present v)
 
       -- that entry taken out
-      pub keyed-removed : (d : ℕ × X) → T (is_sorted nat_cmp (keyed number (remove es i))) × (map.from_entries {R = nat_cmp} (keyed number (remove es i)) ≡ map.remove (map.from_entries (keyed number es)) (number k))
+      pub keyed-removed : (d : ℕ × X)
+          → T (is_sorted nat_cmp (keyed number (remove es i)))
+          × (map.from_entries {R = nat_cmp} (keyed number (remove es i)) ≡ map.remove (map.from_entries (keyed number es)) (number k))
       keyed-removed d =
-          subst (λ l. T (is_sorted nat_cmp l) × (map.from_entries {R = nat_cmp} l ≡ map.remove (map.from_entries (keyed number es)) (number k))) (sym (keyed-remove es i))
+          subst (λ l. T (is_sorted nat_cmp l) × (map.from_entries {R = nat_cmp} l ≡ map.remove (map.from_entries (keyed number es)) (number k)))
+          (sym (keyed-remove es i))
           (removed (number k) (keyed number es) h i at.position keyed-present d)
 
 -- a key that is not found is taken out without a change
@@ -447,12 +485,20 @@ module _ {X : Type 0} where
   pub position-above : (k : ℕ) (es : List (ℕ × X)) → T (is_sorted nat_cmp es) → IsAboveAll k (map.from_entries es) → IsPosition k es (length es)
   position-above k [] h above = record { in_range = omega arith; below = λ j d low lt. absurd (omega arith); not_below = λ j d low lt. absurd (omega arith) }
   position-above k (e ∷ es) h above =
-      let at : IsPosition e.0 (e ∷ es) 0 = record { in_range = omega arith; below = λ j d low lt. absurd (omega arith); not_below = λ j d low lt. keys-rise (e ∷ es) h 0 j d (omega arith) lt } in
-      let there : IsSome (map.get (map.from_entries {R = nat_cmp} (e ∷ es)) e.0) = rw (map.get-from_entries nat_cmp_total (e ∷ es) e.0, find-here e.0 e es refl) refl in
+      let at : IsPosition e.0 (e ∷ es) 0 =
+      record {
+        in_range = omega arith;
+        below = λ j d low lt. absurd (omega arith);
+        not_below =
+            λ j d low lt. keys-rise (e ∷ es) h 0 j d (omega arith) lt;
+      } in
+      let there : IsSome (map.get (map.from_entries {R = nat_cmp} (e ∷ es)) e.0) =
+      rw (map.get-from_entries nat_cmp_total (e ∷ es) e.0, find-here e.0 e es refl) refl in
       let here : e.0 < k = above e.0 there in
       position-cons k e es (length es) here (position-above k es (second _ _ h) (λ q some. above q (found-rest q e es some)))
     where
-      found-rest : (q : ℕ) (e : ℕ × X) (es : List (ℕ × X)) → IsSome (map.get (map.from_entries {R = nat_cmp} es) q) → IsSome (map.get (map.from_entries {R = nat_cmp} (e ∷ es)) q)
+      found-rest : (q : ℕ) (e : ℕ × X) (es : List (ℕ × X)) → IsSome (map.get (map.from_entries {R = nat_cmp} es) q)
+          → IsSome (map.get (map.from_entries {R = nat_cmp} (e ∷ es)) q)
       found-rest q e es some =
           let found = subst (λ o. IsSome o) (map.get-from_entries nat_cmp_total es q) some in
           rw (map.get-from_entries nat_cmp_total (e ∷ es) q)
@@ -471,11 +517,14 @@ module _ {X : Type 0} where
   position-exists k [] h = (0, record { in_range = omega arith; below = λ j d low lt. absurd (omega arith); not_below = λ j d low lt. absurd (omega arith) })
   position-exists k (e ∷ es) h = elim (cases_lt e.0 k) [
     | inl low ↦ let rest = position-exists k es (second _ _ h) in (suc rest.0, position-cons k e es rest.0 low rest.1)
-    | inr high ↦ (0, record {
+    | inr high ↦ (
+      0,
+      record {
         in_range = omega arith;
         below = λ j d low lt. absurd (omega arith);
         not_below = λ j d low lt. let up : e.0 ≤ (get_or (e ∷ es) j d).0 = keys-rise (e ∷ es) h 0 j d (omega arith) lt in omega arith;
-      })
+      },
+    )
   ]
 
   -- a map is that of its entries
@@ -488,11 +537,13 @@ module _ {X : Type 0} where
     entries-inserted v vacant = map.entries-insert nat_cmp_total m k v ∙ sym (insert-put k v (map.entries m) i p (sym (map.get-entries m k) ∙ vacant))
 
     -- once a key has another value
-    pub entries-replaced : (v : X) (d : ℕ × X) → i < length (map.entries m) → (get_or (map.entries m) i d).0 ≡ k → map.entries (map.insert m k v) ≡ set (map.entries m) i (k, v)
+    pub entries-replaced : (v : X) (d : ℕ × X) → i < length (map.entries m) → (get_or (map.entries m) i d).0 ≡ k
+        → map.entries (map.insert m k v) ≡ set (map.entries m) i (k, v)
     entries-replaced v d lt same = map.entries-insert nat_cmp_total m k v ∙ sym (set-put k v (map.entries m) i d p lt same)
 
     -- and once it has none
-    pub entries-removed : (d : ℕ × X) → i < length (map.entries m) → (get_or (map.entries m) i d).0 ≡ k → map.entries (map.remove m k) ≡ remove (map.entries m) i
+    pub entries-removed : (d : ℕ × X) → i < length (map.entries m) → (get_or (map.entries m) i d).0 ≡ k
+        → map.entries (map.remove m k) ≡ remove (map.entries m) i
     entries-removed d lt same =
         let es = map.entries m in
         ap (λ n. map.entries (map.remove n k)) (sym (itself-seen m))
@@ -501,7 +552,8 @@ module _ {X : Type 0} where
         ∙ sym (remove-without k es i d (map.entries_sorted m) p lt same)
 
   -- a key that is found stands somewhere
-  pub stands-exists : (k : ℕ) (es : List (ℕ × X)) → T (is_sorted nat_cmp es) → IsSome (map.get (map.from_entries {R = nat_cmp} es) k) → (i : ℕ) × StandsIn k es i
+  pub stands-exists : (k : ℕ) (es : List (ℕ × X)) → T (is_sorted nat_cmp es) → IsSome (map.get (map.from_entries {R = nat_cmp} es) k)
+      → (i : ℕ) × StandsIn k es i
   stands-exists k es h some =
       let place = position-exists k es h in
       let at = at-position k es place.0 h place.1 some in

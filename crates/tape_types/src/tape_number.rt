@@ -2,8 +2,8 @@
 ghost use Rattle.std.specs.Prelude.{◌≡◌, ℕ, ◌↔◌, IsSome, IfSome};
 ghost use Rattle.tape_types.specs.Ranges.{IsTapeNumber};
 
-use crate::{NumberKey, TAPE_MOST};
 use crate::four_bytes::FourBytes;
+use crate::{NumberKey, TAPE_MOST};
 use std::marker::Model;
 
 /// A position on the tape: 1 to 1,048,576. A report's place is the tape number of its admission.

@@ -1,5 +1,6 @@
 -- A text that is written piece by piece.
-use Rattle.std.proofs.Common.{◌≡◌, ◌++◌, ◌∙◌, [], ℕ, List, Option, Some, None, OnErr, Result, Ok, Err, refl, sym, ap, subst, append-nil, append_assoc, take, drop}
+use Rattle.std.proofs.Common.{◌≡◌, ◌++◌, ◌∙◌, [], ℕ, List, Option, Some, None, OnErr, Result, Ok, Err, refl, sym, ap, subst, append-nil, append_assoc, take}
+use Rattle.std.proofs.Common.{drop}
 use Rattle.std.specs.Io.KnownBytes.{Appends, Keeps}
 use Rattle.std.proofs.lemmas.List.{take-append-drop}
 use Rattle.tapebox.specs.Writing.{WritesFront, WritesUpTo}

@@ -133,7 +133,9 @@ fn listing(
     participants: &[u8],
     most: usize,
 ) -> Result<Listing, Refused> {
-    if !are_names::<Symbol>(symbols, SYMBOLS_MOST) || !are_names::<Participant>(participants, most) {
+    if !are_names::<Symbol>(symbols, SYMBOLS_MOST)
+        || !are_names::<Participant>(participants, most)
+    {
         return Err(Refused::BadArguments);
     }
     let names = (names(alloc, symbols), names(alloc, participants));

@@ -65,4 +65,5 @@ returns-else-value-top-clause-room g c =
     let most = (c.requires.valid.sized b [] lt).1 in
     let read = lower-read bs b lt long most c.split.new.blocks.items c.index-2.result.now c.index-2.ensures c.in_ok-split.ensures.ok in
     subst (λ l. HasRoomAt c.args.place l (b + 1)) (sym c.in_ok-split.ensures.ok)
-    (subst (HasRoomAt c.args.place _) (sym (add-one b)) (split-upper bs b lt long most c.args.place c.requires.block (omega (arith, read, c.if-value-top.false, c.value.ensures.value, c.top.ensures))))
+    (subst (HasRoomAt c.args.place _) (sym (add-one b))
+    (split-upper bs b lt long most c.args.place c.requires.block (omega (arith, read, c.if-value-top.false, c.value.ensures.value, c.top.ensures))))

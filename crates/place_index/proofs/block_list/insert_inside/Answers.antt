@@ -23,7 +23,8 @@ returns-clause-valid g c =
     let room = c.in_ok-at.ensures.room in
     let is = block-is bs b c.index_mut.result.now c.index_mut.ensures.value room.within in
     let vacant = ap (λ m. map.get m c.args.place) c.in_ok-at.ensures.values ∙ c.requires.vacant in
-    (insert-in_block c.args.place bs valid b room.block room.within c.index_mut.result.now c.insert.new.self is c.insert.result c.args.value vacant room.room c.insert.ensures.placed c.insert.ensures.err).0
+    (insert-in_block c.args.place bs valid b room.block room.within c.index_mut.result.now c.insert.new.self is c.insert.result c.args.value vacant room.room
+    c.insert.ensures.placed c.insert.ensures.err).0
 
 pub returns-clause-ok : goal.returns-clause-ok
 returns-clause-ok g c =
@@ -33,5 +34,6 @@ returns-clause-ok g c =
     let room = c.in_ok-at.ensures.room in
     let is = block-is bs b c.index_mut.result.now c.index_mut.ensures.value room.within in
     let vacant = ap (λ m. map.get m c.args.place) c.in_ok-at.ensures.values ∙ c.requires.vacant in
-    let done = insert-in_block c.args.place bs valid b room.block room.within c.index_mut.result.now c.insert.new.self is c.insert.result c.args.value vacant room.room c.insert.ensures.placed c.insert.ensures.err in
+    let done = insert-in_block c.args.place bs valid b room.block room.within c.index_mut.result.now c.insert.new.self is c.insert.result c.args.value vacant
+    room.room c.insert.ensures.placed c.insert.ensures.err in
     on_ok_weaker c.insert.result (λ new. new ∙ ap (λ m. map.insert m c.args.place c.args.value) c.in_ok-at.ensures.values) done.1

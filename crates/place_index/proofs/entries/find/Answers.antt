@@ -11,11 +11,13 @@ returns-then-begins_by g c =
     let bs = c.args.blocks.now in
     let es = c.args.last.now in
     c.find.ensures
-    ∙ sym (get-second _ _ _ (both-of bs es c.requires) c.args.place (none-above (values_of bs) c.args.place (begun bs es c.requires c.args.place (sym c.begins_by.ensures ∙ c.if-begins_by.true))))
+    ∙ sym (get-second _ _ _ (both-of bs es c.requires) c.args.place
+    (none-above (values_of bs) c.args.place (begun bs es c.requires c.args.place (sym c.begins_by.ensures ∙ c.if-begins_by.true))))
 
 pub returns-else-begins_by : goal.returns-else-begins_by
 returns-else-begins_by g c =
     let bs = c.args.blocks.now in
     let es = c.args.last.now in
     c.find-else-begins_by.ensures
-    ∙ sym (get-first _ _ _ (both-of bs es c.requires) c.args.place (none-below (values_in es) c.args.place (not-begun bs es c.requires c.args.place (sym c.begins_by.ensures ∙ c.if-begins_by.false))))
+    ∙ sym (get-first _ _ _ (both-of bs es c.requires) c.args.place
+    (none-below (values_in es) c.args.place (not-begun bs es c.requires c.args.place (sym c.begins_by.ensures ∙ c.if-begins_by.false))))

@@ -11,4 +11,5 @@ pub returns-in-None : goal.returns-in-None
 returns-in-None g c =
     let bs = c.args.blocks.now in
     let es = c.args.last.now in
-    match-weaker _ _ _ _ c.first-in-None.result (all-vacant bs es c.requires c.in-None.ensures) (λ k at. first-in_last bs es c.requires k c.in-None.ensures at) c.first-in-None.ensures.first
+    match-weaker _ _ _ _ c.first-in-None.result (all-vacant bs es c.requires c.in-None.ensures)
+    (λ k at. first-in_last bs es c.requires k c.in-None.ensures at) c.first-in-None.ensures.first

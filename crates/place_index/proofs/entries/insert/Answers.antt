@@ -33,9 +33,11 @@ returns-then-not-goes_last-clause-valid g c =
     let es = c.args.last.now in
     let k = c.args.place in
     let valid = c.requires.valid in
-    let above : AllAbove (values_in es) k = subst (λ b. GoesLast b bs es k) c.if-not-goes_last.true (subst (λ l. GoesLast c.goes_last.result l es k) c.deref.ensures.value c.goes_last.ensures) in
+    let above : AllAbove (values_in es) k =
+    subst (λ b. GoesLast b bs es k) c.if-not-goes_last.true (subst (λ l. GoesLast c.goes_last.result l es k) c.deref.ensures.value c.goes_last.ensures) in
     in-either c.insert.result
-    (on_ok_weaker c.insert.result (λ new. (blocks-insert_before bs es valid k c.args.value c.insert.new.blocks.items above c.insert.ensures.valid new).0) c.insert.ensures.ok)
+    (on_ok_weaker c.insert.result
+    (λ new. (blocks-insert_before bs es valid k c.args.value c.insert.new.blocks.items above c.insert.ensures.valid new).0) c.insert.ensures.ok)
     (on_err_weaker c.insert.result (λ same. (blocks-same bs es valid c.insert.new.blocks.items c.insert.ensures.valid same).0) c.insert.ensures.err)
 
 pub returns-then-not-goes_last-clause-ok : goal.returns-then-not-goes_last-clause-ok
@@ -44,8 +46,10 @@ returns-then-not-goes_last-clause-ok g c =
     let es = c.args.last.now in
     let k = c.args.place in
     let valid = c.requires.valid in
-    let above : AllAbove (values_in es) k = subst (λ b. GoesLast b bs es k) c.if-not-goes_last.true (subst (λ l. GoesLast c.goes_last.result l es k) c.deref.ensures.value c.goes_last.ensures) in
-    on_ok_weaker c.insert.result (λ new. (blocks-insert_before bs es valid k c.args.value c.insert.new.blocks.items above c.insert.ensures.valid new).1) c.insert.ensures.ok
+    let above : AllAbove (values_in es) k =
+    subst (λ b. GoesLast b bs es k) c.if-not-goes_last.true (subst (λ l. GoesLast c.goes_last.result l es k) c.deref.ensures.value c.goes_last.ensures) in
+    on_ok_weaker c.insert.result
+    (λ new. (blocks-insert_before bs es valid k c.args.value c.insert.new.blocks.items above c.insert.ensures.valid new).1) c.insert.ensures.ok
 
 pub returns-then-not-goes_last-clause-err : goal.returns-then-not-goes_last-clause-err
 returns-then-not-goes_last-clause-err g c =
@@ -87,9 +91,12 @@ returns-then-goes_last-clause-valid g c =
     let es = c.make_room.new.last in
     let k = c.args.place in
     let valid = c.in_ok-make_room.ensures.valid in
-    let below : AllBelow (values_of bs) k = subst (λ b. GoesLast b bs es k) c.if-goes_last.true (subst (λ l. GoesLast c.goes_last-2.result l es k) c.deref-2.ensures.value c.goes_last-2.ensures) in
+    let below : AllBelow (values_of bs) k =
+    subst (λ b. GoesLast b bs es k) c.if-goes_last.true (subst (λ l. GoesLast c.goes_last-2.result l es k) c.deref-2.ensures.value c.goes_last-2.ensures) in
     in-either c.insert-then-goes_last.result
-    (on_ok_weaker c.insert-then-goes_last.result (λ new. (last-insert bs es valid k c.args.value c.insert-then-goes_last.new.self below c.insert-then-goes_last.ensures.rising (omega (arith, c.insert-then-goes_last.ensures.grown, c.in_ok-make_room.ensures.room)) new).0) c.insert-then-goes_last.ensures.ok)
+    (on_ok_weaker c.insert-then-goes_last.result
+    (λ new. (last-insert bs es valid k c.args.value c.insert-then-goes_last.new.self below c.insert-then-goes_last.ensures.rising
+    (omega (arith, c.insert-then-goes_last.ensures.grown, c.in_ok-make_room.ensures.room)) new).0) c.insert-then-goes_last.ensures.ok)
     (on_err_weaker c.insert-then-goes_last.result (λ same. subst (HasLastBlock bs) (sym same) valid) c.insert-then-goes_last.ensures.err)
 
 pub returns-then-goes_last-clause-ok : goal.returns-then-goes_last-clause-ok
@@ -98,9 +105,11 @@ returns-then-goes_last-clause-ok g c =
     let es = c.make_room.new.last in
     let k = c.args.place in
     let valid = c.in_ok-make_room.ensures.valid in
-    let below : AllBelow (values_of bs) k = subst (λ b. GoesLast b bs es k) c.if-goes_last.true (subst (λ l. GoesLast c.goes_last-2.result l es k) c.deref-2.ensures.value c.goes_last-2.ensures) in
+    let below : AllBelow (values_of bs) k =
+    subst (λ b. GoesLast b bs es k) c.if-goes_last.true (subst (λ l. GoesLast c.goes_last-2.result l es k) c.deref-2.ensures.value c.goes_last-2.ensures) in
     on_ok_weaker c.insert-then-goes_last.result (λ new.
-    (last-insert bs es valid k c.args.value c.insert-then-goes_last.new.self below c.insert-then-goes_last.ensures.rising (omega (arith, c.insert-then-goes_last.ensures.grown, c.in_ok-make_room.ensures.room)) new).1
+    (last-insert bs es valid k c.args.value c.insert-then-goes_last.new.self below c.insert-then-goes_last.ensures.rising
+    (omega (arith, c.insert-then-goes_last.ensures.grown, c.in_ok-make_room.ensures.room)) new).1
     ∙ ap (λ (m : map.FinMap nat_cmp _). map.insert m k c.args.value) c.in_ok-make_room.ensures.values) c.insert-then-goes_last.ensures.ok
 
 pub returns-else-goes_last-clause-valid : goal.returns-else-goes_last-clause-valid
@@ -109,10 +118,16 @@ returns-else-goes_last-clause-valid g c =
     let es = c.make_room.new.last in
     let k = c.args.place in
     let valid = c.in_ok-make_room.ensures.valid in
-    let above : AllAbove (values_in es) k = subst (λ b. GoesLast b bs es k) c.if-goes_last.false (subst (λ l. GoesLast c.goes_last-2.result l es k) c.deref-2.ensures.value c.goes_last-2.ensures) in
+    let above : AllAbove (values_in es) k =
+    subst (λ b. GoesLast b bs es k) c.if-goes_last.false
+    (subst (λ l. GoesLast c.goes_last-2.result l es k) c.deref-2.ensures.value c.goes_last-2.ensures) in
     in-either c.insert-else-goes_last.result
-    (on_ok_weaker c.insert-else-goes_last.result (λ new. (blocks-insert_before bs es valid k c.args.value c.insert-else-goes_last.new.blocks.items above c.insert-else-goes_last.ensures.valid new).0) c.insert-else-goes_last.ensures.ok)
-    (on_err_weaker c.insert-else-goes_last.result (λ same. (blocks-same bs es valid c.insert-else-goes_last.new.blocks.items c.insert-else-goes_last.ensures.valid same).0) c.insert-else-goes_last.ensures.err)
+    (on_ok_weaker c.insert-else-goes_last.result
+    (λ new. (blocks-insert_before bs es valid k c.args.value c.insert-else-goes_last.new.blocks.items above c.insert-else-goes_last.ensures.valid new).0)
+    c.insert-else-goes_last.ensures.ok)
+    (on_err_weaker c.insert-else-goes_last.result
+    (λ same. (blocks-same bs es valid c.insert-else-goes_last.new.blocks.items c.insert-else-goes_last.ensures.valid same).0)
+    c.insert-else-goes_last.ensures.err)
 
 pub returns-else-goes_last-clause-ok : goal.returns-else-goes_last-clause-ok
 returns-else-goes_last-clause-ok g c =
@@ -120,7 +135,9 @@ returns-else-goes_last-clause-ok g c =
     let es = c.make_room.new.last in
     let k = c.args.place in
     let valid = c.in_ok-make_room.ensures.valid in
-    let above : AllAbove (values_in es) k = subst (λ b. GoesLast b bs es k) c.if-goes_last.false (subst (λ l. GoesLast c.goes_last-2.result l es k) c.deref-2.ensures.value c.goes_last-2.ensures) in
+    let above : AllAbove (values_in es) k =
+    subst (λ b. GoesLast b bs es k) c.if-goes_last.false
+    (subst (λ l. GoesLast c.goes_last-2.result l es k) c.deref-2.ensures.value c.goes_last-2.ensures) in
     on_ok_weaker c.insert-else-goes_last.result (λ new.
     (blocks-insert_before bs es valid k c.args.value c.insert-else-goes_last.new.blocks.items above c.insert-else-goes_last.ensures.valid new).1
     ∙ ap (λ (m : map.FinMap nat_cmp _). map.insert m k c.args.value) c.in_ok-make_room.ensures.values) c.insert-else-goes_last.ensures.ok
@@ -131,4 +148,6 @@ returns-else-goes_last-clause-err g c =
     let es = c.make_room.new.last in
     let k = c.args.place in
     let valid = c.in_ok-make_room.ensures.valid in
-    on_err_weaker c.insert-else-goes_last.result (λ same. (blocks-same bs es valid c.insert-else-goes_last.new.blocks.items c.insert-else-goes_last.ensures.valid same).1 ∙ c.in_ok-make_room.ensures.values) c.insert-else-goes_last.ensures.err
+    on_err_weaker c.insert-else-goes_last.result
+    (λ same. (blocks-same bs es valid c.insert-else-goes_last.new.blocks.items c.insert-else-goes_last.ensures.valid same).1
+    ∙ c.in_ok-make_room.ensures.values) c.insert-else-goes_last.ensures.err

@@ -11,4 +11,5 @@ pub returns-in-None : goal.returns-in-None
 returns-in-None g c =
     let bs = c.args.blocks.now in
     let es = c.args.last.now in
-    match-weaker _ _ _ _ c.last-in-None.result (λ vacant. all-vacant bs es c.requires vacant c.in-None.ensures.last) (λ k at. last-before bs es c.requires k c.in-None.ensures.last at) c.last-in-None.ensures
+    match-weaker _ _ _ _ c.last-in-None.result (λ vacant. all-vacant bs es c.requires vacant c.in-None.ensures.last)
+    (λ k at. last-before bs es c.requires k c.in-None.ensures.last at) c.last-in-None.ensures

@@ -24,7 +24,9 @@ returns-clause-valid g c =
     let valid = c.in_ok-make_room.ensures.valid in
     let above : AllBelow (all_values bs es) k = subst (λ (m : map.FinMap nat_cmp _). AllBelow m k) (sym c.in_ok-make_room.ensures.values) c.requires.above in
     in-either c.push.result
-    (on_ok_weaker c.push.result (λ new. (last-insert bs es valid k c.args.value c.push.new.self (below-first bs es valid k above) c.push.ensures.rising (omega (arith, c.push.ensures.grown, c.in_ok-make_room.ensures.room)) new).0) c.push.ensures.ok)
+    (on_ok_weaker c.push.result
+    (λ new. (last-insert bs es valid k c.args.value c.push.new.self (below-first bs es valid k above) c.push.ensures.rising
+    (omega (arith, c.push.ensures.grown, c.in_ok-make_room.ensures.room)) new).0) c.push.ensures.ok)
     (on_err_weaker c.push.result (λ same. subst (HasLastBlock bs) (sym same) valid) c.push.ensures.err)
 
 pub returns-clause-ok : goal.returns-clause-ok
@@ -35,5 +37,6 @@ returns-clause-ok g c =
     let valid = c.in_ok-make_room.ensures.valid in
     let above : AllBelow (all_values bs es) k = subst (λ (m : map.FinMap nat_cmp _). AllBelow m k) (sym c.in_ok-make_room.ensures.values) c.requires.above in
     on_ok_weaker c.push.result (λ new.
-    (last-insert bs es valid k c.args.value c.push.new.self (below-first bs es valid k above) c.push.ensures.rising (omega (arith, c.push.ensures.grown, c.in_ok-make_room.ensures.room)) new).1
+    (last-insert bs es valid k c.args.value c.push.new.self (below-first bs es valid k above) c.push.ensures.rising
+    (omega (arith, c.push.ensures.grown, c.in_ok-make_room.ensures.room)) new).1
     ∙ ap (λ (m : map.FinMap nat_cmp _). map.insert m k c.args.value) c.in_ok-make_room.ensures.values) c.push.ensures.ok

@@ -36,7 +36,8 @@ returns-else-begins_by-clause-valid g c =
     let es = c.args.last.now in
     let k = c.args.place in
     let above = not-begun bs es c.requires.valid k (sym c.begins_by.ensures ∙ c.if-begins_by.false) in
-    (blocks-remove_before bs es c.requires.valid k c.remove-else-begins_by.new.blocks.items above c.remove-else-begins_by.ensures.valid c.remove-else-begins_by.ensures.removed).0
+    (blocks-remove_before bs es c.requires.valid k c.remove-else-begins_by.new.blocks.items above c.remove-else-begins_by.ensures.valid
+    c.remove-else-begins_by.ensures.removed).0
 
 pub returns-else-begins_by-clause-value : goal.returns-else-begins_by-clause-value
 returns-else-begins_by-clause-value g c =
@@ -52,4 +53,5 @@ returns-else-begins_by-clause-removed g c =
     let es = c.args.last.now in
     let k = c.args.place in
     let above = not-begun bs es c.requires.valid k (sym c.begins_by.ensures ∙ c.if-begins_by.false) in
-    (blocks-remove_before bs es c.requires.valid k c.remove-else-begins_by.new.blocks.items above c.remove-else-begins_by.ensures.valid c.remove-else-begins_by.ensures.removed).1
+    (blocks-remove_before bs es c.requires.valid k c.remove-else-begins_by.new.blocks.items above c.remove-else-begins_by.ensures.valid
+    c.remove-else-begins_by.ensures.removed).1

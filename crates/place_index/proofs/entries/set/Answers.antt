@@ -28,7 +28,8 @@ returns-then-begins_by-clause-valid g c =
     let es = c.args.last.now in
     let k = c.args.place in
     let below = begun bs es c.requires.valid k (sym c.begins_by.ensures ∙ c.if-begins_by.true) in
-    (last-insert bs es c.requires.valid k c.args.value c.set.new.self below c.set.ensures.rising (omega (arith, c.set.ensures.same_length, c.requires.valid.short)) c.set.ensures.changed).0
+    (last-insert bs es c.requires.valid k c.args.value c.set.new.self below c.set.ensures.rising
+    (omega (arith, c.set.ensures.same_length, c.requires.valid.short)) c.set.ensures.changed).0
 
 pub returns-then-begins_by-clause-former : goal.returns-then-begins_by-clause-former
 returns-then-begins_by-clause-former g c =
@@ -44,7 +45,8 @@ returns-then-begins_by-clause-changed g c =
     let es = c.args.last.now in
     let k = c.args.place in
     let below = begun bs es c.requires.valid k (sym c.begins_by.ensures ∙ c.if-begins_by.true) in
-    (last-insert bs es c.requires.valid k c.args.value c.set.new.self below c.set.ensures.rising (omega (arith, c.set.ensures.same_length, c.requires.valid.short)) c.set.ensures.changed).1
+    (last-insert bs es c.requires.valid k c.args.value c.set.new.self below c.set.ensures.rising
+    (omega (arith, c.set.ensures.same_length, c.requires.valid.short)) c.set.ensures.changed).1
 
 pub returns-else-begins_by-clause-valid : goal.returns-else-begins_by-clause-valid
 returns-else-begins_by-clause-valid g c =
@@ -52,7 +54,8 @@ returns-else-begins_by-clause-valid g c =
     let es = c.args.last.now in
     let k = c.args.place in
     let above = not-begun bs es c.requires.valid k (sym c.begins_by.ensures ∙ c.if-begins_by.false) in
-    (blocks-insert_before bs es c.requires.valid k c.args.value c.set-else-begins_by.new.blocks.items above c.set-else-begins_by.ensures.valid c.set-else-begins_by.ensures.changed).0
+    (blocks-insert_before bs es c.requires.valid k c.args.value c.set-else-begins_by.new.blocks.items above c.set-else-begins_by.ensures.valid
+    c.set-else-begins_by.ensures.changed).0
 
 pub returns-else-begins_by-clause-former : goal.returns-else-begins_by-clause-former
 returns-else-begins_by-clause-former g c =
@@ -68,4 +71,5 @@ returns-else-begins_by-clause-changed g c =
     let es = c.args.last.now in
     let k = c.args.place in
     let above = not-begun bs es c.requires.valid k (sym c.begins_by.ensures ∙ c.if-begins_by.false) in
-    (blocks-insert_before bs es c.requires.valid k c.args.value c.set-else-begins_by.new.blocks.items above c.set-else-begins_by.ensures.valid c.set-else-begins_by.ensures.changed).1
+    (blocks-insert_before bs es c.requires.valid k c.args.value c.set-else-begins_by.new.blocks.items above c.set-else-begins_by.ensures.valid
+    c.set-else-begins_by.ensures.changed).1

@@ -17,6 +17,10 @@ use Rattle.seen_cells.proofs.Seen.TheLaw.Statement.{statement}
 
 pub shares : (T : RattleType) (L : Laws T) → statement T L
 shares T L = of_Lends (C.struct T) (C.the_codes T.Denot T.coded (marker.the_row RawPtr).coded) (C.the_heap T) (C.the_lent T)
-    (λ d p. record { contraction = λ M 𝓤 𝓛 κ. noted_twice 𝓛 T d.cell d.known; mono = λ M 𝓤 𝓛 κ' κ. snd∗ 𝓤 (sem 𝓛 (before κ' κ)) (sem 𝓛 (noted T d.cell d.known)) })
+    (λ d p. record {
+      contraction = λ M 𝓤 𝓛 κ. noted_twice 𝓛 T d.cell d.known;
+      mono =
+          λ M 𝓤 𝓛 κ' κ. snd∗ 𝓤 (sem 𝓛 (before κ' κ)) (sem 𝓛 (noted T d.cell d.known));
+    })
     (copy_shared (marker.the_field RawPtr) (field_copy (marker.the_type RawPtr) tt), tt)
     (λ M 𝓤 𝓛 d p. lends_twice 𝓛 (noted T d.cell d.known) (noted_twice 𝓛 T d.cell d.known) (C.the_row T).lives)

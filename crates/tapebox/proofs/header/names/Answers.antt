@@ -8,7 +8,8 @@ use Rattle.tapebox.proofs.header.names.Goals as goal
 pub loop-piece-init : goal.loop-piece-init
 loop-piece-init g c =
     let left : pieces_left c.into_iter-piece-iterator.result ≡ name_texts c.args.line.now =
-    ap pieces_left c.into_iter-piece-iterator.ensures.into_iter_gives ∙ c.new-piece-items.ensures ∙ sym (name_texts-some c.args.line.now c.if-is_empty.ensures) in
+    ap pieces_left c.into_iter-piece-iterator.ensures.into_iter_gives ∙ c.new-piece-items.ensures
+    ∙ sym (name_texts-some c.args.line.now c.if-is_empty.ensures) in
     record {
       can = tt;
       finite = tt;
@@ -27,6 +28,7 @@ loop-piece-preserved g c =
           ∙ ap (λ (ts : List (List ℕ)). is_some (all_named named ts)) (sym c.in-Some.ensures.steps) ∙ c.loop-piece.invariant.left;
       names = λ fits.
           let ok : is_ok c.push.result ≡ true = c.is_err-is_short.ensures.negation ∙ ap not fits in
-          names_with-more named c.loop-piece.names.items c.push.new.self.items c.in-Some.piece.now left c.in-Some-of_name.name c.in-Some-of_name.ensures (rw (c.push.ensures.items, ok) refl)
+          names_with-more named c.loop-piece.names.items c.push.new.self.items c.in-Some.piece.now left c.in-Some-of_name.name c.in-Some-of_name.ensures
+          (rw (c.push.ensures.items, ok) refl)
           ∙ ap (names_with named c.loop-piece.names.items) (sym c.in-Some.ensures.steps) ∙ c.loop-piece.invariant.names c.if-is_short.false;
     }

@@ -19,5 +19,7 @@ returns-clause-ok c =
     let inside : c.row_index.result < length c.self.inside.rows = omega arith in
     let with_targets : Targets → RegisterState = λ t. record { targets = t; last_numbers = c.self.inside.last_numbers } in
     on_ok_weaker c.insert.result (λ is. ap with_targets
-    (targets-insert c.self.inside.rows c.args.who c.args.number c.row_index.result c.index-self-row_index.result c.insert.new.self (standing_target c.args.symbol c.args.place) c.row_index.ensures.letter inside is)
-    ∙ ap (λ (r : RegisterState). record r { targets = map.insert r.targets (c.args.who, c.args.number) (standing_target c.args.symbol c.args.place) }) c.self.view_is) c.insert.ensures.ok
+    (targets-insert c.self.inside.rows c.args.who c.args.number c.row_index.result c.index-self-row_index.result c.insert.new.self
+    (standing_target c.args.symbol c.args.place) c.row_index.ensures.letter inside is)
+    ∙ ap (λ (r : RegisterState). record r { targets = map.insert r.targets (c.args.who, c.args.number) (standing_target c.args.symbol c.args.place) })
+    c.self.view_is) c.insert.ensures.ok

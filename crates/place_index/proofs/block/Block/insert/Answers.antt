@@ -18,7 +18,9 @@ pub returns-clause-rising : goal.returns-clause-rising
 returns-clause-rising g c = map.entries_sorted c.insert.new.self
 
 pub returns-clause-placed : goal.returns-clause-placed
-returns-clause-placed g c = λ i p. put-in c.self.inside.entries c.args.self.now c.self.view_is c.args.place c.insert.new.self c.args.value i c.in_ok-insert.ensures.ok c.requires.vacant p
+returns-clause-placed g c =
+    λ i p. put-in c.self.inside.entries c.args.self.now c.self.view_is c.args.place c.insert.new.self c.args.value i c.in_ok-insert.ensures.ok
+    c.requires.vacant p
 
 pub returns-clause-ok : goal.returns-clause-ok
 returns-clause-ok g c = values-put c.self.inside.entries c.args.self.now c.self.view_is c.args.place c.insert.new.self c.args.value c.in_ok-insert.ensures.ok

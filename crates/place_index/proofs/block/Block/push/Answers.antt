@@ -14,14 +14,16 @@ returns-in_err-push-clause-rising g c = map.entries_sorted c.push.new.self
 pub invariant_of-self-2 : goal.invariant_of-self-2
 invariant_of-self-2 g c =
     c.value-self-inside.ensures.value
-    ∙ sym (ap top (put-behind c.self.inside.entries c.args.self.now c.self.view_is c.args.place c.push.new.self c.args.value c.in_ok-push.ensures.ok c.requires.above)
+    ∙ sym (ap top (put-behind c.self.inside.entries c.args.self.now c.self.view_is c.args.place c.push.new.self c.args.value c.in_ok-push.ensures.ok
+    c.requires.above)
     ∙ top-right c.args.self.now ((c.args.place, c.args.value) ∷ []) (omega arith))
 
 pub returns-clause-rising : goal.returns-clause-rising
 returns-clause-rising g c = map.entries_sorted c.push.new.self
 
 pub returns-clause-pushed : goal.returns-clause-pushed
-returns-clause-pushed g c = put-behind c.self.inside.entries c.args.self.now c.self.view_is c.args.place c.push.new.self c.args.value c.in_ok-push.ensures.ok c.requires.above
+returns-clause-pushed g c =
+    put-behind c.self.inside.entries c.args.self.now c.self.view_is c.args.place c.push.new.self c.args.value c.in_ok-push.ensures.ok c.requires.above
 
 pub returns-clause-ok : goal.returns-clause-ok
 returns-clause-ok g c = values-put c.self.inside.entries c.args.self.now c.self.view_is c.args.place c.push.new.self c.args.value c.in_ok-push.ensures.ok

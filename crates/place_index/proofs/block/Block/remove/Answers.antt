@@ -9,16 +9,21 @@ use Rattle.place_index.proofs.block.Block.remove.Goals as goal
 pub invariant_of-self : goal.invariant_of-self
 invariant_of-self g c =
     c.self.invariant
-    ∙ ap top (c.self.view_is ∙ sym (absent-same c.self.inside.entries c.args.self.now c.self.view_is c.args.place c.remove.new.self c.remove.ensures.removed (sym c.in_err-value.ensures.value)))
+    ∙ ap top (c.self.view_is
+    ∙ sym (absent-same c.self.inside.entries c.args.self.now c.self.view_is c.args.place c.remove.new.self c.remove.ensures.removed
+    (sym c.in_err-value.ensures.value)))
 
 pub returns-in_err-value-clause-rising : goal.returns-in_err-value-clause-rising
 returns-in_err-value-clause-rising g c = map.entries_sorted c.remove.new.self
 
 pub returns-in_err-value-clause-taken : goal.returns-in_err-value-clause-taken
-returns-in_err-value-clause-taken g c = λ i at. taken-out c.self.inside.entries c.args.self.now c.self.view_is c.args.place c.remove.new.self i c.remove.ensures.removed at
+returns-in_err-value-clause-taken g c =
+    λ i at. taken-out c.self.inside.entries c.args.self.now c.self.view_is c.args.place c.remove.new.self i c.remove.ensures.removed at
 
 pub returns-in_err-value-clause-absent : goal.returns-in_err-value-clause-absent
-returns-in_err-value-clause-absent g c = λ _. absent-same c.self.inside.entries c.args.self.now c.self.view_is c.args.place c.remove.new.self c.remove.ensures.removed (sym c.in_err-value.ensures.value)
+returns-in_err-value-clause-absent g c =
+    λ _. absent-same c.self.inside.entries c.args.self.now c.self.view_is c.args.place c.remove.new.self c.remove.ensures.removed
+    (sym c.in_err-value.ensures.value)
 
 pub returns-in_err-value-clause-value : goal.returns-in_err-value-clause-value
 returns-in_err-value-clause-value g c =
@@ -26,7 +31,8 @@ returns-in_err-value-clause-value g c =
     ∙ ap (λ m. map.get m c.args.place) (seen c.self.inside.entries c.args.self.now c.self.view_is)
 
 pub returns-in_err-value-clause-removed : goal.returns-in_err-value-clause-removed
-returns-in_err-value-clause-removed g c = values-removed c.self.inside.entries c.args.self.now c.self.view_is c.args.place c.remove.new.self c.remove.ensures.removed
+returns-in_err-value-clause-removed g c =
+    values-removed c.self.inside.entries c.args.self.now c.self.view_is c.args.place c.remove.new.self c.remove.ensures.removed
 
 -- something was
 pub invariant_of-self-2 : goal.invariant_of-self-2

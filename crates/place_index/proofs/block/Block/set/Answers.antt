@@ -15,13 +15,17 @@ pub returns-clause-rising : goal.returns-clause-rising
 returns-clause-rising g c = map.entries_sorted c.set-former.new.self
 
 pub returns-clause-written : goal.returns-clause-written
-returns-clause-written g c = λ i at. written-over c.self.inside.entries c.args.self.now c.self.view_is c.args.place c.set-former.new.self c.args.value i c.set-former.ensures.changed at
+returns-clause-written g c =
+    λ i at. written-over c.self.inside.entries c.args.self.now c.self.view_is c.args.place c.set-former.new.self c.args.value i c.set-former.ensures.changed at
 
 pub returns-clause-former : goal.returns-clause-former
 returns-clause-former g c = c.set-former.ensures.former ∙ ap (λ m. map.get m c.args.place) (seen c.self.inside.entries c.args.self.now c.self.view_is)
 
 pub returns-clause-changed : goal.returns-clause-changed
-returns-clause-changed g c = values-put c.self.inside.entries c.args.self.now c.self.view_is c.args.place c.set-former.new.self c.args.value c.set-former.ensures.changed
+returns-clause-changed g c =
+    values-put c.self.inside.entries c.args.self.now c.self.view_is c.args.place c.set-former.new.self c.args.value c.set-former.ensures.changed
 
 pub returns-clause-same_length : goal.returns-clause-same_length
-returns-clause-same_length g c = length-written c.self.inside.entries c.args.self.now c.self.view_is c.args.place c.set-former.new.self c.args.value c.set-former.ensures.changed c.requires.present
+returns-clause-same_length g c =
+    length-written c.self.inside.entries c.args.self.now c.self.view_is c.args.place c.set-former.new.self c.args.value c.set-former.ensures.changed
+    c.requires.present

@@ -5,10 +5,12 @@ use Rattle.symbol_book.proofs.book.Book.remove.Goals as goal
 
 pub invariant_of-self : goal.invariant_of-self
 invariant_of-self g c =
-    (Book-remove g.S.Store.effects g.S.Store.staged_change c.self.inside.consolidated c.take-effect.new.self c.self.inside.own.items c.take.new.own.items c.args.place c.take-effect.result c.take-effect.ensures.taken
+    (Book-remove g.S.Store.effects g.S.Store.staged_change c.self.inside.consolidated c.take-effect.new.self c.self.inside.own.items c.take.new.own.items
+    c.args.place c.take-effect.result c.take-effect.ensures.taken
     c.take-effect.ensures.effects c.take-effect.ensures.settled c.take.ensures c.self.invariant).0
 
 pub returns : goal.returns
 returns g c =
-    (Book-remove g.S.Store.effects g.S.Store.staged_change c.self.inside.consolidated c.take-effect.new.self c.self.inside.own.items c.take.new.own.items c.args.place c.take-effect.result c.take-effect.ensures.taken
+    (Book-remove g.S.Store.effects g.S.Store.staged_change c.self.inside.consolidated c.take-effect.new.self c.self.inside.own.items c.take.new.own.items
+    c.args.place c.take-effect.result c.take-effect.ensures.taken
     c.take-effect.ensures.effects c.take-effect.ensures.settled c.take.ensures c.self.invariant).1 ∙ ap (λ m. map.remove m c.args.place) c.self.view_is

@@ -14,9 +14,14 @@ invariant_of-self g c =
     let t : Trade = reported_trade e.who (content_of c.args.price c.args.size c.args.condition.now) in
     let here = sym c.get.ensures.effect ∙ c.unwrap-effect.ensures in
     either c.replace.result c.replace.ensures.ok c.replace.ensures.own_ok c.replace.ensures.err c.replace.ensures.own_err
-    (λ a b. (Book-replace effects_in change_in c.self.inside.consolidated c.replace.new.consolidated c.self.inside.own.items c.replace.new.own.items c.args.place e t here refl
-    (a ∙ ap (λ (x : Trade). map.insert (effects_in c.self.inside.consolidated) c.args.place (consolidated_effect_of x)) c.new-trade.ensures) c.replace.ensures.settled (subst (λ (x : Trade). OwnBecomes effects_in change_in c.self.inside.own.items c.replace.new.own.items e.who (map.insert (participant_effects effects_in c.self.inside.own.items e.who) c.args.place (own_effect_of x))) c.new-trade.ensures b) c.self.invariant).0)
-    (λ a b. (Book-same effects_in change_in c.self.inside.consolidated c.replace.new.consolidated c.self.inside.own.items c.replace.new.own.items e.who a c.replace.ensures.settled b c.self.invariant).0)
+    (λ a b. (Book-replace effects_in change_in c.self.inside.consolidated c.replace.new.consolidated c.self.inside.own.items c.replace.new.own.items
+    c.args.place e t here refl
+    (a ∙ ap (λ (x : Trade). map.insert (effects_in c.self.inside.consolidated) c.args.place (consolidated_effect_of x)) c.new-trade.ensures)
+    c.replace.ensures.settled
+    (subst (λ (x : Trade). OwnBecomes effects_in change_in c.self.inside.own.items c.replace.new.own.items e.who
+    (map.insert (participant_effects effects_in c.self.inside.own.items e.who) c.args.place (own_effect_of x))) c.new-trade.ensures b) c.self.invariant).0)
+    (λ a b. (Book-same effects_in change_in c.self.inside.consolidated c.replace.new.consolidated c.self.inside.own.items c.replace.new.own.items e.who a
+    c.replace.ensures.settled b c.self.invariant).0)
 
 pub returns-clause-ok : goal.returns-clause-ok
 returns-clause-ok g c =
@@ -25,13 +30,21 @@ returns-clause-ok g c =
     let e = c.unwrap-effect.result in
     let t : Trade = reported_trade e.who (content_of c.args.price c.args.size c.args.condition.now) in
     let here = sym c.get.ensures.effect ∙ c.unwrap-effect.ensures in
-    on_ok_both c.replace.result (λ a b. (Book-replace effects_in change_in c.self.inside.consolidated c.replace.new.consolidated c.self.inside.own.items c.replace.new.own.items c.args.place e t here refl
-    (a ∙ ap (λ (x : Trade). map.insert (effects_in c.self.inside.consolidated) c.args.place (consolidated_effect_of x)) c.new-trade.ensures) c.replace.ensures.settled
-    (subst (λ (x : Trade). OwnBecomes effects_in change_in c.self.inside.own.items c.replace.new.own.items e.who (map.insert (participant_effects effects_in c.self.inside.own.items e.who) c.args.place (own_effect_of x))) c.new-trade.ensures b) c.self.invariant).1
-    ∙ sym (trades_with_content-is effects_in change_in c.self.inside.consolidated c.self.inside.own.items c.args.place e (content_of c.args.price c.args.size c.args.condition.now) here c.self.invariant)
-    ∙ ap (λ m. trades_with_content m c.args.place (content_of c.args.price c.args.size c.args.condition.now)) c.self.view_is) c.replace.ensures.ok c.replace.ensures.own_ok
+    on_ok_both c.replace.result
+    (λ a b. (Book-replace effects_in change_in c.self.inside.consolidated c.replace.new.consolidated c.self.inside.own.items c.replace.new.own.items
+    c.args.place e t here refl
+    (a ∙ ap (λ (x : Trade). map.insert (effects_in c.self.inside.consolidated) c.args.place (consolidated_effect_of x)) c.new-trade.ensures)
+    c.replace.ensures.settled
+    (subst (λ (x : Trade). OwnBecomes effects_in change_in c.self.inside.own.items c.replace.new.own.items e.who
+    (map.insert (participant_effects effects_in c.self.inside.own.items e.who) c.args.place (own_effect_of x))) c.new-trade.ensures b) c.self.invariant).1
+    ∙ sym (trades_with_content-is effects_in change_in c.self.inside.consolidated c.self.inside.own.items c.args.place e
+    (content_of c.args.price c.args.size c.args.condition.now) here c.self.invariant)
+    ∙ ap (λ m. trades_with_content m c.args.place (content_of c.args.price c.args.size c.args.condition.now)) c.self.view_is) c.replace.ensures.ok
+    c.replace.ensures.own_ok
 
 pub returns-clause-err : goal.returns-clause-err
 returns-clause-err g c =
-    on_err_both c.replace.result (λ a b. (Book-same g.S.Store.effects g.S.Store.staged_change c.self.inside.consolidated c.replace.new.consolidated c.self.inside.own.items c.replace.new.own.items c.unwrap-effect.result.who a c.replace.ensures.settled b c.self.invariant).1
+    on_err_both c.replace.result
+    (λ a b. (Book-same g.S.Store.effects g.S.Store.staged_change c.self.inside.consolidated c.replace.new.consolidated c.self.inside.own.items
+    c.replace.new.own.items c.unwrap-effect.result.who a c.replace.ensures.settled b c.self.invariant).1
     ∙ c.self.view_is) c.replace.ensures.err c.replace.ensures.own_err

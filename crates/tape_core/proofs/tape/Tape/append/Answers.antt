@@ -25,16 +25,19 @@ advance-requires g c =
     record {
       above = subst (λ h. last_of c.make_change.new.register h.participant < h.number) (sym is)
           (subst (λ r. last_of r (header_of m).participant < (header_of m).number) (sym c.in_ok-after.ensures.register)
-          (register-above _ _ _ _ c.self.invariant m (ap (λ t. refusal t m) c.self.view_is ∙ c.requires.none) (subst (λ h. IsParticipant h.participant) is (omega arith, omega arith))));
+          (register-above _ _ _ _ c.self.invariant m (ap (λ t. refusal t m) c.self.view_is ∙ c.requires.none)
+          (subst (λ h. IsParticipant h.participant) is (omega arith, omega arith))));
     }
 
 -- the entry that is pushed is the next one
 pushed-next : (g : Over) (c : After-push_reserved g)
-    → ◌≡◌ {A = Entry} (record { number = c.args.route.number; message = c.args.message.now; after = c.in_ok-after.after }) (next_entry c.self.inside.entries.items c.args.message.now)
+    → ◌≡◌ {A = Entry} (record { number = c.args.route.number; message = c.args.message.now; after = c.in_ok-after.after })
+    (next_entry c.self.inside.entries.items c.args.message.now)
 pushed-next g c =
     let m = c.args.message.now in
     entry-next _ _ _ _ c.self.invariant c.args.route _ c.index_mut-book.ensures.value m (ap (λ t. refusal t m) c.self.view_is ∙ c.requires.none)
-    (subst (λ t. IsRoute t m c.args.route) (sym c.self.view_is) c.requires.route) c.in_ok-after.after c.make_change.new.book c.in_ok-after.ensures.book c.in_ok-after.ensures.after
+    (subst (λ t. IsRoute t m c.args.route)
+    (sym c.self.view_is) c.requires.route) c.in_ok-after.after c.make_change.new.book c.in_ok-after.ensures.book c.in_ok-after.ensures.after
 
 pub invariant_of-self-2 : goal.invariant_of-self-2
 invariant_of-self-2 g c =

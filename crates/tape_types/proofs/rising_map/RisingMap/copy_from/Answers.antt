@@ -9,7 +9,8 @@ pub copied_from-requires : goal.copied_from-requires
 copied_from-requires g c =
     let number = g.K.NumberKey.number in
     let es = c.self.inside.entries.items in
-    let many = ap map.len (sym c.self.view_is) ∙ map.len-entries _ ∙ ap length (entries-seen _ c.self.invariant) ∙ length-keyed number es ∙ ap length (sym c.deref.ensures.value) in
+    let many = ap map.len (sym c.self.view_is) ∙ map.len-entries _ ∙ ap length (entries-seen _ c.self.invariant) ∙ length-keyed number es
+    ∙ ap length (sym c.deref.ensures.value) in
     subst (λ n. c.args.index ≤ n) many c.requires
 
 pub invariant_of-result : goal.invariant_of-result
