@@ -261,6 +261,7 @@ impl<D: DayName> Locked<D> {
     /// number rise with it. Refused, the first that applies: 33 WrongLine where it is another participant's message, 94 Behind
     /// where the tape's count, sizes or last number of the participant is not the seat's, and then as the tape refuses it, 40
     /// out of memory last. On a refusal tape and seat are unchanged.
+    #[inline(always)]
     pub fn admit(
         &mut self,
         seat: &mut LineSeat<D>,

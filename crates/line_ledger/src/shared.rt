@@ -75,6 +75,7 @@ impl<D: DayName> SharedTape<D> {
 
     /// Takes the lock. Whoever has it is soon done, and to sleep and be woken takes longer than that: so it is tried for, `TRIES`
     /// times, before the thread may sleep.
+    #[inline(always)]
     fn lock(&self, rt: &impl Wait) -> MutexGuard<'_, Locked<D>> {
         for _ in 0..TRIES {
             if let Some(guard) = self.locked.try_lock() {
@@ -87,6 +88,7 @@ impl<D: DayName> SharedTape<D> {
 
     /// Admits a message of the seat's participant under the lock, as `Locked::admit` does, with its refusals. What the tape
     /// was at that moment no clause can name, so these say what the seat's holder learns. It may wait for the lock.
+    #[inline(always)]
     pub fn admit(
         &self,
         rt: &impl Wait,

@@ -19,6 +19,7 @@ pub(crate) const LONGEST_FRAME: usize = LENGTH_BYTES + LONGEST_BODY;
 
 /// Reads on from one place of the row until another or until the input ends: up to which place, or `None` where a read
 /// failed.
+#[inline(always)]
 fn read_on<R: Read>(
     reader: &mut R,
     row: &mut [u8; LONGEST_FRAME],
@@ -51,6 +52,7 @@ fn length_in_front(row: &[u8; LONGEST_FRAME]) -> usize
 }
 
 /// Reads the length of the next frame to the front of the row, or tells what comes in its place.
+#[inline(always)]
 fn read_length<R: Read>(reader: &mut R, row: &mut [u8; LONGEST_FRAME]) -> Result<usize, Ended>
     ensures len { IfOk result IsLength }
     ensures ok { IfOk result (λ len. (announced_length (take 2 row.new) ≡ len)
@@ -71,6 +73,7 @@ fn read_length<R: Read>(reader: &mut R, row: &mut [u8; LONGEST_FRAME]) -> Result
 }
 
 /// Reads the next frame to the front of the row: how many bytes it has, or what comes in its place.
+#[inline(always)]
 pub(crate) fn read_frame<R: Read>(
     reader: &mut R,
     row: &mut [u8; LONGEST_FRAME],

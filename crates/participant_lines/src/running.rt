@@ -26,6 +26,7 @@ pub(crate) struct Outcome {
 
 /// What an answer is to its line: how many refusals it makes, 0 or 1, or the end that it brings. Nothing else decides which
 /// refusals end a line.
+#[inline(always)]
 fn effect_of(answer: Result<Receipt, LineRefusal>) -> Result<u32, Ended>
     ensures { result ≡ effect_of answer }
 {
@@ -38,6 +39,7 @@ fn effect_of(answer: Result<Receipt, LineRefusal>) -> Result<u32, Ended>
 }
 
 /// Admits a message: how many refusals that makes, 0 or 1, or why the line ends at it.
+#[inline(always)]
 fn take_message<D: DayName, W: Wait>(
     rt: &W,
     shared: &SharedTape<D>,
@@ -52,6 +54,7 @@ fn take_message<D: DayName, W: Wait>(
 
 /// Reads the next frame and does it: how many refusals that makes, 0 or 1, or why the line ends before or at it. The row is
 /// only room.
+#[inline(always)]
 fn do_frame<D: DayName, R: BufRead, W: Wait>(
     rt: &W,
     shared: &SharedTape<D>,

@@ -9,6 +9,7 @@ use std::io::{ErrorKind, Read};
 
 /// Reads until the row is full or the input ends: how many bytes were read, or `None` where a read failed. A read that
 /// was interrupted is tried again. No byte is read beyond the row.
+#[inline(always)]
 pub fn fill<R: Read>(reader: &mut R, row: &mut [u8]) -> Option<usize>
     ensures within { IfSome result (λ n. n ≤ length row.new) }
     ensures bytes { IfSome result (λ n. Consumes (R.remaining reader.old) (R.remaining reader.new) (take n row.new)) }
