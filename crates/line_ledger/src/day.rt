@@ -3,7 +3,6 @@ ghost use Rattle.std.specs.Prelude.{◌≡◌, ◌↔◌, ◌+◌, ◌-◌, ◌<
 ghost use Rattle.std.specs.Result.{IsOk};
 ghost use Rattle.tape_types.specs.Names.{Names};
 ghost use Rattle.line_ledger.specs.Cells.{IsTokenOf};
-ghost use Rattle.tape_types.specs.Ranges.{TAPE_MOST};
 
 use crate::same_entry::is_same;
 use crate::{CellRow, NotOnTape, Token};
@@ -36,6 +35,7 @@ impl Model for Day {
     ghost use Rattle.std.specs.Prelude.{◌≤◌, length};
     ghost use Rattle.line_ledger.specs.Cells.{FirstSeen};
     ghost use Rattle.line_ledger.specs.Days.{DayState};
+    ghost use Rattle.tape_types.specs.Ranges.{TAPE_MOST};
 
     ghost Value = { DayState };
 

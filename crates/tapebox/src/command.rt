@@ -125,6 +125,17 @@ fn names<N: Named>(alloc: Global, word: &[u8]) -> Option<Vec<N>> {
     Some(names)
 }
 
+/// The listing of a word of symbols and a word of participants, or out of memory, whatever else is wrong with the words.
+fn listed(alloc: Global, symbols: &[u8], participants: &[u8]) -> Result<Listing, ListingFault> {
+    let Some(symbols) = names::<Symbol>(alloc, symbols) else {
+        return Err(ListingFault::OutOfMemory);
+    };
+    let Some(participants) = names::<Participant>(alloc, participants) else {
+        return Err(ListingFault::OutOfMemory);
+    };
+    Listing::new(alloc, &symbols, &participants)
+}
+
 /// The listing of a word of symbols and a word of participants, of which there are to be at most so many. Out of memory is
 /// answered only where nothing is wrong with the words.
 fn listing(
@@ -138,12 +149,7 @@ fn listing(
     {
         return Err(Refused::BadArguments);
     }
-    let names = (names(alloc, symbols), names(alloc, participants));
-    let listed = match names {
-        (Some(symbols), Some(participants)) => Listing::new(alloc, &symbols, &participants),
-        _ => Err(ListingFault::OutOfMemory),
-    };
-    match listed {
+    match listed(alloc, symbols, participants) {
         Ok(listing) => Ok(listing),
         Err(ListingFault::OutOfMemory) if !has_repeat(symbols) && !has_repeat(participants) => {
             Err(Refused::OutOfMemory)
