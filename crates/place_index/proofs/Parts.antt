@@ -9,13 +9,14 @@ use Rattle.std.specs.FinMap.Entries.{is_sorted, below_all, find}
 use Rattle.std.proofs.lemmas.Bool.{cases_lt}
 use Rattle.std.proofs.lemmas.Bool.Decides.{nat_tests}
 use Rattle.std.proofs.lemmas.List.{append-nil, length-take-le, length-drop}
-use Rattle.tape_types.specs.RisingEntries.{IsPosition}
+use Rattle.tape_types.specs.RisingEntries.{IsPosition, AllBelow}
 use Rattle.place_index.specs.Places.{IsVacant, IsFirstPlace, IsLastPlace}
-use Rattle.place_index.specs.Blocks.{joined, max_block_len, top, values_of, values_in, all_values, begins_by, AllBelow, AllAbove, IsBlockList, IsBlockFor}
+use Rattle.place_index.specs.Blocks.{joined, max_block_len, top, values_of, values_in, all_values, begins_by, AllAbove, IsBlockList, IsBlockFor}
 use Rattle.place_index.specs.Blocks.{HasLastBlock}
 use Rattle.place_index.proofs.BlockLists.{append-assoc, joined-append, sized-push}
-use Rattle.place_index.proofs.BlockOrder.{and_left, and_rest, and_both, lt_from, itself, tied, take_drop, Under, sorted-left, sorted-right, under-top}
+use Rattle.place_index.proofs.BlockOrder.{itself, tied, take_drop, Under, sorted-left, sorted-right, under-top}
 use Rattle.place_index.proofs.BlockOrder.{top-right, find-top, absent-behind, first-entry, position-under, top-at}
+use Rattle.tape_types.proofs.RisingEntries.{and_left, and_rest, and_both, lt_from, vacant-above}
 
 -- a number below another compares as less
 less_is : (x y : ℕ) → x < y → T (is_lt (nat_cmp x y))
@@ -156,10 +157,6 @@ module _ {V : Type 0} where
       ∙ find-append q xs ys
       ∙ ap (λ o. either o (find nat_cmp q ys)) (sym (map.get-from_entries nat_cmp_total xs q))
       ∙ ap (λ o. either (map.get (map.from_entries {R = nat_cmp} xs) q) o) (sym (map.get-from_entries nat_cmp_total ys q))
-
-  -- a key that is above all has no value
-  pub none-above : (m : map.FinMap nat_cmp V) (k : ℕ) → AllBelow m k → map.get m k ≡ None
-  none-above m k all = none-unless (map.get m k) (λ some. let less : k < k = all k some in omega arith)
 
   -- nor has one that is below all
   pub none-below : (m : map.FinMap nat_cmp V) (k : ℕ) → AllAbove m k → map.get m k ≡ None
@@ -322,7 +319,7 @@ module _ {V : Type 0} where
         sized = valid.sized;
         short = short;
       },
-      insert-second _ _ _ both-of (all_values bs es2) k v (values_in es2) (none-above (values_of bs) k below) is (both-parts (joined bs) es2),
+      insert-second _ _ _ both-of (all_values bs es2) k v (values_in es2) (vacant-above k (values_of bs) below) is (both-parts (joined bs) es2),
     )
 
     -- a value put into the blocks before it
@@ -364,7 +361,7 @@ module _ {V : Type 0} where
         sized = valid.sized;
         short = omega (arith, fewer, valid.short);
       },
-      remove-second _ _ _ both-of (all_values bs es2) k (values_in es2) (none-above (values_of bs) k below) is (both-parts (joined bs) es2),
+      remove-second _ _ _ both-of (all_values bs es2) k (values_in es2) (vacant-above k (values_of bs) below) is (both-parts (joined bs) es2),
     )
 
     -- a value taken from the blocks before it
@@ -437,12 +434,6 @@ module _ {V : Type 0} where
       reaches = λ never. absurd (omega arith);
     }))
   ]
-
-  -- a key above all that is found belongs at the end
-  pub above-position : (k : ℕ) (es : List (ℕ × V)) → T (is_sorted nat_cmp es) → AllBelow (values_in es) k → IsPosition k es (length es)
-  above-position k [] h all = position-under k [] tt
-  above-position k (e ∷ es) h all =
-      position-under k (e ∷ es) (under-top k (e ∷ es) h (all (top (e ∷ es)) (in-map (top (e ∷ es)) (e ∷ es) (find-top (e ∷ es) h (omega arith)))))
 
   -- without an entry no place has a value
   pub none-in : (es : List (ℕ × V)) (q : ℕ) → length es ≡ 0 → map.get (values_in es) q ≡ None

@@ -2,8 +2,9 @@
 //! place above all others and are found there at once.
 ghost use Rattle.std.specs.Prelude.{◌≡◌, ◌<◌, ◌≤◌, ◌++◌, ◌∷◌, [], ℕ, length, take, drop, OnOk, OnErr, MatchOption, Some, None, IsSome};
 ghost use Rattle.std.specs.FinMap as map;
-ghost use Rattle.place_index.specs.Blocks.{all_values, max_block_len, AllBelow, GoesLast, HasLastBlock};
+ghost use Rattle.place_index.specs.Blocks.{all_values, max_block_len, GoesLast, HasLastBlock};
 ghost use Rattle.place_index.specs.Places.{IsVacant, IsFirstPlace, IsLastPlace};
+ghost use Rattle.tape_types.specs.RisingEntries.{AllBelow};
 
 use crate::block::Block;
 use crate::block_list;

@@ -15,23 +15,26 @@ use Rattle.std.proofs.lemmas.List.Elements.{AllWithin-from_all}
 use Rattle.std.proofs.lemmas.List.Edits.{insert_end}
 use Rattle.std.proofs.lemmas.Bool.{cases_lt, cases_eq}
 use Rattle.std.proofs.lemmas.Bool.Decides.{nat_tests}
-use Rattle.tape_types.specs.RisingEntries.{IsAboveAll, IsPosition, StandsIn, keyed}
+use Rattle.tape_types.specs.RisingEntries.{AllBelow, IsPosition, StandsIn, keyed}
 
-first : (a b : Bool) → T (a && b) → T a
-first true b p = tt
-first false b p = p
+-- of a conjunction that holds, its first part
+pub and_left : (a b : Bool) → T (a && b) → T a
+and_left true b p = tt
+and_left false b p = p
 
-together : (a b : Bool) → T a → T b → T (a && b)
-together true b p q = q
-together false b p q = absurd p
+-- a conjunction of what holds
+pub and_both : (a b : Bool) → T a → T b → T (a && b)
+and_both true b p q = q
+and_both false b p q = absurd p
 
-second : (a b : Bool) → T (a && b) → T b
-second true b p = p
-second false b p = absurd p
+-- of a conjunction that holds, its second part
+pub and_rest : (a b : Bool) → T (a && b) → T b
+and_rest true b p = p
+and_rest false b p = absurd p
 
 -- a key that is less by the order is below
-lt_from_test : (x y : ℕ) → T (is_lt (nat_cmp x y)) → x < y
-lt_from_test x y h = elim (cases_lt x y) [
+pub lt_from : (x y : ℕ) → T (is_lt (nat_cmp x y)) → x < y
+lt_from x y h = elim (cases_lt x y) [
   | inl lt ↦ lt
   | inr ge ↦ absurd (subst T (let e : is_lt (nat_cmp x y) ≡ false = grind (arith, nat_tests) in e) h)
 ]
@@ -54,22 +57,22 @@ module _ {X : Type 0} where
   -- a key below all is below each
   below-each : (x : ℕ) (es : List (ℕ × X)) → T (below_all nat_cmp x es) → (j : ℕ) (d : ℕ × X) → j < length es → x < (get_or es j d).0
   below-each x [] h j d lt = absurd (omega arith)
-  below-each x (e ∷ es) h zero d lt = lt_from_test x e.0 (first _ _ h)
-  below-each x (e ∷ es) h (suc j) d lt = below-each x es (second _ _ h) j d (omega arith)
+  below-each x (e ∷ es) h zero d lt = lt_from x e.0 (and_left _ _ h)
+  below-each x (e ∷ es) h (suc j) d lt = below-each x es (and_rest _ _ h) j d (omega arith)
 
   -- the keys rise
   pub keys-rise : (es : List (ℕ × X)) → T (is_sorted nat_cmp es) → (i j : ℕ) (d : ℕ × X) → i ≤ j → j < length es → (get_or es i d).0 ≤ (get_or es j d).0
   keys-rise [] h i j d le lt = absurd (omega arith)
   keys-rise (e ∷ es) h zero zero d le lt = omega arith
-  keys-rise (e ∷ es) h zero (suc j) d le lt = omega (arith, below-each e.0 es (first _ _ h) j d (omega arith))
+  keys-rise (e ∷ es) h zero (suc j) d le lt = omega (arith, below-each e.0 es (and_left _ _ h) j d (omega arith))
   keys-rise (e ∷ es) h (suc i) zero d le lt = absurd (omega arith)
-  keys-rise (e ∷ es) h (suc i) (suc j) d le lt = keys-rise es (second _ _ h) i j d (omega arith) (omega arith)
+  keys-rise (e ∷ es) h (suc i) (suc j) d le lt = keys-rise es (and_rest _ _ h) i j d (omega arith) (omega arith)
 
   -- each key is below the next
   keys-step : (es : List (ℕ × X)) → T (is_sorted nat_cmp es) → (k : ℕ) (d : ℕ × X) → suc k < length es → (get_or es k d).0 < (get_or es (suc k) d).0
   keys-step [] h k d lt = absurd (omega arith)
-  keys-step (e ∷ es) h zero d lt = below-each e.0 es (first _ _ h) 0 d (omega arith)
-  keys-step (e ∷ es) h (suc k) d lt = keys-step es (second _ _ h) k d (omega arith)
+  keys-step (e ∷ es) h zero d lt = below-each e.0 es (and_left _ _ h) 0 d (omega arith)
+  keys-step (e ∷ es) h (suc k) d lt = keys-step es (and_rest _ _ h) k d (omega arith)
 
   -- so they strictly increase
   pub keys-increase : (es : List (ℕ × X)) → T (is_sorted nat_cmp es) → IsStrictlyIncreasing (map_list (λ e. e.0) es)
@@ -89,7 +92,7 @@ module _ {X : Type 0} where
     not_below = λ j d low lt. p.not_below (suc j) d (omega arith) (omega arith);
   }
 
-  -- what is found at the first entry's key, and at another
+  -- what is found at the and_left entry's key, and at another
   find-here : (k : ℕ) (e : ℕ × X) (es : List (ℕ × X)) → k ≡ e.0 → find nat_cmp k (e ∷ es) ≡ Some e.1
   find-here k e es same = ap (λ r. cond (is_eq r) (Some e.1) (find nat_cmp k es)) (equal-is k e.0 same)
 
@@ -145,11 +148,11 @@ module _ {X : Type 0} where
       → remove es i ≡ without k es
   remove-without k [] i d h p lt same = absurd (omega arith)
   remove-without k (e ∷ es) zero d h p lt same =
-      without-above k es (λ j f in_range. let above : e.0 < (get_or es j f).0 = below-each e.0 es (first _ _ h) j f in_range in omega arith)
+      without-above k es (λ j f in_range. let above : e.0 < (get_or es j f).0 = below-each e.0 es (and_left _ _ h) j f in_range in omega arith)
       ∙ ap (λ r. cond (not (is_eq r)) (e ∷ without k es) (without k es)) (sym (equal-is k e.0 (sym same)))
   remove-without k (e ∷ es) (suc i) d h p lt same =
       let low : e.0 < k = p.below 0 e (omega arith) (omega arith) in
-      ap (λ l. e ∷ l) (remove-without k es i d (second _ _ h) (position-tail k e es i p) (omega arith) same)
+      ap (λ l. e ∷ l) (remove-without k es i d (and_rest _ _ h) (position-tail k e es i p) (omega arith) same)
       ∙ ap (λ b. cond (not b) (e ∷ without k es) (without k es)) (sym (apart k e.0 (λ same. omega arith)))
 
   -- what is found of a key: the entry at its position, if that has the key
@@ -168,10 +171,10 @@ module _ {X : Type 0} where
       let low : k ≤ e.0 = p.not_below 0 e (omega arith) (omega arith) in
       let differs : e.0 ≢ k = other e (omega arith) in
       find-there k e es (λ same. differs (sym same))
-      ∙ find-above k es (λ j f in_range. let above : e.0 < (get_or es j f).0 = below-each e.0 es (first _ _ h) j f in_range in omega arith)
+      ∙ find-above k es (λ j f in_range. let above : e.0 < (get_or es j f).0 = below-each e.0 es (and_left _ _ h) j f in_range in omega arith)
   find-absent k (e ∷ es) (suc i) h p other =
       let low : e.0 < k = p.below 0 e (omega arith) (omega arith) in
-      find-there k e es (λ same. omega arith) ∙ find-absent k es i (second _ _ h) (position-tail k e es i p) (λ d lt. other d (omega arith))
+      find-there k e es (λ same. omega arith) ∙ find-absent k es i (and_rest _ _ h) (position-tail k e es i p) (λ d lt. other d (omega arith))
 
   -- a key that is found stands at its position
   pub at-position : (k : ℕ) (es : List (ℕ × X)) (i : ℕ) → T (is_sorted nat_cmp es) → IsPosition k es i → IsSome (map.get (map.from_entries {R = nat_cmp} es) k)
@@ -218,23 +221,6 @@ module _ {X : Type 0} where
       map.get-from_entries nat_cmp_total es q ∙ sym (map.get-from_sorted nat_cmp es q h)))
       ∙ map.entries-from_sorted nat_cmp es h
 
-  -- what a partition by the keys below k says
-  pub position-parted : (k : ℕ) (es : List (ℕ × X)) (i : ℕ) → i ≤ length es
-      → IsPartitionPoint (λ (e : ℕ × X). ltb e.0 k ≡ true) (λ (e : ℕ × X). ltb e.0 k ≡ false) es i → IsPosition k es i
-  position-parted k es i le parted = record {
-    in_range = le;
-    below = λ j d low lt. let test : ltb (get_or es j d).0 k ≡ true = parted.0 j d low lt in grind (arith, nat_tests);
-    not_below = λ j d low lt. let test : ltb (get_or es j d).0 k ≡ false = parted.1 j d low lt in grind (arith, nat_tests);
-  }
-
-  -- a key above all others goes to the end
-  pub position-end : (k : ℕ) (es : List (ℕ × X)) → All (λ (e : ℕ × X). e.0 < k) es → IsPosition k es (length es)
-  position-end k es all = record {
-    in_range = omega arith;
-    below = AllWithin-from_all (λ e. e.0 < k) es all;
-    not_below = λ j d low lt. absurd (omega arith);
-  }
-
   -- and so does one above the last
   pub position-after_last : (k : ℕ) (es : List (ℕ × X)) (d : ℕ × X) → T (is_sorted nat_cmp es) → (get_or es (length es - 1) d).0 < k
       → IsPosition k es (length es)
@@ -265,14 +251,6 @@ module _ {X : Type 0} where
         (inserted v (length es) p vacant)
 
     module _ (i : ℕ) (p : IsPosition k es i) (present : IsSome (map.get (map.from_entries {R = nat_cmp} es) k)) where
-      -- the position of a key that is found is that of an entry
-      pub found-within : i < length es
-      found-within = let at = at-position k es i h p present in at.0
-
-      -- whose value is found
-      pub found-there : (d : ℕ × X) → map.get (map.from_entries {R = nat_cmp} es) k ≡ Some (get_or es i d).1
-      found-there d = let at = at-position k es i h p present in map.get-from_entries nat_cmp_total es k ∙ find-at k es i d p at.0 (at.1 d)
-
       -- another value written there
       pub replaced : (v : X)
           → T (is_sorted nat_cmp (set es i (k, v))) × (map.from_entries {R = nat_cmp} (set es i (k, v)) ≡ map.insert (map.from_entries es) k v)
@@ -453,17 +431,25 @@ module _ {X : Type 0} where
   pub rising-drop : (i : ℕ) (es : List (ℕ × X)) → T (is_sorted nat_cmp es) → T (is_sorted nat_cmp (drop i es))
   rising-drop zero es h = h
   rising-drop (suc i) [] h = h
-  rising-drop (suc i) (e ∷ es) h = rising-drop i es (second _ _ h)
+  rising-drop (suc i) (e ∷ es) h = rising-drop i es (and_rest _ _ h)
 
   below-take : (x i : ℕ) (es : List (ℕ × X)) → T (below_all nat_cmp x es) → T (below_all nat_cmp x (take i es))
   below-take x zero es h = tt
   below-take x (suc i) [] h = tt
-  below-take x (suc i) (e ∷ es) h = together _ _ (first _ _ h) (below-take x i es (second _ _ h))
+  below-take x (suc i) (e ∷ es) h = and_both _ _ (and_left _ _ h) (below-take x i es (and_rest _ _ h))
 
   pub rising-take : (i : ℕ) (es : List (ℕ × X)) → T (is_sorted nat_cmp es) → T (is_sorted nat_cmp (take i es))
   rising-take zero es h = tt
   rising-take (suc i) [] h = tt
-  rising-take (suc i) (e ∷ es) h = together _ _ (below-take e.0 i es (first _ _ h)) (rising-take i es (second _ _ h))
+  rising-take (suc i) (e ∷ es) h = and_both _ _ (below-take e.0 i es (and_left _ _ h)) (rising-take i es (and_rest _ _ h))
+
+  -- the first entry is where a key stands or goes that is not above its key
+  pub position-zero : (k : ℕ) (e : ℕ × X) (es : List (ℕ × X)) → T (is_sorted nat_cmp (e ∷ es)) → k ≤ e.0 → IsPosition k (e ∷ es) 0
+  position-zero k e es h le = record {
+    in_range = omega arith;
+    below = λ j d low lt. absurd (omega arith);
+    not_below = λ j d low lt. let up : e.0 ≤ (get_or (e ∷ es) j d).0 = keys-rise (e ∷ es) h 0 j d low lt in omega arith;
+  }
 
   -- a position after a lower key is one more
   pub position-cons : (k : ℕ) (e : ℕ × X) (es : List (ℕ × X)) (i : ℕ) → e.0 < k → IsPosition k es i → IsPosition k (e ∷ es) (suc i)
@@ -482,7 +468,7 @@ module _ {X : Type 0} where
       after (suc j) d from lt = p.not_below j d (omega arith) (omega arith)
 
   -- a key above all goes to the end
-  pub position-above : (k : ℕ) (es : List (ℕ × X)) → T (is_sorted nat_cmp es) → IsAboveAll k (map.from_entries es) → IsPosition k es (length es)
+  pub position-above : (k : ℕ) (es : List (ℕ × X)) → T (is_sorted nat_cmp es) → AllBelow (map.from_entries es) k → IsPosition k es (length es)
   position-above k [] h above = record { in_range = omega arith; below = λ j d low lt. absurd (omega arith); not_below = λ j d low lt. absurd (omega arith) }
   position-above k (e ∷ es) h above =
       let at : IsPosition e.0 (e ∷ es) 0 =
@@ -495,7 +481,7 @@ module _ {X : Type 0} where
       let there : IsSome (map.get (map.from_entries {R = nat_cmp} (e ∷ es)) e.0) =
       rw (map.get-from_entries nat_cmp_total (e ∷ es) e.0, find-here e.0 e es refl) refl in
       let here : e.0 < k = above e.0 there in
-      position-cons k e es (length es) here (position-above k es (second _ _ h) (λ q some. above q (found-rest q e es some)))
+      position-cons k e es (length es) here (position-above k es (and_rest _ _ h) (λ q some. above q (found-rest q e es some)))
     where
       found-rest : (q : ℕ) (e : ℕ × X) (es : List (ℕ × X)) → IsSome (map.get (map.from_entries {R = nat_cmp} es) q)
           → IsSome (map.get (map.from_entries {R = nat_cmp} (e ∷ es)) q)
@@ -505,7 +491,7 @@ module _ {X : Type 0} where
           (elim (eq_by_cmp nat_cmp q e.0) as (λ b. IsSome (cond b (Some e.1) (find nat_cmp q es))) [ true ↦ refl | false ↦ found ])
 
   -- and is vacant
-  pub vacant-above : (k : ℕ) (m : map.FinMap nat_cmp X) → IsAboveAll k m → map.get m k ≡ None
+  pub vacant-above : (k : ℕ) (m : map.FinMap nat_cmp X) → AllBelow m k → map.get m k ≡ None
   vacant-above k m above = elim (map.get m k) as (λ o. map.get m k ≡ o → o ≡ None) [
     | None ↦ λ _. refl
     | (Some x) ↦ λ is. let less : k < k = above k (rw is refl) in absurd (omega arith)
@@ -516,15 +502,8 @@ module _ {X : Type 0} where
   pub position-exists : (k : ℕ) (es : List (ℕ × X)) → T (is_sorted nat_cmp es) → (i : ℕ) × IsPosition k es i
   position-exists k [] h = (0, record { in_range = omega arith; below = λ j d low lt. absurd (omega arith); not_below = λ j d low lt. absurd (omega arith) })
   position-exists k (e ∷ es) h = elim (cases_lt e.0 k) [
-    | inl low ↦ let rest = position-exists k es (second _ _ h) in (suc rest.0, position-cons k e es rest.0 low rest.1)
-    | inr high ↦ (
-      0,
-      record {
-        in_range = omega arith;
-        below = λ j d low lt. absurd (omega arith);
-        not_below = λ j d low lt. let up : e.0 ≤ (get_or (e ∷ es) j d).0 = keys-rise (e ∷ es) h 0 j d (omega arith) lt in omega arith;
-      },
-    )
+    | inl low ↦ let rest = position-exists k es (and_rest _ _ h) in (suc rest.0, position-cons k e es rest.0 low rest.1)
+    | inr high ↦ (0, position-zero k e es h high)
   ]
 
   -- a map is that of its entries

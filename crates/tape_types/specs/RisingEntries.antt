@@ -24,6 +24,6 @@ pub record StandsIn {X : Type 0} (key : ℕ) (es : List (ℕ × X)) (i : ℕ) : 
   pub within : i < length es
   pub has_key : (d : ℕ × X) → (slice_index_or es i d).0 ≡ key
 
--- a number is above each key that has a value
-abbrev pub IsAboveAll : {X : Type 0} → ℕ → map.FinMap nat_cmp X → Type 0
-IsAboveAll n m = (q : ℕ) → IsSome (map.get m q) → q < n
+-- each key that has a value is below n
+abbrev pub AllBelow : {X : Type 0} → map.FinMap nat_cmp X → ℕ → Type 0
+AllBelow m n = (q : ℕ) → IsSome (map.get m q) → q < n

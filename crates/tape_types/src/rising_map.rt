@@ -3,7 +3,7 @@ ghost use Rattle.std.specs.Prelude.{◌≡◌, ◌≤◌, ℕ, length, take, dro
 ghost use Rattle.std.specs.Coded.{coded_ℕ};
 ghost use Rattle.std.specs.Ordering.{nat_cmp};
 ghost use Rattle.std.specs.FinMap as map;
-ghost use Rattle.tape_types.specs.RisingEntries.{HasRisingKeys, IsAboveAll, IsPosition, StandsIn, keyed};
+ghost use Rattle.tape_types.specs.RisingEntries.{AllBelow, HasRisingKeys, IsPosition, StandsIn, keyed};
 
 use std::alloc::{AllocError, Global};
 use std::marker::Model;
@@ -85,7 +85,7 @@ impl<K: NumberKey, V: Copy> RisingMap<K, V> {
 
     /// Gives a value to a key that is above all others, and looks at none of them. Out of memory, the map is unchanged.
     pub fn push(&mut self, key: K, value: V) -> Result<(), AllocError>
-        requires above { IsAboveAll (K.number key) self.old }
+        requires above { AllBelow self.old (K.number key) }
         ensures ok { OnOk result (self.new ≡ map.insert self.old (K.number key) value) }
         ensures err { OnErr result (self.new ≡ self.old) }
     {

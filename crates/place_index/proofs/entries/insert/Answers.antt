@@ -2,10 +2,11 @@ use Rattle.std.proofs.Common.{◌∙◌, sym, ap, subst, arith}
 use Rattle.std.specs.FinMap as map
 use Rattle.std.specs.Ordering.{nat_cmp}
 use Rattle.std.proofs.lemmas.Result.{on_ok_weaker, on_err_weaker}
-use Rattle.place_index.specs.Blocks.{AllAbove, AllBelow, GoesLast, HasLastBlock, values_in, values_of}
+use Rattle.place_index.specs.Blocks.{AllAbove, GoesLast, HasLastBlock, values_in, values_of}
 use Rattle.place_index.proofs.BlockOrder.{in-either}
 use Rattle.place_index.proofs.Parts.{above-top, blocks-insert_before, blocks-same, blocks-valid, both-of, last-insert, vacant-first, vacant-second}
 use Rattle.place_index.proofs.entries.insert.Goals as goal
+use Rattle.tape_types.specs.RisingEntries.{AllBelow}
 
 pub push-requires-clause-above : goal.push-requires-clause-above
 push-requires-clause-above g c =

@@ -2,10 +2,11 @@ use Rattle.std.proofs.Common.{◌∙◌, sym, ap, subst, arith}
 use Rattle.std.specs.FinMap as map
 use Rattle.std.proofs.lemmas.Result.{on_ok_weaker, on_err_weaker}
 use Rattle.std.specs.Ordering.{nat_cmp}
-use Rattle.place_index.specs.Blocks.{AllBelow, HasLastBlock, all_values}
+use Rattle.place_index.specs.Blocks.{HasLastBlock, all_values}
 use Rattle.place_index.proofs.BlockOrder.{in-either}
 use Rattle.place_index.proofs.Parts.{below-first, below-second, last-insert}
 use Rattle.place_index.proofs.entries.push.Goals as goal
+use Rattle.tape_types.specs.RisingEntries.{AllBelow}
 
 pub push-requires : goal.push-requires
 push-requires g c =

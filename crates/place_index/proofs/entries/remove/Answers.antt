@@ -1,7 +1,8 @@
 use Rattle.std.proofs.Common.{◌∙◌, sym}
 use Rattle.place_index.specs.Blocks.{values_of, values_in}
-use Rattle.place_index.proofs.Parts.{begun, blocks-remove_before, blocks-valid, both-of, get-first, get-second, last-remove, none-above, none-below, not-begun}
+use Rattle.place_index.proofs.Parts.{begun, blocks-remove_before, blocks-valid, both-of, get-first, get-second, last-remove, none-below, not-begun}
 use Rattle.place_index.proofs.entries.remove.Goals as goal
+use Rattle.tape_types.proofs.RisingEntries.{vacant-above}
 
 pub remove-requires-else-begins_by : goal.remove-requires-else-begins_by
 remove-requires-else-begins_by g c = record { valid = blocks-valid c.args.blocks.now.items c.args.last.now c.requires.valid }
@@ -20,7 +21,7 @@ returns-then-begins_by-clause-value g c =
     let es = c.args.last.now in
     let k = c.args.place in
     let below = begun bs es c.requires.valid k (sym c.begins_by.ensures ∙ c.if-begins_by.true) in
-    c.remove.ensures.value ∙ sym (get-second _ _ _ (both-of bs es c.requires.valid) k (none-above (values_of bs) k below))
+    c.remove.ensures.value ∙ sym (get-second _ _ _ (both-of bs es c.requires.valid) k (vacant-above k (values_of bs) below))
 
 pub returns-then-begins_by-clause-removed : goal.returns-then-begins_by-clause-removed
 returns-then-begins_by-clause-removed g c =

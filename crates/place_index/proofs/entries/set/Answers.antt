@@ -1,7 +1,8 @@
 use Rattle.std.proofs.Common.{◌∙◌, IsSome, sym, subst, arith}
 use Rattle.place_index.specs.Blocks.{values_of, values_in}
-use Rattle.place_index.proofs.Parts.{begun, blocks-insert_before, blocks-valid, both-of, get-first, get-second, last-insert, none-above, none-below, not-begun}
+use Rattle.place_index.proofs.Parts.{begun, blocks-insert_before, blocks-valid, both-of, get-first, get-second, last-insert, none-below, not-begun}
 use Rattle.place_index.proofs.entries.set.Goals as goal
+use Rattle.tape_types.proofs.RisingEntries.{vacant-above}
 
 pub set-requires : goal.set-requires
 set-requires g c =
@@ -9,7 +10,7 @@ set-requires g c =
     let es = c.args.last.now in
     let k = c.args.place in
     let below = begun bs es c.requires.valid k (sym c.begins_by.ensures ∙ c.if-begins_by.true) in
-    record { present = subst IsSome (get-second _ _ _ (both-of bs es c.requires.valid) k (none-above (values_of bs) k below)) c.requires.present }
+    record { present = subst IsSome (get-second _ _ _ (both-of bs es c.requires.valid) k (vacant-above k (values_of bs) below)) c.requires.present }
 
 pub set-requires-else-begins_by-clause-valid : goal.set-requires-else-begins_by-clause-valid
 set-requires-else-begins_by-clause-valid g c = blocks-valid c.args.blocks.now.items c.args.last.now c.requires.valid
@@ -37,7 +38,7 @@ returns-then-begins_by-clause-former g c =
     let es = c.args.last.now in
     let k = c.args.place in
     let below = begun bs es c.requires.valid k (sym c.begins_by.ensures ∙ c.if-begins_by.true) in
-    c.set.ensures.former ∙ sym (get-second _ _ _ (both-of bs es c.requires.valid) k (none-above (values_of bs) k below))
+    c.set.ensures.former ∙ sym (get-second _ _ _ (both-of bs es c.requires.valid) k (vacant-above k (values_of bs) below))
 
 pub returns-then-begins_by-clause-changed : goal.returns-then-begins_by-clause-changed
 returns-then-begins_by-clause-changed g c =

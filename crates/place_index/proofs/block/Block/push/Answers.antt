@@ -1,9 +1,10 @@
 use Rattle.std.proofs.Common.{[], ◌∷◌, ap, arith, subst, sym, ◌∙◌}
 use Rattle.std.specs.FinMap as map
-use Rattle.place_index.specs.Blocks.{AllBelow, top}
+use Rattle.place_index.specs.Blocks.{top}
 use Rattle.place_index.proofs.BlockMaps.{length-put, put-behind, seen, values-put}
 use Rattle.place_index.proofs.BlockOrder.{top-right}
 use Rattle.place_index.proofs.block.Block.push.Goals as goal
+use Rattle.tape_types.specs.RisingEntries.{AllBelow}
 
 pub push-requires : goal.push-requires
 push-requires g c = record { above = subst (λ m. AllBelow m c.args.place) (sym (seen c.self.inside.entries c.args.self.now c.self.view_is)) c.requires.above }

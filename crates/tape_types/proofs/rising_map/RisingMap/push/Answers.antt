@@ -1,6 +1,6 @@
 use Rattle.std.proofs.Common.{ap, ◌∙◌, subst, sym, length}
 use Rattle.std.specs.FinMap as map
-use Rattle.tape_types.specs.RisingEntries.{IsAboveAll, IsPosition, keyed}
+use Rattle.tape_types.specs.RisingEntries.{AllBelow, IsPosition, keyed}
 use Rattle.tape_types.proofs.RisingEntries.{keyed-pushed, length-keyed, position-above, vacant-above}
 use Rattle.tape_types.proofs.rising_map.RisingMap.push.Goals as goal
 
@@ -9,7 +9,7 @@ invariant_of-self-2 g c =
     let number = g.K.NumberKey.number in
     let es = c.self.inside.entries.items in
     let k = number c.args.key in
-    let above = subst (IsAboveAll k) (sym c.self.view_is) c.requires.above in
+    let above = subst (λ m. AllBelow m k) (sym c.self.view_is) c.requires.above in
     rw c.in_ok-push.ensures.items
     (keyed-pushed number c.args.key es c.self.invariant c.args.value
     (subst (IsPosition k (keyed number es)) (length-keyed number es) (position-above k (keyed number es) c.self.invariant above)) (vacant-above k _ above)).0
@@ -19,7 +19,7 @@ returns-clause-ok g c =
     let number = g.K.NumberKey.number in
     let es = c.self.inside.entries.items in
     let k = number c.args.key in
-    let above = subst (IsAboveAll k) (sym c.self.view_is) c.requires.above in
+    let above = subst (λ m. AllBelow m k) (sym c.self.view_is) c.requires.above in
     rw c.in_ok-push.ensures.items
     (keyed-pushed number c.args.key es c.self.invariant c.args.value
     (subst (IsPosition k (keyed number es)) (length-keyed number es) (position-above k (keyed number es) c.self.invariant above)) (vacant-above k _ above)).1
