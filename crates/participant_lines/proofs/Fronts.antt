@@ -1,5 +1,5 @@
 -- The front of a frame, as it is read.
-use Rattle.std.proofs.Common.{◌≡◌, ◌≢◌, ℕ, ◌+◌, ◌<◌, ◌≤◌, ◌⊎◌, List, ◌++◌, Option, length, length-append, length-take-le, take, take_all, ap, arith, refl}
+use Rattle.std.proofs.Common.{◌≡◌, ℕ, ◌+◌, ◌<◌, ◌≤◌, ◌⊎◌, List, ◌++◌, Option, length, length-append, length-take-le, take, take-take, take_all, ap, arith}
 use Rattle.std.proofs.Common.{subst, sym, inr, ◌∙◌}
 use Rattle.std.proofs.lemmas.List.{take-append-le}
 use Rattle.std.specs.Int.{w16, from_be_bytes}
@@ -8,10 +8,16 @@ use Rattle.std.proofs.KnownBytes.{Consumes-trans}
 use Rattle.reports.specs.Reading.{announced_length}
 use Rattle.participant_lines.specs.Frames.{IsFrame, IsLength, IsPart}
 
--- the length that bytes announce is their first two as a number
-pub announced_is : (bytes : List ℕ) → announced_length bytes ≡ from_be_bytes w16 (take 2 bytes)
+-- bytes that have what they announce begin with a frame
+pub front_frame : (bytes : List ℕ) (len : ℕ) → len ≡ announced_length bytes → IsLength len → 2 + len ≤ length bytes
+    → IsFrame (take (2 + len) bytes)
 unfolding announced_length
-announced_is bytes = refl
+front_frame bytes len is within fits =
+    let announced : announced_length (take (2 + len) bytes) ≡ len = ap (from_be_bytes w16) (take-take 2 (2 + len) bytes (omega arith)) ∙ sym is in
+    record {
+      len = subst IsLength (sym announced) within;
+      whole = omega (arith, length-take-le (2 + len) bytes fits, announced);
+    }
 
 -- what two bytes announce is what is announced, whatever follows them
 pub announced-front : (head rest : List ℕ) → length head ≡ 2 → announced_length (head ++ rest) ≡ announced_length head

@@ -1,3 +1,4 @@
 mod Fronts
 mod Places
+mod Spelled
 mod Steps

@@ -1,7 +1,10 @@
 -- A line's input: frames one after the other, and what may stand after them.
-use Rattle.std.specs.Prelude.{◌≡◌, ◌+◌, ◌<◌, ◌≤◌, ◌⊎◌, ℕ, List, [], length, Option}
+use Rattle.std.specs.Prelude.{◌≡◌, ◌+◌, ◌<◌, ◌≤◌, ◌⊎◌, ℕ, List, [], length, Option, Result, Ok, Err}
 use Rattle.std.specs.Io.KnownBytes.{Consumes, IsAtEnd}
-use Rattle.reports.specs.Reading.{announced_length}
+use Rattle.reports.specs.Reading.{announced_length, message_at}
+use Rattle.reports.specs.Spelling.{Spells}
+use Rattle.reports.specs.declared.fault.MessageFault.{MessageFault}
+use Rattle.reports.specs.declared.message.Message.{Message}
 use Rattle.participant_lines.specs.declared.line_end.Ended.{Ended}
 use Rattle.participant_lines.specs.declared.line_end.Ended.TheVariants.{Clean, Truncated, Oversize, ReadFault, TooMany, OutOfMemory, Behind}
 
@@ -13,6 +16,15 @@ IsLength len = (1 ≤ len) × (len ≤ 64)
 pub record IsFrame (frame : List ℕ) : Type 0 where
   pub len : IsLength (announced_length frame)
   pub whole : length frame ≡ 2 + announced_length frame
+
+-- what a frame spells: a message that is all of it, or none, for this fault
+abbrev pub IsSpelled : List ℕ → Result Message MessageFault → Type 0
+IsSpelled frame (Ok m) = Spells frame m
+IsSpelled frame (Err fault) = message_at frame ≡ Err fault
+
+-- a frame was read of what a reader had, which left the rest, and spells this
+abbrev pub ReadsFrame : Option (List ℕ) → Option (List ℕ) → Result Message MessageFault → Type 0
+ReadsFrame had rest found = (frame : List ℕ) × IsFrame frame × Consumes had rest frame × IsSpelled frame found
 
 -- the front of a frame and not all of it: one byte or none, or a length of 1 to 64 and fewer bytes than it says
 abbrev pub IsPart : List ℕ → Type 0

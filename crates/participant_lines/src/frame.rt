@@ -1,12 +1,13 @@
 //! Frames read from a line.
-ghost use Rattle.std.specs.Prelude.{◌≡◌, ◌+◌, ◌≤◌, ◌<◌, ◌++◌, List, ℕ, IfErr, IfOk, IfNone, IfSome, length, take};
-ghost use Rattle.std.specs.Io.KnownBytes.{Consumes, IsAtEnd};
+ghost use Rattle.std.specs.Prelude.{◌≡◌, ◌+◌, ◌≤◌, ◌<◌, ◌++◌, List, ℕ, None, IfErr, IfOk, IfNone, IfSome, length, take};
+ghost use Rattle.std.specs.Io.KnownBytes.{Consumes, IsAtEnd, Keeps};
 ghost use Rattle.reports.specs.Reading.{announced_length};
-ghost use Rattle.participant_lines.specs.Frames.{EndsInput, IsFrame, IsLength};
+ghost use Rattle.participant_lines.specs.Frames.{EndsInput, IsFrame, IsLength, IsSpelled, ReadsFrame};
 
 use crate::Ended;
+use reports::{Message, MessageFault, Unread, decode};
 use row_reads::fill;
-use std::io::Read;
+use std::io::{BufRead, ErrorKind, Read};
 
 /// How many bytes a frame's length has.
 const LENGTH_BYTES: usize = 2;
@@ -40,15 +41,17 @@ fn read_on<R: Read>(
     }
 }
 
-/// The length at the front of a row.
-#[tactic(auto, using(crate::proofs::Fronts::announced_is))]
-fn length_in_front(row: &[u8; LONGEST_FRAME]) -> usize
-    ensures { result ≡ announced_length row.now }
+/// The length that bytes announce at their front; `None` where they are fewer than a length has.
+#[tactic(auto, unfolding(reports::specs::Fields::number_at, reports::specs::Fields::bytes_at, reports::specs::Reading::announced_length))]
+fn length_in_front(bytes: &[u8]) -> Option<usize>
+    ensures some { IfSome result (λ len. (len ≡ announced_length bytes.now) × (2 ≤ length bytes.now)) }
+    ensures none { result ≡ None → length bytes.now < 2 }
 {
-    let Some((len, _)) = row.split_first_chunk::<2>() else {
-        unreachable!()
-    };
-    usize::from(u16::from_be_bytes(*len))
+    let mut unread = Unread { rest: bytes };
+    match unread.u16(()) {
+        Ok(len) => Some(usize::from(len)),
+        Err(()) => None,
+    }
 }
 
 /// Reads the length of the next frame to the front of the row, or tells what comes in its place.
@@ -65,7 +68,7 @@ fn read_length<R: Read>(reader: &mut R, row: &mut [u8; LONGEST_FRAME]) -> Result
         Some(1) => return Err(Ended::Truncated),
         Some(_) => {}
     }
-    let len = length_in_front(row);
+    let len = length_in_front(row).unwrap();
     if len == 0 || len > LONGEST_BODY {
         return Err(Ended::Oversize);
     }
@@ -74,10 +77,7 @@ fn read_length<R: Read>(reader: &mut R, row: &mut [u8; LONGEST_FRAME]) -> Result
 
 /// Reads the next frame to the front of the row: how many bytes it has, or what comes in its place.
 #[inline(always)]
-pub(crate) fn read_frame<R: Read>(
-    reader: &mut R,
-    row: &mut [u8; LONGEST_FRAME],
-) -> Result<usize, Ended>
+fn read_frame<R: Read>(reader: &mut R, row: &mut [u8; LONGEST_FRAME]) -> Result<usize, Ended>
     ensures within { IfOk result (λ len. len ≤ 66) }
     ensures ok { IfOk result (λ len. IsFrame (take len row.new) × Consumes (R.remaining reader.old) (R.remaining reader.new) (take len row.new)) }
     ensures err { IfErr result (λ ended. EndsInput ended (R.remaining reader.old) (R.remaining reader.new)) }
@@ -91,5 +91,78 @@ pub(crate) fn read_frame<R: Read>(
         None => Err(Ended::ReadFault),
         Some(read) if read < whole => Err(Ended::Truncated),
         Some(_) => Ok(whole),
+    }
+}
+
+/// What a frame spells: its message, or why it is none.
+pub(crate) type Spelled = Result<Message, MessageFault>;
+
+/// Reads what a frame spells.
+#[inline(always)]
+fn spelled(frame: &[u8]) -> Spelled
+    requires { IsFrame frame.now }
+    ensures { IsSpelled frame.now result }
+{
+    match decode(frame) {
+        Ok((message, _)) => Ok(message),
+        Err(fault) => Err(fault),
+    }
+}
+
+/// The frame at the front of some bytes, where it stands there whole.
+#[inline(always)]
+fn frame_in(bytes: &[u8]) -> Option<&[u8]>
+    ensures within { IfSome result (λ frame. length frame.now ≤ length bytes.now) }
+    ensures front { IfSome result (λ frame. take (length frame.now) bytes.now ≡ frame.now) }
+    ensures frame { IfSome result (λ frame. IsFrame frame.now) }
+{
+    let len = length_in_front(bytes)?;
+    if len == 0 || len > LONGEST_BODY || bytes.len() < LENGTH_BYTES + len {
+        return None;
+    }
+    Some(&bytes[..LENGTH_BYTES + len])
+}
+
+/// Reads the next frame where the reader has it whole at hand, and copies none of it: what it spells, or `None` where it
+/// is not there, and then nothing was read.
+#[inline(always)]
+fn read_at_hand<R: BufRead>(reader: &mut R) -> Result<Option<Spelled>, Ended>
+    ensures some { IfOk result (λ found. IfSome found (ReadsFrame (R.remaining reader.old) (R.remaining reader.new))) }
+    ensures none { IfOk result (λ found. IfNone found (Keeps (R.remaining reader.old) (R.remaining reader.new))) }
+    ensures err { IfErr result (λ ended. EndsInput ended (R.remaining reader.old) (R.remaining reader.new)) }
+{
+    let piece = match reader.fill_buf() {
+        Ok(piece) => piece,
+        // Whatever reads next reads again.
+        Err(error) if error.kind() == ErrorKind::Interrupted => return Ok(None),
+        Err(_) => return Err(Ended::ReadFault),
+    };
+    let Some(frame) = frame_in(piece) else {
+        return Ok(None);
+    };
+    let found = spelled(frame);
+    let len = frame.len();
+    reader.consume(len);
+    Ok(Some(found))
+}
+
+/// Reads the next frame: what it spells, or what comes in its place. One that the reader has not whole at hand is put together
+/// in the row, which is only room.
+#[inline(always)]
+pub(crate) fn read_spelled<R: BufRead>(
+    reader: &mut R,
+    row: &mut [u8; LONGEST_FRAME],
+) -> Result<Spelled, Ended>
+    ensures ok { IfOk result (ReadsFrame (R.remaining reader.old) (R.remaining reader.new)) }
+    ensures err { IfErr result (λ ended. EndsInput ended (R.remaining reader.old) (R.remaining reader.new)) }
+{
+    match read_at_hand(reader) {
+        Err(ended) => return Err(ended),
+        Ok(Some(found)) => return Ok(found),
+        Ok(None) => {}
+    }
+    match read_frame(reader, row) {
+        Err(ended) => Err(ended),
+        Ok(len) => Ok(spelled(&row[..len])),
     }
 }

@@ -3,10 +3,10 @@ ghost use Rattle.std.specs.Prelude.{◌≡◌, ◌≢◌, IfErr, IfOk};
 ghost use Rattle.participant_lines.specs.Runs.{Does, EndsAfter, Runs, StopsAt, Takes, effect_of};
 ghost use Rattle.participant_lines.specs.declared.line_end.Ended.TheVariants.{TooMany};
 
-use crate::frame::{LONGEST_FRAME, read_frame};
+use crate::frame::{LONGEST_FRAME, read_spelled};
 use crate::{Ended, LineEnd};
 use line_ledger::{DayName, LineRefusal, LineSeat, Receipt, SharedTape};
-use reports::{Message, decode};
+use reports::Message;
 use std::io::BufRead;
 use std::sync::Wait;
 use tape_core::Refusal;
@@ -67,12 +67,12 @@ fn do_frame<D: DayName, R: BufRead, W: Wait>(
     ensures err { IfErr result (λ ended. EndsAfter ended D.listing seat.old (R.remaining reader.old) (R.remaining reader.new)) }
     ensures goes_on { IfErr result (λ ended. ended ≢ TooMany) }
 {
-    let len = match read_frame(reader, row) {
-        Ok(len) => len,
+    let spelled = match read_spelled(reader, row) {
+        Ok(spelled) => spelled,
         Err(ended) => return Err(ended),
     };
-    match decode(&row[..len]) {
-        Ok((message, _)) => take_message(rt, shared, seat, message),
+    match spelled {
+        Ok(message) => take_message(rt, shared, seat, message),
         Err(_) => Ok(1),
     }
 }

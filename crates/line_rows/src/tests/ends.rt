@@ -94,28 +94,36 @@ fn end_of_front<W: Wait + Abort>(rt: &W, alloc: Global, len: usize) -> Option<Fi
     end_of_bytes(rt, alloc, bytes.get(..len)?)
 }
 
-/// A reader of these bytes that fails where they end.
+/// A reader of these bytes that fails once where they end, and has ended when it is asked again.
 #[derive(Drop)]
 struct Failing<'a> {
     left: &'a [u8],
+    has_failed: bool,
 }
 
 impl Read for Failing<'_> {
     fn read(&mut self, buf: &mut [u8]) -> io::Result<usize> {
-        if self.left.is_empty() {
+        if self.left.is_empty() && !self.has_failed {
+            self.has_failed = true;
             return Err(io::Error::from(ErrorKind::BrokenPipe));
         }
         self.left.read(buf)
     }
 }
 
-/// How N's line ends over the first so many bytes of two reports and a read that fails.
-fn end_of_failing<W: Wait + Abort>(rt: &W, alloc: Global, len: usize) -> Option<Figures> {
+/// How N's line ends over the first so many bytes of two reports and a read that fails, through a buffer of this size.
+fn end_of_failing<W: Wait + Abort>(
+    rt: &W,
+    alloc: Global,
+    len: usize,
+    buffer: usize,
+) -> Option<Figures> {
     let bytes = joined(alloc, &[REPORT, report(b'N', 2)])?;
     let failing = Failing {
         left: bytes.get(..len)?,
+        has_failed: false,
     };
-    let mut reader = BufReader::with_capacity(alloc, 16, failing).ok()?;
+    let mut reader = BufReader::with_capacity(alloc, buffer, failing).ok()?;
     end_of(rt, alloc, &mut reader, &NoGate)
 }
 
@@ -157,13 +165,15 @@ fn an_input_ends_its_line(rt: HostRuntime) {
     assert_eq!(rt; ends, wanted);
 }
 
+// A buffer of 16 bytes has no frame whole, and one of 64 has one of two.
 #[test]
 fn a_read_that_fails_ends_its_line(rt: HostRuntime) {
     for len in 0..81 {
         let count = len / 40;
-        assert_eq!(rt;
-            end_of_failing(&rt, rt.alloc(), len),
-            Some((0, Ended::ReadFault, count as u32, count))
-        );
+        let ends = [
+            end_of_failing(&rt, rt.alloc(), len, 16),
+            end_of_failing(&rt, rt.alloc(), len, 64),
+        ];
+        assert_eq!(rt; ends, [Some((0, Ended::ReadFault, count as u32, count)); 2]);
     }
 }

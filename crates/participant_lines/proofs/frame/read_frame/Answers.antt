@@ -1,4 +1,4 @@
-use Rattle.std.proofs.Common.{rules, ◌≡◌, ◌≤◌, ◌+◌, length, length-take-le, take, arith, sym, ◌∙◌}
+use Rattle.std.proofs.Common.{rules, ◌≡◌, ◌≤◌, ◌+◌, length, length-take-le, take, arith}
 use Rattle.participant_lines.proofs.Fronts.{cut_off, unfinished, whole_frame}
 use Rattle.participant_lines.proofs.frame.read_frame.Goals as goal
 

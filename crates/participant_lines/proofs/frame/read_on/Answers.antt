@@ -1,4 +1,4 @@
-use Rattle.std.proofs.Common.{rules, ◌≡◌, ◌≤◌, ◌-◌, length, length-take-le, take, arith}
+use Rattle.std.proofs.Common.{rules, ◌≤◌, ◌-◌, length, length-take-le, take, arith}
 use Rattle.row_reads.proofs.Fills.{put_front}
 use Rattle.participant_lines.proofs.frame.read_on.Goals as goal
 
