@@ -1,14 +1,14 @@
 -- The fields of an answer, read of a reader.
-use Rattle.std.proofs.Common.{◌≡◌, ℕ, ◌<◌, ◌≤◌, Bool, true, false, cond, ltb, List, ◌++◌, Option, Result}
-use Rattle.std.proofs.Common.{Ok, Err, length, length-append, take, refl, sym, ap, arith, inl, inr}
+use Rattle.std.proofs.Common.{◌≡◌, ℕ, ◌<◌, ◌≤◌, Bool, true, false, cond, ltb, List, [], ◌++◌, Option, Result}
+use Rattle.std.proofs.Common.{Ok, Err, length, length-append, append-nil, take, refl, sym, subst, ap, ◌∙◌, arith, inl, inr}
 use Rattle.std.specs.Prelude.{nat_le, ◌&&◌, ◌==◌}
 use Rattle.std.specs.Global.{Vec}
 use Rattle.std.specs.Int.{Width, byte_len, from_be_bytes}
 use Rattle.std.specs.Io.KnownBytes.{Consumes}
 use Rattle.std.proofs.lemmas.Bool.{cases_Bool, le-leb, le-ltb, leb-true, lt-ltb, ne_eqb}
 use Rattle.std.proofs.lemmas.List.{length-take, take_at, drop_at}
-use Rattle.reports.specs.Fields.{bytes_at, number_at, ranged_at}
-use Rattle.reports.proofs.Fields.{both_true}
+use Rattle.reports.specs.Fields.{Reads, bytes_at, number_at, ranged_at}
+use Rattle.reports.proofs.Fields.{both_true, ok_is}
 use Rattle.retransmit.specs.Asking.{Follows, answered_at, as_is, first_fault, range_at, texts_of}
 use Rattle.row_reads.specs.FailedReads.{ReadsFewer}
 use Rattle.retransmit.specs.declared.ask_fault.AskFault.{AskFault}
@@ -47,6 +47,18 @@ Follows-short view n a b part = record {
   says = bytes_short n part.0 part.2;
 }
 
+-- a number of as many bytes as there are
+number_whole : (w : Width) (row : List ℕ) → length row ≡ byte_len w → number_at {F = AskFault} ReadFault w row ≡ Ok (from_be_bytes w row, [])
+unfolding number_at
+number_whole w row size =
+    let whole : bytes_at {F = AskFault} ReadFault (byte_len w) row ≡ Ok (row, []) =
+    subst (λ (l : List ℕ). bytes_at {F = AskFault} ReadFault (byte_len w) l ≡ Ok (row, [])) (append-nil row) (bytes_read (byte_len w) row [] size) in
+    rw whole refl
+
+-- what is read is no fault
+ok_err : (x : ℕ × List ℕ) (fault : AskFault) → Ok x ≡ Err fault → ⊥
+ok_err x fault is = absurd cc
+
 -- a number
 pub Follows-number : (w : Width) (x : ℕ) (row : List ℕ) (a b : Option (List ℕ)) → x ≡ from_be_bytes w row → length row ≡ byte_len w → Consumes a b row
     → Follows as_is (Ok x) a b (number_at ReadFault w)
@@ -55,6 +67,14 @@ Follows-number w x row a b is size taken =
     Follows-then as_is as_is row (Ok x) a b b (bytes_at ReadFault (byte_len w)) (λ (text : List ℕ × List ℕ). Ok (from_be_bytes w text.0, text.1))
     (Follows-bytes as_is row (byte_len w) a b size taken)
     (Follows-here as_is x b (λ bytes. Ok (from_be_bytes w row, bytes)) (λ bytes. ap (λ (n : ℕ). Ok (n, bytes)) (sym is)))
+
+-- a number that is read of as many bytes as it has
+pub Follows-whole : (w : Width) (result : Result ℕ AskFault) (rest row : List ℕ) (a b : Option (List ℕ)) → Reads result rest (number_at ReadFault w row)
+    → length row ≡ byte_len w → Consumes a b row → Follows as_is result a b (number_at ReadFault w)
+Follows-whole w (Ok x) rest row a b reads size taken =
+    let same = ok_is ReadFault (x, rest) (from_be_bytes w row, []) (sym reads ∙ number_whole w row size) in
+    Follows-number w x row a b (ap (λ (p : ℕ × List ℕ). p.0) same) size taken
+Follows-whole w (Err fault) rest row a b reads size taken = absurd (ok_err (from_be_bytes w row, []) fault (sym (number_whole w row size) ∙ reads))
 
 -- a number of which bytes are missing
 pub Follows-number-short : (w : Width) (a b : Option (List ℕ)) → ReadsFewer a b (byte_len w) → Follows {A = ℕ} as_is (Err ReadFault) a b (number_at ReadFault w)
