@@ -1,6 +1,7 @@
 -- A list of one element.
 use Rattle.std.proofs.Common.{◌≡◌, ◌↔◌, ◌∷◌, ◌<◌, ◌≤◌, ◌∙◌, ℕ, [], List, ap, arith, get_or, length, map, sym}
 
+-- a list of one is its first element alone
 pub only_element : {X : Type 0} (xs : List X) (x : X) → 1 ≤ length xs → length xs < 2 → x ≡ get_or xs 0 x → xs ≡ x ∷ []
 only_element [] x some few is = absurd (omega arith)
 only_element (y ∷ []) x some few is = ap (λ z. z ∷ []) (sym is)

@@ -41,6 +41,7 @@ part es tape from begin =
           ∙ ap (λ xs. skipped ++ xs) (append_assoc (take most_entries left) after begin.0),
     )
 
+-- what is cut of the entries that are shown is a part of the tape
 pub data_cut : (names : List ℕ) (tokens : List TokenState) (t : TapeState) (from : ℕ) → FirstTokens names tokens → HaveAll t.entries tokens
     → IsPartOf (cut_of (shown tokens) from) t.entries
 data_cut names tokens t from first all = part (shown tokens) t.entries from (front names tokens t.entries first all)

@@ -23,14 +23,17 @@ told-Decides t e =
     (λ q. (ap (λ (x : Told). x.number) q, ap (λ (x : Told). x.message) q))
     (Decides-and (t.number == e.number) _ (Decides-eqb t.number e.number) (message-Decides t.message e.message))
 
+-- an entry of the participant is told, ahead of the rest
 pub told_of-yes : (who : ℕ) (e : Entry) (es : List Entry) → is_of who e.message ≡ true → told_of who (e ∷ es) ≡ told_entry e ∷ told_of who es
 told_of-yes who e es own = ap (map told_entry) (cond-true (is_of who e.message) (e ∷ filter (λ x. is_of who x.message) es)
     (filter (λ x. is_of who x.message) es) own)
 
+-- an entry of another is not told
 pub told_of-no : (who : ℕ) (e : Entry) (es : List Entry) → is_of who e.message ≡ false → told_of who (e ∷ es) ≡ told_of who es
 told_of-no who e es other_line = ap (map told_entry) (cond-false (is_of who e.message) (e ∷ filter (λ x. is_of who x.message) es)
     (filter (λ x. is_of who x.message) es) other_line)
 
+-- of two lists each is told, one after the other
 pub told_of-append : (who : ℕ) (xs ys : List Entry) → told_of who (xs ++ ys) ≡ told_of who xs ++ told_of who ys
 told_of-append who [] ys = refl
 told_of-append who (x ∷ xs) ys = elim (is_of who x.message) as (λ b. is_of who x.message ≡ b → told_of who (x ∷ xs ++ ys)
@@ -48,6 +51,7 @@ told_of-more who es i e within is own =
     ap (told_of who) (take_more es i e within ∙ ap (λ x. take i es ++ x ∷ []) (sym is))
     ∙ told_of-append who (take i es) (e ∷ []) ∙ ap (λ l. told_of who (take i es) ++ l) (told_of-yes who e [] own)
 
+-- an entry of another adds nothing to what is told
 pub told_of-same : (who : ℕ) (es : List Entry) (i : ℕ) (e : Entry) → i < length es → e ≡ get_or es i e → is_of who e.message ≡ false
     → told_of who (take (i + 1) es) ≡ told_of who (take i es)
 told_of-same who es i e within is other_line =
@@ -80,6 +84,7 @@ differs_at who es told i at e within is own so_far most other =
       here = λ same. other (same ∙ ap (λ l. slice_get l at) whole ∙ there);
     }
 
+-- a position within a list has an item
 not_none : {X : Type 0} (xs : List X) (i : ℕ) → i < length xs → slice_get xs i ≡ None → ⊥
 not_none [] i within is = omega arith
 not_none (x ∷ xs) zero within is = none-some x (sym is)
@@ -116,8 +121,10 @@ not-before : (told es : List Told) (at other : ℕ) → DiffersFirst told es at 
 not-before told es at other one two less =
     one.here (sym (taken told other at less) ∙ ap (λ l. slice_get l at) two.before ∙ taken es other at less)
 
+-- two lists first differ at one position only
 pub differs_once : (told es : List Told) (at other : ℕ) → DiffersFirst told es at → DiffersFirst told es other → at ≡ other
 differs_once told es at other one two = same_from (not-before told es at other one two) (not-before told es other at two one)
 
+-- lists that differ somewhere are not the same
 pub differs_apart : (told es : List Told) (at : ℕ) → DiffersFirst told es at → told ≡ es → ⊥
 differs_apart told es at differs same = differs.here (ap (λ l. slice_get l at) same)

@@ -12,10 +12,12 @@ module _ (participants : List ℕ) (entries : List Entry) (seats : List SeatStat
       (two : DisagreesAt participants entries seats other place) → one.k < two.k → ⊥
   not-before who at other place one two less = differs_apart (told_by who seats) (told_of who entries) at one.first (two.before one.k who less one.listed)
 
+  -- where there is a disagreement, not all seats were told their entries
   pub either : (who at : ℕ) → DisagreesAt participants entries seats who at → FirstTold (length participants) participants entries seats → ⊥
   either who at one told = differs_apart (told_by who seats) (told_of who entries) at one.first
       (told one.k who (slice_get_within participants one.k who one.listed) one.listed)
 
+  -- two disagreements are of one participant, at one position
   pub only : (who at other place : ℕ) → DisagreesAt participants entries seats who at → DisagreesAt participants entries seats other place
       → (who ≡ other) × (at ≡ place)
   only who at other place one two =

@@ -34,6 +34,7 @@ module _ (t : TapeState) (m : Message) where
   AllSay [] = Unit {0}
   AllSay (c ∷ cases) = (c.0 ≡ true → Says t m c.1) × AllSay cases
 
+  -- where each case says so, the first that applies says so
   first-says : (cases : List (Bool × Refusal)) (r : Refusal) → AllSay cases → first_fault cases ≡ Some r → Says t m r
   first-says [] r all is = absurd (none-some r is)
   first-says ((true, x) ∷ cases) r all is = subst (Says t m) (same_Some x r is) (all.0 refl)
@@ -49,15 +50,18 @@ module _ (t : TapeState) (m : Message) where
     unlisted = λ e. absurd (omega arith);
   }
 
+  -- each fault of a target says so
   targets-say : (tape : List NumberedMessage) (symbol : List ℕ) (o : Option NumberedMessage) → AllSay (target_faults tape symbol o)
   targets-say tape symbol None = (λ _. other-says _ (omega arith), tt)
   targets-say tape symbol (Some report) = (λ _. other-says _ (omega arith), (λ _. other-says _ (omega arith), tt))
 
+  -- each fault of what a message names says so
   message-says : (tape : List NumberedMessage) (x : Message) → AllSay (message_faults tape x)
   message-says tape (Report header content) = tt
   message-says tape (Cancel header target) = targets-say tape header.symbol (named_report tape header.participant target)
   message-says tape (Correct header target content) = targets-say tape header.symbol (named_report tape header.participant target)
 
+  -- a refusal by the tape says so
   refusal-says : (r : Refusal) → refusal t m ≡ Some r → Says t m r
   refusal-says r is =
       let tape = messages_of t.entries in
@@ -119,6 +123,7 @@ module _ (t : TapeState) (m : Message) where
   answer-says None is = other-says OutOfMemory (omega arith)
   answer-says (Some r) is = refusal-says r is
 
+-- the last number that a seat was told is the last on a tape that agrees with it
 pub agrees-last : (t : TapeState) (s : SeatState) → agrees t s ≡ true → last_number (messages_of t.entries) s.who ≡ last_told 0 s.told
 agrees-last t s same = grind (arith, nat_tests)
 
@@ -128,20 +133,25 @@ pub record IsWhy (t : TapeState) (s : SeatState) (m : Message) (why : LineRefusa
   pub behind : (header_of m).participant ≡ s.who → agrees t s ≡ false → why ≡ Behind
   pub tape : (header_of m).participant ≡ s.who → agrees t s ≡ true → why ≡ Refused (unwrap_or (refusal t m) OutOfMemory)
 
+-- a line refuses as the tape does, and for lack of memory where the tape has no reason
 unwrap-map : (o : Option Refusal) → unwrap_or (option_map Refused o) (Refused OutOfMemory) ≡ Refused (unwrap_or o OutOfMemory)
 unwrap-map None = refl
 unwrap-map (Some r) = refl
 
+-- a message of another participant is refused as on the wrong line
 refuses_other : (t : TapeState) (s : SeatState) (m : Message) → (header_of m).participant ≢ s.who → line_refusal t s m ≡ Some (Refused WrongLine)
 refuses_other t s m other = grind (arith, nat_tests, other)
 
+-- an own message is refused as behind where the tape does not have what the seat was told
 refuses_behind : (t : TapeState) (s : SeatState) (m : Message) → (header_of m).participant ≡ s.who → agrees t s ≡ false → line_refusal t s m ≡ Some Behind
 refuses_behind t s m own late = grind (arith, nat_tests, own, late)
 
+-- an own message is refused as the tape refuses it where the tape has what the seat was told
 refuses_as_tape : (t : TapeState) (s : SeatState) (m : Message) → (header_of m).participant ≡ s.who → agrees t s ≡ true
     → line_refusal t s m ≡ option_map Refused (refusal t m)
 refuses_as_tape t s m own same = grind (arith, nat_tests, own, same)
 
+-- the reason of a line, or the lack of memory, is the one that applies
 is_why : (t : TapeState) (s : SeatState) (m : Message) (why : LineRefusal) → why ≡ unwrap_or (line_refusal t s m) (Refused OutOfMemory) → IsWhy t s m why
 is_why t s m why is = record {
   wrong_line = λ other. is ∙ ap (λ o. unwrap_or o (Refused OutOfMemory)) (refuses_other t s m other);
@@ -163,10 +173,12 @@ pub record Learns (listing : Names) (s : SeatState) (m : Message) (code : ℕ) :
   pub never_closed : code ≡ 31 → ⊥
   pub never_unknown : code ≡ 34 → ⊥
 
+-- what is not true is false
 not-true : (b : Bool) → not b ≡ true → b ≡ false
 not-true true is = absurd (true≢false (sym is))
 not-true false is = refl
 
+-- on a tape of the day, the number of a reason tells a listed seat's holder what is wrong
 learns : (listing : Names) (t : TapeState) (s : SeatState) (m : Message) (why : LineRefusal) → IsDay listing t → lists_participant listing s.who ≡ true
     → IsWhy t s m why → Learns listing s m (line_refusal_code why)
 learns listing t s m why day listed reasons = elim ((header_of m).participant == s.who) as
@@ -224,6 +236,7 @@ learns listing t s m why day listed reasons = elim ((header_of m).participant ==
         le : {a b : ℕ} → nat_le a b ≡ true → a ≤ b
         le {a} {b} h = grind (arith, nat_tests, h)
 
+-- a refusal under the lock tells a listed seat's holder why
 pub tells_why : (listing : Names) (t : TapeState) (s : SeatState) (m : Message) (why : LineRefusal) (t' : TapeState) (s' : SeatState)
     → IsDay listing t → lists_participant listing s.who ≡ true → Refuses t s m why t' s' → TellsWhy listing s m why s'
 tells_why listing t s m why t' s' day listed refuses =

@@ -89,6 +89,7 @@ stopped_by listing s s' m tape.Cancelled tells = tt
 stopped_by listing s s' m tape.OutOfMemory tells = (tells.seat, subst (TellsWhy listing s m (line.Refused tape.OutOfMemory)) tells.seat tells)
 stopped_by listing s s' m tape.WrongNumber tells = tt
 
+-- an answer at which the line ends leaves the seat as it was, and gives the reason of the end
 effect-stops : (listing : Names) (s s' : SeatState) (m : Message) (answer : Result ℕ LineRefusal) → IsAnswered listing s m answer s'
     → IfErr (effect_of answer) (λ ended. (s' ≡ s) × StopsAt ended listing s m)
 effect-stops listing s s' m (Ok number) tells = tt
@@ -140,6 +141,7 @@ done_both listing s s' s'' [] ys n m one two =
 done_both listing s s' s'' (frame ∷ xs) ys n m (between, first, others, is, done, later, sum) two =
     (between, first, others + m, is, done, done_both listing between s' s'' xs ys others m later two, omega (arith, sum))
 
+-- frames that are done one part after the other are done together
 pub does_both : (listing : Names) (s s' s'' : SeatState) (had left rest : Option (List ℕ)) (n m a b many refused : ℕ)
     → Does listing s had left n a s' → Does listing s' left rest m b s'' → many ≡ n + m → refused ≡ a + b
     → Does listing s had rest many refused s''
@@ -183,6 +185,7 @@ refusal_end Behind listing s had rest frame m read is spells stop = (frame, m, r
 pub input_few : (ended : Ended) (had rest : Option (List ℕ)) → EndsInput ended had rest → ended ≢ TooMany
 input_few ended had rest end is = subst (λ (e : Ended). EndsInput e had rest) is end
 
+-- nor is the end at a message that of as many frames as ever are
 pub refusal_few : (ended : Ended) (listing : Names) (s : SeatState) (m : Message) → StopsAt ended listing s m → ended ≢ TooMany
 refusal_few ended listing s m stop is = subst (λ (e : Ended). StopsAt e listing s m) is stop
 

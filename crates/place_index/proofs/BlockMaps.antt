@@ -89,6 +89,7 @@ module _ {V : Type 0} (m : map.FinMap nat_cmp V) (es : List (ℕ × V)) (is : ma
               omega (arith, before)
         ])
 
+    -- as many as before where a value was written over
     pub length-written : (n : map.FinMap nat_cmp V) (v : V) → n ≡ map.insert m k v → IsSome (map.get (values_in es) k) → length (map.entries n) ≡ length es
     length-written n v new some =
         sym (map.len-entries n) ∙ ap map.len new ∙ map.len-insert nat_cmp_total m k v
@@ -99,6 +100,7 @@ module _ {V : Type 0} (m : map.FinMap nat_cmp V) (es : List (ℕ × V)) (is : ma
         has (Some x) h = refl
         has None h = absurd (cc)
 
+    -- no more than before where one was taken out
     pub length-out : (n : map.FinMap nat_cmp V) → n ≡ map.remove m k → length (map.entries n) ≤ length es
     length-out n new =
         let many = sym (map.len-entries n) ∙ ap map.len new ∙ map.len-remove nat_cmp_total m k in
@@ -110,6 +112,7 @@ module _ {V : Type 0} (m : map.FinMap nat_cmp V) (es : List (ℕ × V)) (is : ma
     pub values-put : (n : map.FinMap nat_cmp V) (v : V) → n ≡ map.insert m k v → values_in (map.entries n) ≡ map.insert (values_in es) k v
     values-put n v new = itself-seen n ∙ new ∙ ap (λ m2. map.insert m2 k v) seen
 
+    -- the values after one was taken out
     pub values-removed : (n : map.FinMap nat_cmp V) → n ≡ map.remove m k → values_in (map.entries n) ≡ map.remove (values_in es) k
     values-removed n new = itself-seen n ∙ new ∙ ap (λ m2. map.remove m2 k) seen
 

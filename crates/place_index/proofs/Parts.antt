@@ -43,6 +43,7 @@ some-either : {A : Type 0} (x y : Option A) → IsSome x → IsSome (either x y)
 some-either (Some x) y some = refl
 some-either None y some = absurd (cc)
 
+-- one is found where the second is
 some-other : {A : Type 0} (x y : Option A) → IsSome y → IsSome (either x y)
 some-other (Some x) y some = refl
 some-other None y some = some
@@ -52,6 +53,7 @@ none-first : {A : Type 0} (x y : Option A) → either x y ≡ None → x ≡ Non
 none-first (Some x) y e = e
 none-first None y e = refl
 
+-- where neither is found, the second is not
 none-other : {A : Type 0} (x y : Option A) → either x y ≡ None → y ≡ None
 none-other (Some x) y e = absurd (cc)
 none-other None y e = e
@@ -143,6 +145,7 @@ module _ {V : Type 0} where
   pub in-list : (q : ℕ) (es : List (ℕ × V)) → IsSome (map.get (map.from_entries {R = nat_cmp} es) q) → IsSome (find nat_cmp q es)
   in-list q es some = subst IsSome (map.get-from_entries nat_cmp_total es q) some
 
+  -- a key that is found in a list has a value in its map
   in-map : (q : ℕ) (es : List (ℕ × V)) → IsSome (find nat_cmp q es) → IsSome (map.get (map.from_entries {R = nat_cmp} es) q)
   in-map q es some = subst IsSome (sym (map.get-from_entries nat_cmp_total es q)) some
 
@@ -182,6 +185,7 @@ module _ {V : Type 0} where
     pub get-first : (k : ℕ) → map.get n k ≡ None → map.get j k ≡ map.get m k
     get-first k none = both k ∙ ap (λ o. either (map.get m k) o) none ∙ either-none (map.get m k)
 
+    -- a key without a value in the first part has that of the second
     pub get-second : (k : ℕ) → map.get m k ≡ None → map.get j k ≡ map.get n k
     get-second k none = both k ∙ ap (λ o. either o (map.get n k)) none
 
@@ -189,6 +193,7 @@ module _ {V : Type 0} where
     pub vacant-first : (k : ℕ) → map.get j k ≡ None → map.get m k ≡ None
     vacant-first k none = none-first (map.get m k) (map.get n k) (sym (both k) ∙ none)
 
+    -- a key without a value has none in the second part
     pub vacant-second : (k : ℕ) → map.get j k ≡ None → map.get n k ≡ None
     vacant-second k none = none-other (map.get m k) (map.get n k) (sym (both k) ∙ none)
 
@@ -196,6 +201,7 @@ module _ {V : Type 0} where
     pub some-first : (k : ℕ) → IsSome (map.get m k) → IsSome (map.get j k)
     some-first k some = subst IsSome (sym (both k)) (some-either (map.get m k) (map.get n k) some)
 
+    -- a value in the second part is one of the whole
     pub some-second : (k : ℕ) → IsSome (map.get n k) → IsSome (map.get j k)
     some-second k some = subst IsSome (sym (both k)) (some-other (map.get m k) (map.get n k) some)
 
@@ -208,6 +214,7 @@ module _ {V : Type 0} where
 
     -- edits of one part are edits of the whole
     module _ (j2 : map.FinMap nat_cmp V) (k : ℕ) where
+      -- a value that is put into the first part is put into the whole
       pub insert-first : (v : V) (m2 : map.FinMap nat_cmp V) → m2 ≡ map.insert m k v → IsBoth m2 n j2 → j2 ≡ map.insert j k v
       insert-first v m2 is both2 = map.same_map nat_cmp_total map.nat_cmp-IsAntisymmetric _ _ (λ q.
           both2 q
@@ -217,6 +224,7 @@ module _ {V : Type 0} where
           ∙ ap (λ o. cond (eq_by_cmp nat_cmp q k) (Some v) o) (sym (both q))
           ∙ sym (map.get-insert nat_cmp_total j k v q))
 
+      -- so is a value that is put into the second part, at a key without a value in the first
       pub insert-second : (v : V) (n2 : map.FinMap nat_cmp V) → map.get m k ≡ None → n2 ≡ map.insert n k v → IsBoth m n2 j2 → j2 ≡ map.insert j k v
       insert-second v n2 none is both2 = map.same_map nat_cmp_total map.nat_cmp-IsAntisymmetric _ _ (λ q.
           both2 q
@@ -230,6 +238,7 @@ module _ {V : Type 0} where
           ∙ ap (λ o. cond (eq_by_cmp nat_cmp q k) (Some v) o) (sym (both q))
           ∙ sym (map.get-insert nat_cmp_total j k v q))
 
+      -- a key that is taken out of the first part, with no value in the second, is taken out of the whole
       pub remove-first : (m2 : map.FinMap nat_cmp V) → map.get n k ≡ None → m2 ≡ map.remove m k → IsBoth m2 n j2 → j2 ≡ map.remove j k
       remove-first m2 none is both2 = map.same_map nat_cmp_total map.nat_cmp-IsAntisymmetric _ _ (λ q.
           both2 q
@@ -243,6 +252,7 @@ module _ {V : Type 0} where
           ∙ ap (λ o. cond (eq_by_cmp nat_cmp q k) None o) (sym (both q))
           ∙ sym (map.get-remove nat_cmp_total j k q))
 
+      -- so is a key that is taken out of the second part, with no value in the first
       pub remove-second : (n2 : map.FinMap nat_cmp V) → map.get m k ≡ None → n2 ≡ map.remove n k → IsBoth m n2 j2 → j2 ≡ map.remove j k
       remove-second n2 none is both2 = map.same_map nat_cmp_total map.nat_cmp-IsAntisymmetric _ _ (λ q.
           both2 q
@@ -258,6 +268,7 @@ module _ {V : Type 0} where
 
   -- blocks and the last one of them
   module _ (bs : List (List (ℕ × V))) (es : List (ℕ × V)) (valid : HasLastBlock bs es) where
+    -- all values are those of the blocks and those of the last block
     pub both-of : IsBoth (values_of bs) (values_in es) (all_values bs es)
     both-of = both-parts (joined bs) es
 
@@ -265,6 +276,7 @@ module _ {V : Type 0} where
     pub blocks-valid : IsBlockList bs
     blocks-valid = record { rising = sorted-left (joined bs) es valid.rising; sized = valid.sized }
 
+    -- the entries of the last block rise
     pub last-rises : T (is_sorted nat_cmp es)
     last-rises = sorted-right (joined bs) es valid.rising
 
@@ -305,6 +317,7 @@ module _ {V : Type 0} where
     pub below-first : (k : ℕ) → AllBelow (all_values bs es) k → AllBelow (values_of bs) k
     below-first k all q some = all q (some-first _ _ _ both-of q some)
 
+    -- a place above all is above the last block
     pub below-second : (k : ℕ) → AllBelow (all_values bs es) k → AllBelow (values_in es) k
     below-second k all q some = all q (some-second _ _ _ both-of q some)
 
@@ -402,6 +415,7 @@ module _ {V : Type 0} where
       least = some-whole _ _ _ both-of (λ n. k ≤ n) at.least (λ n some. let less : k < n = blocks-apart k n at.present some in omega arith);
     }
 
+    -- where the blocks before are vacant, the first place of the last block is the first of all
     pub first-in_last : (k : ℕ) → IsVacant (values_of bs) → IsFirstPlace (values_in es) k → IsFirstPlace (all_values bs es) k
     first-in_last k vacant at = record {
       present = some-second _ _ _ both-of k at.present;
@@ -415,12 +429,14 @@ module _ {V : Type 0} where
       greatest = some-whole _ _ _ both-of (λ n. n ≤ k) (λ n some. let less : n < k = blocks-apart n k some at.present in omega arith) at.greatest;
     }
 
+    -- where the last block is vacant, the last place of the blocks before is the last of all
     pub last-before : (k : ℕ) → IsVacant (values_in es) → IsLastPlace (values_of bs) k → IsLastPlace (all_values bs es) k
     last-before k vacant at = record {
       present = some-first _ _ _ both-of k at.present;
       greatest = some-whole _ _ _ both-of (λ n. n ≤ k) at.greatest (λ n some. not-none (map.get (values_in es) n) some (vacant n));
     }
 
+    -- where the blocks before and the last block are vacant, all are
     pub all-vacant : IsVacant (values_of bs) → IsVacant (values_in es) → IsVacant (all_values bs es)
     all-vacant first second q = both-of q ∙ ap (λ o. either o (map.get (values_in es) q)) (first q) ∙ second q
 
@@ -445,6 +461,7 @@ module _ {V : Type 0} where
   first-in [] d h some = absurd (omega arith)
   first-in (e ∷ es) d h some = first-entry e es h
 
+  -- the last of some entries that rise has the last place
   pub last-in : (es : List (ℕ × V)) (d : ℕ × V) → T (is_sorted nat_cmp es) → 0 < length es → IsLastPlace (values_in es) (get_or es (length es - 1) d).0
   last-in es d h some = subst (IsLastPlace (values_in es)) (sym (top-at es d some)) (record {
     present = in-map (top es) es (find-top es h some);

@@ -8,12 +8,14 @@ use Rattle.sale_matrix.specs.declared.matrix.LastRule.TheVariants.{Always, SameM
 use Rattle.sale_matrix.specs.Matrix.{rank_of, rule_of, is_yes, weaker, cells_in, cells_by, cells_of, cells_of_row, least_cells, first_rows, second_rows}
 use Rattle.sale_matrix.specs.Matrix.{third_rows, fourth_rows}
 
+-- how strong a rule is, from 0 for `Never` up to 3 for `Always`
 abbrev pub rank : LastRule → ℕ
 rank Never = 0
 rank FirstOnly = 1
 rank SameMarket = 2
 rank Always = 3
 
+-- the lesser of two ranks is that of the weaker rule
 pub rank_weaker : (a b : LastRule) → min (rank a) (rank b) ≡ rank (weaker a b)
 rank_weaker Never Never = refl
 rank_weaker Never FirstOnly = refl
@@ -42,12 +44,14 @@ letter cell = by (cell == 78) (cell == 70) (cell == 83)
     by false false true = (SameMarket, refl)
     by false false false = (Always, refl)
 
+-- the rule of a rule's rank is the rule
 rule_of-rank : (a : LastRule) → rule_of (rank a) ≡ a
 rule_of-rank Never = refl
 rule_of-rank FirstOnly = refl
 rule_of-rank SameMarket = refl
 rule_of-rank Always = refl
 
+-- the weaker of two rules is a yes where both are
 is_yes-weaker : (a b : LastRule) → is_yes (rank (weaker a b)) ≡ (is_yes (rank a) && is_yes (rank b))
 is_yes-weaker Never b = refl
 is_yes-weaker FirstOnly Never = refl
@@ -64,6 +68,7 @@ is_yes-weaker Always b = refl
 abbrev least4 : ℕ → ℕ → ℕ → ℕ → ℕ
 least4 w x y z = min (min (min (min 3 w) x) y) z
 
+-- the least of four ranks is that of the weakest of the four rules
 least4-rank : (a b c d : LastRule) → least4 (rank a) (rank b) (rank c) (rank d) ≡ rank (weaker (weaker (weaker a b) c) d)
 least4-rank a b c d =
     ap (λ n. min (min (min n (rank b)) (rank c)) (rank d)) (rank_weaker Always a)
@@ -72,6 +77,7 @@ least4-rank a b c d =
     ∙ rank_weaker (weaker (weaker a b) c) d
 
 module _ (w x y z : ℕ) where
+  -- the rule of the least rank of four cells is the weakest of their four rules
   least_rule : rule_of (least4 (rank_of w) (rank_of x) (rank_of y) (rank_of z))
       ≡ weaker (weaker (weaker (rule_of (rank_of w)) (rule_of (rank_of x))) (rule_of (rank_of y))) (rule_of (rank_of z))
   least_rule = of (letter w) (letter x) (letter y) (letter z)
@@ -84,6 +90,7 @@ module _ (w x y z : ℕ) where
           ∙ sym (λ j. weaker (weaker (weaker ((ap rule_of p ∙ rule_of-rank a) j) ((ap rule_of q ∙ rule_of-rank b) j)) ((ap rule_of r ∙ rule_of-rank c) j))
           ((ap rule_of s ∙ rule_of-rank d) j))
 
+  -- the least rank of four cells is a yes where all four are
   least_flag : is_yes (least4 (rank_of w) (rank_of x) (rank_of y) (rank_of z))
       ≡ (((is_yes (rank_of w) && is_yes (rank_of x)) && is_yes (rank_of y)) && is_yes (rank_of z))
   least_flag = of (letter w) (letter x) (letter y) (letter z)
@@ -136,5 +143,6 @@ pub row_found : (o : Option (List ℕ)) (cells : Cells) → Some cells ≡ optio
 row_found None cells h = cc
 row_found (Some row) cells h = refl
 
+-- four that are true are true together
 pub and_four : (p q r s : Bool) → p ≡ true → q ≡ true → r ≡ true → s ≡ true → (p && (q && (r && (s && true)))) ≡ true
 and_four p q r s hp hq hr hs = λ j. hp j && (hq j && (hr j && (hs j && true)))

@@ -5,6 +5,7 @@ use Rattle.scratch_fold.specs.Fold.{PlacedEffect, PlacesRise}
 use Rattle.std.specs.List.Sorted.{IsStrictlyIncreasing}
 use Rattle.std.proofs.Math.Numerals.{add-one}
 
+-- each number of a strictly increasing list is its index or more
 pub IsStrictlyIncreasing-index : (xs : List ℕ) → IsStrictlyIncreasing xs → (k : ℕ) → k < length xs → k ≤ slice_index xs k
 IsStrictlyIncreasing-index xs rising zero h = omega arith
 IsStrictlyIncreasing-index xs rising (suc k) h =
