@@ -56,6 +56,7 @@ get-row rows w n i d at inside =
 get-else : (rows : List RowTargets) (w n i : ℕ) → 65 + i ≡ w → map.get (targets_of_rows rows) (w, n) ≡ map.get (get_or rows i map.empty) n
 get-else rows w n i at = map.get-from_entries key_total (row_entries 65 rows) (w, n) ∙ find-row w n 65 i rows at
 
+-- there is nothing by a letter before `A`, which is 65
 get-before : (rows : List RowTargets) (w n : ℕ) → w < 65 → map.get (targets_of_rows rows) (w, n) ≡ None
 get-before rows w n before = map.get-from_entries key_total (row_entries 65 rows) (w, n) ∙ find-before w n 65 rows before
 

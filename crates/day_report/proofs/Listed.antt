@@ -6,6 +6,7 @@ use Rattle.std.proofs.lemmas.Bool.Decides.{nat_tests}
 use Rattle.tape_types.specs.Names.{Names}
 use Rattle.tape_core.specs.Tape.{lists_participant}
 
+-- where an element in the middle passes a test, some element does
 list_any-middle : {X : Type 0} (p : X → Bool) (before : List X) (x : X) (after : List X) → p x ≡ true → list_any p (before ++ x ∷ after) ≡ true
 list_any-middle p [] x after here = rw here refl
 list_any-middle p (y ∷ before) x after here = elim (cases_Bool (p y)) [
@@ -27,8 +28,10 @@ each_among {X} eq eq-refl before (x ∷ xs) = (
 abbrev pub AreParticipants : Names → List ℕ → Type 0
 AreParticipants listing participants = AllByRecursion (λ w. lists_participant listing w ≡ true) participants
 
+-- a number equals itself
 eqb-refl : (n : ℕ) → (n == n) ≡ true
 eqb-refl n = grind (arith, nat_tests)
 
+-- the participants of a listing are listed
 pub AreParticipants-all : (listing : Names) → AreParticipants listing listing.participants
 AreParticipants-all listing = each_among (λ a b. a == b) eqb-refl [] listing.participants

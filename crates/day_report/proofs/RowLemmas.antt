@@ -37,6 +37,7 @@ summary_there : (t : TapeState) (index : ℕ) (symbol : List ℕ) (who : ℕ) (z
     → participant_summary (messages_of t.entries) symbol who ≡ z
 summary_there t index symbol who z at_index has_participant is = cc (rw (at_index, has_participant) at is)
 
+-- a participant without trades has no row
 pub participant_row-None : (t : TapeState) (index : ℕ) (symbol : List ℕ) (who : ℕ) (z : Summary)
     → slice_get t.listing.symbols index ≡ Some symbol → lists_participant t.listing who ≡ true → participant_summary_at_index t index who ≡ Some z
     → z.trades ≡ 0 → participant_row t symbol who ≡ None
@@ -45,6 +46,7 @@ participant_row-None t index symbol who z at_index has_participant is none =
     rw ((list_any-filter (λ r. r.who == who) (standing_reports (messages_of t.entries) symbol)).0 (sym (participant_summary-trades t symbol who)
     ∙ ap (λ (s : Summary). s.trades) there ∙ none)) refl
 
+-- a participant with trades has a row of its summary
 pub participant_row-Some : (t : TapeState) (index : ℕ) (symbol : List ℕ) (who : ℕ) (z : Summary)
     → slice_get t.listing.symbols index ≡ Some symbol → lists_participant t.listing who ≡ true → participant_summary_at_index t index who ≡ Some z
     → z.trades ≢ 0 → participant_row t symbol who ≡ Some (record { symbol = symbol; who = Some who; summary = z })

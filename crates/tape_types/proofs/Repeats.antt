@@ -8,6 +8,7 @@ use Rattle.std.proofs.lemmas.Bool.{cases_Bool}
 use Rattle.indexmap.specs.IndexSet.{insert_key}
 use Rattle.tape_types.specs.Names.{has_repeat}
 
+-- whether one of four is true is the same in other pairs
 or_four : (a b c d : Bool) → ((a || (b || false)) || (c || d)) ≡ ((a || c) || (b || d))
 or_four true b c d = refl
 or_four false true true d = refl
@@ -15,10 +16,12 @@ or_four false true false d = refl
 or_four false false true d = refl
 or_four false false false d = refl
 
+-- where neither of two is true, each is false
 or_false : (a b : Bool) → (a || b) ≡ false → (a ≡ false) × (b ≡ false)
 or_false true b h = absurd (true≢false h)
 or_false false b h = (refl, h)
 
+-- where each of two is false, neither is true
 or_both : (a b : Bool) → a ≡ false → b ≡ false → (a || b) ≡ false
 or_both true b h k = absurd (true≢false h)
 or_both false b h k = k

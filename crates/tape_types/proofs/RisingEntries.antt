@@ -43,9 +43,11 @@ lt_from x y h = elim (cases_lt x y) [
 less-is : (x y : ℕ) → x < y → nat_cmp x y ≡ Less
 less-is x y h = grind (arith, nat_tests)
 
+-- equal numbers compare as equal
 equal-is : (x y : ℕ) → x ≡ y → nat_cmp x y ≡ Equal
 equal-is x y h = grind (arith, nat_tests)
 
+-- a greater number compares as greater
 greater-is : (x y : ℕ) → y < x → nat_cmp x y ≡ Greater
 greater-is x y h = grind (arith, nat_tests)
 
@@ -96,6 +98,7 @@ module _ {X : Type 0} where
   find-here : (k : ℕ) (e : ℕ × X) (es : List (ℕ × X)) → k ≡ e.0 → find nat_cmp k (e ∷ es) ≡ Some e.1
   find-here k e es same = ap (λ r. cond (is_eq r) (Some e.1) (find nat_cmp k es)) (equal-is k e.0 same)
 
+  -- another key than the first entry's is found as in the rest
   find-there : (k : ℕ) (e : ℕ × X) (es : List (ℕ × X)) → k ≢ e.0 → find nat_cmp k (e ∷ es) ≡ find nat_cmp k es
   find-there k e es other = ap (λ b. cond b (Some e.1) (find nat_cmp k es)) (apart k e.0 other)
 
@@ -137,6 +140,7 @@ module _ {X : Type 0} where
       ap (λ l. e ∷ l) (without-above k es (λ j d lt. above (suc j) d (omega arith)))
       ∙ ap (λ b. cond (not b) (e ∷ without k es) (without k es)) (sym (apart k e.0 (λ same. omega arith)))
 
+  -- a key below those of all entries is not found
   find-above : (k : ℕ) (es : List (ℕ × X)) → ((j : ℕ) (d : ℕ × X) → j < length es → k < (get_or es j d).0) → find nat_cmp k es ≡ None
   find-above k [] above = refl
   find-above k (e ∷ es) above =
@@ -164,6 +168,7 @@ module _ {X : Type 0} where
       let low : e.0 < k = p.below 0 e (omega arith) (omega arith) in
       find-there k e es (λ same. omega arith) ∙ find-at k es i d (position-tail k e es i p) (omega arith) same
 
+  -- a key that does not stand at its position is not found
   pub find-absent : (k : ℕ) (es : List (ℕ × X)) (i : ℕ) → T (is_sorted nat_cmp es) → IsPosition k es i → ((d : ℕ × X) → i < length es → (get_or es i d).0 ≢ k)
       → find nat_cmp k es ≡ None
   find-absent k [] i h p other = refl
@@ -200,6 +205,7 @@ module _ {X : Type 0} where
       ∙ ap (λ (w : Option X). cond (eq_by_cmp nat_cmp q k) (Some v) w) (sym (map.get-from_entries nat_cmp_total es q))
       ∙ sym (map.get-insert nat_cmp_total (map.from_entries es) k v q))
 
+  -- the map of the entries without a key is the map that the key was taken out of
   seen-without : (k : ℕ) (es : List (ℕ × X)) → map.from_entries {R = nat_cmp} (without k es) ≡ map.remove (map.from_entries es) k
   seen-without k es = map.same_map nat_cmp_total nat_cmp-IsAntisymmetric _ _ (λ q.
       map.get-from_entries nat_cmp_total (without k es) q
@@ -373,6 +379,7 @@ module _ {K X : Type 0} (number : K → ℕ) where
       keyed-found d = map.get-from_entries nat_cmp_total (keyed number es) (number k)
           ∙ find-at (number k) (keyed number es) i d at.position at.within (at.has_key d)
 
+      -- the key of the entry there has a value in the map
       keyed-present : IsSome (map.get (map.from_entries {R = nat_cmp} (keyed number es)) (number k))
       keyed-present = elim (keyed number es) as (λ l. l ≡ keyed number es → IsSome (map.get (map.from_entries {R = nat_cmp} (keyed number es)) (number k))) [
         | [] ↦ λ none. absurd (let within = at.within in omega (arith, ap length none))
@@ -421,6 +428,7 @@ module _ {K X : Type 0} (number : K → ℕ) where
   keyed-drop (suc i) [] = refl
   keyed-drop (suc i) (e ∷ es) = keyed-drop i es
 
+  -- a front of the entries, keyed by number, is a front of all of them so keyed
   pub keyed-take : (i : ℕ) (es : List (K × X)) → keyed number (take i es) ≡ take i (keyed number es)
   keyed-take zero es = refl
   keyed-take (suc i) [] = refl
@@ -433,11 +441,13 @@ module _ {X : Type 0} where
   rising-drop (suc i) [] h = h
   rising-drop (suc i) (e ∷ es) h = rising-drop i es (and_rest _ _ h)
 
+  -- what is below all entries is below those of a front
   below-take : (x i : ℕ) (es : List (ℕ × X)) → T (below_all nat_cmp x es) → T (below_all nat_cmp x (take i es))
   below-take x zero es h = tt
   below-take x (suc i) [] h = tt
   below-take x (suc i) (e ∷ es) h = and_both _ _ (and_left _ _ h) (below-take x i es (and_rest _ _ h))
 
+  -- a front of entries that rise rises
   pub rising-take : (i : ℕ) (es : List (ℕ × X)) → T (is_sorted nat_cmp es) → T (is_sorted nat_cmp (take i es))
   rising-take zero es h = tt
   rising-take (suc i) [] h = tt

@@ -37,6 +37,7 @@ of_parts low high = low + 4294967296 * high
 abbrev pub low_part : ℕ → ℕ
 low_part number = number % 4294967296
 
+-- the high part of a number
 abbrev pub high_part : ℕ → ℕ
 high_part number = number / 4294967296
 
