@@ -48,9 +48,11 @@ oversize had left row len long is bad read = (
 
 module _ (had mid left : Option (List ℕ)) (head piece : List ℕ) (len : ℕ) (two : length head ≡ 2) (announced : announced_length head ≡ len)
     (within : IsLength len) (first : Consumes had mid head) (second : Consumes mid left piece) where
+  -- a frame announces the length that its head does
   is_len : announced_length (head ++ piece) ≡ len
   is_len = announced-front head piece two ∙ announced
 
+  -- a frame is two bytes longer than its body
   size : length (head ++ piece) ≡ 2 + length piece
   size = omega (arith, length-append head piece, two)
 

@@ -168,6 +168,7 @@ module _ {V : Type 0} where
     standing : IsSome (map.get (values_of bs) k) → (i : ℕ) × StandsIn k (get_or bs b []) i
     standing some = stands-exists k (get_or bs b []) rises (subst IsSome (found-in_block k bs valid b at lt) some)
 
+    -- a value of the whole stands in that block, where it stands among the block's entries
     stands : (some : IsSome (map.get (values_of bs) k)) → StandsAt k bs b (standing some).0
     stands some = let s = standing some in record { block = at; within = lt; position = s.1.position; has_place = s.1.has_key }
 
@@ -195,6 +196,7 @@ module _ {V : Type 0} where
     pub vacant-in_block : map.get (values_of bs) k ≡ None → map.get (values_in y) k ≡ None
     vacant-in_block vacant = ap (λ x. map.get (values_in x) k) is ∙ sym (found-in_block k bs valid b at lt) ∙ vacant
 
+    -- a value is put in at a vacant place of a block with room, or nothing changes
     pub insert-in_block : {E : Type 0} (r : Result (Unit {0}) E) (v : V) → map.get (values_of bs) k ≡ None → length (get_or bs b []) < max_block_len
         → ((i : ℕ) → IsPosition k y i → OnOk r (y2 ≡ insert y i (k, v))) → OnErr r (y2 ≡ y)
         → IsBlockList (set bs b y2) × OnOk r (values_of (set bs b y2) ≡ map.insert (values_of bs) k v)
