@@ -7,7 +7,7 @@ use Rattle.std.proofs.lemmas.List.Sums.{count_by-le-length}
 use Rattle.std.specs.Option.{option_or}
 use Rattle.std.specs.Prelude.{slice_get, is_some, count_by, replicate, IfSome}
 use Rattle.tape_core.specs.declared.entry.Entry.{Entry}
-use Rattle.tape_frames.specs.Limits.{longest_tape}
+use Rattle.tape_types.specs.Ranges.{TAPE_MOST}
 use Rattle.tape_frames.specs.Packets.{entries_of, last_of, end_of, HasNumbers}
 use Rattle.tape_frames.specs.declared.packet.Packet.{Packet}
 use Rattle.arbitration.proofs.Counts.{count_push_no, count_full, count_none, brought_sum}
@@ -117,7 +117,7 @@ IsWindow-window_past w h ready = go w.slots refl
         }
 
 -- the counts of a window fit a word
-pub brought_fits : (w : WindowState) → IsWindow w → w.brought.a + w.brought.b + w.brought.r ≤ longest_tape + reach
+pub brought_fits : (w : WindowState) → IsWindow w → w.brought.a + w.brought.b + w.brought.r ≤ TAPE_MOST + reach
 brought_fits w h =
     let counted = h.counted in
     let within = h.within in

@@ -1,7 +1,7 @@
 -- What a contract sees of a window.
 use Rattle.std.specs.Prelude.{◌≡◌, ℕ, ◌+◌, ◌≤◌, List, [], ◌∷◌, ◌++◌, length, Option, None, Some, is_some, slice_get, drop, replicate, count_by, IfSome}
 use Rattle.tape_core.specs.declared.entry.Entry.{Entry}
-use Rattle.tape_frames.specs.Limits.{longest_tape}
+use Rattle.tape_types.specs.Ranges.{TAPE_MOST}
 use Rattle.arbitration.specs.declared.line.Brought.{Brought}
 
 -- how many numbers above its base a window reaches
@@ -59,6 +59,6 @@ pub record IsWindow (w : WindowState) : Type 0 where
   pub size : length w.slots ≡ reach
   pub placed : ArePlaced (w.base + 1) w.announced w.slots
   pub reached : w.base ≤ w.announced
-  pub within : w.announced ≤ longest_tape
+  pub within : w.announced ≤ TAPE_MOST
   pub end : IfSome w.ended (λ count. w.announced ≤ count)
   pub counted : w.brought.a + w.brought.b + w.brought.r ≡ w.base + count_by is_some w.slots

@@ -1,6 +1,6 @@
 //! How the entries of a packet are put into their slots.
 ghost use Rattle.std.specs.Prelude.{◌≡◌, ◌+◌, ◌≤◌, ◌∷◌, [], is_some, count_by};
-ghost use Rattle.tape_frames.specs.Limits.{longest_tape};
+ghost use Rattle.tape_types.specs.Ranges.{TAPE_MOST};
 ghost use Rattle.tape_frames.specs.EntryRows.{IsEmptyOrRow};
 ghost use Rattle.arbitration.specs.Counts.{fresh_count, placing_of, taken_of};
 ghost use Rattle.arbitration.specs.Deliveries.{slots_after};
@@ -13,7 +13,7 @@ use tape_core::Entry;
 /// Puts each entry into its slot, where there is one and it is empty, and counts what became of them.
 pub(crate) fn settle(slots: &mut VecDeque<Option<Entry>>, base: u32, entries: &[Entry]) -> Taken
     requires row { IsEmptyOrRow entries.now }
-    requires within { base ≤ longest_tape }
+    requires within { base ≤ TAPE_MOST }
     ensures slots { slots.new.items ≡ slots_after (base + 1) slots.old.items entries.now }
     ensures taken { result ≡ taken_of (base + 1) slots.old.items entries.now }
     ensures count { count_by is_some slots.new.items ≡ count_by is_some slots.old.items + result.fresh }
@@ -31,7 +31,7 @@ pub(crate) fn settle(slots: &mut VecDeque<Option<Entry>>, base: u32, entries: &[
 
 /// Puts one entry into its slot, where there is one and it is empty.
 fn put(slots: &mut VecDeque<Option<Entry>>, base: u32, entry: &Entry) -> Placing
-    requires within { base ≤ longest_tape }
+    requires within { base ≤ TAPE_MOST }
     ensures slots { slots.new.items ≡ slots_after (base + 1) slots.old.items (entry.now ∷ []) }
     ensures placing { result ≡ placing_of (base + 1) slots.old.items entry.now }
     ensures count { count_by is_some slots.new.items ≡ count_by is_some slots.old.items + fresh_count result }

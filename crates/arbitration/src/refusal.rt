@@ -1,6 +1,6 @@
 //! What a window refuses a packet for.
 ghost use Rattle.std.specs.Prelude.{◌≡◌, ◌+◌, ◌≤◌, ◌↔◌, ◌||◌, length, IsTrue, MatchOption, All};
-ghost use Rattle.tape_frames.specs.Limits.{longest_tape};
+ghost use Rattle.tape_types.specs.Ranges.{TAPE_MOST};
 ghost use Rattle.tape_frames.specs.EntryRows.{IsEmptyOrRow};
 ghost use Rattle.arbitration.specs.Deliveries.{Agrees, IsLeastConflict, is_beyond, is_other_end};
 
@@ -16,7 +16,7 @@ pub(crate) fn find_conflict(
     entries: &[Entry],
 ) -> Option<TapeNumber>
     requires base { length held.now ≡ base }
-    requires within { base ≤ longest_tape }
+    requires within { base ≤ TAPE_MOST }
     requires row { IsEmptyOrRow entries.now }
     ensures { MatchOption result
         (All (Agrees held.now (base + 1) slots.now.items) entries.now)
@@ -33,7 +33,7 @@ pub(crate) fn find_conflict(
 /// Whether no other entry is known under the entry's number. It looks at one entry and copies none.
 fn agrees(held: &[Entry], base: u32, slots: &VecDeque<Option<Entry>>, entry: &Entry) -> bool
     requires base { length held.now ≡ base }
-    requires within { base ≤ longest_tape }
+    requires within { base ≤ TAPE_MOST }
     ensures { IsTrue result ↔ Agrees held.now (base + 1) slots.now.items entry.now }
 {
     let number = entry.number.value();

@@ -1,9 +1,9 @@
 //! Which report a participant's message number names, and how far each participant has numbered.
 ghost use Rattle.std.specs.Prelude.{◌≡◌, ◌+◌, ◌<◌, ℕ, OnOk, OnErr, IsSome, None, if◌then◌else◌, ◌==◌};
 ghost use Rattle.std.specs.FinMap as map;
-ghost use Rattle.tape_types.specs.Ranges.{IsParticipant};
+ghost use Rattle.tape_types.specs.Ranges.{IsParticipant, row_index};
 ghost use Rattle.corrections.specs.Targets.{IsStanding, standing_target, target_answer, targets_after_cancel};
-ghost use Rattle.corrections.specs.RegisterState.{last_of, row_index};
+ghost use Rattle.corrections.specs.RegisterState.{last_of};
 
 use crate::{Standing, Target, TargetFault};
 use std::alloc::{AllocError, Global};
@@ -81,7 +81,7 @@ impl Register {
         target: MsgNumber,
         symbol: Symbol,
     ) -> Result<TapeNumber, TargetFault>
-        ensures { result ≡ target_answer symbol (map.get self.now.targets (who, target)) }
+        ensures answer { result ≡ target_answer symbol (map.get self.now.targets (who, target)) }
     {
         let Some(target) = self.get(who, target) else {
             return Err(TargetFault::NoSuchReport);
@@ -105,17 +105,18 @@ impl Register {
     /// Notes that a standing report is cancelled. It takes no memory.
     pub fn cancel(&mut self, who: Participant, target: MsgNumber)
         requires standing { IsStanding (map.get self.old.targets (who, target)) }
-        ensures { self.new ≡ record self.old {
+        ensures cancelled { self.new ≡ record self.old {
           targets = targets_after_cancel self.old.targets (who, target);
         } }
     {
         let row = &mut self.rows[who.row_index()];
-        if let Some(held) = row.get(target) {
+        if let Some(index) = row.position(target) {
+            let (_, held) = row.entries()[index];
             let cancelled = Target {
                 standing: Standing::Cancelled,
                 ..held
             };
-            row.set(target, cancelled);
+            row.set_at(index, cancelled);
         }
     }
 
@@ -131,7 +132,7 @@ impl Register {
 
     /// A participant's greatest message number so far, 0 for none.
     pub fn last_number(&self, who: Participant) -> u32
-        ensures { result ≡ last_of self.now who }
+        ensures value { result ≡ last_of self.now who }
     {
         self.last_numbers[who.row_index()]
     }

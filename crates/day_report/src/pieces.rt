@@ -1,5 +1,5 @@
 //! The rows of a report, made by pieces of the listing.
-ghost use Rattle.std.specs.Prelude.{◌≡◌, ◌≢◌, ◌++◌, ◌+◌, ◌<◌, ◌≤◌, List, Err, Some, None, IfErr, IfOk, IfSome, OnOk, length, slice_get, take, drop};
+ghost use Rattle.std.specs.Prelude.{◌≡◌, ◌≢◌, ◌++◌, ◌+◌, ◌*◌, ◌<◌, ◌≤◌, List, Err, Some, None, IfErr, IfOk, IfSome, OnOk, length, slice_get, take, drop};
 ghost use Rattle.std.specs.List.{AllByRecursion, flat_map};
 ghost use Rattle.day_report.specs.Pieces.{IsPieceAt, AreMade, AreFrom, AreFromSome, IsShare};
 ghost use Rattle.day_report.specs.Rows.{report_rows, symbol_rows};
@@ -63,7 +63,7 @@ fn piece_rows<S: Store, G: Gate>(
 ) -> Result<Vec<Row>, AllocError>
     requires place { IsPieceAt tape.now.listing.symbols start piece.now }
     requires few { start + length piece.now ≤ SYMBOLS_MOST }
-    requires before { done ≤ 16777216 }
+    requires before { done ≤ SYMBOLS_MOST * SYMBOLS_MOST }
     ensures { IfOk result (λ rows. rows.items ≡ flat_map (symbol_rows tape.now) piece.now) }
 {
     let mut rows = Vec::new(alloc);

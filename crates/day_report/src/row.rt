@@ -29,9 +29,7 @@ impl Row {
         requires { slice_get tape.now.listing.symbols index ≡ Some symbol }
         ensures { result ≡ consolidated_row tape.now symbol }
     {
-        let Some(summary) = tape.summary_at(index) else {
-            unreachable!()
-        };
+        let summary = tape.summary_at(index).unwrap();
         Row {
             symbol,
             who: None,
@@ -51,9 +49,7 @@ impl Row {
         requires participant { lists_participant tape.now.listing who ≡ true }
         ensures { result ≡ participant_row tape.now symbol who }
     {
-        let Some(summary) = tape.summary_of_at(index, who) else {
-            unreachable!()
-        };
+        let summary = tape.summary_of_at(index, who).unwrap();
         if summary.trades == 0 {
             return None;
         }

@@ -7,10 +7,7 @@ use std::alloc::Global;
 use subscriber::Subscriber;
 use summaries::IndexStore;
 use tape_core::Tape;
-use tape_types::{Listing, Participant, Symbol};
-
-/// The limit of each tape, in entries.
-const TAPE_LIMIT: u32 = 1_048_576;
+use tape_types::{Listing, Participant, Symbol, TAPE_MOST};
 
 /// The session under which the tape is sent.
 pub const SESSION: u64 = 1;
@@ -86,10 +83,10 @@ pub fn read_messages(alloc: Global, input: &[u8]) -> anyhow::Result<Vec<Message>
 
 /// The tape of a day before its first message.
 pub fn empty_tape(alloc: Global, input: &[u8]) -> anyhow::Result<Tape<IndexStore>> {
-    Ok(Tape::new(alloc, read_listing(alloc, input)?, TAPE_LIMIT)?)
+    Ok(Tape::new(alloc, read_listing(alloc, input)?, TAPE_MOST)?)
 }
 
 /// A subscriber to the tape of a day.
 pub fn new_subscriber(alloc: Global, input: &[u8]) -> anyhow::Result<Subscriber> {
-    Ok(Subscriber::new(alloc, read_listing(alloc, input)?, TAPE_LIMIT, SESSION)?)
+    Ok(Subscriber::new(alloc, read_listing(alloc, input)?, TAPE_MOST, SESSION)?)
 }

@@ -56,7 +56,7 @@ fn end_after(published: u32) -> anyhow::Result<Packet> {
 
 /// Whether a line loses the packet of this number: A every third, B every fifth, a retransmission none.
 fn is_lost(line: Line, packet: u32) -> bool
-    ensures { result ≡ is_lost line packet }
+    ensures lost { result ≡ is_lost line packet }
 {
     match line {
         Line::A => packet % 3 == 0,

@@ -126,7 +126,7 @@ pub fn run_seats<D: DayName + Send + Sync, R: Threads + Wait + Sync>(
     seats: Vec<LineSeat<D>>,
     inputs: &[Vec<u8>],
 ) -> (Vec<LineSeat<D>>, bool)
-    ensures { whos result.0.items ≡ whos seats.items }
+    ensures seats { whos result.0.items ≡ whos seats.items }
 {
     let Ok(lines) = Vec::with_capacity(alloc, seats.len()) else {
         return (seats, false);

@@ -143,7 +143,7 @@ fn run_beside<D: DayName + Send + Sync, R: Clock + Threads + Wait + Sync>(
     seats: Vec<LineSeat<D>>,
     inputs: &[Vec<u8>],
 ) -> (Vec<LineSeat<D>>, Option<u64>)
-    ensures { whos result.0.items ≡ whos seats.items }
+    ensures seats { whos result.0.items ≡ whos seats.items }
 {
     let mut seats = seats;
     let over = AtomicBool::new(false);

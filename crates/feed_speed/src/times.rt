@@ -7,7 +7,7 @@ use std::time::Duration;
 
 /// The lesser of two times.
 pub fn lesser(time: Duration, other: Duration) -> Duration
-    ensures { as_nanos result ≡ min (as_nanos time) (as_nanos other) }
+    ensures least { as_nanos result ≡ min (as_nanos time) (as_nanos other) }
 {
     if other.as_nanos() < time.as_nanos() {
         other
@@ -36,7 +36,7 @@ impl Ratio {
 
     /// The ratio of a time to a whole one, rounded down. A whole of no time counts as a nanosecond.
     pub fn of(part: Duration, whole: Duration) -> Ratio
-        ensures { result.0 ≡ as_nanos part * 1_000 / max 1 (as_nanos whole) }
+        ensures ratio { result.0 ≡ as_nanos part * 1_000 / max 1 (as_nanos whole) }
     {
         Ratio(part.as_nanos() * 1_000 / whole.as_nanos().max(1))
     }

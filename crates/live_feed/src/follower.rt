@@ -44,7 +44,7 @@ fn dial<R: Net<Listener = TcpListener, Stream = TcpStream>>(
 
 /// What a drain that stops is to the run.
 fn fault_of_drain(fault: DrainFault) -> Fault
-    ensures { (result ≡ Memory) ↔ (fault.why ≡ Refused OutOfMemory) }
+    ensures memory { (result ≡ Memory) ↔ (fault.why ≡ Refused OutOfMemory) }
 {
     match fault.why {
         Stop::Refused(Refusal::OutOfMemory) => Fault::Memory,
@@ -80,7 +80,7 @@ fn copy_of(alloc: Global, listing: &Listing) -> Result<Listing, Fault> {
 
 /// Whether a subscriber is given up that holds so many entries: it is to be after so many or fewer.
 fn is_given_up(restart_after: Option<u32>, held: usize) -> bool
-    ensures { (result ≡ true) ↔ IsSomeAnd restart_after (λ most. most ≤ held) }
+    ensures given_up { (result ≡ true) ↔ IsSomeAnd restart_after (λ most. most ≤ held) }
 {
     match restart_after {
         Some(most) => most as usize <= held,

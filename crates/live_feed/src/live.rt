@@ -38,7 +38,7 @@ struct Found {
 
 /// A token of each cell that was published. A cell is set once, so its token stands for whatever was sent or served of it.
 fn find_published<D: DayName>(shared: &SharedTape<D>) -> Found
-    ensures { FirstTokens shared.now result.tokens.items }
+    ensures first { FirstTokens shared.now result.tokens.items }
 {
     let mut published = Published::new(shared);
     let fault = match published.refresh() {

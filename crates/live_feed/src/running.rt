@@ -82,7 +82,7 @@ pub(crate) fn run_together<
     bell: &Bell,
     text: &mut Vec<u8>,
 ) -> Joined<D>
-    ensures { whos result.ran.seats.items ≡ map (λ l. l.0.who) waiting.lines.items }
+    ensures whos { whos result.ran.seats.items ≡ map (λ l. l.0.who) waiting.lines.items }
 {
     let mut waiting = Some(waiting);
     let (sides, ran) = join_mut(

@@ -71,7 +71,7 @@ fn send_data<L: Loss>(feed: &Feed<'_, L>, first: u32, bytes: &[u8]) {
 
 /// Whether the sender rests after so many packets.
 fn is_rest(packets: u32) -> bool
-    ensures { (result ≡ true) ↔ (packets % 16 ≡ 0) }
+    ensures rest { (result ≡ true) ↔ (packets % 16 ≡ 0) }
 {
     packets % PACKETS_BEFORE_REST == 0
 }

@@ -118,7 +118,7 @@ pub fn run_line<D: DayName, R: BufRead, G: Gate, W: Wait>(
     reader: &mut R,
     gate: &G,
 ) -> LineEnd<D>
-    ensures { Runs D.listing seat (R.remaining reader.old) (R.remaining reader.new) result.refused result.ended result.seat }
+    ensures runs { Runs D.listing seat (R.remaining reader.old) (R.remaining reader.new) result.refused result.ended result.seat }
 {
     let mut seat = seat;
     let Outcome { refused, ended } = run_frames(rt, shared, line, &mut seat, reader, gate);

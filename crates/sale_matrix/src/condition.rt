@@ -68,7 +68,7 @@ fn joined(codes: [u8; 4]) -> Option<Cells>
 
 /// What a trade of this condition changes: the least cell in each column over its codes, with N < F < S < Y.
 pub fn cells(condition: &Condition) -> Cells
-    ensures { result ≡ cells_of condition.now }
+    ensures cells { result ≡ cells_of condition.now }
 {
     joined(condition.codes).unwrap()
 }

@@ -8,7 +8,7 @@ use tape_types::{SIZE_MOST, TAPE_MOST, TapeNumber};
 /// The summary of a list of reports whose places rise: one step of a summary after another.
 pub fn fold(reports: &[(TapeNumber, Effect)]) -> Summary
     requires rising { PlacesRise reports.now }
-    ensures { result ≡ summary_of reports.now }
+    ensures fold { result ≡ summary_of reports.now }
 {
     let mut summary = Summary::empty();
     for (place, effect) in reports {

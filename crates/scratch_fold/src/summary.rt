@@ -124,7 +124,7 @@ impl Summary {
 
     /// The summary of no report.
     pub fn empty() -> Summary
-        ensures { result ≡ empty_summary }
+        ensures empty { result ≡ empty_summary }
     {
         Summary {
             opening: None,

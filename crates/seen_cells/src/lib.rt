@@ -31,7 +31,7 @@ impl<T> Model for Seen<T> {
 impl<T> Seen<T> {
     /// What the note knows of its cell. The note is left as it is.
     pub fn of(note: &mut Note<T>) -> Seen<T>
-        ensures { (note.new ≡ note.old) × (result.cell ≡ note.old.cell) × (result.known ≡ note.old.known) }
+        ensures known { (note.new ≡ note.old) × (result.cell ≡ note.old.cell) × (result.known ≡ note.old.known) }
     {
         Seen {
             marker: PhantomData,
@@ -40,7 +40,7 @@ impl<T> Seen<T> {
 
     /// The same once more.
     pub fn again(&self) -> Seen<T>
-        ensures { result ≡ self.now }
+        ensures same { result ≡ self.now }
     {
         Seen {
             marker: PhantomData,
@@ -50,7 +50,7 @@ impl<T> Seen<T> {
     /// A cell is set once: where both know what one cell holds, they know the same value.
     pub fn agrees(&self, other: &Seen<T>)
         requires { other.now.cell ≡ self.now.cell }
-        ensures { IfSome other.now.known (Agrees self.now.known) }
+        ensures agrees { IfSome other.now.known (Agrees self.now.known) }
     {}
 }
 

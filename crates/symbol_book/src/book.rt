@@ -43,7 +43,7 @@ impl<S: Store> Model for Book<S> {
 impl<S: Store> Book<S> {
     /// A book of no report. It takes no memory.
     pub fn new(alloc: Global) -> Self
-        ensures { result ≡ map.empty }
+        ensures empty { result ≡ map.empty }
     {
         Book {
             alloc,
@@ -128,7 +128,7 @@ impl<S: Store> Book<S> {
     /// Takes the report at a place away. It takes no memory.
     pub fn remove(&mut self, place: TapeNumber)
         requires present { IsSome (map.get self.old place) }
-        ensures { self.new ≡ map.remove self.old place }
+        ensures removed { self.new ≡ map.remove self.old place }
     {
         let mut searches = Searches::new();
         let effect = self.consolidated.take(place, &mut searches);
@@ -137,14 +137,14 @@ impl<S: Store> Book<S> {
 
     /// The consolidated summary of the reports by rising place. It takes no memory.
     pub fn consolidated(&self) -> Summary
-        ensures { result ≡ consolidated_summary self.now }
+        ensures summary { result ≡ consolidated_summary self.now }
     {
         self.consolidated.summary(&mut Searches::new())
     }
 
     /// The participant's own summary of its reports by rising place, empty where it has none. It takes no memory.
     pub fn of(&self, who: Participant) -> Summary
-        ensures { result ≡ own_summary self.now who }
+        ensures summary { result ≡ own_summary self.now who }
     {
         participant_stores::summary(&self.own, who)
     }

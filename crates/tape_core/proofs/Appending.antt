@@ -1,5 +1,5 @@
 -- A message of any kind: its book and register take its change, its entry is the next one, and what a tape's fields keep stays kept.
-use Rattle.std.proofs.Common.{◌≡◌, ℕ, ◌+◌, ◌≤◌, ◌==◌, if◌then◌else◌, List, length, get_or, set, Option, Some, None, refl, sym, ap, subst, ◌∙◌, arith}
+use Rattle.std.proofs.Common.{◌≡◌, ℕ, ◌≤◌, ◌==◌, if◌then◌else◌, List, get_or, set, Option, Some, None, refl, sym, subst, ◌∙◌}
 use Rattle.std.specs.Option.{option_map}
 use Rattle.tape_types.specs.Ranges.{IsParticipant, SIZE_MOST}
 use Rattle.corrections.specs.RegisterState.{RegisterState, last_of}
@@ -19,7 +19,7 @@ use Rattle.tape_core.specs.Totals.{total_at, total_after}
 use Rattle.tape_core.proofs.Keeping.{place-vacant, number-vacant, place-present, entry-cancel, entry-correct, KeepsTape-report, KeepsTape-cancel}
 use Rattle.tape_core.proofs.Keeping.{KeepsTape-correct}
 use Rattle.tape_core.proofs.LegalNext.{admissible}
-use Rattle.tape_core.proofs.NamedTargets.{IsTarget, IsTarget-faultless, IsTarget-standing}
+use Rattle.tape_core.proofs.NamedTargets.{IsTarget-faultless, IsTarget-standing}
 use Rattle.std.specs.FinMap as map
 
 module _ (t : TapeState) (kept : List Trades) (register : RegisterState) (row : Totals) (keeps : KeepsTape t kept register row) (route : Route) (book : Trades)

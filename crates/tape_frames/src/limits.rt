@@ -6,9 +6,6 @@ pub const VERSION: u8 = 1;
 /// How many entries a packet has at most.
 pub const MOST_ENTRIES: usize = 8;
 
-/// How many entries a tape has at most, which is the greatest tape number.
-pub const LONGEST_TAPE: u32 = 1_048_576;
-
 /// How many entries a request asks for at most.
 pub const LONGEST_SPAN: u16 = 64;
 

@@ -2,7 +2,7 @@
 use Rattle.std.proofs.Common.{map as map_list, add-one, ◌≡◌, ℕ, zero, suc, ◌-◌, ◌<◌, ◌≤◌, ◌≢◌, ltb, Bool, true, false, cond, not, List, [], ◌∷◌, ◌++◌, length}
 use Rattle.std.proofs.Common.{get_or, set, take, drop, Option, Some, None, IsSome, refl, sym, ap, subst, ◌∙◌, inl, inr, arith}
 use Rattle.std.specs.declared.cmp.Ordering.TheVariants.{Less, Equal, Greater}
-use Rattle.std.specs.Prelude.{T, ◌&&◌, All}
+use Rattle.std.specs.Prelude.{T, ◌&&◌}
 use Rattle.std.specs.List.{AllWithin, insert, remove}
 use Rattle.std.specs.List.Sorted.{IsPartitionPoint, IsStrictlyIncreasing}
 use Rattle.std.specs.Ordering.{nat_cmp, eq_by_cmp, is_lt, is_eq}
@@ -11,7 +11,6 @@ use Rattle.std.specs.FinMap as map
 use Rattle.std.specs.FinMap.{nat_cmp-IsAntisymmetric}
 use Rattle.std.specs.FinMap.Entries.{is_sorted, below_all, find, put, where_key, by_order, is_sorted-put, find-put, is_sorted-where_key, find-where_key}
 use Rattle.std.proofs.lemmas.List.{get_or_default, get_or-map, length-map}
-use Rattle.std.proofs.lemmas.List.Elements.{AllWithin-from_all}
 use Rattle.std.proofs.lemmas.List.Edits.{insert_end}
 use Rattle.std.proofs.lemmas.Bool.{cases_lt, cases_eq}
 use Rattle.std.proofs.lemmas.Bool.Decides.{nat_tests}
@@ -422,6 +421,24 @@ keyed-itself [] = refl
 keyed-itself (e ∷ es) = ap (λ l. e ∷ l) (keyed-itself es)
 
 module _ {K X : Type 0} (number : K → ℕ) where
+  -- in order they are the entries of the map that they make
+  pub keyed-seen : (es : List (K × X)) → T (is_sorted nat_cmp (keyed number es)) → (m : map.FinMap nat_cmp X)
+      → map.from_entries (keyed number es) ≡ m → keyed number es ≡ map.entries m
+  keyed-seen es h m is = sym (entries-seen _ h) ∙ ap map.entries is
+
+  -- and as many as it has
+  pub length-seen : (es : List (K × X)) → T (is_sorted nat_cmp (keyed number es)) → (m : map.FinMap nat_cmp X)
+      → map.from_entries (keyed number es) ≡ m → length es ≡ map.len m
+  length-seen es h m is = sym (length-keyed number es) ∙ ap length (keyed-seen es h m is) ∙ sym (map.len-entries m)
+
+  -- a key that stands among them has the value that is there
+  pub keyed-get : (es : List (K × X)) (m : map.FinMap nat_cmp X) → keyed number es ≡ map.entries m
+      → (k i : ℕ) → StandsIn k (map.entries m) i → (e : K × X) → map.get m k ≡ Some (get_or es i e).1
+  keyed-get es m seen k i at e =
+      let d : ℕ × X = (number e.0, e.1) in
+      map.get-entries m k ∙ find-at k (map.entries m) i d at.position at.within (at.has_key d)
+      ∙ ap (λ (l : List (ℕ × X)). Some (get_or l i d).1) (sym seen) ∙ ap (λ (x : ℕ × X). Some x.1) (keyed-at number es i e)
+
   -- the entries from an index on, and those before it
   pub keyed-drop : (i : ℕ) (es : List (K × X)) → keyed number (drop i es) ≡ drop i (keyed number es)
   keyed-drop zero es = refl
@@ -515,6 +532,15 @@ module _ {X : Type 0} where
     | inl low ↦ let rest = position-exists k es (and_rest _ _ h) in (suc rest.0, position-cons k e es rest.0 low rest.1)
     | inr high ↦ (0, position-zero k e es h high)
   ]
+
+  -- the key of each rising entry stands where the entry is
+  pub stands-at : (es : List (ℕ × X)) (i : ℕ) (d : ℕ × X) → T (is_sorted nat_cmp es) → i < length es → StandsIn (get_or es i d).0 es i
+  stands-at [] i d h lt = absurd (omega arith)
+  stands-at (e ∷ es) zero d h lt = record { position = position-zero e.0 e es h (omega arith); within = lt; has_key = λ _. refl }
+  stands-at (e ∷ es) (suc i) d h lt =
+      let low : e.0 < (get_or es i d).0 = below-each e.0 es (and_left _ _ h) i d (omega arith) in
+      let rest = stands-at es i d (and_rest _ _ h) (omega arith) in
+      record { position = position-cons _ e es i low rest.position; within = lt; has_key = rest.has_key }
 
   -- a map is that of its entries
   pub itself-seen : (m : map.FinMap nat_cmp X) → map.from_entries (map.entries m) ≡ m

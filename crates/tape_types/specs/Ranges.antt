@@ -1,5 +1,5 @@
 -- The ranges of the small values.
-use Rattle.std.specs.Prelude.{◌≡◌, ℕ, ◌+◌, ◌*◌, ◌/◌, ◌%◌, ◌<◌, ◌≤◌, Bool, ◌&&◌, ◌||◌, ◌==◌, nat_le, List, length, drop, take_while, All}
+use Rattle.std.specs.Prelude.{◌≡◌, ℕ, ◌+◌, ◌-◌, ◌*◌, ◌/◌, ◌%◌, ◌<◌, ◌≤◌, Bool, ◌&&◌, ◌||◌, ◌==◌, nat_le, List, length, drop, take_while, All}
 
 -- the greatest price, in ten-thousandths of a dollar
 abbrev pub PRICE_MOST : ℕ
@@ -56,6 +56,10 @@ IsTapeNumber n = (1 ≤ n) × (n ≤ TAPE_MOST)
 -- a participant is a capital letter
 abbrev pub IsParticipant : ℕ → Type 0
 IsParticipant b = (65 ≤ b) × (b ≤ 90)
+
+-- a participant's index in a row by letter, from 0: `A` is 65
+abbrev pub row_index : ℕ → ℕ
+row_index who = who - 65
 
 -- `A` to `Z`, `0` to `9`, or `.`
 abbrev pub is_name_byte : ℕ → Bool

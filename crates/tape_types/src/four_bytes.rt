@@ -42,7 +42,7 @@ impl Model for FourBytes {
 impl FourBytes {
     /// The number in its four bytes.
     pub fn new(number: u32) -> Self
-        ensures { result ≡ number }
+        ensures value { result ≡ number }
     {
         FourBytes {
             bytes: number.to_le_bytes(),
@@ -51,7 +51,7 @@ impl FourBytes {
 
     /// The number.
     pub fn value(self) -> u32
-        ensures { result ≡ self }
+        ensures value { result ≡ self }
     {
         u32::from_le_bytes(self.bytes)
     }

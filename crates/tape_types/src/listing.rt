@@ -75,7 +75,7 @@ impl Listing {
 
     /// Whether the participant is listed.
     pub fn has(&self, participant: Participant) -> bool
-        ensures { result ≡ list_any (λ p. participant == p) self.now.participants }
+        ensures listed { result ≡ list_any (λ p. participant == p) self.now.participants }
     {
         self.participants.contains(&participant)
     }

@@ -1,5 +1,5 @@
 //! A finite map in one vector.
-ghost use Rattle.std.specs.Prelude.{◌≡◌, ◌≤◌, ℕ, length, take, drop, IfOk, OnOk, OnErr, MatchOption, IsSome, IsTrue, Some, None};
+ghost use Rattle.std.specs.Prelude.{◌≡◌, ◌<◌, ◌≤◌, ℕ, length, take, drop, IfOk, OnOk, OnErr, MatchOption, IsSome, IsTrue, Some, None};
 ghost use Rattle.std.specs.Coded.{coded_ℕ};
 ghost use Rattle.std.specs.Ordering.{nat_cmp};
 ghost use Rattle.std.specs.FinMap as map;
@@ -15,7 +15,7 @@ pub trait NumberKey: Copy {
 
     /// The number.
     fn number(self) -> u32
-        ensures { result ≡ number self };
+        ensures value { result ≡ number self };
 }
 
 /// A map in one vector, by rising key: a key is found by halving, and an entry above all others goes to the end.
@@ -37,7 +37,7 @@ impl<K: NumberKey, V> Model for RisingMap<K, V> {
 impl<K: NumberKey, V: Copy> RisingMap<K, V> {
     /// A map of no entry. It takes no memory.
     pub fn new(alloc: Global) -> Self
-        ensures { result ≡ map.empty }
+        ensures empty { result ≡ map.empty }
     {
         RisingMap {
             entries: Vec::new(alloc),
@@ -46,25 +46,33 @@ impl<K: NumberKey, V: Copy> RisingMap<K, V> {
 
     /// How many entries it has.
     pub fn len(&self) -> usize
-        ensures { result ≡ map.len self.now }
+        ensures length { result ≡ map.len self.now }
     {
         self.entries.len()
     }
 
     /// The entries by rising key.
     pub fn entries(&self) -> &[(K, V)]
-        ensures { keyed K.number result.now ≡ map.entries self.now }
+        ensures entries { keyed K.number result.now ≡ map.entries self.now }
     {
         self.entries.as_slice()
     }
 
     /// The value of a key, if it has one.
     pub fn get(&self, key: K) -> Option<V>
-        ensures { result ≡ map.get self.now (K.number key) }
+        ensures value { result ≡ map.get self.now (K.number key) }
     {
         let place = locate(&self.entries, key)?;
         let (_, value) = self.entries[place];
         Some(value)
+    }
+
+    /// Where the entry of a key stands among `entries`, if the key has a value.
+    pub fn position(&self, key: K) -> Option<usize>
+        ensures position { MatchOption result (map.get self.now (K.number key) ≡ None)
+            (λ i. StandsIn (K.number key) (map.entries self.now) i) }
+    {
+        locate(&self.entries, key)
     }
 
     /// Gives a value to a key that has none. Out of memory, the map is unchanged.
@@ -106,6 +114,15 @@ impl<K: NumberKey, V: Copy> RisingMap<K, V> {
         former
     }
 
+    /// Gives another value to the key of the entry at an index. It takes no memory.
+    pub fn set_at(&mut self, index: usize, value: V)
+        requires within { index < map.len self.old }
+        ensures changed { (n : ℕ) → StandsIn n (map.entries self.old) index → self.new ≡ map.insert self.old n value }
+    {
+        let (key, _) = self.entries[index];
+        self.entries[index] = (key, value);
+    }
+
     /// Takes a key out with its value, if it has one. It takes no memory.
     pub fn remove(&mut self, key: K) -> Option<V>
         ensures value { result ≡ map.get self.old (K.number key) }
@@ -119,7 +136,7 @@ impl<K: NumberKey, V: Copy> RisingMap<K, V> {
     /// A map of the entries from an index on, which stay here too. It fails only out of memory.
     pub fn copy_from(&self, alloc: Global, index: usize) -> Result<Self, AllocError>
         requires { index ≤ map.len self.now }
-        ensures { IfOk result (λ m. map.entries m ≡ drop index (map.entries self.now)) }
+        ensures entries { IfOk result (λ m. map.entries m ≡ drop index (map.entries self.now)) }
     {
         let entries = copied_from(alloc, &self.entries, index)?;
         Ok(RisingMap { entries })
@@ -127,7 +144,7 @@ impl<K: NumberKey, V: Copy> RisingMap<K, V> {
 
     /// Takes the entries from an index on out. It takes no memory.
     pub fn truncate(&mut self, index: usize)
-        ensures { map.entries self.new ≡ take index (map.entries self.old) }
+        ensures entries { map.entries self.new ≡ take index (map.entries self.old) }
     {
         self.entries.truncate(index);
     }

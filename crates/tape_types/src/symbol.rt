@@ -48,7 +48,7 @@ impl Symbol {
 
     /// Its name: the bytes before the padding.
     pub fn name(&self) -> &[u8]
-        ensures { result.now ≡ name_of self.now }
+        ensures name { result.now ≡ name_of self.now }
     {
         &self.bytes[..name_length(&self.bytes)]
     }

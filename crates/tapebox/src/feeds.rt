@@ -5,7 +5,6 @@ ghost use Rattle.tapebox.specs.Program.{RunsFeed, feed_text};
 ghost use Rattle.tapebox.specs.Writing.{WritesFront};
 
 use crate::command::{FollowWords, LiveWords};
-use crate::reading::TAPE_LIMIT;
 use crate::writing::say;
 use live_feed::{Fault, FollowSockets, LiveSockets, NoLoss, follow_over, here, live_over};
 use std::alloc::Global;
@@ -15,6 +14,7 @@ use std::net::{Net, TcpListener, TcpStream, UdpSocket};
 use std::rt::Clock;
 use std::sync::Wait;
 use std::thread::Threads;
+use tape_types::TAPE_MOST;
 
 /// Opens a listener on each port from the first on, one for each participant.
 fn open_lines<T: Net<Listener = TcpListener, Stream = TcpStream>>(
@@ -104,7 +104,7 @@ where
             rt,
             alloc,
             words.listing,
-            TAPE_LIMIT,
+            TAPE_MOST,
             words.session,
             words.serves,
             sockets,
@@ -145,7 +145,7 @@ where
             rt,
             alloc,
             words.listing,
-            TAPE_LIMIT,
+            TAPE_MOST,
             words.session,
             sockets,
             None,

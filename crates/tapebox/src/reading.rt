@@ -15,8 +15,8 @@ use std::alloc::Global;
 use std::io::BufRead;
 use tape_types::{Listing, ListingFault};
 
-/// The limit of a day's tape, in entries.
-pub const TAPE_LIMIT: u32 = 1_048_576;
+/// The limit of a batch's tape, in entries, whatever other tapes may have.
+const TAPE_LIMIT: u32 = 1_048_576;
 
 /// What was read of a whole input.
 #[derive(Drop)]

@@ -8,7 +8,7 @@ pub loop-who-init : goal.loop-who-init
 loop-who-init g c =
     let listing = c.args.tape.now.listing in
     let all : iter_rest c.into_iter-who-iterator.result ≡ listing.participants =
-    ap iter_rest c.into_iter-who-iterator.ensures.into_iter_gives ∙ rw c.participants-who-items.ensures.rest (rw c.listing.ensures refl) in
+    ap iter_rest c.into_iter-who-iterator.ensures.into_iter_gives ∙ rw c.participants-who-items.ensures.rest (rw c.listing.ensures.listing refl) in
     record {
       can = tt;
       finite = tt;

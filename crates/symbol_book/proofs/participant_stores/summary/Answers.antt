@@ -15,6 +15,6 @@ returns-in-Some g c =
 pub returns-in-None : goal.returns-in-None
 returns-in-None g c =
     let past : length c.args.own.now ≤ c.row_index.result = search rules in
-    c.empty.ensures ∙ sym
+    c.empty.ensures.empty ∙ sym
     (ap map_summary (participant_effects-past g.S.Store.effects c.args.own.now c.row_index.result c.args.who c.row_index.ensures.letter past)
     ∙ summary-none)

@@ -2,4 +2,4 @@ use Rattle.tape_frames.proofs.Packets.{packet_takes_all}
 use Rattle.tape_frames.proofs.spelling.packet_takes_all_its_bytes.Goals as goal
 
 pub returns : goal.returns
-returns c = packet_takes_all
+returns c = record { holds = packet_takes_all }

@@ -1,4 +1,4 @@
-use Rattle.std.proofs.Common.{◌<◌, ◌-◌, subst, sym, ap, ◌∙◌, get_or, length, arith}
+use Rattle.std.proofs.Common.{◌<◌, ◌-◌, subst, sym, get_or, length, arith}
 use Rattle.std.proofs.lemmas.Bool.Decides.{nat_tests}
 use Rattle.tape_types.specs.RisingEntries.{IsPosition, keyed}
 use Rattle.tape_types.proofs.RisingEntries.{position-after_last, length-keyed, keyed-at}
@@ -9,7 +9,7 @@ returns-in-Some g c = λ above.
     let number = g.K.NumberKey.number in
     let es = c.args.entries.now in
     let last = c.in-Some.field-0.now in
-    let below : number last.0 < number c.args.key = grind (arith, nat_tests, above, c.number.ensures, c.number-in-Some.ensures) in
+    let below : number last.0 < number c.args.key = grind (arith, nat_tests, above, c.number.ensures.value, c.number-in-Some.ensures.value) in
     let same = length-keyed number es in
     subst (IsPosition (number c.args.key) (keyed number es)) same
     (position-after_last (number c.args.key) (keyed number es) (number last.0, last.1) c.requires.rising

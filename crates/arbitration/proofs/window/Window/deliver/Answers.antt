@@ -29,11 +29,11 @@ invariant_of-self c =
     let slots = c.settle-taken.ensures.slots ∙ ap (slots_after (w.base + 1) w.slots) same_entries in
     let taken = c.settle-taken.ensures.taken ∙ ap (taken_of (w.base + 1) w.slots) same_entries in
     let announced = c.max-self-inside.ensures ∙ ap (max w.announced) c.last-last.ensures.value in
-    let ended = c.or-self-inside.ensures ∙ ap (λ o. option_or o w.ended) c.end-end.ensures in
+    let ended = c.or-self-inside.ensures ∙ ap (λ o. option_or o w.ended) c.end-end.ensures.end in
     let brought = c.add.ensures ∙ ap (λ (t : Taken). brought_with w.brought c.args.line t.fresh) taken in
     let in_time =
     ap (λ n. is_beyond w.ended n || is_other_end w.ended w.announced (end_of q)) (sym c.last-last.ensures.value)
-    ∙ ap (λ o. is_beyond w.ended c.last-last.result || is_other_end w.ended w.announced o) (sym c.end-end.ensures)
+    ∙ ap (λ o. is_beyond w.ended c.last-last.result || is_other_end w.ended w.announced o) (sym c.end-end.ensures.end)
     ∙ sym c.is_past_end.ensures ∙ c.if-is_past_end.false in
     let count = ap (count_by is_some) (sym slots) ∙ c.settle-taken.ensures.count ∙ ap (λ (t : Taken). count_by is_some w.slots + t.fresh) taken in
     let window = IsWindow-window_after w c.args.line q c.self.invariant c.last-last.ensures.numbers in_time count in

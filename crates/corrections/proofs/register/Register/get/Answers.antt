@@ -6,6 +6,6 @@ use Rattle.corrections.proofs.register.Register.get.Goals as goal
 pub returns : goal.returns
 returns c =
     let inside : c.row_index.result < length c.self.inside.rows = omega arith in
-    c.get.ensures
+    c.get.ensures.value
     ∙ sym (get-row c.self.inside.rows c.args.who c.args.number c.row_index.result c.index-self-row_index.result c.row_index.ensures.letter inside)
     ∙ ap (λ r. map.get r.targets (c.args.who, c.args.number)) c.self.view_is

@@ -8,4 +8,4 @@ pub copy_from-requires : goal.copy_from-requires
 copy_from-requires g c = subst (λ n. c.args.index ≤ n) (ap length (sym c.self.view_is) ∙ sym (map.len-entries _)) c.requires
 
 pub invariant_of-result : goal.invariant_of-result
-invariant_of-result g c = c.top_of-greatest.ensures ∙ ap top (sym (keyed-itself c.entries.result.now) ∙ c.entries.ensures)
+invariant_of-result g c = c.top_of-greatest.ensures ∙ ap top (sym (keyed-itself c.entries.result.now) ∙ c.entries.ensures.entries)

@@ -5,7 +5,7 @@ use Rattle.place_index.specs.Blocks.{top}
 use Rattle.place_index.proofs.block.Block.empty.Goals as goal
 
 pub returns : goal.returns
-returns g c = ap map.entries c.new.ensures ∙ entries-seen [] tt
+returns g c = ap map.entries c.new.ensures.empty ∙ entries-seen [] tt
 
 pub invariant_of-result : goal.invariant_of-result
-invariant_of-result g c = ap top (sym (ap map.entries c.new.ensures ∙ entries-seen [] tt))
+invariant_of-result g c = ap top (sym (ap map.entries c.new.ensures.empty ∙ entries-seen [] tt))

@@ -12,7 +12,7 @@ pub returns-in_err-insert-clause-rising : goal.returns-in_err-insert-clause-risi
 returns-in_err-insert-clause-rising g c = map.entries_sorted c.insert.new.self
 
 pub invariant_of-self-2 : goal.invariant_of-self-2
-invariant_of-self-2 g c = c.top_of-self-inside.ensures ∙ ap top (sym (keyed-itself c.entries.result.now) ∙ c.entries.ensures)
+invariant_of-self-2 g c = c.top_of-self-inside.ensures ∙ ap top (sym (keyed-itself c.entries.result.now) ∙ c.entries.ensures.entries)
 
 pub returns-clause-rising : goal.returns-clause-rising
 returns-clause-rising g c = map.entries_sorted c.insert.new.self

@@ -36,7 +36,7 @@ returns-in_err-value-clause-removed g c =
 
 -- something was
 pub invariant_of-self-2 : goal.invariant_of-self-2
-invariant_of-self-2 g c = c.top_of-self-inside.ensures ∙ ap top (sym (keyed-itself c.entries.result.now) ∙ c.entries.ensures)
+invariant_of-self-2 g c = c.top_of-self-inside.ensures ∙ ap top (sym (keyed-itself c.entries.result.now) ∙ c.entries.ensures.entries)
 
 pub returns-clause-rising : goal.returns-clause-rising
 returns-clause-rising g c = map.entries_sorted c.remove.new.self

@@ -9,7 +9,7 @@ pub set-former-requires : goal.set-former-requires
 set-former-requires g c = record { present = some-seen c.self.inside.entries c.args.self.now c.self.view_is c.args.place c.requires.present }
 
 pub invariant_of-self : goal.invariant_of-self
-invariant_of-self g c = c.top_of-self-inside.ensures ∙ ap top (sym (keyed-itself c.entries.result.now) ∙ c.entries.ensures)
+invariant_of-self g c = c.top_of-self-inside.ensures ∙ ap top (sym (keyed-itself c.entries.result.now) ∙ c.entries.ensures.entries)
 
 pub returns-clause-rising : goal.returns-clause-rising
 returns-clause-rising g c = map.entries_sorted c.set-former.new.self

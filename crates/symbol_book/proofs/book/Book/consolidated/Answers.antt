@@ -4,4 +4,7 @@ use Rattle.symbol_book.proofs.Entries.{consolidated-is}
 use Rattle.symbol_book.proofs.book.Book.consolidated.Goals as goal
 
 pub returns : goal.returns
-returns g c = c.summary.ensures.summary ∙ consolidated-is _ _ _ c.self.invariant.trades ∙ ap consolidated_summary c.self.view_is
+returns g c = record {
+  summary =
+      c.summary.ensures.summary ∙ consolidated-is _ _ _ c.self.invariant.trades ∙ ap consolidated_summary c.self.view_is;
+}

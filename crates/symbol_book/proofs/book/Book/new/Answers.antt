@@ -9,5 +9,8 @@ invariant_of-result g c =
     c.empty.ensures.settled (AllSettled-empty g.S.Store.effects g.S.Store.staged_change c.new.result.items c.new.ensures.items)
 
 pub returns : goal.returns
-returns g c = trades-unique map.empty _ _
-    (HoldTrades-empty g.S.Store.effects g.S.Store.staged_change c.empty.result c.new.result.items c.empty.ensures.effects c.new.ensures.items)
+returns g c = record {
+  empty =
+      trades-unique map.empty _ _
+      (HoldTrades-empty g.S.Store.effects g.S.Store.staged_change c.empty.result c.new.result.items c.empty.ensures.effects c.new.ensures.items);
+}

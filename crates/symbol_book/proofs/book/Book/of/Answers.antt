@@ -6,6 +6,8 @@ use Rattle.symbol_book.proofs.Entries.{own-is}
 use Rattle.symbol_book.proofs.book.Book.of.Goals as goal
 
 pub returns : goal.returns
-returns g c =
-    c.summary.ensures ∙ ap (λ stores. map_summary (participant_effects g.S.Store.effects stores c.args.who)) c.deref.ensures.value
-    ∙ own-is _ _ _ c.args.who c.self.invariant.trades ∙ ap (λ m. own_summary m c.args.who) c.self.view_is
+returns g c = record {
+  summary =
+      c.summary.ensures ∙ ap (λ stores. map_summary (participant_effects g.S.Store.effects stores c.args.who)) c.deref.ensures.value
+      ∙ own-is _ _ _ c.args.who c.self.invariant.trades ∙ ap (λ m. own_summary m c.args.who) c.self.view_is;
+}

@@ -10,7 +10,9 @@ invariant_of-self g c =
     c.take-effect.ensures.effects c.take-effect.ensures.settled c.take.ensures c.self.invariant).0
 
 pub returns : goal.returns
-returns g c =
-    (Book-remove g.S.Store.effects g.S.Store.staged_change c.self.inside.consolidated c.take-effect.new.self c.self.inside.own.items c.take.new.own.items
-    c.args.place c.take-effect.result c.take-effect.ensures.taken
-    c.take-effect.ensures.effects c.take-effect.ensures.settled c.take.ensures c.self.invariant).1 ∙ ap (λ m. map.remove m c.args.place) c.self.view_is
+returns g c = record {
+  removed =
+      (Book-remove g.S.Store.effects g.S.Store.staged_change c.self.inside.consolidated c.take-effect.new.self c.self.inside.own.items c.take.new.own.items
+      c.args.place c.take-effect.result c.take-effect.ensures.taken
+      c.take-effect.ensures.effects c.take-effect.ensures.settled c.take.ensures c.self.invariant).1 ∙ ap (λ m. map.remove m c.args.place) c.self.view_is;
+}

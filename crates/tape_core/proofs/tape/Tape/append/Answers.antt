@@ -1,11 +1,11 @@
-use Rattle.std.proofs.Common.{◌≡◌, ◌<◌, ◌==◌, if◌then◌else◌, set, None, sym, ap, subst, ◌∙◌, arith}
+use Rattle.std.proofs.Common.{◌≡◌, ◌<◌, ◌==◌, if◌then◌else◌, set, sym, ap, subst, ◌∙◌, arith}
 use Rattle.tape_types.specs.Ranges.{IsParticipant}
 use Rattle.corrections.specs.RegisterState.{RegisterState, last_of}
 use Rattle.reports.specs.Messages.{header_of}
 use Rattle.tape_core.specs.declared.entry.Entry.{Entry}
 use Rattle.tape_core.specs.Kept.{KeepsTape}
 use Rattle.tape_core.specs.Routes.{IsRoute}
-use Rattle.tape_core.specs.Tape.{TapeState, refusal, next_entry, with_message}
+use Rattle.tape_core.specs.Tape.{refusal, next_entry, with_message}
 use Rattle.tape_core.proofs.Appending.{can-change, entry-next, KeepsTape-message}
 use Rattle.tape_core.proofs.Keeping.{register-above, with_message-pushed}
 use Rattle.tape_core.proofs.tape.Tape.append.Given.{Over}
@@ -21,7 +21,7 @@ make_change-requires g c =
 pub advance-requires : goal.advance-requires
 advance-requires g c =
     let m = c.args.message.now in
-    let is = c.header-header.ensures in
+    let is = c.header-header.ensures.header in
     record {
       above = subst (λ h. last_of c.make_change.new.register h.participant < h.number) (sym is)
           (subst (λ r. last_of r (header_of m).participant < (header_of m).number) (sym c.in_ok-after.ensures.register)
@@ -42,7 +42,7 @@ pushed-next g c =
 pub invariant_of-self-2 : goal.invariant_of-self-2
 invariant_of-self-2 g c =
     let m = c.args.message.now in
-    let is = c.header-header.ensures in
+    let is = c.header-header.ensures.header in
     let made = c.in_ok-after.ensures in
     subst (λ t. KeepsTape t (set c.self.inside.books.items c.args.route.book c.make_change.new.book) c.advance.new.self c.add.new.self)
     (sym (with_message-pushed _ m _ _ _ c.push_reserved.ensures.items c.in_ok-reserve.ensures.items (pushed-next g c)))

@@ -1,8 +1,8 @@
-use Rattle.std.proofs.Common.{◌≡◌, ◌==◌, nat_le, length, true, false, Some, sym, ap, subst, ◌∙◌, rules}
+use Rattle.std.proofs.Common.{◌≡◌, ◌==◌, nat_le, length, true, false, Some, sym, ap, ◌∙◌, rules}
 use Rattle.reports.specs.Messages.{header_of}
 use Rattle.tape_core.specs.Standing.{last_number}
 use Rattle.tape_core.specs.Tape.{messages_of, lists_symbol, lists_participant, refusal}
-use Rattle.tape_core.proofs.NamedTargets.{refused, register_place-faults, register_place-changed, refusal-of_target}
+use Rattle.tape_core.proofs.NamedTargets.{refused, register_place-faults, refusal-of_target}
 use Rattle.tape_core.proofs.tape.Tape.route.Given.{Over}
 use Rattle.tape_core.proofs.tape.Tape.route.Goals.{After-place}
 use Rattle.tape_core.proofs.tape.Tape.route.Goals as goal

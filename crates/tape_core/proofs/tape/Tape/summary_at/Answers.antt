@@ -7,12 +7,14 @@ use Rattle.tape_core.proofs.SymbolBooks.{summaries-at_index}
 use Rattle.tape_core.proofs.tape.Tape.summary_at.Goals as goal
 
 pub returns : goal.returns
-returns g c =
-    let index = c.args.index in
-    let lent = c.deref.result.now in
-    let there = sym (slice_get_read lent (length lent) index c.in_ok-book.book.now refl c.in_ok-book.ensures.lookup.3.0 c.in_ok-book.ensures.lookup.1) in
-    ap Some c.consolidated.ensures
-    ∙ ap (option_map consolidated_summary) there
-    ∙ ap (λ (kept : List Trades). option_map consolidated_summary (slice_get kept index)) c.deref.ensures.value
-    ∙ summaries-at_index (messages_of c.self.inside.entries.items) c.self.inside.listing.symbols c.self.inside.books.items index c.self.invariant.books
-    ∙ ap (λ t. summary_at_index t index) c.self.view_is
+returns g c = record {
+  summary =
+      let index = c.args.index in
+      let lent = c.deref.result.now in
+      let there = sym (slice_get_read lent (length lent) index c.in_ok-book.book.now refl c.in_ok-book.ensures.lookup.3.0 c.in_ok-book.ensures.lookup.1) in
+      ap Some c.consolidated.ensures.summary
+      ∙ ap (option_map consolidated_summary) there
+      ∙ ap (λ (kept : List Trades). option_map consolidated_summary (slice_get kept index)) c.deref.ensures.value
+      ∙ summaries-at_index (messages_of c.self.inside.entries.items) c.self.inside.listing.symbols c.self.inside.books.items index c.self.invariant.books
+      ∙ ap (λ t. summary_at_index t index) c.self.view_is;
+}

@@ -8,17 +8,19 @@ use Rattle.tape_core.proofs.SymbolBooks.{participant_summaries-at_index}
 use Rattle.tape_core.proofs.tape.Tape.summary_of_at.Goals as goal
 
 pub returns : goal.returns
-returns g c =
-    let tape = messages_of c.self.inside.entries.items in
-    let symbols = c.self.inside.listing.symbols in
-    let index = c.args.index in
-    let who = c.args.participant in
-    let listed = sym c.if-not-has.false ∙ c.has.ensures in
-    let lent = c.deref.result.now in
-    let there = sym (slice_get_read lent (length lent) index c.in_ok-book.book.now refl c.in_ok-book.ensures.lookup.3.0 c.in_ok-book.ensures.lookup.1) in
-    ap Some c.of.ensures
-    ∙ ap (option_map (λ (book : Trades). own_summary book who)) there
-    ∙ ap (λ (kept : List Trades). option_map (λ (book : Trades). own_summary book who) (slice_get kept index)) c.deref.ensures.value
-    ∙ participant_summaries-at_index tape who symbols c.self.inside.books.items index c.self.invariant.books
-    ∙ (λ i. if listed i then option_map (λ symbol. participant_summary tape symbol who) (slice_get symbols index) else None)
-    ∙ ap (λ t. participant_summary_at_index t index who) c.self.view_is
+returns g c = record {
+  summary =
+      let tape = messages_of c.self.inside.entries.items in
+      let symbols = c.self.inside.listing.symbols in
+      let index = c.args.index in
+      let who = c.args.participant in
+      let listed = sym c.if-not-has.false ∙ c.has.ensures.listed in
+      let lent = c.deref.result.now in
+      let there = sym (slice_get_read lent (length lent) index c.in_ok-book.book.now refl c.in_ok-book.ensures.lookup.3.0 c.in_ok-book.ensures.lookup.1) in
+      ap Some c.of.ensures.summary
+      ∙ ap (option_map (λ (book : Trades). own_summary book who)) there
+      ∙ ap (λ (kept : List Trades). option_map (λ (book : Trades). own_summary book who) (slice_get kept index)) c.deref.ensures.value
+      ∙ participant_summaries-at_index tape who symbols c.self.inside.books.items index c.self.invariant.books
+      ∙ (λ i. if listed i then option_map (λ symbol. participant_summary tape symbol who) (slice_get symbols index) else None)
+      ∙ ap (λ t. participant_summary_at_index t index who) c.self.view_is;
+}

@@ -1,4 +1,4 @@
-use Rattle.std.proofs.Common.{◌≡◌, ◌≤◌, ap, ◌∙◌, subst, sym, length, drop}
+use Rattle.std.proofs.Common.{◌≤◌, ap, ◌∙◌, subst, sym, length, drop}
 use Rattle.std.specs.Ordering.{nat_cmp}
 use Rattle.std.specs.FinMap as map
 use Rattle.tape_types.specs.RisingEntries.{HasRisingKeys, keyed}
@@ -20,11 +20,13 @@ invariant_of-result g c =
     subst HasRisingKeys (sym (ap (keyed number) is ∙ keyed-drop number c.args.index c.self.inside.entries.items)) (rising-drop c.args.index _ c.self.invariant)
 
 pub returns : goal.returns
-returns g c =
-    let number = g.K.NumberKey.number in
-    let es = c.self.inside.entries.items in
-    let is = c.in_ok-entries.ensures ∙ ap (drop c.args.index) c.deref.ensures.value in
-    let as_keyed = ap (keyed number) is ∙ keyed-drop number c.args.index es in
-    ap (λ l. map.entries (map.from_entries {R = nat_cmp} l)) as_keyed
-    ∙ entries-seen _ (rising-drop c.args.index _ c.self.invariant)
-    ∙ ap (drop c.args.index) (sym (entries-seen _ c.self.invariant) ∙ ap map.entries c.self.view_is)
+returns g c = record {
+  entries =
+      let number = g.K.NumberKey.number in
+      let es = c.self.inside.entries.items in
+      let is = c.in_ok-entries.ensures ∙ ap (drop c.args.index) c.deref.ensures.value in
+      let as_keyed = ap (keyed number) is ∙ keyed-drop number c.args.index es in
+      ap (λ l. map.entries (map.from_entries {R = nat_cmp} l)) as_keyed
+      ∙ entries-seen _ (rising-drop c.args.index _ c.self.invariant)
+      ∙ ap (drop c.args.index) (sym (entries-seen _ c.self.invariant) ∙ ap map.entries c.self.view_is);
+}

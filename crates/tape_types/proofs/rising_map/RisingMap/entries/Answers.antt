@@ -5,5 +5,7 @@ use Rattle.tape_types.proofs.RisingEntries.{entries-seen}
 use Rattle.tape_types.proofs.rising_map.RisingMap.entries.Goals as goal
 
 pub returns : goal.returns
-returns g c =
-    ap (keyed g.K.NumberKey.number) c.as_slice.ensures.value ∙ sym (entries-seen _ c.self.invariant) ∙ ap map.entries c.self.view_is
+returns g c = record {
+  entries =
+      ap (keyed g.K.NumberKey.number) c.as_slice.ensures.value ∙ sym (entries-seen _ c.self.invariant) ∙ ap map.entries c.self.view_is;
+}

@@ -5,4 +5,4 @@ use Rattle.tape_types.specs.RisingEntries.{keyed}
 use Rattle.tape_types.proofs.rising_map.RisingMap.new.Goals as goal
 
 pub returns : goal.returns
-returns g c = ap (λ es. map.from_entries {R = nat_cmp} (keyed g.K.NumberKey.number es)) c.new.ensures.items
+returns g c = record { empty = ap (λ es. map.from_entries {R = nat_cmp} (keyed g.K.NumberKey.number es)) c.new.ensures.items }

@@ -1,4 +1,4 @@
-use Rattle.std.proofs.Common.{ap, ◌∙◌, subst, sym, length}
+use Rattle.std.proofs.Common.{ap, ◌∙◌, subst, sym}
 use Rattle.std.specs.FinMap as map
 use Rattle.tape_types.specs.RisingEntries.{AllBelow, IsPosition, keyed}
 use Rattle.tape_types.proofs.RisingEntries.{keyed-pushed, length-keyed, position-above, vacant-above}

@@ -1,4 +1,4 @@
-use Rattle.std.proofs.Common.{◌≡◌, ◌<◌, sym, ap, ◌∙◌, None, Some, subst, length}
+use Rattle.std.proofs.Common.{◌<◌, sym, ap, ◌∙◌, Some, subst, length}
 use Rattle.std.specs.FinMap as map
 use Rattle.tape_types.specs.RisingEntries.{StandsIn, keyed}
 use Rattle.tape_types.proofs.RisingEntries.{keyed-entry, keyed-found, keyed-removed, length-keyed, removed-absent}

@@ -12,9 +12,11 @@ invariant_of-self g c =
     subst HasRisingKeys (sym as_keyed) (rising-take c.args.index _ c.self.invariant)
 
 pub returns : goal.returns
-returns g c =
-    let number = g.K.NumberKey.number in
-    let as_keyed = ap (keyed number) c.truncate.ensures.items ∙ keyed-take number c.args.index c.self.inside.entries.items in
-    ap (λ l. map.entries (map.from_entries {R = nat_cmp} l)) as_keyed
-    ∙ entries-seen _ (rising-take c.args.index _ c.self.invariant)
-    ∙ ap (take c.args.index) (sym (entries-seen _ c.self.invariant) ∙ ap map.entries c.self.view_is)
+returns g c = record {
+  entries =
+      let number = g.K.NumberKey.number in
+      let as_keyed = ap (keyed number) c.truncate.ensures.items ∙ keyed-take number c.args.index c.self.inside.entries.items in
+      ap (λ l. map.entries (map.from_entries {R = nat_cmp} l)) as_keyed
+      ∙ entries-seen _ (rising-take c.args.index _ c.self.invariant)
+      ∙ ap (take c.args.index) (sym (entries-seen _ c.self.invariant) ∙ ap map.entries c.self.view_is);
+}
