@@ -1,8 +1,7 @@
 -- The participants of a listing are listed.
-use Rattle.std.proofs.Common.{◌≡◌, ◌++◌, ◌∷◌, ◌==◌, [], ℕ, List, Bool, refl, subst, append_assoc, true, inl, inr, arith}
+use Rattle.std.proofs.Common.{◌≡◌, ◌++◌, ◌∷◌, ◌==◌, [], ℕ, List, Bool, refl, subst, append_assoc, true, inl, inr}
 use Rattle.std.specs.List.{AllByRecursion, list_any}
-use Rattle.std.proofs.lemmas.Bool.{cases_Bool}
-use Rattle.std.proofs.lemmas.Bool.Decides.{nat_tests}
+use Rattle.std.proofs.lemmas.Bool.{cases_Bool, eq-eqb}
 use Rattle.tape_types.specs.Names.{Names}
 use Rattle.tape_core.specs.Tape.{lists_participant}
 
@@ -28,10 +27,6 @@ each_among {X} eq eq-refl before (x ∷ xs) = (
 abbrev pub AreParticipants : Names → List ℕ → Type 0
 AreParticipants listing participants = AllByRecursion (λ w. lists_participant listing w ≡ true) participants
 
--- a number equals itself
-eqb-refl : (n : ℕ) → (n == n) ≡ true
-eqb-refl n = grind (arith, nat_tests)
-
 -- the participants of a listing are listed
 pub AreParticipants-all : (listing : Names) → AreParticipants listing listing.participants
-AreParticipants-all listing = each_among (λ a b. a == b) eqb-refl [] listing.participants
+AreParticipants-all listing = each_among (λ a b. a == b) (λ n. eq-eqb n n refl) [] listing.participants

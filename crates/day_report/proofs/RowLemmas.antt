@@ -1,19 +1,15 @@
 -- Which participants have a row.
-use Rattle.std.proofs.Common.{◌≡◌, ◌≢◌, ◌+◌, ◌==◌, ◌∷◌, ◌∙◌, [], ℕ, List, Bool, true, false, Some, None, refl, sym, ap, inl, inr, arith, zero-add, length, fold}
+use Rattle.std.proofs.Common.{◌≡◌, ◌≢◌, ◌==◌, ◌∷◌, ◌∙◌, [], ℕ, List, Bool, true, false, Some, None, refl, sym, ap, inl, inr, arith, zero-add, length}
 use Rattle.std.proofs.Common.{filter, map, slice_get}
 use Rattle.std.specs.List.{list_any}
 use Rattle.std.proofs.lemmas.Bool.{cases_Bool}
 use Rattle.std.proofs.lemmas.List.{length-map}
 use Rattle.scratch_fold.specs.declared.summary.Summary.{Summary}
-use Rattle.scratch_fold.specs.Fold.{PlacedEffect, empty_summary, step}
+use Rattle.scratch_fold.specs.Fold.{empty_summary}
+use Rattle.summaries.proofs.OtherLaws.{trades-from}
 use Rattle.tape_core.specs.Standing.{standing_reports, placed_participant, participant_summary}
 use Rattle.tape_core.specs.Tape.{TapeState, lists_participant, messages_of, participant_summary_at_index}
 use Rattle.day_report.specs.Rows.{participant_row}
-
--- trades counts the reports
-fold-step-trades : (z : Summary) (reports : List PlacedEffect) → (fold step z reports).trades ≡ z.trades + length reports
-fold-step-trades z [] = omega arith
-fold-step-trades z (r ∷ reports) = fold-step-trades (step z r) reports ∙ omega arith
 
 -- a filter keeps something exactly where some element passes
 list_any-filter : {X : Type 0} (p : X → Bool) (xs : List X)
@@ -29,7 +25,7 @@ participant_summary-trades : (t : TapeState) (symbol : List ℕ) (who : ℕ)
     → (participant_summary (messages_of t.entries) symbol who).trades ≡ length (filter (λ r. r.who == who) (standing_reports (messages_of t.entries) symbol))
 participant_summary-trades t symbol who =
     let own = filter (λ r. r.who == who) (standing_reports (messages_of t.entries) symbol) in
-    fold-step-trades empty_summary (map placed_participant own) ∙ zero-add _ ∙ length-map own placed_participant
+    trades-from empty_summary (map placed_participant own) ∙ zero-add _ ∙ length-map own placed_participant
 
 -- a summary that is there is the participant's
 summary_there : (t : TapeState) (index : ℕ) (symbol : List ℕ) (who : ℕ) (z : Summary)

@@ -7,6 +7,7 @@ use Rattle.std.proofs.lemmas.List.{take-map}
 use Rattle.tape_core.specs.declared.entry.Entry.{Entry}
 use Rattle.tape_frames.specs.EntryRows.{Carries, IsNumberedFrom}
 use Rattle.tape_frames.specs.Sources.{BeginsWith, IsPublished}
+use Rattle.tape_frames.proofs.Rows.{IsNumberedFrom-push}
 use Rattle.seen_cells.specs.declared.Seen.{Seen}
 use Rattle.line_ledger.specs.Cells.{TokenState, IsTokenOf, Each, TokenAt, NextTokens, FirstTokens, shown, SeenAt, FirstSeen}
 use Rattle.line_ledger.specs.Publishing.{GoesOn}
@@ -48,11 +49,6 @@ first_push names ts ts' t each number of pushed = rw pushed (each_push (λ i t. 
 pub first_take : (names : List ℕ) (ts ts' : List TokenState) (n : ℕ) → FirstTokens names ts → ts' ≡ take n ts → FirstTokens names ts'
 first_take names ts ts' n each cut = rw cut (each_take (λ i t. IsTokenOf names t × (t.number ≡ i + 1)) ts n each)
 
--- an entry with the next number goes on a numbered list
-numbered_push : (first : ℕ) (es : List Entry) (e : Entry) → IsNumberedFrom first es → e.number ≡ first + length es → IsNumberedFrom first (es ++ e ∷ [])
-numbered_push first [] e h number = (omega (arith, number), tt)
-numbered_push first (x ∷ es) e h number = (h.0, numbered_push (first + 1) es e h.1 (omega (arith, number)))
-
 -- the front of a numbered list is numbered
 numbered_take : (first n : ℕ) (es : List Entry) → IsNumberedFrom first es → IsNumberedFrom first (take n es)
 numbered_take first zero es h = tt
@@ -62,7 +58,7 @@ numbered_take first (suc n) (x ∷ es) h = (h.0, numbered_take (first + 1) n es 
 -- a source's list may go on with the entry of the next number that carries what its kind does
 list_push : (es : List Entry) (e : Entry) → IsPublished es → e.number ≡ length es + 1 → Carries e → IsPublished (es ++ e ∷ [])
 list_push es e list number carries = record {
-  numbered = numbered_push 1 es e list.numbered (omega (arith, number));
+  numbered = IsNumberedFrom-push 1 es e list.numbered (omega (arith, number));
   carries = each_push (λ i x. Carries x) es e list.carries carries;
 }
 

@@ -9,13 +9,14 @@ use Rattle.std.specs.FinMap.Entries.{is_sorted, below_all, find}
 use Rattle.std.proofs.lemmas.Bool.{cases_lt}
 use Rattle.std.proofs.lemmas.Bool.Decides.{nat_tests}
 use Rattle.std.proofs.lemmas.List.{append-nil, length-take-le, length-drop}
-use Rattle.tape_types.specs.RisingEntries.{IsPosition, AllBelow}
+use Rattle.tape_types.specs.RisingEntries.{AllBelow}
 use Rattle.place_index.specs.Places.{IsVacant, IsFirstPlace, IsLastPlace}
 use Rattle.place_index.specs.Blocks.{joined, max_block_len, top, values_of, values_in, all_values, begins_by, AllAbove, IsBlockList, IsBlockFor}
 use Rattle.place_index.specs.Blocks.{HasLastBlock}
 use Rattle.place_index.proofs.BlockLists.{append-assoc, joined-append, sized-push}
-use Rattle.place_index.proofs.BlockOrder.{itself, tied, take_drop, Under, sorted-left, sorted-right, under-top}
-use Rattle.place_index.proofs.BlockOrder.{top-right, find-top, absent-behind, first-entry, position-under, top-at}
+use Rattle.place_index.proofs.BlockOrder.{take_drop, Under, sorted-left, sorted-right, under-top}
+use Rattle.place_index.proofs.BlockOrder.{top-right, find-top, absent-behind, first-entry, top-at}
+use Rattle.tape_types.proofs.NumberMaps.{key_itself, same_key}
 use Rattle.tape_types.proofs.RisingEntries.{and_left, and_rest, and_both, lt_from, vacant-above}
 
 -- a number below another compares as less
@@ -84,7 +85,7 @@ module _ {V : Type 0} where
   below-found k r [] h some = not-none {A = V} None some (refl)
   below-found k r (y ∷ ys) h some = elim (eq_by_cmp nat_cmp r y.0) as (λ b. eq_by_cmp nat_cmp r y.0 ≡ b → IsSome (cond b (Some y.1) (find nat_cmp r ys))
       → k < r) [
-        | true ↦ λ same _. subst (λ n. k < n) (sym (tied r y.0 same)) (lt_from k y.0 (and_left _ (below_all nat_cmp k ys) h))
+        | true ↦ λ same _. subst (λ n. k < n) (sym (same_key r y.0 same)) (lt_from k y.0 (and_left _ (below_all nat_cmp k ys) h))
         | false ↦ λ _ there. below-found k r ys (and_rest (is_lt (nat_cmp k y.0)) _ h) there
       ] refl some
 
@@ -94,7 +95,7 @@ module _ {V : Type 0} where
 
   -- the head is found
   found-head : (x : ℕ × V) (xs : List (ℕ × V)) → IsSome (find nat_cmp x.0 (x ∷ xs))
-  found-head x xs = subst (λ b. IsSome (cond b (Some x.1) (find nat_cmp x.0 xs))) (sym (itself x.0)) refl
+  found-head x xs = subst (λ b. IsSome (cond b (Some x.1) (find nat_cmp x.0 xs))) (sym (key_itself x.0)) refl
 
   -- a key below each that is found is below all entries
   found-below : (k : ℕ) (ys : List (ℕ × V)) → ((r : ℕ) → IsSome (find nat_cmp r ys) → k < r) → T (below_all nat_cmp k ys)
@@ -118,7 +119,7 @@ module _ {V : Type 0} where
   parts-apart [] ys h q r there other = not-none {A = V} None there refl
   parts-apart (x ∷ xs) ys h q r there other = elim (eq_by_cmp nat_cmp q x.0) as (λ b. eq_by_cmp nat_cmp q x.0 ≡ b
       → IsSome (cond b (Some x.1) (find nat_cmp q xs)) → q < r) [
-        | true ↦ λ same _. subst (λ n. n < r) (sym (tied q x.0 same))
+        | true ↦ λ same _. subst (λ n. n < r) (sym (same_key q x.0 same))
             (below-found x.0 r ys (below-right x.0 xs ys (and_left _ (is_sorted nat_cmp (xs ++ ys)) h)) other)
         | false ↦ λ _ some. parts-apart xs ys (and_rest (below_all nat_cmp x.0 (xs ++ ys)) _ h) q r some other
       ] refl there
@@ -137,7 +138,7 @@ module _ {V : Type 0} where
   under-found k [] u q some = not-none {A = V} None some refl
   under-found k (e ∷ es) u q some = elim (eq_by_cmp nat_cmp q e.0) as (λ b. eq_by_cmp nat_cmp q e.0 ≡ b → IsSome (cond b (Some e.1) (find nat_cmp q es))
       → q < k) [
-        | true ↦ λ same _. subst (λ n. n < k) (sym (tied q e.0 same)) u.0
+        | true ↦ λ same _. subst (λ n. n < k) (sym (same_key q e.0 same)) u.0
         | false ↦ λ _ there. under-found k es u.1 q there
       ] refl some
 
@@ -169,7 +170,7 @@ module _ {V : Type 0} where
   some-insert : (m : map.FinMap nat_cmp V) (k : ℕ) (v : V) (P : ℕ → Type 0) → P k → ((q : ℕ) → IsSome (map.get m q) → P q) → (q : ℕ)
       → IsSome (map.get (map.insert m k v) q) → P q
   some-insert m k v P here all q some = elim (eq_by_cmp nat_cmp q k) as (λ b. eq_by_cmp nat_cmp q k ≡ b → IsSome (cond b (Some v) (map.get m q)) → P q) [
-    | true ↦ λ same _. subst P (sym (tied q k same)) here
+    | true ↦ λ same _. subst P (sym (same_key q k same)) here
     | false ↦ λ _ there. all q there
   ] refl (subst IsSome (map.get-insert nat_cmp_total m k v q) some)
 
@@ -232,7 +233,7 @@ module _ {V : Type 0} where
           ∙ ap (λ o. either (map.get m q) o) (map.get-insert nat_cmp_total n k v q)
           ∙ elim (eq_by_cmp nat_cmp q k) as (λ b. eq_by_cmp nat_cmp q k ≡ b
           → either (map.get m q) (cond b (Some v) (map.get n q)) ≡ cond b (Some v) (either (map.get m q) (map.get n q))) [
-            | true ↦ λ same. ap (λ o. either o (Some v)) (ap (map.get m) (tied q k same) ∙ none)
+            | true ↦ λ same. ap (λ o. either o (Some v)) (ap (map.get m) (same_key q k same) ∙ none)
             | false ↦ λ _. refl
           ] refl
           ∙ ap (λ o. cond (eq_by_cmp nat_cmp q k) (Some v) o) (sym (both q))
@@ -246,7 +247,7 @@ module _ {V : Type 0} where
           ∙ ap (λ o. either o (map.get n q)) (map.get-remove nat_cmp_total m k q)
           ∙ elim (eq_by_cmp nat_cmp q k) as (λ b. eq_by_cmp nat_cmp q k ≡ b
           → either (cond b None (map.get m q)) (map.get n q) ≡ cond b None (either (map.get m q) (map.get n q))) [
-            | true ↦ λ same. ap (map.get n) (tied q k same) ∙ none
+            | true ↦ λ same. ap (map.get n) (same_key q k same) ∙ none
             | false ↦ λ _. refl
           ] refl
           ∙ ap (λ o. cond (eq_by_cmp nat_cmp q k) None o) (sym (both q))
@@ -260,7 +261,7 @@ module _ {V : Type 0} where
           ∙ ap (λ o. either (map.get m q) o) (map.get-remove nat_cmp_total n k q)
           ∙ elim (eq_by_cmp nat_cmp q k) as (λ b. eq_by_cmp nat_cmp q k ≡ b
           → either (map.get m q) (cond b None (map.get n q)) ≡ cond b None (either (map.get m q) (map.get n q))) [
-            | true ↦ λ same. ap (λ o. either o None) (ap (map.get m) (tied q k same) ∙ none)
+            | true ↦ λ same. ap (λ o. either o None) (ap (map.get m) (same_key q k same) ∙ none)
             | false ↦ λ _. refl
           ] refl
           ∙ ap (λ o. cond (eq_by_cmp nat_cmp q k) None o) (sym (both q))

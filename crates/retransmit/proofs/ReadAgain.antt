@@ -1,13 +1,13 @@
 -- An answer's bytes are read as that answer.
-use Rattle.std.proofs.Common.{◌≡◌, ℕ, ◌+◌, ◌-◌, ◌*◌, ◌≤◌, ◌<◌, Bool, true, false, List, ◌∷◌, ◌++◌, Result}
+use Rattle.std.proofs.Common.{◌≡◌, ℕ, ◌+◌, ◌-◌, ◌*◌, ◌≤◌, ◌<◌, List, ◌∷◌, ◌++◌, Result}
 use Rattle.std.proofs.Common.{Ok, Err, length, lit<, take, drop, refl, sym, ap, ◌∙◌, arith, inl, inr}
 use Rattle.std.specs.Prelude.{All, OnOk, flat_map, nat_le, nat_lt, ◌==◌, ◌||◌, ◌&&◌}
 use Rattle.std.specs.Int.{w16, w32, w64}
-use Rattle.std.proofs.lemmas.Bool.{cases_Bool, eqb-false, leb-true, ltb-false}
+use Rattle.std.proofs.lemmas.Bool.{and_parts, cases_Bool, eqb-false, leb-true, ltb-false, or_parts}
 use Rattle.std.proofs.lemmas.List.{length-take}
 use Rattle.std.proofs.lemmas.List.Elements.{All-take, All-drop}
 use Rattle.reports.specs.Fields.{◌>>=◌, Reads, number_at, ranged_at}
-use Rattle.reports.proofs.Fields.{bind_ok, both_true, chosen, number_reader, ok_is, wide8}
+use Rattle.reports.proofs.Fields.{bind_ok, chosen, number_reader, ok_is, wide8}
 use Rattle.tape_core.specs.declared.entry.Entry.{Entry}
 use Rattle.tape_frames.specs.declared.request.Request.{Request}
 use Rattle.tape_frames.specs.declared.request_fault.RequestFault.{RequestFault}
@@ -92,15 +92,10 @@ request_span bytes r read =
     let count = bind_ok (ranged_at request.BadSpan w16 1 longest_span request.BadSpan from.0.1) _ all.0 from.2 in
     let number = bind_ok (number_at request.BadSpan w16 from.0.1) _ count.0 count.1 in
     let good = chosen (nat_le 1 number.0.0 && nat_le number.0.0 longest_span) request.BadSpan number.0 count.0 number.2 in
-    let range = both_true (nat_le 1 number.0.0) (nat_le number.0.0 longest_span) good.0 in
+    let range = and_parts (nat_le 1 number.0.0) (nat_le number.0.0 longest_span) good.0 in
     let is : number.0.0 ≡ r.count = ap (λ (x : ℕ × List ℕ). x.0) good.1 ∙ ap (λ (x : Request × List ℕ). x.0.count) (ok_is request.BadSpan _ all.0 count.2)
     ∙ ap (λ (x : Request). x.count) (ok_is request.BadSpan all.0.0 r all.2) in
     (omega (arith, leb-true _ _ range.0, is), omega (arith, leb-true _ _ range.1, is))
-
--- neither of two tests held
-either_false : (a b : Bool) → (a || b) ≡ false → (a ≡ false) × (b ≡ false)
-either_false true b e = absurd cc
-either_false false b e = (refl, e)
 
 -- what is answered is an answer
 answer_within : (es : List Entry) (session : ℕ) (r : Request) → IsSpan r.count → IsAnswer es (answer_of es session r)
@@ -108,7 +103,7 @@ answer_within es session r span = elim (cases_Bool (r.session == session)) [
   | inl same ↦ elim (cases_Bool ((r.from == 0) || nat_lt (length es) r.from)) [
     | inl beyond ↦ rw (same, beyond) tt
     | inr there ↦
-        let tests = either_false (r.from == 0) (nat_lt (length es) r.from) there in
+        let tests = or_parts (r.from == 0) (nat_lt (length es) r.from) there in
         let some : 1 ≤ r.from = omega (arith, eqb-false r.from 0 tests.0) in
         let known : r.from ≤ length es = ltb-false _ _ tests.1 in
         rw (same, there) (some, omega (arith, span.0, known), omega (arith, span.1), omega arith)

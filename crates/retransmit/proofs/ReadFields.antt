@@ -5,10 +5,10 @@ use Rattle.std.specs.Prelude.{nat_le, ◌&&◌, ◌==◌}
 use Rattle.std.specs.Global.{Vec}
 use Rattle.std.specs.Int.{Width, byte_len, from_be_bytes}
 use Rattle.std.specs.Io.KnownBytes.{Consumes}
-use Rattle.std.proofs.lemmas.Bool.{cases_Bool, le-leb, le-ltb, leb-true, lt-ltb, ne_eqb}
+use Rattle.std.proofs.lemmas.Bool.{and_parts, cases_Bool, le-leb, le-ltb, leb-true, lt-ltb, ne_eqb}
 use Rattle.std.proofs.lemmas.List.{length-take, take_at, drop_at}
 use Rattle.reports.specs.Fields.{Reads, bytes_at, number_at, ranged_at}
-use Rattle.reports.proofs.Fields.{both_true, ok_is}
+use Rattle.reports.proofs.Fields.{ok_is}
 use Rattle.retransmit.specs.Asking.{Follows, answered_at, as_is, first_fault, range_at, texts_of}
 use Rattle.row_reads.specs.FailedReads.{ReadsFewer}
 use Rattle.retransmit.specs.declared.ask_fault.AskFault.{AskFault}
@@ -98,7 +98,7 @@ Follows-ranged w low high x a b above below number =
 -- the test of a range fails outside it
 out_of_range : (low high x : ℕ) → ((low ≤ x) × (x ≤ high) → ⊥) → (nat_le low x && nat_le x high) ≡ false
 out_of_range low high x beside = elim (cases_Bool (nat_le low x && nat_le x high)) [
-  | inl inside ↦ let both = both_true (nat_le low x) (nat_le x high) inside in absurd (beside (leb-true low x both.0, leb-true x high both.1))
+  | inl inside ↦ let both = and_parts (nat_le low x) (nat_le x high) inside in absurd (beside (leb-true low x both.0, leb-true x high both.1))
   | inr outside ↦ outside
 ]
 

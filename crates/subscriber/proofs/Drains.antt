@@ -1,15 +1,15 @@
 -- A drain, one entry after another.
-use Rattle.std.proofs.Common.{◌≡◌, ℕ, zero, suc, ◌+◌, ◌-◌, ◌≤◌, ◌<◌, ◌==◌, not, eq-eqb, Bool, true, false, List, [], ◌∷◌}
+use Rattle.std.proofs.Common.{◌≡◌, ℕ, zero, suc, ◌+◌, ◌-◌, ◌≤◌, ◌<◌, not, Bool, true, false, List, [], ◌∷◌}
 use Rattle.std.proofs.Common.{◌++◌, length, drop, Option, None, Some, refl, sym, ap, subst, ◌∙◌, inl, inr, arith, add-one}
 use Rattle.std.specs.Prelude.{slice_get, IfSome, is_some, count_by, unwrap_or}
-use Rattle.std.proofs.lemmas.Bool.{cases_lt, cond-true, not-false, not-true, true≢false}
+use Rattle.std.proofs.lemmas.Bool.{cases_lt, not-false, not-true, true≢false}
 use Rattle.std.proofs.lemmas.Option.{none-some, same_Some}
-use Rattle.reports.specs.declared.message.Message.{Message}
 use Rattle.tape_core.specs.declared.entry.Entry.{Entry}
 use Rattle.tape_core.specs.declared.refusal.Refusal.{Refusal}
-use Rattle.tape_core.specs.declared.refusal.Refusal.TheVariants.{WrongNumber, OutOfMemory}
+use Rattle.tape_core.specs.declared.refusal.Refusal.TheVariants.{OutOfMemory}
 use Rattle.tape_core.specs.Laws.{entry_eq}
-use Rattle.tape_core.specs.Tape.{TapeState, refusal, replay_refusal, next_entry, with_message}
+use Rattle.tape_core.specs.Tape.{TapeState, replay_refusal, next_entry, with_message}
+use Rattle.tape_core.proofs.WrongNumber.{replay_refusal-next}
 use Rattle.tape_core.proofs.Equality.{entry-Decides}
 use Rattle.arbitration.specs.Windows.{WindowState, IsWindow, ArePlaced, flat, next_of, window_past}
 use Rattle.arbitration.proofs.Counts.{count_push_no}
@@ -71,10 +71,6 @@ same_entry a b h = (entry-Decides a b).0 (not-false (entry_eq a b) h)
 -- where it says yes they are not
 pub other_entry : (a b : Entry) → not (entry_eq a b) ≡ true → a ≡ b → ⊥
 other_entry a b h same = true≢false (sym ((entry-Decides a b).1 same) ∙ not-true (entry_eq a b) h)
-
--- under its next number a tape refuses to replay what it refuses
-pub replay_refusal-next : (t : TapeState) (number : ℕ) (m : Message) → number ≡ length t.entries + 1 → replay_refusal t number m ≡ refusal t m
-replay_refusal-next t number m next = cond-true (number == length t.entries + 1) (refusal t m) (Some WrongNumber) (eq-eqb _ _ next)
 
 -- what a turn of the drain has in its hands: the state so far, and the next entry, under the next number
 pub record IsTurn (n : ℕ) (s : SubscriberState) (window : WindowState) (tape : TapeState) (failed : Bool) (e : Entry) : Type 0 where

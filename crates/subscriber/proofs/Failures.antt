@@ -30,12 +30,12 @@ pub runs : (n : ℕ) (s after : SubscriberState) → DrainsAll n s after → aft
 runs n s after all = ap (λ (t : SubscriberState). t.failed) all.state ∙ runs_for n s all.running all.own
 
 -- a turn holds at most one entry more
-one_more : (s : SubscriberState) (o : Option Entry) → length (subscriber_after_entry o s).tape.entries ≤ length s.tape.entries + 1
+pub one_more : (s : SubscriberState) (o : Option Entry) → length (subscriber_after_entry o s).tape.entries ≤ length s.tape.entries + 1
 one_more s o = after_entry-keeps (λ t. length t.tape.entries ≤ length s.tape.entries + 1) s o (omega arith)
     (λ e _ _ _. let more = length-with_entry s e in omega arith)
 
 -- a drain of n entries holds at most n more
-at_most : (n : ℕ) (s : SubscriberState) → length (subscriber_after n s).tape.entries ≤ length s.tape.entries + n
+pub at_most : (n : ℕ) (s : SubscriberState) → length (subscriber_after n s).tape.entries ≤ length s.tape.entries + n
 at_most zero s = omega arith
 at_most (suc n) s =
     let rest = at_most n (subscriber_after_entry (next_of s.window) s) in

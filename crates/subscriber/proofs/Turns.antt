@@ -1,7 +1,7 @@
 -- One turn of a drain.
 use Rattle.std.proofs.Common.{◌≡◌, ◌+◌, ◌||◌, Bool, true, false, length, Option, None, Some, refl, sym, ap, subst}
 use Rattle.std.specs.Prelude.{is_some}
-use Rattle.std.proofs.lemmas.Bool.{cond-true, cond-false, or_from, or_right, not_from_true}
+use Rattle.std.proofs.lemmas.Bool.{cond-true, cond-false, or_from, or_parts, or_right, not_from_true}
 use Rattle.std.proofs.lemmas.List.{length_push}
 use Rattle.tape_core.specs.declared.entry.Entry.{Entry}
 use Rattle.tape_core.specs.declared.refusal.Refusal.{Refusal}
@@ -29,14 +29,10 @@ after_entry-keeps P s (Some e) h step = by (s.failed || is_some (refusal s.tape 
     free None is = refl
     free (Some r) is = absurd (cc)
 
-    parts : (a b : Bool) → (a || b) ≡ false → (a ≡ false) × (b ≡ false)
-    parts false b is = (refl, is)
-    parts true b is = absurd (cc)
-
     by : (b : Bool) → (s.failed || is_some (refusal s.tape e.message)) ≡ b → P (subscriber_after_entry (Some e) s)
     by true stays = subst P (sym (cond-true (s.failed || is_some (refusal s.tape e.message)) s (with_entry e s) stays)) h
     by false goes =
-        let both = parts s.failed (is_some (refusal s.tape e.message)) goes in
+        let both = or_parts s.failed (is_some (refusal s.tape e.message)) goes in
         subst P (sym (cond-false (s.failed || is_some (refusal s.tape e.message)) s (with_entry e s) goes))
         (step e refl both.0 (free (refusal s.tape e.message) both.1))
 

@@ -1,5 +1,5 @@
 -- The entries of a map of trades, and of the stores that hold it.
-use Rattle.std.proofs.Common.{◌≡◌, ℕ, Bool, true, false, cond, ◌&&◌, T, List, [], ◌∷◌, map, filter, Option, Some, None, refl, sym, ap, ◌∙◌, arith}
+use Rattle.std.proofs.Common.{◌≡◌, ℕ, Bool, true, false, cond, T, List, [], ◌∷◌, map, filter, Option, Some, None, refl, sym, ap, ◌∙◌, arith}
 use Rattle.std.specs.Option.{option_map}
 use Rattle.std.specs.Ordering.{nat_cmp, eq_by_cmp, is_lt}
 use Rattle.std.specs.Cmp.{nat_cmp_total}
@@ -8,28 +8,14 @@ use Rattle.std.specs.FinMap.{nat_cmp-IsAntisymmetric, FinMap}
 use Rattle.std.specs.FinMap.Entries.{is_sorted, below_all}
 use Rattle.std.proofs.lemmas.Bool.Decides.{nat_tests}
 use Rattle.std.proofs.lemmas.Map.Entries.{option_filter}
+use Rattle.tape_types.proofs.NumberMaps.{same_key}
+use Rattle.tape_types.proofs.RisingEntries.{and_left, and_rest, and_both}
 use Rattle.scratch_fold.specs.Fold.{summary_of, empty_summary}
 use Rattle.summaries.specs.Effects.{Effects, map_summary}
 use Rattle.symbol_book.specs.declared.trade.Trade.{Trade}
 use Rattle.symbol_book.specs.Columns.{Trades, consolidated_effect_of, own_effect_of, own_effect_at, is_trade_of, consolidated_summary, own_summary}
 use Rattle.symbol_book.specs.Stores.{HoldTrades}
-use Rattle.symbol_book.proofs.ParticipantStores.{same_key}
 use Rattle.symbol_book.proofs.HeldTrades.{find-keyed}
-
--- two tests that hold
-both : (a b : Bool) → T a → T b → T (a && b)
-both true b p q = q
-both false b p q = p
-
--- the first of two tests that hold
-first : (a b : Bool) → T (a && b) → T a
-first true b p = tt
-first false b p = p
-
--- the second of two tests that hold
-second : (a b : Bool) → T (a && b) → T b
-second true b p = p
-second false b p = absurd p
 
 -- a map is known by a sorted list that answers alike
 pub entries-is : {X : Type 0} (m : FinMap nat_cmp X) (es : List (ℕ × X)) → T (is_sorted nat_cmp es) → ((q : ℕ) → map.get m q ≡ map.find nat_cmp q es)
@@ -42,23 +28,23 @@ module _ {X Y : Type 0} (f : X → Y) where
   -- a key stays below all others where values change
   below-map : (x : ℕ) (es : List (ℕ × X)) → T (below_all nat_cmp x es) → T (below_all nat_cmp x (map (λ e. (e.0, f e.1)) es))
   below-map x [] h = tt
-  below-map x (e ∷ es) h = both (is_lt (nat_cmp x e.0)) _ (first _ _ h) (below-map x es (second (is_lt (nat_cmp x e.0)) _ h))
+  below-map x (e ∷ es) h = and_both (is_lt (nat_cmp x e.0)) _ (and_left _ _ h) (below-map x es (and_rest (is_lt (nat_cmp x e.0)) _ h))
 
   -- the keys still rise where values change
   pub is_sorted-map : (es : List (ℕ × X)) → T (is_sorted nat_cmp es) → T (is_sorted nat_cmp (map (λ e. (e.0, f e.1)) es))
   is_sorted-map [] h = tt
-  is_sorted-map (e ∷ es) h = both (below_all nat_cmp e.0 (map (λ x. (x.0, f x.1)) es)) _ (below-map e.0 es (first _ _ h))
-      (is_sorted-map es (second (below_all nat_cmp e.0 es) _ h))
+  is_sorted-map (e ∷ es) h = and_both (below_all nat_cmp e.0 (map (λ x. (x.0, f x.1)) es)) _ (below-map e.0 es (and_left _ _ h))
+      (is_sorted-map es (and_rest (below_all nat_cmp e.0 es) _ h))
 
 module _ {X : Type 0} (p : X → Bool) where
   -- a key stays below those that pass
   below-filter : (x : ℕ) (es : List (ℕ × X)) → T (below_all nat_cmp x es) → T (below_all nat_cmp x (filter (λ e. p e.1) es))
   below-filter x [] h = tt
   below-filter x (e ∷ es) h =
-      let rest = below-filter x es (second (is_lt (nat_cmp x e.0)) _ h) in
+      let rest = below-filter x es (and_rest (is_lt (nat_cmp x e.0)) _ h) in
       elim (p e.1) as (λ b. T (below_all nat_cmp x (cond b (e ∷ filter (λ y. p y.1) es) (filter (λ y. p y.1) es)))) [
         | true ↦
-            both (is_lt (nat_cmp x e.0)) _ (first _ _ h) rest
+            and_both (is_lt (nat_cmp x e.0)) _ (and_left _ _ h) rest
         | false ↦ rest
       ]
 
@@ -66,9 +52,9 @@ module _ {X : Type 0} (p : X → Bool) where
   pub is_sorted-filter : (es : List (ℕ × X)) → T (is_sorted nat_cmp es) → T (is_sorted nat_cmp (filter (λ e. p e.1) es))
   is_sorted-filter [] h = tt
   is_sorted-filter (e ∷ es) h =
-      let rest = is_sorted-filter es (second (below_all nat_cmp e.0 es) _ h) in
+      let rest = is_sorted-filter es (and_rest (below_all nat_cmp e.0 es) _ h) in
       elim (p e.1) as (λ b. T (is_sorted nat_cmp (cond b (e ∷ filter (λ y. p y.1) es) (filter (λ y. p y.1) es)))) [
-        | true ↦ both (below_all nat_cmp e.0 (filter (λ y. p y.1) es)) _ (below-filter e.0 es (first _ _ h)) rest
+        | true ↦ and_both (below_all nat_cmp e.0 (filter (λ y. p y.1) es)) _ (below-filter e.0 es (and_left _ _ h)) rest
         | false ↦ rest
       ]
 
@@ -79,21 +65,21 @@ module _ {X : Type 0} (p : X → Bool) where
   -- a key below all others is not found
   find-below : (q : ℕ) (es : List (ℕ × X)) → T (below_all nat_cmp q es) → map.find nat_cmp q es ≡ None
   find-below q [] h = refl
-  find-below q (e ∷ es) h = ap (λ (b : Bool). cond b (Some e.1) (map.find nat_cmp q es)) (lt_apart q e.0 (first _ _ h))
-      ∙ find-below q es (second (is_lt (nat_cmp q e.0)) _ h)
+  find-below q (e ∷ es) h = ap (λ (b : Bool). cond b (Some e.1) (map.find nat_cmp q es)) (lt_apart q e.0 (and_left _ _ h))
+      ∙ find-below q es (and_rest (is_lt (nat_cmp q e.0)) _ h)
 
   -- what is found among those that pass
   pub find-filter : (q : ℕ) (es : List (ℕ × X)) → T (is_sorted nat_cmp es)
       → map.find nat_cmp q (filter (λ e. p e.1) es) ≡ option_filter p (map.find nat_cmp q es)
   find-filter q [] h = refl
   find-filter q (e ∷ es) h =
-      let rest = find-filter q es (second (below_all nat_cmp e.0 es) _ h) in
+      let rest = find-filter q es (and_rest (below_all nat_cmp e.0 es) _ h) in
       elim (eq_by_cmp nat_cmp q e.0) as (λ t. eq_by_cmp nat_cmp q e.0 ≡ t
       → map.find nat_cmp q (cond (p e.1) (e ∷ filter (λ y. p y.1) es) (filter (λ y. p y.1) es)) ≡ option_filter p
       (cond t (Some e.1) (map.find nat_cmp q es))) [
         | true ↦ λ t. elim (p e.1) as (λ b. map.find nat_cmp q (cond b (e ∷ filter (λ y. p y.1) es) (filter (λ y. p y.1) es)) ≡ cond b (Some e.1) None) [
           | true ↦ ap (λ (b : Bool). cond b (Some e.1) (map.find nat_cmp q (filter (λ y. p y.1) es))) t
-          | false ↦ rest ∙ ap (option_filter p) (ap (λ x. map.find nat_cmp x es) (same_key q e.0 t) ∙ find-below e.0 es (first _ _ h))
+          | false ↦ rest ∙ ap (option_filter p) (ap (λ x. map.find nat_cmp x es) (same_key q e.0 t) ∙ find-below e.0 es (and_left _ _ h))
         ]
         | false ↦ λ t. elim (p e.1) as
             (λ b. map.find nat_cmp q (cond b (e ∷ filter (λ y. p y.1) es) (filter (λ y. p y.1) es)) ≡ option_filter p (map.find nat_cmp q es)) [

@@ -6,15 +6,17 @@ use Rattle.std.specs.Ordering.{nat_cmp, eq_by_cmp}
 use Rattle.std.specs.Cmp.{nat_cmp_total}
 use Rattle.std.specs.FinMap as map
 use Rattle.std.specs.FinMap.{nat_cmp-IsAntisymmetric}
+use Rattle.std.proofs.lemmas.Bool.{eq-eqb}
 use Rattle.std.proofs.lemmas.Bool.Decides.{nat_tests}
 use Rattle.std.proofs.lemmas.List.Elements.{All-nil, All-same}
+use Rattle.tape_types.proofs.NumberMaps.{same_key, key_itself, remove-insert}
 use Rattle.scratch_fold.specs.declared.summary.Effect.{Effect}
 use Rattle.summaries.specs.Effects.{Effects, Change}
 use Rattle.symbol_book.specs.declared.trade.Trade.{Trade}
 use Rattle.symbol_book.specs.Columns.{Trades, consolidated_effect_of, own_effect_of, own_effect_at, reported_trade, trades_with_content, with_content}
 use Rattle.symbol_book.specs.Stores.{trade_of, trades_of, book_trades, HoldTrades, participant_effects_with, participant_effects, AllSettled, IsBook}
 use Rattle.symbol_book.specs.Stores.{OwnBecomes}
-use Rattle.symbol_book.proofs.ParticipantStores.{same_key, key_itself, participant_effects-none, OwnBecomes-here, OwnBecomes-then}
+use Rattle.symbol_book.proofs.ParticipantStores.{participant_effects-none, OwnBecomes-here, OwnBecomes-then}
 use Rattle.sale_matrix.specs.declared.content.Content.{Content}
 
 -- a value at each key, made of the key and what stood there
@@ -36,10 +38,6 @@ get-trades_of all of_who n =
     ∙ find-keyed (λ k (e : Effect). trade_of e (map.get (of_who e.who) k)) n (map.entries all)
     ∙ ap (option_map (λ (e : Effect). trade_of e (map.get (of_who e.who) n))) (sym (map.get-entries all n))
 
--- a participant is its own
-who_itself : (n : ℕ) → (n == n) ≡ true
-who_itself n = grind (arith, nat_tests)
-
 -- another participant is told apart
 who_other : (a b : ℕ) → eq_by_cmp nat_cmp a b ≡ false → (b == a) ≡ false
 who_other a b e = grind (arith, nat_tests)
@@ -55,7 +53,7 @@ trades-unique m all of_who h = map.same_map nat_cmp_total nat_cmp-IsAntisymmetri
         → option_map (λ (e : Effect). trade_of e (map.get (of_who e.who) n)) (option_map consolidated_effect_of o) ≡ o
     by n None e = refl
     by n (Some t) e = ap (λ x. Some (trade_of (consolidated_effect_of t) x)) (h.own_are t.who n ∙ ap (own_effect_at t.who) e
-        ∙ ap (λ (b : Bool). cond b (Some (own_effect_of t)) None) (who_itself t.who))
+        ∙ ap (λ (b : Bool). cond b (Some (own_effect_of t)) None) (eq-eqb t.who t.who refl))
 
 -- a trade is put at a place that no other participant's trade has
 pub HoldTrades-insert : (m : Trades) (all : Effects) (of_who of_who' : ℕ → Effects) (k : ℕ) (t : Trade)
@@ -79,7 +77,7 @@ HoldTrades-insert m all of_who of_who' k t free is h = record {
             ∙ elim (eq_by_cmp nat_cmp n k) as
             (λ b. cond b (Some (own_effect_of t)) (map.get (of_who t.who) n) ≡ own_effect_at w (cond b (Some t) (map.get m n))) [
               | true ↦ sym (ap (λ x. cond (t.who == x) (Some (own_effect_of t)) None) same
-                  ∙ ap (λ (b : Bool). cond b (Some (own_effect_of t)) None) (who_itself t.who))
+                  ∙ ap (λ (b : Bool). cond b (Some (own_effect_of t)) None) (eq-eqb t.who t.who refl))
               | false ↦ ap (λ x. map.get (of_who x) n) (sym same) ∙ h.own_are w n
             ]
         | false ↦ λ e. h.own_are w n
@@ -142,16 +140,6 @@ participant_effects_with-same of_who who w = elim (eq_by_cmp nat_cmp w who) as (
 -- the effects of the one that is changed
 pub participant_effects_with-here : (of_who : ℕ → Effects) (who : ℕ) (e : Effects) → participant_effects_with of_who who e who ≡ e
 participant_effects_with-here of_who who e = ap (λ (b : Bool). cond b e (of_who who)) (key_itself who)
-
--- what was put at a vacant key and taken away again
-pub remove-insert : {X : Type 0} (m : map.FinMap nat_cmp X) (k : ℕ) (v : X) → map.get m k ≡ None → map.remove (map.insert m k v) k ≡ m
-remove-insert {X = X} m k v vacant = map.same_map nat_cmp_total nat_cmp-IsAntisymmetric _ _ (λ q.
-    map.get-remove nat_cmp_total (map.insert m k v) k q
-    ∙ ap (λ (o : Option X). cond (eq_by_cmp nat_cmp q k) None o) (map.get-insert nat_cmp_total m k v q)
-    ∙ elim (eq_by_cmp nat_cmp q k) as (λ b. eq_by_cmp nat_cmp q k ≡ b → cond b None (cond b (Some v) (map.get m q)) ≡ map.get m q) [
-      | true ↦ λ e. sym (ap (map.get m) (same_key q k e) ∙ vacant)
-      | false ↦ λ _. refl
-    ] refl)
 
 -- what was put at a key is there
 pub get-inserted : {X : Type 0} (m : map.FinMap nat_cmp X) (k : ℕ) (v : X) → map.get (map.insert m k v) k ≡ Some v
@@ -253,7 +241,7 @@ own_there m all of_who k e h is =
     let who : t.who ≡ e.who = ap (λ (x : Effect). x.who) at.2 in
     subst (λ o. IsSome o)
     (sym (ap (λ w. map.get (of_who w) k) (sym who) ∙ h.own_are t.who k ∙ ap (own_effect_at t.who) at.1
-    ∙ ap (λ (b : Bool). cond b (Some (own_effect_of t)) None) (who_itself t.who))) refl
+    ∙ ap (λ (b : Bool). cond b (Some (own_effect_of t)) None) (eq-eqb t.who t.who refl))) refl
 
 module _ {S : Type 0} (effects_in : S → Effects) (change_in : S → Change) where
   -- a trade is taken out of both of its stores

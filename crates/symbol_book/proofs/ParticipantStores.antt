@@ -7,17 +7,10 @@ use Rattle.std.proofs.lemmas.Bool.{leb-true}
 use Rattle.std.proofs.lemmas.Bool.Decides.{nat_tests}
 use Rattle.std.proofs.lemmas.List.{get_or-set_same, get_or-set_other, get_or-map, get_or_past, map-set, length-map}
 use Rattle.std.proofs.lemmas.List.Elements.{All-set}
+use Rattle.tape_types.proofs.NumberMaps.{same_key, key_itself}
 use Rattle.scratch_fold.specs.declared.summary.Effect.{Effect}
 use Rattle.summaries.specs.Effects.{Effects, Change}
 use Rattle.symbol_book.specs.Stores.{participant_effects, AllSettled, OwnBecomes}
-
--- keys that compare equal are one
-pub same_key : (n m : ℕ) → eq_by_cmp nat_cmp n m ≡ true → n ≡ m
-same_key n m e = grind (arith, nat_tests)
-
--- a key compares equal to itself
-pub key_itself : (n : ℕ) → eq_by_cmp nat_cmp n n ≡ true
-key_itself n = grind (arith, nat_tests)
 
 -- a letter from its index in the row
 key_of : (w i who : ℕ) → i + 65 ≡ who → nat_le 65 w ≡ true → w - 65 ≡ i → w ≡ who

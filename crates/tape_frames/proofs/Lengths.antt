@@ -2,11 +2,10 @@
 use Rattle.std.proofs.Common.{◌≡◌, ℕ, ◌+◌, ◌*◌, ◌≤◌, List, [], ◌∷◌, ◌++◌, length, length-append, Option, Some, None, refl, arith}
 use Rattle.std.specs.Prelude.{All, flat_map}
 use Rattle.std.proofs.lemmas.List.Elements.{All-head, All-tail}
-use Rattle.sale_matrix.specs.declared.content.Content.{Content}
-use Rattle.reports.specs.declared.message.Header.{Header}
 use Rattle.reports.specs.declared.message.Message.{Message}
 use Rattle.reports.specs.declared.message.Message.TheVariants.{Report, Cancel, Correct}
-use Rattle.reports.specs.Spelling.{IsContent, IsHeader, IsMessage, content_text, header_text, spelling, target_text}
+use Rattle.reports.specs.Spelling.{IsMessage, content_text, header_text, spelling, target_text}
+use Rattle.reports.proofs.Messages.{length-content, length-header}
 use Rattle.scratch_fold.specs.declared.summary.Summary.{Summary}
 use Rattle.tape_core.specs.declared.entry.Entry.{Entry}
 use Rattle.tape_frames.specs.declared.packet.Packet.TheVariants.{Data, Beat, End}
@@ -40,14 +39,6 @@ abbrev message_length : Message → ℕ
 message_length (Report header content) = 40
 message_length (Cancel header target) = 28
 message_length (Correct header target content) = 44
-
--- the fields that every message begins with
-length-header : (h : Header) → IsHeader h → length (header_text h) ≡ 21
-length-header h fits = omega (arith, fits.symbol.eight)
-
--- price, size and condition
-length-content : (c : Content) → IsContent c → length (content_text c) ≡ 16
-length-content c fits = omega (arith, fits.condition.four)
 
 -- a message has as many bytes as its kind asks for
 length-spelling : (m : Message) → IsMessage m → length (spelling m) ≡ message_length m

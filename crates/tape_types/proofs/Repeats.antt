@@ -4,7 +4,7 @@ use Rattle.std.proofs.Common.{true≢false, inl, inr}
 use Rattle.std.specs.List.{list_any}
 use Rattle.std.proofs.lemmas.List.Folds.{list_any-append}
 use Rattle.std.proofs.lemmas.List.{take_more, take-append-drop}
-use Rattle.std.proofs.lemmas.Bool.{cases_Bool}
+use Rattle.std.proofs.lemmas.Bool.{cases_Bool, or_parts, or_from}
 use Rattle.indexmap.specs.IndexSet.{insert_key}
 use Rattle.tape_types.specs.Names.{has_repeat}
 
@@ -15,16 +15,6 @@ or_four false true true d = refl
 or_four false true false d = refl
 or_four false false true d = refl
 or_four false false false d = refl
-
--- where neither of two is true, each is false
-or_false : (a b : Bool) → (a || b) ≡ false → (a ≡ false) × (b ≡ false)
-or_false true b h = absurd (true≢false h)
-or_false false b h = (refl, h)
-
--- where each of two is false, neither is true
-or_both : (a b : Bool) → a ≡ false → b ≡ false → (a || b) ≡ false
-or_both true b h k = absurd (true≢false h)
-or_both false b h k = k
 
 -- a test that is another's negation
 pub of_not : (b c : Bool) {r : Bool} → b ≡ not c → b ≡ r → c ≡ not r
@@ -47,9 +37,9 @@ module _ {A : Type 0} (eq : A → A → Bool) where
   pub has_repeat-front : (xs ys : List A) → has_repeat eq (xs ++ ys) ≡ false → has_repeat eq xs ≡ false
   has_repeat-front [] ys h = refl
   has_repeat-front (x ∷ xs) ys h =
-      let split = or_false (list_any (λ z. eq z x) (xs ++ ys)) (has_repeat eq (xs ++ ys)) h in
-      or_both (list_any (λ z. eq z x) xs) (has_repeat eq xs)
-      (or_false (list_any (λ z. eq z x) xs) (list_any (λ z. eq z x) ys) (sym (list_any-append (λ z. eq z x) xs ys) ∙ split.0)).0
+      let split = or_parts (list_any (λ z. eq z x) (xs ++ ys)) (has_repeat eq (xs ++ ys)) h in
+      or_from (list_any (λ z. eq z x) xs) (has_repeat eq xs)
+      (or_parts (list_any (λ z. eq z x) xs) (list_any (λ z. eq z x) ys) (sym (list_any-append (λ z. eq z x) xs ys) ∙ split.0)).0
       (has_repeat-front xs ys split.1)
 
   -- one name more
@@ -61,7 +51,7 @@ module _ {A : Type 0} (eq : A → A → Bool) where
       → list_any (eq x) (take i names) ≡ true → has_repeat eq names ≡ true
   has_repeat-found names i x inside at found = elim (cases_Bool (has_repeat eq names)) [
     | inl repeats ↦ repeats
-    | inr none ↦ absurd (true≢false (sym found ∙ (or_false (has_repeat eq (take i names)) (list_any (eq x) (take i names))
+    | inr none ↦ absurd (true≢false (sym found ∙ (or_parts (has_repeat eq (take i names)) (list_any (eq x) (take i names))
         (sym (has_repeat-push (take i names) x) ∙ ap (has_repeat eq) (sym (next_names names i x inside at))
         ∙ has_repeat-front (take (i + 1) names) (drop (i + 1) names) (ap (has_repeat eq) (take-append-drop (i + 1) names) ∙ none))).1))
   ]
@@ -73,5 +63,5 @@ module _ {A : Type 0} (eq : A → A → Bool) where
   insert_key-next names keys i x inside at so_far none new = (
     ap (λ b. cond b keys (keys ++ x ∷ [])) new ∙ ap (λ (ks : List A). ks ++ x ∷ []) so_far ∙ sym (next_names names i x inside at),
     ap (has_repeat eq) (next_names names i x inside at) ∙ has_repeat-push (take i names) x
-        ∙ or_both (has_repeat eq (take i names)) (list_any (eq x) (take i names)) none (ap (list_any (eq x)) (sym so_far) ∙ new),
+        ∙ or_from (has_repeat eq (take i names)) (list_any (eq x) (take i names)) none (ap (list_any (eq x)) (sym so_far) ∙ new),
   )

@@ -14,6 +14,7 @@ use Rattle.std.proofs.lemmas.List.{get_or_default, get_or-map, length-map}
 use Rattle.std.proofs.lemmas.List.Edits.{insert_end}
 use Rattle.std.proofs.lemmas.Bool.{cases_lt, cases_eq}
 use Rattle.std.proofs.lemmas.Bool.Decides.{nat_tests}
+use Rattle.tape_types.proofs.NumberMaps.{other_key}
 use Rattle.tape_types.specs.RisingEntries.{AllBelow, IsPosition, StandsIn, keyed}
 
 -- of a conjunction that holds, its first part
@@ -49,10 +50,6 @@ equal-is x y h = grind (arith, nat_tests)
 -- a greater number compares as greater
 greater-is : (x y : ℕ) → y < x → nat_cmp x y ≡ Greater
 greater-is x y h = grind (arith, nat_tests)
-
--- other keys do not tie
-apart : (x y : ℕ) → x ≢ y → eq_by_cmp nat_cmp x y ≡ false
-apart x y h = grind (arith, nat_tests)
 
 module _ {X : Type 0} where
   -- a key below all is below each
@@ -99,7 +96,7 @@ module _ {X : Type 0} where
 
   -- another key than the first entry's is found as in the rest
   find-there : (k : ℕ) (e : ℕ × X) (es : List (ℕ × X)) → k ≢ e.0 → find nat_cmp k (e ∷ es) ≡ find nat_cmp k es
-  find-there k e es other = ap (λ b. cond b (Some e.1) (find nat_cmp k es)) (apart k e.0 other)
+  find-there k e es other = ap (λ b. cond b (Some e.1) (find nat_cmp k es)) (other_key k e.0 other)
 
   -- an entry put in at the position of a vacant key
   pub insert-put : (k : ℕ) (v : X) (es : List (ℕ × X)) (i : ℕ) → IsPosition k es i → find nat_cmp k es ≡ None → insert es i (k, v) ≡ put nat_cmp k v es
@@ -137,7 +134,7 @@ module _ {X : Type 0} where
   without-above k (e ∷ es) above =
       let low : k < e.0 = above 0 e (omega arith) in
       ap (λ l. e ∷ l) (without-above k es (λ j d lt. above (suc j) d (omega arith)))
-      ∙ ap (λ b. cond (not b) (e ∷ without k es) (without k es)) (sym (apart k e.0 (λ same. omega arith)))
+      ∙ ap (λ b. cond (not b) (e ∷ without k es) (without k es)) (sym (other_key k e.0 (λ same. omega arith)))
 
   -- a key below those of all entries is not found
   find-above : (k : ℕ) (es : List (ℕ × X)) → ((j : ℕ) (d : ℕ × X) → j < length es → k < (get_or es j d).0) → find nat_cmp k es ≡ None
@@ -156,7 +153,7 @@ module _ {X : Type 0} where
   remove-without k (e ∷ es) (suc i) d h p lt same =
       let low : e.0 < k = p.below 0 e (omega arith) (omega arith) in
       ap (λ l. e ∷ l) (remove-without k es i d (and_rest _ _ h) (position-tail k e es i p) (omega arith) same)
-      ∙ ap (λ b. cond (not b) (e ∷ without k es) (without k es)) (sym (apart k e.0 (λ same. omega arith)))
+      ∙ ap (λ b. cond (not b) (e ∷ without k es) (without k es)) (sym (other_key k e.0 (λ same. omega arith)))
 
   -- what is found of a key: the entry at its position, if that has the key
   pub find-at : (k : ℕ) (es : List (ℕ × X)) (i : ℕ) (d : ℕ × X) → IsPosition k es i → i < length es → (get_or es i d).0 ≡ k
