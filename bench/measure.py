@@ -265,7 +265,15 @@ def rows(words, programs):
     print("least of all: " + "   ".join(f"{figure} {value:.6f} ({value / one:.3f})" for figure, value in least.items()))
     middle = {figure: statistics.median(turn[figure] / turn["seconds_one_worker"] for turn in turns) for figure in least}
     print("middle ratio to one worker: " + "   ".join(f"{figure} {value:.3f}" for figure, value in middle.items()))
+    print_cores()
     return True
+
+
+def print_cores():
+    """Prints what two threads and four take for the work of one, in a loop that touches no memory: what the machine's cores can give."""
+    cores = dict(line.split() for line in subprocess.run([RELEASE / "cores"], capture_output=True, text=True, check=True).stdout.splitlines())
+    one, two, four = (float(cores[f"seconds_{name}"]) for name in ("one_thread", "two_threads", "four_threads"))
+    print(f"the same work in a loop over no memory: by two threads {two / one / 2:.3f}, by four {four / one / 4:.3f}")
 
 
 def lines(words, programs):

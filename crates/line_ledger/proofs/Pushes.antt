@@ -1,13 +1,13 @@
 -- Lists of tokens, and of what was seen, with one more, and the front of such a list.
-use Rattle.std.proofs.Common.{◌≡◌, ℕ, ◌+◌, ◌<◌, List, [], ◌∷◌, ◌++◌, length, length-append, min, take, slice_index_or, sym, ap, ◌∙◌, ◌⊎◌, inl, inr, arith, zero}
-use Rattle.std.proofs.Common.{suc}
+use Rattle.std.proofs.Common.{◌≡◌, ℕ, ◌+◌, ◌<◌, List, [], ◌∷◌, ◌++◌, length, length-append, min, take, slice_index_or, sym, ap, ◌∙◌, ◌⊎◌, inl, inr, arith}
 use Rattle.std.proofs.Math.Nat.{eq-or-lt_of_le}
 use Rattle.std.proofs.lemmas.List.{append-nil, append_assoc, get_or_append_left, get_or_push, get_or-take, length-take, length-map, map-append, take_at}
 use Rattle.std.proofs.lemmas.List.{take-map}
 use Rattle.tape_core.specs.declared.entry.Entry.{Entry}
-use Rattle.tape_frames.specs.EntryRows.{Carries, IsNumberedFrom}
+use Rattle.tape_frames.specs.EntryRows.{Carries}
 use Rattle.tape_frames.specs.Sources.{BeginsWith, IsPublished}
 use Rattle.tape_frames.proofs.Rows.{IsNumberedFrom-push}
+use Rattle.tape_frames.proofs.Sources.{IsPublished-take}
 use Rattle.seen_cells.specs.declared.Seen.{Seen}
 use Rattle.line_ledger.specs.Cells.{TokenState, IsTokenOf, Each, TokenAt, NextTokens, FirstTokens, shown, SeenAt, FirstSeen}
 use Rattle.line_ledger.specs.Publishing.{GoesOn}
@@ -49,12 +49,6 @@ first_push names ts ts' t each number of pushed = rw pushed (each_push (λ i t. 
 pub first_take : (names : List ℕ) (ts ts' : List TokenState) (n : ℕ) → FirstTokens names ts → ts' ≡ take n ts → FirstTokens names ts'
 first_take names ts ts' n each cut = rw cut (each_take (λ i t. IsTokenOf names t × (t.number ≡ i + 1)) ts n each)
 
--- the front of a numbered list is numbered
-numbered_take : (first n : ℕ) (es : List Entry) → IsNumberedFrom first es → IsNumberedFrom first (take n es)
-numbered_take first zero es h = tt
-numbered_take first (suc n) [] h = tt
-numbered_take first (suc n) (x ∷ es) h = (h.0, numbered_take (first + 1) n es h.1)
-
 -- a source's list may go on with the entry of the next number that carries what its kind does
 list_push : (es : List Entry) (e : Entry) → IsPublished es → e.number ≡ length es + 1 → Carries e → IsPublished (es ++ e ∷ [])
 list_push es e list number carries = record {
@@ -73,7 +67,7 @@ published_push ts ts' t list same number carries pushed =
 pub published_take : (ts ts' : List TokenState) (n : ℕ) → IsPublished (shown ts) → ts' ≡ take n ts → IsPublished (shown ts')
 published_take ts ts' n list cut =
     rw (cut, sym (take-map (λ (t : TokenState). t.entry) n ts))
-    (record { numbered = numbered_take 1 n (shown ts) list.numbered; carries = each_take (λ i x. Carries x) (shown ts) n list.carries })
+    (IsPublished-take n (shown ts) list)
 
 -- a list goes on where it ends
 pub goes_on_none : (ts : List TokenState) → GoesOn ts ts

@@ -1,23 +1,18 @@
 -- A line's frames, done one after the other.
-use Rattle.std.proofs.Common.{◌≡◌, ◌≢◌, ℕ, ◌+◌, ◌<◌, ◌≤◌, ◌==◌, ◌||◌, List, [], ◌∷◌, ◌++◌, Option, Result, Ok, Err, IfOk, IfErr, cond, ltb, inl, inr}
-use Rattle.std.proofs.Common.{length, length-append, append-nil, take, drop, refl, sym, ap, subst, ◌∙◌, arith}
+use Rattle.std.proofs.Common.{◌≡◌, ◌≢◌, ℕ, ◌+◌, ◌<◌, ◌≤◌, List, [], ◌∷◌, ◌++◌, Option, Result, Ok, Err, IfOk, IfErr, inl, inr}
+use Rattle.std.proofs.Common.{length, length-append, append-nil, refl, sym, ap, subst, ◌∙◌, arith}
 use Rattle.std.specs.List.{concat}
 use Rattle.std.specs.Io.KnownBytes.{Consumes}
 use Rattle.std.proofs.KnownBytes.{Consumes-nil, Consumes-trans}
-use Rattle.std.proofs.Math.Seq.{take-length}
 use Rattle.std.proofs.lemmas.List.Folds.{concat-append}
 use Rattle.line_ledger.specs.Seats.{SeatState}
 use Rattle.line_ledger.specs.Admissions.{Tells, TellsWhy}
 use Rattle.line_ledger.specs.declared.line_refusal.LineRefusal.{LineRefusal}
 use Rattle.line_ledger.specs.declared.line_refusal.LineRefusal.TheVariants as line
 use Rattle.line_ledger.specs.declared.told.Told.{Told}
-use Rattle.reports.specs.Fields.{◌>>=◌}
-use Rattle.reports.specs.Reading.{announced_length, body_message, message_at}
 use Rattle.reports.specs.Spelling.{Spells}
-use Rattle.reports.specs.declared.fault.MessageFault.{MessageFault}
 use Rattle.reports.specs.declared.fault.MessageFault.TheVariants as fault
 use Rattle.reports.specs.declared.message.Message.{Message}
-use Rattle.reports.proofs.Fields.{passed, bind_ok, ok_is}
 use Rattle.tape_core.specs.declared.refusal.Refusal.{Refusal}
 use Rattle.tape_core.specs.declared.refusal.Refusal.TheVariants as tape
 use Rattle.tape_types.specs.Names.{Names}

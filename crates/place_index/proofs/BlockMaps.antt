@@ -1,5 +1,5 @@
 -- A block seen as a finite map, and its entries after an edit of the map.
-use Rattle.std.proofs.Common.{◌≡◌, ◌≢◌, ℕ, ◌+◌, ◌-◌, ◌<◌, ◌≤◌, true, false, cond, refl, Option, Some, List, [], ◌∷◌, ◌++◌, length, set, get_or, None, IsSome}
+use Rattle.std.proofs.Common.{◌≡◌, ℕ, ◌+◌, ◌-◌, ◌<◌, ◌≤◌, true, false, cond, refl, Option, Some, List, [], ◌∷◌, ◌++◌, length, set, get_or, None, IsSome}
 use Rattle.std.proofs.Common.{sym, ap, subst, inl, inr, ◌∙◌, arith}
 use Rattle.std.specs.List.{insert, remove}
 use Rattle.std.specs.Ordering.{nat_cmp}

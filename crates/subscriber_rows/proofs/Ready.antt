@@ -1,5 +1,5 @@
 -- How many entries are ready, told by the drains that take them.
-use Rattle.std.proofs.Common.{◌≡◌, ℕ, zero, suc, ◌+◌, ◌≤◌, List, [], ◌∷◌, ◌++◌, length, drop, Option, None, Some, refl, sym, ap, subst, ◌∙◌, arith}
+use Rattle.std.proofs.Common.{◌≡◌, ℕ, zero, suc, ◌+◌, List, [], ◌∷◌, ◌++◌, length, drop, Option, None, Some, refl, sym, ap, subst, ◌∙◌, arith}
 use Rattle.std.specs.Prelude.{slice_get}
 use Rattle.std.proofs.lemmas.Option.{none-some}
 use Rattle.tape_core.specs.declared.entry.Entry.{Entry}
@@ -7,6 +7,7 @@ use Rattle.arbitration.specs.Windows.{flat, next_of, ready_entries}
 use Rattle.subscriber.specs.Subscribers.{SubscriberState, with_entry, subscriber_after_entry, subscriber_after}
 use Rattle.subscriber.specs.declared.drain_fault.DrainFault.{DrainFault}
 use Rattle.subscriber.specs.Drains.{DrainsAll, DrainStops}
+use Rattle.subscriber.proofs.Failures.{at_most}
 use Rattle.subscriber.proofs.Turns.{after_entry-keeps, length-with_entry}
 
 -- how many entries are ready
@@ -32,18 +33,6 @@ one_less [] e h = absurd (none-some e h)
 one_less (None ∷ slots) e h = absurd (none-some e h)
 one_less (Some x ∷ slots) e h = omega (arith, ready-push slots)
 
--- a turn holds one entry more at most
-turn_holds : (s : SubscriberState) (o : Option Entry) → length (subscriber_after_entry o s).tape.entries ≤ length s.tape.entries + 1
-turn_holds s o =
-    after_entry-keeps (λ t. length t.tape.entries ≤ length s.tape.entries + 1) s o (omega arith)
-    (λ e is running free. omega (arith, length-with_entry s e))
-
--- n turns hold n entries more at most
-turns_hold : (n : ℕ) (s : SubscriberState) → length (subscriber_after n s).tape.entries ≤ length s.tape.entries + n
-turns_hold zero s = omega arith
-turns_hold (suc n) s =
-    omega (arith, turns_hold n (subscriber_after_entry (next_of s.window) s), turn_holds s (next_of s.window))
-
 -- where n turns hold n entries more and leave nothing ready, n were ready
 pub ready_told : (n : ℕ) (s : SubscriberState) → length (subscriber_after n s).tape.entries ≡ length s.tape.entries + n
     → next_of (subscriber_after n s).window ≡ None → ready_count s ≡ n
@@ -59,7 +48,7 @@ ready_told (suc n) s held empty = turn (ready_told n) held empty
         → next_of (subscriber_after n t).window ≡ None → ready_count t ≡ n) → Told (subscriber_after_entry (next_of s.window) s)
     turn later =
         after_entry-keeps Told s (next_of s.window)
-        (λ stays none. absurd (omega (arith, turns_hold n s)))
+        (λ stays none. absurd (omega (arith, at_most n s)))
         (λ e is running free went none.
         let before : ready_count (with_entry e s) ≡ n = later (with_entry e s) (omega (arith, length-with_entry s e)) none in
         omega (arith, one_less s.window.slots e is))

@@ -1,5 +1,5 @@
 -- What was written of what was read is right for the input, and stays so when it is flushed.
-use Rattle.std.proofs.Common.{◌≡◌, ◌⊎◌, ◌≤◌, ◌++◌, ℕ, List, Option, Some, None, IfSome, Result, Ok, Err, inl, inr, length, refl}
+use Rattle.std.proofs.Common.{◌≡◌, ◌⊎◌, ◌≤◌, ℕ, List, Option, Some, None, IfSome, Result, Ok, Err, inl, inr, length, refl}
 use Rattle.std.specs.Io.KnownBytes.{Appends, Keeps}
 use Rattle.std.specs.List.{flat_map}
 use Rattle.tape_types.specs.Names.{Names}

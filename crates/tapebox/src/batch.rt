@@ -21,6 +21,7 @@ use crate::writing::{WriteFault, write_text};
 use day_report::{rows, write_report};
 use std::alloc::{AllocError, Global};
 use std::io::{BufReader, Read, Take, Write};
+use std::mem;
 use std::thread::Threads;
 use tape_types::NoGate;
 
@@ -146,6 +147,33 @@ fn limited<R: Read>(reader: &mut R) -> Take<&mut R>
     reader.take(INPUT_LIMIT + 1)
 }
 
+/// Reads a batch whole and writes it, as `batch_over` does, and gives what was read back beside the end.
+fn batch_kept<T: Threads + Sync, R: Read, W: Write>(
+    rt: &T,
+    alloc: Global,
+    reader: &mut R,
+    writer: &mut W,
+) -> (BatchEnd, Option<Batch>)
+    ensures wrote { IfSome (R.remaining reader.old) (λ input. Wrote result.0 input (W.contents writer.old) (W.contents writer.new)) }
+    ensures ends { IfSome (R.remaining reader.old) (EndsAt result.0) }
+    ensures silent { (result.0 ≡ TooLarge) ⊎ (result.0 ≡ ReadFault) → writer.new ≡ writer.old }
+{
+    let Ok(left) = BufReader::with_capacity(alloc, READ_PIECE, limited(reader)) else {
+        return (BatchEnd::OutOfMemory, None);
+    };
+    // Room to write comes first, so that it takes none to tell a refusal out of memory.
+    let Ok(mut gathered) = Gathered::new(alloc) else {
+        return (BatchEnd::OutOfMemory, None);
+    };
+    match read_batch(alloc, &mut Input::new(left)) {
+        Ok(read) => (
+            finish_batch(rt, alloc, &read, &mut gathered, writer),
+            Some(read),
+        ),
+        Err(end) => (BatchEnd::from(end), None),
+    }
+}
+
 /// Reads a batch whole, and writes its answers and its report, in large pieces that are flushed once at the end. How it
 /// ends, and what stands written then, `BatchEnd` tells.
 pub fn batch_over<T: Threads + Sync, R: Read, W: Write>(
@@ -163,17 +191,25 @@ pub fn batch_over<T: Threads + Sync, R: Read, W: Write>(
     // These ends leave the writer alone, whatever the reader.
     ensures silent { (result ≡ TooLarge) ⊎ (result ≡ ReadFault) → writer.new ≡ writer.old }
 {
-    let Ok(left) = BufReader::with_capacity(alloc, READ_PIECE, limited(reader)) else {
-        return BatchEnd::OutOfMemory;
-    };
-    // Room to write comes first, so that it takes none to tell a refusal out of memory.
-    let Ok(mut gathered) = Gathered::new(alloc) else {
-        return BatchEnd::OutOfMemory;
-    };
-    match read_batch(alloc, &mut Input::new(left)) {
-        Ok(read) => finish_batch(rt, alloc, &read, &mut gathered, writer),
-        Err(end) => BatchEnd::from(end),
-    }
+    let (end, _) = batch_kept(rt, alloc, reader, writer);
+    end
+}
+
+/// Does what `batch_over` does, for a program that ends then: what was read is left to the process's end, which gives its
+/// memory back at once and not piece by piece.
+pub fn last_batch<T: Threads + Sync, R: Read, W: Write>(
+    rt: &T,
+    alloc: Global,
+    reader: &mut R,
+    writer: &mut W,
+) -> BatchEnd
+    ensures wrote { IfSome (R.remaining reader.old) (λ input. Wrote result input (W.contents writer.old) (W.contents writer.new)) }
+    ensures ends { IfSome (R.remaining reader.old) (EndsAt result) }
+    ensures silent { (result ≡ TooLarge) ⊎ (result ≡ ReadFault) → writer.new ≡ writer.old }
+{
+    let (end, read) = batch_kept(rt, alloc, reader, writer);
+    mem::forget(read);
+    end
 }
 
 #[cfg(test)]

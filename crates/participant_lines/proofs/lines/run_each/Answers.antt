@@ -1,4 +1,3 @@
-use Rattle.std.proofs.Common.{◌≡◌}
 use Rattle.participant_lines.proofs.lines.run_each.Goals as goal
 
 -- each line is left as the call at it left it

@@ -1,4 +1,4 @@
-use Rattle.std.proofs.Common.{◌∙◌, ap, sym, subst}
+use Rattle.std.proofs.Common.{sym, subst}
 use Rattle.tape_frames.specs.Sources.{IsPublished}
 use Rattle.tape_frames.proofs.Legal.{legal-IsPublished}
 use Rattle.line_rows.proofs.tests.served.source_of.Goals as goal

@@ -1,4 +1,4 @@
-use Rattle.std.proofs.Common.{◌≤◌, ap, subst, sym, length, ◌∙◌, drop}
+use Rattle.std.proofs.Common.{◌≤◌, ap, subst, sym, length, ◌∙◌}
 use Rattle.std.specs.FinMap as map
 use Rattle.place_index.specs.Blocks.{top}
 use Rattle.tape_types.proofs.RisingEntries.{keyed-itself}

@@ -1,14 +1,10 @@
-use Rattle.std.proofs.Common.{◌≡◌, ℕ, ◌<◌, true, ap, sym, ◌∙◌, arith}
-use Rattle.std.specs.Ordering.{nat_cmp, is_lt}
-use Rattle.std.proofs.lemmas.Bool.Decides.{nat_tests}
+use Rattle.std.proofs.Common.{ap, subst, sym, ◌∙◌}
+use Rattle.std.specs.Prelude.{T}
 use Rattle.std.proofs.lemmas.Map.Keys.{ge_from_not_lt}
+use Rattle.tape_types.proofs.RisingEntries.{lt_from}
 use Rattle.summaries.specs.Effects.{Effects, Change}
 use Rattle.summaries.proofs.Ends.{setter_conditional, setter_always, setter_both_always, setter_both_conditional}
 use Rattle.summaries.proofs.indexed.IndexStore.first_setter.Goals as goal
-
--- a number that is compared as less is less
-lt_from : (x y : ℕ) → is_lt (nat_cmp x y) ≡ true → x < y
-lt_from x y e = grind (arith, nat_tests)
 
 pub returns-in_default-clause-first : goal.returns-in_default-clause-first
 returns-in_default-clause-first c =
@@ -27,7 +23,7 @@ returns-then-lt-clause-first c =
     let settled = ap (λ (v : Effects × Change). v.1) c.self.view_is ∙ c.requires.settled in
     rw (← c.self.view_is) (setter_both_conditional c.self.inside.effects c.self.inside.staged settled c.self.inside.always c.self.inside.setters
     c.self.invariant.always_are c.self.invariant.setters_are c.in-Some.always c.in-Some-first.conditional c.in-Some.ensures.first c.in-Some-first.ensures.first
-    (lt_from c.in-Some-first.conditional c.in-Some.always (sym c.lt.ensures ∙ c.if-lt.true)))
+    (lt_from c.in-Some-first.conditional c.in-Some.always (subst T (sym c.if-lt.true ∙ c.lt.ensures) tt)))
 
 pub returns-else-lt-clause-first : goal.returns-else-lt-clause-first
 returns-else-lt-clause-first c =
