@@ -1,3 +1,3 @@
 pub mod Keyed
 pub mod LastNumbers
-pub mod Rows
+pub mod RegisterRows

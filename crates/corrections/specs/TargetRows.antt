@@ -4,6 +4,7 @@ use Rattle.std.specs.Ordering.{nat_cmp}
 use Rattle.std.specs.FinMap as map
 use Rattle.corrections.specs.declared.target.Target.{Target}
 use Rattle.corrections.specs.Targets.{Targets}
+use Rattle.tape_types.specs.Ranges.{FIRST_PARTICIPANT}
 
 -- the reports of one participant by their message numbers
 abbrev pub RowTargets : Type 0
@@ -14,6 +15,6 @@ abbrev pub row_entries : ℕ → List RowTargets → List ((ℕ × ℕ) × Targe
 row_entries who [] = []
 row_entries who (row ∷ rows) = map_list (λ e. ((who, e.0), e.1)) (map.entries row) ++ row_entries (who + 1) rows
 
--- the targets of rows that begin with `A`, which is 65
+-- the targets of rows that begin with the first participant's
 abbrev pub targets_of_rows : List RowTargets → Targets
-targets_of_rows rows = map.from_entries (row_entries 65 rows)
+targets_of_rows rows = map.from_entries (row_entries FIRST_PARTICIPANT rows)

@@ -140,6 +140,26 @@ fn taken_from(made: &[Result<Vec<Piece>, AllocError>], start: usize) -> Option<&
     None
 }
 
+/// How many rows the pieces of one worker have.
+fn row_count(pieces: &[Piece]) -> usize {
+    let mut count: usize = 0;
+    for piece in pieces {
+        count = count.saturating_add(piece.rows.len());
+    }
+    count
+}
+
+/// How many rows the pieces of all workers have.
+fn total_count(made: &[Result<Vec<Piece>, AllocError>]) -> usize {
+    let mut count: usize = 0;
+    for pieces in made {
+        if let Ok(pieces) = pieces {
+            count = count.saturating_add(row_count(pieces));
+        }
+    }
+    count
+}
+
 /// The rows of a tape, from the pieces that workers made. Where one is missing, memory ran out for the worker that took it.
 fn joined<S: Store>(
     alloc: Global,
@@ -151,7 +171,8 @@ fn joined<S: Store>(
     requires made { AllByRecursion (IsShare tape.now size) made.now }
     ensures { IfOk result (λ rows. rows.items ≡ report_rows tape.now) }
 {
-    let mut rows = Vec::new(alloc);
+    // All of the room at once: a row that grew would be copied again and again, while the other workers have ended.
+    let mut rows = Vec::with_capacity(alloc, total_count(made))?;
     let mut start = 0;
     while let Some(piece) = piece_from(tape, start, size) {
         let Some(made) = taken_from(made, start) else {

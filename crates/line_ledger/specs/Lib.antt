@@ -1,6 +1,5 @@
 pub mod Admissions
 pub mod Cells
-pub mod Cuts
 pub mod Days
 pub mod Ends
 pub mod Faults

@@ -6,7 +6,7 @@ ghost use Rattle.tape_frames.specs.declared.packet.Packet.TheVariants.{Data, Bea
 ghost use Rattle.tape_frames.specs.Sources.{BeginsWith, cut_of};
 ghost use Rattle.line_ledger.specs.declared.told.Told.{Told};
 ghost use Rattle.line_ledger.specs.Cells.{TokenState, FirstTokens, HaveAll, shown};
-ghost use Rattle.line_ledger.specs.Cuts.{IsCutOf};
+ghost use Rattle.tape_frames.specs.Cuts.{IsCutOf};
 ghost use Rattle.line_ledger.specs.Ends.{told_entry, told_of, whos, DiffersFirst, DisagreesAt, FirstTold, IsOneEach};
 ghost use Rattle.line_ledger.specs.Seats.{SeatState};
 

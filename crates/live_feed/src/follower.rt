@@ -5,7 +5,7 @@ ghost use Rattle.retransmit.specs.declared.ask_fault.AskFault.TheVariants.{OutOf
 ghost use Rattle.subscriber.specs.declared.drain_fault.Stop.TheVariants.{Refused};
 ghost use Rattle.tape_core.specs.declared.refusal.Refusal.TheVariants.{OutOfMemory};
 
-use crate::starting::fault_of;
+use crate::starting::fault_of_tape;
 use crate::{Fault, here};
 use arbitration::Line;
 use retransmit::{AskFault, ask};
@@ -103,7 +103,7 @@ impl Follower {
         let connection = dial(rt, retransmission)?;
         let subscriber = match Subscriber::new(alloc, listing, limit, session) {
             Ok(subscriber) => subscriber,
-            Err(fault) => return Err(fault_of(fault)),
+            Err(fault) => return Err(fault_of_tape(fault)),
         };
         Ok(Follower {
             alloc,

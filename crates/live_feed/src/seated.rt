@@ -2,8 +2,9 @@
 ghost use Rattle.std.specs.Prelude.{◌≡◌, ◌≤◌, [], Some, map, vec_len};
 ghost use Rattle.std.specs.Vec.{vec_capacity};
 ghost use Rattle.line_ledger.specs.Ends.{whos};
-ghost use Rattle.live_feed.specs.declared.fault.Fault.TheVariants.{Memory, Disagrees};
+ghost use Rattle.live_feed.specs.declared.fault.Fault.TheVariants.{Memory, Worker, Disagrees};
 ghost use Rattle.participant_lines.specs.declared.line_end.Ended.TheVariants.{OutOfMemory, Behind};
+ghost use Rattle.participant_lines.specs.declared.unstarted.Lack.TheVariants.{Memory as LackOfMemory, Worker as LackOfWorker};
 
 use crate::Fault;
 use crate::bell::Bell;
@@ -66,7 +67,7 @@ pub(crate) fn lines_of<D: DayName>(
 }
 
 /// What the end of a line is to the day. A peer that misbehaves ends its own line alone.
-fn fault_of(ended: Ended) -> Option<Fault>
+fn fault_of_end(ended: Ended) -> Option<Fault>
     ensures memory { ended ≡ OutOfMemory → result ≡ Some Memory }
     ensures behind { ended ≡ Behind → result ≡ Some Disagrees }
 {
@@ -79,7 +80,10 @@ fn fault_of(ended: Ended) -> Option<Fault>
 }
 
 /// What too little of something is to the day.
-fn fault_of_lack(lack: Lack) -> Fault {
+fn fault_of_lack(lack: Lack) -> Fault
+    ensures memory { lack ≡ LackOfMemory → result ≡ Memory }
+    ensures worker { lack ≡ LackOfWorker → result ≡ Worker }
+{
     match lack {
         Lack::Memory => Fault::Memory,
         Lack::Worker => Fault::Worker,
@@ -90,7 +94,7 @@ fn fault_of_lack(lack: Lack) -> Fault {
 fn fault_of_ends<D: DayName>(ends: &[LineEnd<D>]) -> Option<Fault> {
     let mut fault = None;
     for end in ends {
-        fault = Fault::least(fault, fault_of(end.ended));
+        fault = Fault::least(fault, fault_of_end(end.ended));
     }
     fault
 }

@@ -1,7 +1,7 @@
 //! The sender: what the lines admit is published and sent on both lines, and then the end.
-ghost use Rattle.std.specs.Prelude.{◌≡◌, ◌↔◌, ◌%◌, true};
-ghost use Rattle.line_ledger.specs.declared.publish_fault.PublishFault.TheVariants.{OutOfMemory};
-ghost use Rattle.live_feed.specs.declared.fault.Fault.TheVariants.{Memory};
+ghost use Rattle.std.specs.Prelude.{◌≡◌, ◌↔◌, ◌%◌, ℕ, true};
+ghost use Rattle.line_ledger.specs.declared.publish_fault.PublishFault.TheVariants.{OutOfMemory, Unpublished};
+ghost use Rattle.live_feed.specs.declared.fault.Fault.TheVariants.{Memory, Disagrees};
 
 use crate::bell::Bell;
 use crate::feed::Feed;
@@ -37,8 +37,9 @@ pub(crate) struct Sent {
 }
 
 /// Why nothing is published.
-fn fault_of(fault: PublishFault) -> Fault
+fn fault_of_publication(fault: PublishFault) -> Fault
     ensures memory { fault ≡ OutOfMemory → result ≡ Memory }
+    ensures unpublished { (number : ℕ) → fault ≡ Unpublished number → result ≡ Disagrees }
 {
     match fault {
         PublishFault::Unpublished(_) => Fault::Disagrees,
@@ -88,7 +89,7 @@ fn send_next<D: DayName, R: Wait, L: Loss>(
 ) -> Result<u32, Fault> {
     let set = match shared.publish(rt, PUBLISHED_AT_ONCE) {
         Ok(set) => set,
-        Err(fault) => return Err(fault_of(fault)),
+        Err(fault) => return Err(fault_of_publication(fault)),
     };
     if published.refresh().is_err() {
         return Err(Fault::Memory);

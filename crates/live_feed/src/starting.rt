@@ -1,5 +1,7 @@
 //! What a day needs before it starts.
 ghost use Rattle.std.specs.Prelude.{◌≡◌, IfOk, length, vec_len};
+ghost use Rattle.live_feed.specs.declared.fault.Fault.TheVariants.{Disagrees, Memory};
+ghost use Rattle.tape_core.specs.declared.tape_fault.TapeFault.TheVariants.{BadLimit, OutOfMemory as TapeOutOfMemory};
 
 use crate::Fault;
 use crate::seated::Reader;
@@ -25,7 +27,10 @@ pub(crate) fn can_start<R: Threads>(rt: &R) -> bool {
 }
 
 /// What a tape that is not made is to the day.
-pub(crate) fn fault_of(fault: TapeFault) -> Fault {
+pub(crate) fn fault_of_tape(fault: TapeFault) -> Fault
+    ensures limit { fault ≡ BadLimit → result ≡ Disagrees }
+    ensures memory { fault ≡ TapeOutOfMemory → result ≡ Memory }
+{
     match fault {
         TapeFault::BadLimit => Fault::Disagrees,
         TapeFault::OutOfMemory => Fault::Memory,
@@ -38,7 +43,7 @@ pub(crate) fn prepare_day(alloc: Global, listing: Listing, limit: u32) -> Result
 {
     let tape: Tape<IndexStore> = match Tape::new(alloc, listing, limit) {
         Ok(tape) => tape,
-        Err(fault) => return Err(fault_of(fault)),
+        Err(fault) => return Err(fault_of_tape(fault)),
     };
     match prepare(alloc, tape) {
         Ok(prepared) => Ok(prepared),

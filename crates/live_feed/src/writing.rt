@@ -1,8 +1,10 @@
 //! The report of a day.
-ghost use Rattle.std.specs.Prelude.{◌≡◌, OnOk};
+ghost use Rattle.std.specs.Prelude.{◌≡◌, ◌⊎◌, IfErr, OnOk};
 ghost use Rattle.std.specs.Io.KnownBytes.{Appends};
 ghost use Rattle.day_report.specs.ReportText.{report_text};
 ghost use Rattle.day_report.specs.Rows.{report_rows};
+ghost use Rattle.day_report.specs.declared.report_fault.ReportFault.TheVariants.{BadWorkers, OutOfMemory as ReportOutOfMemory, Unstarted, WriteFault};
+ghost use Rattle.live_feed.specs.declared.fault.Fault.TheVariants.{Memory, Worker, Write};
 
 use crate::Fault;
 use day_report::{ReportFault, rows, write_report};
@@ -17,7 +19,11 @@ use tape_types::NoGate;
 const WORKERS: usize = 4;
 
 /// What a report that is not written is to the day.
-fn fault_of(fault: ReportFault) -> Fault {
+fn fault_of_report(fault: ReportFault) -> Fault
+    ensures worker { (fault ≡ BadWorkers) ⊎ (fault ≡ Unstarted) → result ≡ Worker }
+    ensures memory { fault ≡ ReportOutOfMemory → result ≡ Memory }
+    ensures write { fault ≡ WriteFault → result ≡ Write }
+{
     match fault {
         ReportFault::BadWorkers | ReportFault::Unstarted => Fault::Worker,
         ReportFault::OutOfMemory => Fault::Memory,
@@ -32,14 +38,15 @@ pub(crate) fn write_day<R: Threads + Sync, W: Write>(
     tape: &Tape<IndexStore>,
     writer: &mut W,
 ) -> Result<(), Fault>
-    ensures { OnOk result (Appends (W.contents writer.old) (W.contents writer.new) (report_text (report_rows tape.now))) }
+    ensures written { OnOk result (Appends (W.contents writer.old) (W.contents writer.new) (report_text (report_rows tape.now))) }
+    ensures fault { IfErr result (λ fault. (fault ≡ Worker) ⊎ (fault ≡ Memory) ⊎ (fault ≡ Write)) }
 {
     let rows = match rows(rt, alloc, tape, WORKERS, &NoGate) {
         Ok(rows) => rows,
-        Err(fault) => return Err(fault_of(fault)),
+        Err(fault) => return Err(fault_of_report(fault)),
     };
     if let Err(fault) = write_report(alloc, &rows, writer) {
-        return Err(fault_of(fault));
+        return Err(fault_of_report(fault));
     }
     match writer.flush() {
         Ok(()) => Ok(()),

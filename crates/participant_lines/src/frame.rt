@@ -5,15 +5,12 @@ ghost use Rattle.reports.specs.Reading.{announced_length};
 ghost use Rattle.participant_lines.specs.Frames.{EndsInput, IsFrame, IsLength, IsSpelled, ReadsFrame};
 
 use crate::Ended;
-use reports::{Message, MessageFault, Unread, decode};
+use reports::{LONGEST_BODY, Message, MessageFault, Unread, decode};
 use row_reads::fill;
 use std::io::{BufRead, ErrorKind, Read};
 
 /// How many bytes a frame's length has.
 const LENGTH_BYTES: usize = 2;
-
-/// How many bytes a frame's body has at most.
-const LONGEST_BODY: usize = 64;
 
 /// How many bytes a frame has at most.
 pub(crate) const LONGEST_FRAME: usize = LENGTH_BYTES + LONGEST_BODY;

@@ -1,11 +1,14 @@
-//! Rows of bytes, read whole from a reader.
+//! Rows of bytes read whole from a reader, and texts written whole to a writer, with what a failed call leaves.
 #![tactic(auto)]
 
 ghost use Rattle.std.specs.Prelude.{◌≡◌, ◌≤◌, ◌<◌, IfNone, IfSome, take, length};
 ghost use Rattle.std.specs.Io.KnownBytes.{Consumes, IsAtEnd};
 ghost use Rattle.row_reads.specs.FailedReads.{ReadsFewer};
 
+mod writing;
+
 use std::io::{ErrorKind, Read};
+pub use writing::{WriteFault, write_text};
 
 /// Reads until the row is full or the input ends: how many bytes were read, or `None` where a read failed. A read that
 /// was interrupted is tried again. No byte is read beyond the row.

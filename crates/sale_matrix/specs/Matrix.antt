@@ -8,18 +8,18 @@ use Rattle.sale_matrix.specs.declared.matrix.LastRule.{LastRule}
 use Rattle.sale_matrix.specs.declared.matrix.LastRule.TheVariants.{Always, SameMarket, FirstOnly, Never}
 use Rattle.sale_matrix.specs.declared.matrix.Cells.{Cells}
 
--- codes and cells
-abbrev pub Row : Type 0
-Row = List ℕ × List ℕ
+-- a row: its codes, and its cells in the five columns
+abbrev pub MatrixRow : Type 0
+MatrixRow = List ℕ × List ℕ
 
 -- the settlement
-unfoldable pub first_rows : List Row
+unfoldable pub first_rows : List MatrixRow
 first_rows =
     (codes "@", codes "YYYYY") ∷
     (codes "CNR", codes "NNNNY") ∷ []
 
 -- the exemption from trade-through rules
-unfoldable pub second_rows : List Row
+unfoldable pub second_rows : List MatrixRow
 second_rows =
     (codes " ", codes "YYYYY") ∷
     (codes "FO56", codes "YYYYY") ∷
@@ -28,7 +28,7 @@ second_rows =
     (codes "9", codes "YYNNN") ∷ []
 
 -- extended hours, or sold
-unfoldable pub third_rows : List Row
+unfoldable pub third_rows : List MatrixRow
 third_rows =
     (codes " ", codes "YYYYY") ∷
     (codes "TU", codes "NNNNY") ∷
@@ -36,7 +36,7 @@ third_rows =
     (codes "Z", codes "YFYFY") ∷ []
 
 -- the detail that a market asks for
-unfoldable pub fourth_rows : List Row
+unfoldable pub fourth_rows : List MatrixRow
 fourth_rows =
     (codes " ", codes "YYYYY") ∷
     (codes "ABDSXY1", codes "YYYYY") ∷
@@ -46,7 +46,7 @@ fourth_rows =
     (codes "Q", codes "NNYNN") ∷ []
 
 -- the cells of a code in its position's rows
-abbrev pub cells_in : List Row → ℕ → Option (List ℕ)
+abbrev pub cells_in : List MatrixRow → ℕ → Option (List ℕ)
 cells_in [] code = None
 cells_in (row ∷ rows) code = if list_any (λ c. code == c) row.0 then Some row.1 else cells_in rows code
 

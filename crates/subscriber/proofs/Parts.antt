@@ -5,7 +5,7 @@ use Rattle.std.proofs.lemmas.Option.{none-some, slice_get_within}
 use Rattle.tape_core.specs.declared.entry.Entry.{Entry}
 use Rattle.tape_frames.specs.EntryRows.{IsNumberedFrom, last_number}
 use Rattle.arbitration.specs.Deliveries.{entry_numbered}
-use Rattle.subscriber.specs.Schedules.{IsPartOf}
+use Rattle.tape_frames.specs.Cuts.{IsPartOf}
 use Rattle.tape_frames.proofs.Numbers.{IsNumberedFrom-append, slice_get-append-add, slice_get-append-lt, number_at}
 use Rattle.arbitration.proofs.Numbers.{numbered_place}
 

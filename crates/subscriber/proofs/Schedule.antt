@@ -33,8 +33,10 @@ use Rattle.subscriber.specs.declared.drain_fault.Stop.TheVariants.{Refused, Othe
 use Rattle.subscriber.specs.declared.drain_fault.DrainFault.{DrainFault}
 use Rattle.subscriber.specs.Subscribers.{SubscriberState, with_entry, subscriber_after_entry, subscriber_after}
 use Rattle.subscriber.specs.Drains.{Delivers, RefusesDelivery, DrainStops, StopsFor, IsRefused, IsHonestStop}
+use Rattle.tape_frames.specs.Cuts.{IsPartOf}
 use Rattle.subscriber.specs.Schedules.{World, Event, Admits, Closes, Comes, Drains, Restarts, world_after}
-use Rattle.subscriber.specs.Schedules.{run, start, IsCut, IsPartOf, announced_by, held_prefix, LeadsTo}
+use Rattle.tape_frames.specs.Cuts.{IsPartOf}
+use Rattle.subscriber.specs.Schedules.{run, start, IsCut, announced_by, held_prefix, LeadsTo}
 use Rattle.subscriber.proofs.Due.{FromDue-at}
 use Rattle.subscriber.proofs.Turns.{after_entry-keeps, after_entry-admitted, after_entry-refused}
 use Rattle.subscriber.proofs.Sound.{IsSound, tells, next_ready, next_own, takes, drains}

@@ -5,7 +5,7 @@ use Rattle.reports.specs.declared.message.Message.{Message}
 use Rattle.tape_core.specs.declared.entry.Entry.{Entry}
 use Rattle.tape_core.specs.Tape.{TapeState, refusal, tape_before, with_message}
 use Rattle.tape_frames.specs.declared.packet.Packet.{Packet}
-use Rattle.tape_frames.specs.declared.packet.Packet.TheVariants.{Data, Beat, End}
+use Rattle.tape_frames.specs.Cuts.{IsCutOf}
 use Rattle.tape_frames.specs.Packets.{entries_of, last_of}
 use Rattle.arbitration.specs.declared.line.Line.{Line}
 use Rattle.arbitration.specs.Deliveries.{window_after, entry_numbered}
@@ -61,19 +61,13 @@ run w (event ∷ events) = run (world_after w event) events
 abbrev pub IsPrefixOf : List Entry → List Entry → Type 0
 IsPrefixOf xs ys = (rest : List Entry) × (ys ≡ xs ++ rest)
 
--- consecutive entries of the tape
-abbrev pub IsPartOf : List Entry → List Entry → Type 0
-IsPartOf row tape = (before : List Entry) × (after : List Entry) × (tape ≡ before ++ (row ++ after))
-
 -- the tape as far as the subscriber holds it
 abbrev pub held_prefix : World → TapeState
 held_prefix w = tape_before w.tape (length w.subscriber.tape.entries)
 
--- a packet that was cut of the tape: some of its entries, or its length at some time, or its length once it is closed
+-- a packet that was cut of the tape as it is now
 abbrev pub IsCut : World → Packet → Type 0
-IsCut w (Data session row) = (session ≡ w.session) × IsPartOf row w.tape.entries
-IsCut w (Beat session last) = (session ≡ w.session) × (last ≤ length w.tape.entries)
-IsCut w (End session count) = (session ≡ w.session) × (w.tape.closed ≡ true) × (count ≡ length w.tape.entries)
+IsCut w packet = IsCutOf w.session w.tape packet
 
 -- each packet that comes was cut of the tape as it is then
 abbrev pub IsAllowed : World → Event → Type 0

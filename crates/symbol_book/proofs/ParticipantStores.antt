@@ -11,10 +11,11 @@ use Rattle.tape_types.proofs.NumberMaps.{same_key, key_itself}
 use Rattle.scratch_fold.specs.declared.summary.Effect.{Effect}
 use Rattle.summaries.specs.Effects.{Effects, Change}
 use Rattle.symbol_book.specs.Stores.{participant_effects, AllSettled, OwnBecomes}
+use Rattle.tape_types.specs.Ranges.{FIRST_PARTICIPANT, row_index}
 
 -- a letter from its index in the row
-key_of : (w i who : ℕ) → i + 65 ≡ who → nat_le 65 w ≡ true → w - 65 ≡ i → w ≡ who
-key_of w i who at letter same = let above : 65 ≤ w = leb-true 65 w letter in omega arith
+key_of : (w i who : ℕ) → i + FIRST_PARTICIPANT ≡ who → nat_le FIRST_PARTICIPANT w ≡ true → row_index w ≡ i → w ≡ who
+key_of w i who at letter same = let above : FIRST_PARTICIPANT ≤ w = leb-true FIRST_PARTICIPANT w letter in omega arith
 
 -- what is not the default stands before the end
 get_or-inside : (effects : List Effects) (i place : ℕ) → IsSome (map.get (get_or effects i map.empty) place) → i < length effects
@@ -25,26 +26,28 @@ get_or-inside (e ∷ effects) (suc i) place there = let rest : i < length effect
 
 module _ {S : Type 0} (effects_in : S → Effects) where
   -- what a participant's store holds, by its index in the row
-  pub participant_effects-at : (stores : List S) (i who : ℕ) → i + 65 ≡ who
+  pub participant_effects-at : (stores : List S) (i who : ℕ) → i + FIRST_PARTICIPANT ≡ who
       → participant_effects effects_in stores who ≡ get_or (map effects_in stores) i map.empty
   participant_effects-at stores i who at =
-      let letter : nat_le 65 who ≡ true = grind (arith, nat_tests) in
-      let index : who - 65 ≡ i = omega arith in
-      ap (λ (b : Bool). cond b (get_or (map effects_in stores) (who - 65) map.empty) map.empty) letter
+      let letter : nat_le FIRST_PARTICIPANT who ≡ true = grind (arith, nat_tests) in
+      let index : row_index who ≡ i = omega arith in
+      ap (λ (b : Bool). cond b (get_or (map effects_in stores) (row_index who) map.empty) map.empty) letter
       ∙ ap (λ k. get_or (map effects_in stores) k map.empty) index
 
   -- nothing is held beyond the row
-  pub participant_effects-past : (stores : List S) (i who : ℕ) → i + 65 ≡ who → length stores ≤ i → participant_effects effects_in stores who ≡ map.empty
+  pub participant_effects-past : (stores : List S) (i who : ℕ) → i + FIRST_PARTICIPANT ≡ who → length stores ≤ i
+      → participant_effects effects_in stores who ≡ map.empty
   participant_effects-past stores i who at past = participant_effects-at stores i who at
       ∙ get_or_past (map effects_in stores) i map.empty (subst (λ n. n ≤ i) (sym (length-map stores effects_in)) past)
 
   -- an empty row holds nothing
   pub participant_effects-none : (stores : List S) (who : ℕ) → stores ≡ [] → participant_effects effects_in stores who ≡ map.empty
   participant_effects-none stores who empty = ap (λ (s : List S). participant_effects effects_in s who) empty
-      ∙ elim (nat_le 65 who) as (λ b. cond b (get_or {A = Effects} [] (who - 65) map.empty) map.empty ≡ map.empty) [ true ↦ refl | false ↦ refl ]
+      ∙ elim (nat_le FIRST_PARTICIPANT who) as (λ b. cond b (get_or {A = Effects} [] (row_index who) map.empty) map.empty ≡ map.empty)
+      [ true ↦ refl | false ↦ refl ]
 
   -- what the stores hold after a write at one index
-  pub participant_effects-set : (stores : List S) (i who : ℕ) (s : S) → i + 65 ≡ who → i < length stores
+  pub participant_effects-set : (stores : List S) (i who : ℕ) (s : S) → i + FIRST_PARTICIPANT ≡ who → i < length stores
       → (w : ℕ) → participant_effects effects_in (set stores i s) w ≡ cond (eq_by_cmp nat_cmp w who) (effects_in s) (participant_effects effects_in stores w)
   participant_effects-set stores i who s at inside w =
       elim (eq_by_cmp nat_cmp w who) as (λ b. eq_by_cmp nat_cmp w who ≡ b
@@ -53,31 +56,34 @@ module _ {S : Type 0} (effects_in : S → Effects) where
             ap (participant_effects effects_in (set stores i s)) (same_key w who e) ∙ participant_effects-at (set stores i s) i who at
             ∙ ap (λ (es : List Effects). get_or es i map.empty) (map-set effects_in stores i s)
             ∙ get_or-set_same (map effects_in stores) i (effects_in s) map.empty within
-        | false ↦ λ e. ap (λ (es : List Effects). cond (nat_le 65 w) (get_or es (w - 65) map.empty) map.empty) (map-set effects_in stores i s)
-            ∙ elim (nat_le 65 w) as (λ b. nat_le 65 w ≡ b
-            → cond b (get_or (set (map effects_in stores) i (effects_in s)) (w - 65) map.empty) map.empty ≡ cond b
-            (get_or (map effects_in stores) (w - 65) map.empty) map.empty) [
-              | true ↦ λ l. let other : w - 65 ≢ i = λ same. true≢false (sym (ap (λ x. eq_by_cmp nat_cmp x who) (key_of w i who at l same) ∙ key_itself who)
+        | false ↦ λ e. ap (λ (es : List Effects). cond (nat_le FIRST_PARTICIPANT w) (get_or es (row_index w) map.empty) map.empty)
+            (map-set effects_in stores i s)
+            ∙ elim (nat_le FIRST_PARTICIPANT w) as (λ b. nat_le FIRST_PARTICIPANT w ≡ b
+            → cond b (get_or (set (map effects_in stores) i (effects_in s)) (row_index w) map.empty) map.empty ≡ cond b
+            (get_or (map effects_in stores) (row_index w) map.empty) map.empty) [
+              | true ↦ λ l. let other : row_index w ≢ i = λ same. true≢false
+                  (sym (ap (λ x. eq_by_cmp nat_cmp x who) (key_of w i who at l same) ∙ key_itself who)
                   ∙ e) in
-                  get_or-set_other (map effects_in stores) i (w - 65) (effects_in s) map.empty other
+                  get_or-set_other (map effects_in stores) i (row_index w) (effects_in s) map.empty other
               | false ↦ λ _. refl
             ] refl
       ] refl
 
   -- the index of a participant with an effect is in the row
-  pub index-there : (stores : List S) (i who place : ℕ) → i + 65 ≡ who → IsSome (map.get (participant_effects effects_in stores who) place) → i < length stores
+  pub index-there : (stores : List S) (i who place : ℕ) → i + FIRST_PARTICIPANT ≡ who
+      → IsSome (map.get (participant_effects effects_in stores who) place) → i < length stores
   index-there stores i who place at there = subst (λ n. i < n) (length-map stores effects_in)
       (get_or-inside (map effects_in stores) i place (subst (λ (e : Effects). IsSome (map.get e place)) (participant_effects-at stores i who at) there))
 
   -- what a participant's store holds, as it is read at its index
-  pub participant_effects-read : (stores : List S) (i who : ℕ) (s : S) → i + 65 ≡ who → i < length stores → s ≡ get_or stores i s
+  pub participant_effects-read : (stores : List S) (i who : ℕ) (s : S) → i + FIRST_PARTICIPANT ≡ who → i < length stores → s ≡ get_or stores i s
       → participant_effects effects_in stores who ≡ effects_in s
   participant_effects-read stores i who s at inside read = participant_effects-at stores i who at ∙ get_or-map effects_in stores i s map.empty inside
       ∙ ap effects_in (sym read)
 
 module _ {S : Type 0} (effects_in : S → Effects) (change_in : S → Change) where
   -- the store of `who` was written at its index
-  pub OwnBecomes-set : (old : List S) (i who : ℕ) (s : S) (effects : Effects) → i + 65 ≡ who → i < length old
+  pub OwnBecomes-set : (old : List S) (i who : ℕ) (s : S) (effects : Effects) → i + FIRST_PARTICIPANT ≡ who → i < length old
       → AllSettled change_in old → change_in s ≡ None → effects_in s ≡ effects → OwnBecomes effects_in change_in old (set old i s) who effects
   OwnBecomes-set old i who s effects at inside settled here is = record {
     held_now = λ w. participant_effects-set effects_in old i who s at inside w

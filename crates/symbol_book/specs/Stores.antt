@@ -6,12 +6,12 @@ use Rattle.std.specs.FinMap as map
 use Rattle.scratch_fold.specs.declared.summary.Effect.{Effect}
 use Rattle.summaries.specs.Effects.{Effects, Change}
 use Rattle.symbol_book.specs.declared.trade.Trade.{Trade}
-use Rattle.tape_types.specs.Ranges.{row_index}
+use Rattle.tape_types.specs.Ranges.{FIRST_PARTICIPANT, row_index}
 use Rattle.symbol_book.specs.Columns.{Trades, consolidated_effect_of, own_effect_at}
 
--- what each participant's own store holds, in a row of stores by letter; the row begins with `A`, which is 65, and beyond it nothing is held
+-- what each participant's own store holds, in a row of stores by letter; the row begins with `A`, and beyond it nothing is held
 abbrev pub participant_effects : {S : Type 0} → (S → Effects) → List S → ℕ → Effects
-participant_effects effects_in stores who = cond (nat_le 65 who) (get_or (map effects_in stores) (row_index who) map.empty) map.empty
+participant_effects effects_in stores who = cond (nat_le FIRST_PARTICIPANT who) (get_or (map effects_in stores) (row_index who) map.empty) map.empty
 
 -- the trade whose effects these are; with none of its own, which no book has, any columns do
 abbrev pub trade_of : Effect → Option Effect → Trade

@@ -22,18 +22,19 @@ use Rattle.tape_core.proofs.LegalNext.{admissible}
 use Rattle.tape_core.proofs.NamedTargets.{IsTarget-faultless, IsTarget-standing}
 use Rattle.std.specs.FinMap as map
 
+-- a report's place is the number of its entry
+placed : (number place : ℕ) → Some number ≡ Some place → number ≡ place
+placed number place e = cc
+
 module _ (t : TapeState) (kept : List Trades) (register : RegisterState) (row : Totals) (keeps : KeepsTape t kept register row) (route : Route) (book : Trades)
     (read : book ≡ get_or kept route.book book) where
   -- book and register can take the change
   pub can-change : (m : Message) → refusal t m ≡ None → IsRoute t m route → CanChange book register.targets route.place m
   can-change (Report header content) none is = (
-    subst (λ n. map.get book n ≡ None) (sym is.number ∙ placed is.place)
+    subst (λ n. map.get book n ≡ None) (sym is.number ∙ placed route.number route.place is.place)
         (place-vacant t kept register row keeps header content none route.book book is.book read),
     number-vacant t kept register row keeps header content none route.book book is.book read,
   )
-    where
-      placed : Some route.number ≡ Some route.place → route.number ≡ route.place
-      placed e = cc
   can-change (Cancel header target) none is =
       let there = IsTarget-faultless (messages_of t.entries) header.symbol header.participant target route.place
       (admissible t (Cancel header target) none).target is.place in (
@@ -76,11 +77,8 @@ module _ (t : TapeState) (kept : List Trades) (register : RegisterState) (row : 
       → total_at row' other ≡ (if is_of other m then option_map (total_after m) (total_at row other) else total_at row other))
       → KeepsTape (with_message t m) (set kept route.book changed) register' row'
   KeepsTape-message (Report header content) none is register' row' changed change targets numbers size totals =
-      KeepsTape-report t kept register row keeps header content none route.book book is.book read register' row' changed route.place (sym (placed is.place)
-      ∙ is.number) change targets numbers size totals
-    where
-      placed : Some route.number ≡ Some route.place → route.number ≡ route.place
-      placed e = cc
+      KeepsTape-report t kept register row keeps header content none route.book book is.book read register' row' changed route.place
+      (sym (placed route.number route.place is.place) ∙ is.number) change targets numbers size totals
   KeepsTape-message (Cancel header target) none is register' row' changed change targets numbers size totals =
       KeepsTape-cancel t kept register row keeps header target route.place route.book book is.book read
       (IsTarget-faultless (messages_of t.entries) header.symbol header.participant target route.place

@@ -29,17 +29,21 @@ PARTICIPANTS_MOST = 26
 abbrev pub IsPrice : ℕ → Type 0
 IsPrice n = (1 ≤ n) × (n ≤ PRICE_MOST)
 
--- a number of two parts, of which the low one has 4,294,967,296 values
-abbrev pub of_parts : ℕ → ℕ → ℕ
-of_parts low high = low + 4294967296 * high
+-- how many values the low part of a number has: 32 bits
+abbrev pub LOW_VALUES : ℕ
+LOW_VALUES = 4294967296
 
--- its parts
+-- a number of two parts
+abbrev pub of_parts : ℕ → ℕ → ℕ
+of_parts low high = low + LOW_VALUES * high
+
+-- the low part of a number
 abbrev pub low_part : ℕ → ℕ
-low_part number = number % 4294967296
+low_part number = number % LOW_VALUES
 
 -- the high part of a number
 abbrev pub high_part : ℕ → ℕ
-high_part number = number / 4294967296
+high_part number = number / LOW_VALUES
 
 -- a number of shares
 abbrev pub IsSize : ℕ → Type 0
@@ -53,13 +57,21 @@ IsMessageNumber n = (1 ≤ n) × (n ≤ NUMBER_MOST)
 abbrev pub IsTapeNumber : ℕ → Type 0
 IsTapeNumber n = (1 ≤ n) × (n ≤ TAPE_MOST)
 
+-- `A`, the first letter that a participant can be
+abbrev pub FIRST_PARTICIPANT : ℕ
+FIRST_PARTICIPANT = 65
+
+-- `Z`, the last one
+abbrev pub LAST_PARTICIPANT : ℕ
+LAST_PARTICIPANT = 90
+
 -- a participant is a capital letter
 abbrev pub IsParticipant : ℕ → Type 0
-IsParticipant b = (65 ≤ b) × (b ≤ 90)
+IsParticipant b = (FIRST_PARTICIPANT ≤ b) × (b ≤ LAST_PARTICIPANT)
 
--- a participant's index in a row by letter, from 0: `A` is 65
+-- a participant's index in a row by letter, from 0
 abbrev pub row_index : ℕ → ℕ
-row_index who = who - 65
+row_index who = who - FIRST_PARTICIPANT
 
 -- `A` to `Z`, `0` to `9`, or `.`
 abbrev pub is_name_byte : ℕ → Bool

@@ -1,6 +1,6 @@
 //! A participant.
 ghost use Rattle.std.specs.Prelude.{◌≡◌, ◌+◌, ◌<◌, ℕ, ◌↔◌, IsSome, IfSome};
-ghost use Rattle.tape_types.specs.Ranges.{IsParticipant, PARTICIPANTS_MOST, row_index};
+ghost use Rattle.tape_types.specs.Ranges.{FIRST_PARTICIPANT, IsParticipant, PARTICIPANTS_MOST, row_index};
 
 use std::marker::Model;
 
@@ -44,7 +44,7 @@ impl Participant {
     /// Its index in a row that has one element for each letter: 0 for `A`, up to 25.
     pub fn row_index(self) -> usize
         ensures index { result ≡ row_index self }
-        ensures letter { result + 65 ≡ self }
+        ensures letter { result + FIRST_PARTICIPANT ≡ self }
         ensures within { result < PARTICIPANTS_MOST }
     {
         usize::from(self.letter - b'A')

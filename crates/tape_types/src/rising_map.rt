@@ -62,12 +62,12 @@ impl<K: NumberKey, V: Copy> RisingMap<K, V> {
     pub fn get(&self, key: K) -> Option<V>
         ensures value { result ≡ map.get self.now (K.number key) }
     {
-        let place = locate(&self.entries, key)?;
-        let (_, value) = self.entries[place];
+        let index = locate(&self.entries, key)?;
+        let (_, value) = self.entries[index];
         Some(value)
     }
 
-    /// Where the entry of a key stands among `entries`, if the key has a value.
+    /// The index of a key's entry among `entries`, if the key has a value.
     pub fn position(&self, key: K) -> Option<usize>
         ensures position { MatchOption result (map.get self.now (K.number key) ≡ None)
             (λ i. StandsIn (K.number key) (map.entries self.now) i) }
@@ -85,8 +85,8 @@ impl<K: NumberKey, V: Copy> RisingMap<K, V> {
         if is_above_all(&self.entries, key) {
             self.entries.push((key, value))?;
         } else {
-            let place = position_of(&self.entries, key);
-            self.entries.insert(place, (key, value))?;
+            let index = position_of(&self.entries, key);
+            self.entries.insert(index, (key, value))?;
         }
         Ok(())
     }
@@ -108,9 +108,9 @@ impl<K: NumberKey, V: Copy> RisingMap<K, V> {
         ensures former { Some result ≡ map.get self.old (K.number key) }
         ensures changed { self.new ≡ map.insert self.old (K.number key) value }
     {
-        let place = locate(&self.entries, key).unwrap();
-        let (_, former) = self.entries[place];
-        self.entries[place] = (key, value);
+        let index = locate(&self.entries, key).unwrap();
+        let (_, former) = self.entries[index];
+        self.entries[index] = (key, value);
         former
     }
 
@@ -128,8 +128,8 @@ impl<K: NumberKey, V: Copy> RisingMap<K, V> {
         ensures value { result ≡ map.get self.old (K.number key) }
         ensures removed { self.new ≡ map.remove self.old (K.number key) }
     {
-        let place = locate(&self.entries, key)?;
-        let (_, value) = self.entries.remove(place);
+        let index = locate(&self.entries, key)?;
+        let (_, value) = self.entries.remove(index);
         Some(value)
     }
 
@@ -162,7 +162,7 @@ fn is_above_all<K: NumberKey, V>(entries: &[(K, V)], key: K) -> bool
     }
 }
 
-/// Where a key stands among entries whose keys rise, or where it would go.
+/// The index of a key among entries whose keys rise, or the one at which it would go in.
 fn position_of<K: NumberKey, V>(entries: &[(K, V)], key: K) -> usize
     requires rising { HasRisingKeys (keyed K.number entries.now) }
     ensures { IsPosition (K.number key) (keyed K.number entries.now) result }
@@ -171,15 +171,15 @@ fn position_of<K: NumberKey, V>(entries: &[(K, V)], key: K) -> usize
     entries.partition_point(|(at, _)| at.number() < number)
 }
 
-/// Where a key stands, if it has a value.
+/// The index of a key's entry, if it has a value.
 fn locate<K: NumberKey, V>(entries: &[(K, V)], key: K) -> Option<usize>
     requires rising { HasRisingKeys (keyed K.number entries.now) }
     ensures { MatchOption result (map.get (map.from_entries {R = nat_cmp} (keyed K.number entries.now)) (K.number key) ≡ None)
         (λ i. StandsIn (K.number key) (keyed K.number entries.now) i) }
 {
-    let place = position_of(entries, key);
-    match entries.get(place) {
-        Some((at, _)) if at.number() == key.number() => Some(place),
+    let index = position_of(entries, key);
+    match entries.get(index) {
+        Some((at, _)) if at.number() == key.number() => Some(index),
         _ => None,
     }
 }

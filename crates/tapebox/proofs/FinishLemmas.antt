@@ -8,7 +8,7 @@ use Rattle.tapebox.specs.BatchEnds.{EndsAt, Wrote, WroteForMemory}
 use Rattle.tapebox.specs.Ends.{end_of_reading}
 use Rattle.tapebox.specs.Finish.{Finishes, report_unless}
 use Rattle.tapebox.specs.Reading.{ReadsBatch}
-use Rattle.tapebox.specs.Writing.{WritesFront}
+use Rattle.row_reads.specs.Writing.{WritesFront}
 use Rattle.tapebox.specs.declared.batch_end.BatchEnd.{BatchEnd}
 use Rattle.tapebox.specs.declared.batch_end.BatchEnd.TheVariants.{Done, BadHeader, TooLarge, ReadFault, WriteFault, OutOfMemory}
 use Rattle.tapebox.specs.declared.header_fault.HeaderFault.{HeaderFault}
@@ -17,7 +17,7 @@ use Rattle.tapebox.specs.declared.read_end.ReadEnd.TheVariants.{TooLarge as Read
 use Rattle.tapebox.specs.declared.reading.Batch.{Batch}
 use Rattle.tapebox.specs.declared.reading.Batch.TheVariants.{Answered, Refused}
 use Rattle.tapebox.proofs.BatchLemmas.{Appends-kept, Appends-same}
-use Rattle.tapebox.proofs.WriteLemmas.{WritesFront-kept, WritesFront-longer, WritesFront-whole}
+use Rattle.row_reads.proofs.WriteLemmas.{WritesFront-kept, WritesFront-longer, WritesFront-whole}
 use Rattle.tapebox.proofs.WrittenDay.{ReadsBatch-may, ReadsBatch-stop, ReadsBatch-text}
 
 -- what was written is what the end says

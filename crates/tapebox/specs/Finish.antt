@@ -4,7 +4,7 @@ use Rattle.std.specs.Io.KnownBytes.{Appends}
 use Rattle.std.specs.List.{flat_map}
 use Rattle.tape_core.specs.Tape.{TapeState}
 use Rattle.tapebox.specs.Batch.{answer_line, fault_line, tape_report}
-use Rattle.tapebox.specs.Writing.{WritesFront}
+use Rattle.row_reads.specs.Writing.{WritesFront}
 use Rattle.tapebox.specs.declared.batch_end.BatchEnd.{BatchEnd}
 use Rattle.tapebox.specs.declared.batch_end.BatchEnd.TheVariants.{Done, BadHeader, TooLarge, ReadFault, WriteFault, OutOfMemory}
 use Rattle.tapebox.specs.declared.day.Day.{Day}

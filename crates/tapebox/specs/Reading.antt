@@ -1,7 +1,7 @@
 -- What reading a whole input gives, or ends with before that.
 use Rattle.std.specs.Prelude.{◌≡◌, ◌≤◌, ◌<◌, ◌+◌, ℕ, List, length, Option, IfSome, Ok, Err}
 use Rattle.tape_types.specs.Names.{Names}
-use Rattle.tapebox.specs.Batch.{INPUT_MOST, empty_tape, input_listing, message_lines}
+use Rattle.tapebox.specs.Batch.{INPUT_MOST, batch_tape, input_listing, message_lines}
 use Rattle.tapebox.specs.Day.{HasAnswered}
 use Rattle.tapebox.specs.declared.read_end.ReadEnd.{ReadEnd}
 use Rattle.tapebox.specs.declared.read_end.ReadEnd.TheVariants.{TooLarge, ReadFault, OutOfMemory}
@@ -10,7 +10,7 @@ use Rattle.tapebox.specs.declared.reading.Batch.TheVariants.{Answered, Refused}
 
 -- what was read of a whole input: the day that its lines left, or what is wrong with its header
 abbrev pub ReadsBatch : Batch → List ℕ → Type 0
-ReadsBatch (Answered day) input = (names : Names) × (input_listing input ≡ Ok names) × HasAnswered (empty_tape names) (message_lines input) day
+ReadsBatch (Answered day) input = (names : Names) × (input_listing input ≡ Ok names) × HasAnswered (batch_tape names) (message_lines input) day
 ReadsBatch (Refused fault) input = input_listing input ≡ Err fault
 
 -- the lengths of input at which reading ends so

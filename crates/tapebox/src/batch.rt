@@ -1,12 +1,14 @@
 //! A batch: a whole input answered line by line, and the report of the tape that it leaves.
-ghost use Rattle.std.specs.Prelude.{◌≡◌, ◌+◌, ◌++◌, ◌⊎◌, IfOk, IfSome, OnOk, OnErr, Ok, Err, [], false};
+ghost use Rattle.std.specs.Prelude.{◌≡◌, ◌+◌, ◌++◌, ◌⊎◌, IfErr, IfOk, IfSome, OnOk, OnErr, Ok, Err, [], false};
 ghost use Rattle.std.specs.Io.KnownBytes.{Appends, Keeps};
 ghost use Rattle.std.specs.List.{flat_map};
 ghost use Rattle.std.specs.Io.Take.{take_inner, take_limit};
+ghost use Rattle.day_report.specs.Rows.{report_rows};
+ghost use Rattle.day_report.specs.declared.report_fault.ReportFault.TheVariants.{OutOfMemory as RowsOutOfMemory};
 ghost use Rattle.tapebox.specs.Batch.{INPUT_MOST, answer_line, tape_report};
 ghost use Rattle.tapebox.specs.BatchEnds.{EndsAt, Wrote};
 ghost use Rattle.tapebox.specs.Finish.{Finishes, day_text};
-ghost use Rattle.tapebox.specs.Writing.{WritesFront};
+ghost use Rattle.row_reads.specs.Writing.{WritesFront};
 ghost use Rattle.tapebox.specs.declared.batch_end.BatchEnd.TheVariants.{ReadFault, TooLarge, WriteFault as EndWriteFault};
 ghost use Rattle.tapebox.specs.declared.stop.Stop.TheVariants.{OutOfMemory, WriteFault as StopWriteFault};
 
@@ -14,11 +16,11 @@ use crate::BatchEnd;
 use crate::day::{Answer, Day};
 use crate::day_tape::DayTape;
 use crate::gathered::Gathered;
-use crate::input::{INPUT_LIMIT, Input};
+use crate::input::{INPUT_MOST, Input};
 use crate::reading::{Batch, read_batch};
 use crate::stop::Stop;
-use crate::writing::{WriteFault, write_text};
-use day_report::{rows, write_report};
+use day_report::{ReportFault, Row, rows, write_report};
+use row_reads::{WriteFault, write_text};
 use std::alloc::{AllocError, Global};
 use std::io::{BufReader, Read, Take, Write};
 use std::mem;
@@ -56,11 +58,23 @@ fn write_answers<W: Write>(
     gathered.write_to(writer)
 }
 
-/// The text of the report of a tape, made by one worker.
+/// The rows of a tape, made by one worker: it starts no thread, and can lack nothing but memory.
+fn rows_by_one<T: Threads + Sync>(
+    rt: &T,
+    alloc: Global,
+    tape: &DayTape,
+) -> Result<Vec<Row>, ReportFault>
+    ensures rows { IfOk result (λ rows. rows.items ≡ report_rows tape.now) }
+    ensures fault { IfErr result (λ fault. fault ≡ RowsOutOfMemory) }
+{
+    rows(rt, alloc, tape, 1, &NoGate)
+}
+
+/// The text of the report of a tape.
 fn report<T: Threads + Sync>(rt: &T, alloc: Global, tape: &DayTape) -> Result<Vec<u8>, AllocError>
     ensures { IfOk result (λ text. text.items ≡ tape_report tape.now) }
 {
-    let Ok(rows) = rows(rt, alloc, tape, 1, &NoGate) else {
+    let Ok(rows) = rows_by_one(rt, alloc, tape) else {
         return Err(AllocError);
     };
     let mut text = Vec::new(alloc);
@@ -144,7 +158,7 @@ fn limited<R: Read>(reader: &mut R) -> Take<&mut R>
     ensures limit { take_limit result ≡ INPUT_MOST + 1 }
     ensures inner { take_inner result ≡ reader.entry }
 {
-    reader.take(INPUT_LIMIT + 1)
+    reader.take(INPUT_MOST + 1)
 }
 
 /// Reads a batch whole and writes it, as `batch_over` does, and gives what was read back beside the end.
@@ -215,7 +229,7 @@ pub fn last_batch<T: Threads + Sync, R: Read, W: Write>(
 #[cfg(test)]
 mod tests {
     use super::*;
-    use crate::LineRefusal;
+    use crate::BatchRefusal;
     use std::io;
     use std::io::ErrorKind;
     use std::test::Fail;
@@ -251,7 +265,7 @@ mod tests {
         let listing = Listing::new(rt.alloc(), &[symbol], &[participant])?;
         let mut day = Day::new(rt.alloc(), DayTape::new(rt.alloc(), listing, 1)?);
         day.answers
-            .push(Err(LineRefusal::Refused(Refusal::OutOfMemory)))?;
+            .push(Err(BatchRefusal::Refused(Refusal::OutOfMemory)))?;
         day.is_stopped = true;
 
         let read = Batch::Answered(day);

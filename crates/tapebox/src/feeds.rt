@@ -2,7 +2,7 @@
 ghost use Rattle.std.specs.Prelude.{◌≡◌, []};
 ghost use Rattle.live_feed.specs.Reports.{WritesOneReport};
 ghost use Rattle.tapebox.specs.Program.{RunsFeed, feed_text};
-ghost use Rattle.tapebox.specs.Writing.{WritesFront};
+ghost use Rattle.row_reads.specs.Writing.{WritesFront};
 
 use crate::command::{FollowWords, LiveWords};
 use crate::writing::say;

@@ -1,6 +1,6 @@
 //! A batch that is read: its input, line by line, and what it leaves.
 ghost use Rattle.std.specs.Prelude.{IfOk, IfErr, OnOk, IfSome};
-ghost use Rattle.tapebox.specs.Batch.{empty_tape};
+ghost use Rattle.tapebox.specs.Batch.{batch_tape};
 ghost use Rattle.tapebox.specs.Day.{HasAnswered};
 ghost use Rattle.tapebox.specs.Reading.{EndsReading, Fits, ReadsBatch};
 ghost use Rattle.tapebox.specs.Lines.{lines_of};
@@ -16,7 +16,7 @@ use std::io::BufRead;
 use tape_types::{Listing, ListingFault};
 
 /// The limit of a batch's tape, in entries, whatever other tapes may have.
-const TAPE_LIMIT: u32 = 1_048_576;
+const BATCH_TAPE_MOST: u32 = 1_048_576;
 
 /// What was read of a whole input.
 #[derive(Drop)]
@@ -34,11 +34,11 @@ fn read_day<B: BufRead>(
     input: &mut Input<B>,
     line: &mut Vec<u8>,
 ) -> Result<Day, ReadEnd>
-    ensures day { IfOk result (λ day. IfSome (B.remaining input.old.left) (λ bytes. HasAnswered (empty_tape listing) (lines_of bytes) day)) }
+    ensures day { IfOk result (λ day. IfSome (B.remaining input.old.left) (λ bytes. HasAnswered (batch_tape listing) (lines_of bytes) day)) }
     ensures fits { OnOk result (Fits (B.remaining input.old.left) input.old.taken) }
     ensures err { IfErr result (EndsReading (B.remaining input.old.left) input.old.taken) }
 {
-    let Ok(tape) = DayTape::new(alloc, listing, TAPE_LIMIT) else {
+    let Ok(tape) = DayTape::new(alloc, listing, BATCH_TAPE_MOST) else {
         return Err(ReadEnd::OutOfMemory);
     };
     let mut day = Day::new(alloc, tape);

@@ -233,7 +233,7 @@ fn has_all_summaries(tape: &Tape<IndexStore>, other: &Tape<IndexStore>) -> bool 
 
 /// Whether a line's figures are those of the tape: it ended with its input, each message was admitted or refused, and
 /// count, shares and last number are its participant's.
-fn is_of(tape: &Tape<IndexStore>, who: Participant, line: &LineFigures) -> bool {
+fn is_line_of(tape: &Tape<IndexStore>, who: Participant, line: &LineFigures) -> bool {
     line.ended == Ended::Clean
         && u64::from(line.count) + u64::from(line.refused) == u64::from(MESSAGES)
         && tape.count_of(who) == line.count
@@ -242,9 +242,9 @@ fn is_of(tape: &Tape<IndexStore>, who: Participant, line: &LineFigures) -> bool 
 }
 
 /// Whether each line has the tape's figures of its participant.
-fn are_all_of(tape: &Tape<IndexStore>, lines: &[LineFigures]) -> Option<bool> {
+fn are_all_lines_of(tape: &Tape<IndexStore>, lines: &[LineFigures]) -> Option<bool> {
     for line in 0..LINES {
-        if !is_of(tape, participant(line)?, lines.get(line as usize)?) {
+        if !is_line_of(tape, participant(line)?, lines.get(line as usize)?) {
             return Some(false);
         }
     }
@@ -346,7 +346,7 @@ type Compared = (Option<bool>, bool, usize);
 /// What lines came to and the day's tape, compared with the one that its messages make.
 fn compared(alloc: Global, lines: &[LineFigures], tape: &Tape<IndexStore>) -> Option<Compared> {
     let again = tape_again(alloc, tape)?;
-    let are_all = are_all_of(&again, lines);
+    let are_all = are_all_lines_of(&again, lines);
     Some((are_all, is_same(tape, &again), tape.entries().len()))
 }
 

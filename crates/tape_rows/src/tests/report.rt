@@ -9,11 +9,12 @@ use super::steps::{Step, Told, listing_of, told_so};
 use day_report::{ReportFault, Row, rows, write_report};
 use std::alloc::Global;
 use std::sync::atomic::{AtomicU32, Ordering};
+use std::test::Fail;
 use std::thread::Threads;
 use std::{io, thread};
 use summaries::ScratchStore;
 use tape_core::Tape;
-use tape_types::{Gate, Listing, NoGate};
+use tape_types::{Gate, Listing, NoGate, Participant, Symbol};
 
 /// The report of five symbols with a trade each, by Q.
 const FIVE: &[u8] = b"\
@@ -140,7 +141,7 @@ fn made_by_two<R: Threads + Sync, G: Gate + Sync>(rt: &R, alloc: Global, gate: &
 }
 
 /// How many turns a worker waits at most.
-const TURNS: u32 = 1_000_000_000;
+const TURNS: u32 = 100_000_000;
 
 /// Holds each of two workers after its first symbol until the other's first symbol is done.
 #[derive(Drop)]
@@ -180,48 +181,83 @@ fn two_workers_run_at_once(rt: HostRuntime) {
     assert_eq!(rt; meeting.met.load(Ordering::SeqCst), 2);
 }
 
-/// A gate that counts its calls, and those of the second worker, and adds up the turns that it is told.
+/// A gate that counts its calls, and those of workers beside the first, and adds up the turns that it is told.
 #[derive(Drop)]
 struct Count {
     calls: AtomicU32,
-    second: AtomicU32,
+    others: AtomicU32,
     turns: AtomicU32,
 }
 
 impl Gate for Count {
     fn between(&self, worker: usize, turn: u32) {
         self.calls.fetch_add(1, Ordering::SeqCst);
-        if worker == 1 {
-            self.second.fetch_add(1, Ordering::SeqCst);
+        if worker != 0 {
+            self.others.fetch_add(1, Ordering::SeqCst);
         }
         self.turns.fetch_add(turn, Ordering::SeqCst);
     }
 }
 
-/// What two workers make past a count: how many rows, and its calls, those of the second worker and the sum of the turns.
-fn counted<R: Threads + Sync>(rt: &R, alloc: Global) -> (usize, u32, u32, u32) {
+/// How often so many workers called the gate while they made the rows of a tape, and how many rows they made. `None` where
+/// a worker did not tell how many of its own symbols were done, however many it took, or one alone told a worker that there is not.
+fn calls<R: Threads + Sync>(
+    rt: &R,
+    alloc: Global,
+    tape: &Tape<ScratchStore>,
+    workers: usize,
+) -> Option<(u32, usize)> {
     let count = Count {
         calls: AtomicU32::new(0),
-        second: AtomicU32::new(0),
+        others: AtomicU32::new(0),
         turns: AtomicU32::new(0),
     };
-    (
-        made_by_two(rt, alloc, &count),
-        count.calls.load(Ordering::SeqCst),
-        count.second.load(Ordering::SeqCst),
-        count.turns.load(Ordering::SeqCst),
-    )
+    let rows = rows(rt, alloc, tape, workers, &count).ok()?;
+    let calls = count.calls.load(Ordering::SeqCst);
+    let others = count.others.load(Ordering::SeqCst);
+    let turns = up_to(calls.checked_sub(others)?).checked_add(up_to(others))?;
+    if count.turns.load(Ordering::SeqCst) != turns || (workers == 1 && others != 0) {
+        return None;
+    }
+    Some((calls, rows.len()))
 }
 
-/// The sum of the turns over five symbols, by how many of them the second worker took.
-const SUMS: [u32; 6] = [15, 11, 9, 9, 11, 15];
+/// The sum of the numbers from 1 to this one.
+fn up_to(most: u32) -> u32 {
+    most.saturating_mul(most.saturating_add(1)) / 2
+}
+
+/// A tape of a hundred symbols, `A0` to `J9`, without a report.
+fn hundred(alloc: Global) -> Option<Tape<ScratchStore>> {
+    let mut symbols = Vec::new(alloc);
+    for index in 0..100u8 {
+        let (letter, digit) = (b'A' + index / 10, b'0' + index % 10);
+        let name = [letter, digit, b' ', b' ', b' ', b' ', b' ', b' '];
+        symbols.push(Symbol::try_new(name)?).ok()?;
+    }
+    let participant = Participant::try_new(b'N')?;
+    let listing = Listing::new(alloc, &symbols, &[participant]).ok()?;
+    Tape::new(alloc, listing, 1).ok()
+}
 
 #[test]
-fn the_gate_is_called_after_each_symbol(rt: HostRuntime) {
-    let (rows, calls, second, turns) = counted(&rt, rt.alloc());
-    assert_eq!(rt; (rows, calls), (10, 5));
-    // Each worker is told how many of its own symbols are done, however many it took.
-    assert_eq!(rt; SUMS.get(second as usize), Some(&turns));
+fn the_gate_is_called_after_each_symbol(rt: HostRuntime) -> Result<(), Fail> {
+    let five = empty(rt.alloc()).ok_or("a tape")?;
+    let hundred = hundred(rt.alloc()).ok_or("a tape")?;
+    for workers in [1, 2] {
+        assert_eq!(rt;
+            calls(&rt, rt.alloc(), &five, workers),
+            Some((5, 5)),
+            "{workers} workers"
+        );
+        // Two workers have more than one symbol in a piece here.
+        assert_eq!(rt;
+            calls(&rt, rt.alloc(), &hundred, workers),
+            Some((100, 100)),
+            "{workers} workers"
+        );
+    }
+    Ok(())
 }
 
 /// A writer that takes nothing.

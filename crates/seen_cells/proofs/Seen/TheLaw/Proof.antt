@@ -15,6 +15,7 @@ use Rattle.seen_cells.specs.contracts.Seen as C
 use Rattle.seen_cells.proofs.Fields.{lends_twice}
 use Rattle.seen_cells.proofs.Seen.TheLaw.Statement.{statement}
 
+-- so what is lent of a `Seen` can be had twice, and for each shorter time
 pub shares : (T : RattleType) (L : Laws T) → statement T L
 shares T L = of_Lends (C.struct T) (C.the_codes T.Denot T.coded (marker.the_row RawPtr).coded) (C.the_heap T) (C.the_lent T)
     (λ d p. record {

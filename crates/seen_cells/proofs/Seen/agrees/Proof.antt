@@ -29,6 +29,7 @@ use Rattle.seen_cells.specs.contracts.Seen.agrees.Key.{name as #self}
 use Rattle.seen_cells.proofs.Seen.agrees.Statement.{statement}
 use Rattle.seen_cells.proofs.Seen.agrees.Code as code
 
+-- `agrees` keeps its contract
 pub agrees_spec : {M : Type 1} → statement M
 agrees_spec 𝓤 𝓛 𝓜 𝓡 wired T L =
     let H = 𝓛.H in let 𝓣 = tables 𝓤 H 𝓜 𝓡 𝓡.env in let R : RattleType = param 0 T in let En = ended T in let c = clauses T 𝓛 𝓜.mem 𝓡.returns in

@@ -28,6 +28,7 @@ use Rattle.seen_cells.specs.contracts.Seen.of.Key.{name as #self}
 use Rattle.seen_cells.proofs.Seen.of.Statement.{statement}
 use Rattle.seen_cells.proofs.Seen.of.Code as code
 
+-- `of` keeps its contract
 pub of_spec : {M : Type 1} → statement M
 of_spec 𝓤 𝓛 𝓜 𝓡 wired T L =
     let H = 𝓛.H in let 𝓣 = tables 𝓤 H 𝓜 𝓡 𝓡.env in let R : RattleType = param 0 T in let En = ended T in let c = clauses T 𝓛 𝓜.mem 𝓡.returns in

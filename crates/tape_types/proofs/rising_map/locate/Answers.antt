@@ -15,15 +15,15 @@ returns-in_default g c =
     let read = c.in-Some.ensures.lookup.3 in
     let differs : number e.0 ≢ number c.args.key = λ same. grind (arith, nat_tests, c.if-number.false) in
     map.get-from_entries nat_cmp_total (keyed number es) (number c.args.key)
-    ∙ find-absent (number c.args.key) (keyed number es) c.position_of-place.result c.requires.rising c.position_of-place.ensures
-    (λ d lt same. differs (ap (λ x. x.0) (sym (keyed-entry number es c.position_of-place.result e read.0 (read.1 e) d)) ∙ same))
+    ∙ find-absent (number c.args.key) (keyed number es) c.position_of-index.result c.requires.rising c.position_of-index.ensures
+    (λ d lt same. differs (ap (λ x. x.0) (sym (keyed-entry number es c.position_of-index.result e read.0 (read.1 e) d)) ∙ same))
 
 -- or none
 pub returns-in_default-2 : goal.returns-in_default-2
 returns-in_default-2 g c =
     let number = g.K.NumberKey.number in
     let es = c.args.entries.now in
-    let past : length es ≤ c.position_of-place.result = c.in_default.in-None-own.ensures.3 in
+    let past : length es ≤ c.position_of-index.result = c.in_default.in-None-own.ensures.3 in
     map.get-from_entries nat_cmp_total (keyed number es) (number c.args.key)
-    ∙ find-absent (number c.args.key) (keyed number es) c.position_of-place.result c.requires.rising c.position_of-place.ensures
+    ∙ find-absent (number c.args.key) (keyed number es) c.position_of-index.result c.requires.rising c.position_of-index.ensures
     (λ d lt. absurd (omega (arith, length-keyed number es)))

@@ -2,8 +2,8 @@ use Rattle.std.proofs.Common.{List, ℕ, ◌∙◌, subst}
 use Rattle.std.specs.List.{flat_map}
 use Rattle.tapebox.specs.Batch.{answer_line, tape_report}
 use Rattle.tapebox.specs.Finish.{report_unless}
-use Rattle.tapebox.specs.Writing.{WritesFront}
-use Rattle.tapebox.proofs.WriteLemmas.{WritesFront-longer, WritesFront-then}
+use Rattle.row_reads.specs.Writing.{WritesFront}
+use Rattle.row_reads.proofs.WriteLemmas.{WritesFront-longer, WritesFront-then}
 use Rattle.tapebox.proofs.batch.write_day.Goals as goal
 
 pub returns-in_err-write_answers-clause-fault : goal.returns-in_err-write_answers-clause-fault

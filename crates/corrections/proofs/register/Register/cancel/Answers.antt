@@ -4,7 +4,7 @@ use Rattle.std.proofs.lemmas.Option.{MatchOption-at_none}
 use Rattle.corrections.specs.declared.target.Target.{Target}
 use Rattle.corrections.specs.Targets.{IsStanding, Targets, cancelled_target, with_cancelled}
 use Rattle.corrections.specs.RegisterState.{RegisterState}
-use Rattle.corrections.proofs.Rows.{get-row, targets-insert}
+use Rattle.corrections.proofs.RegisterRows.{get-row, targets-insert}
 use Rattle.corrections.proofs.register.Register.cancel.Goals as goal
 use Rattle.corrections.proofs.register.Register.cancel.Goals.{in-Some, in_default}
 use Rattle.tape_types.proofs.RisingEntries.{keyed-get}

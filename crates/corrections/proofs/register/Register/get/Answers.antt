@@ -1,6 +1,6 @@
 use Rattle.std.proofs.Common.{◌<◌, length, ap, sym, ◌∙◌, arith}
 use Rattle.std.specs.FinMap as map
-use Rattle.corrections.proofs.Rows.{get-row}
+use Rattle.corrections.proofs.RegisterRows.{get-row}
 use Rattle.corrections.proofs.register.Register.get.Goals as goal
 
 pub returns : goal.returns

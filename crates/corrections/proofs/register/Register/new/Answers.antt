@@ -1,9 +1,9 @@
 use Rattle.std.proofs.Common.{◌-◌, ◌<◌, arith, rules}
 use Rattle.std.specs.FinMap as map
 use Rattle.corrections.proofs.LastNumbers.{slice_index-replicate_zero}
-use Rattle.corrections.proofs.Rows.{targets-empty}
+use Rattle.corrections.proofs.RegisterRows.{targets-empty}
 use Rattle.corrections.proofs.register.Register.new.Goals as goal
-use Rattle.tape_types.specs.Ranges.{PARTICIPANTS_MOST}
+use Rattle.tape_types.specs.Ranges.{row_index, PARTICIPANTS_MOST}
 
 pub returns-clause-targets : goal.returns-clause-targets
 returns-clause-targets c = targets-empty c.from_fn.result (λ i lt.
@@ -12,4 +12,4 @@ returns-clause-targets c = targets-empty c.from_fn.result (λ i lt.
     search rules)
 
 pub returns-clause-last_numbers : goal.returns-clause-last_numbers
-returns-clause-last_numbers c = λ who. slice_index-replicate_zero PARTICIPANTS_MOST (who - 65)
+returns-clause-last_numbers c = λ who. slice_index-replicate_zero PARTICIPANTS_MOST (row_index who)

@@ -3,7 +3,7 @@ use Rattle.std.specs.FinMap as map
 use Rattle.std.proofs.lemmas.Result.{on_ok_weaker}
 use Rattle.corrections.specs.RegisterState.{RegisterState}
 use Rattle.corrections.specs.Targets.{Targets, standing_target}
-use Rattle.corrections.proofs.Rows.{get-row, targets-insert}
+use Rattle.corrections.proofs.RegisterRows.{get-row, targets-insert}
 use Rattle.corrections.proofs.register.Register.record.Goals as goal
 
 pub insert-requires : goal.insert-requires

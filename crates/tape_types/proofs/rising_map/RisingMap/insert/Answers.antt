@@ -24,13 +24,13 @@ pub invariant_of-self-in-Continue-branch-2 : goal.invariant_of-self-in-Continue-
 invariant_of-self-in-Continue-branch-2 g c =
     let k = g.K.NumberKey.number c.args.key in
     rw c.in_ok-insert.ensures.items
-    (keyed-inserted g.K.NumberKey.number c.args.key c.self.inside.entries.items c.self.invariant c.args.value c.position_of-place.result
-    (rw c.deref-else-is_above_all.ensures.value at c.position_of-place.ensures) (ap (λ m. map.get m k) c.self.view_is ∙ c.requires.vacant)).0
+    (keyed-inserted g.K.NumberKey.number c.args.key c.self.inside.entries.items c.self.invariant c.args.value c.position_of-index.result
+    (rw c.deref-else-is_above_all.ensures.value at c.position_of-index.ensures) (ap (λ m. map.get m k) c.self.view_is ∙ c.requires.vacant)).0
 
 pub returns-in_ok-insert-clause-ok : goal.returns-in_ok-insert-clause-ok
 returns-in_ok-insert-clause-ok g c =
     let k = g.K.NumberKey.number c.args.key in
     rw c.in_ok-insert.ensures.items
-    (keyed-inserted g.K.NumberKey.number c.args.key c.self.inside.entries.items c.self.invariant c.args.value c.position_of-place.result
-    (rw c.deref-else-is_above_all.ensures.value at c.position_of-place.ensures) (ap (λ m. map.get m k) c.self.view_is ∙ c.requires.vacant)).1
+    (keyed-inserted g.K.NumberKey.number c.args.key c.self.inside.entries.items c.self.invariant c.args.value c.position_of-index.result
+    (rw c.deref-else-is_above_all.ensures.value at c.position_of-index.ensures) (ap (λ m. map.get m k) c.self.view_is ∙ c.requires.vacant)).1
     ∙ ap (λ m. map.insert m k c.args.value) c.self.view_is

@@ -14,8 +14,8 @@ invariant_of-self g c =
     let found = subst (λ l. MatchOption c.locate.result (map.get (map.from_entries {R = nat_cmp} (keyed number l)) k ≡ None)
     (StandsIn k (keyed number l))) c.deref.ensures.value c.locate.ensures in
     let at = subst (λ o. MatchOption o (map.get (map.from_entries {R = nat_cmp} (keyed number es)) k ≡ None)
-    (StandsIn k (keyed number es))) c.unwrap-place.ensures found in
-    (keyed-replaced number c.args.key es c.self.invariant c.unwrap-place.result at c.args.value).0
+    (StandsIn k (keyed number es))) c.unwrap-index.ensures found in
+    (keyed-replaced number c.args.key es c.self.invariant c.unwrap-index.result at c.args.value).0
 
 pub returns-clause-former : goal.returns-clause-former
 returns-clause-former g c =
@@ -23,11 +23,11 @@ returns-clause-former g c =
     let es = c.self.inside.entries.items in
     let k = number c.args.key in
     let e = c.index.result.now in
-    let i = c.unwrap-place.result in
+    let i = c.unwrap-index.result in
     let found = subst (λ l. MatchOption c.locate.result (map.get (map.from_entries {R = nat_cmp} (keyed number l)) k ≡ None)
     (StandsIn k (keyed number l))) c.deref.ensures.value c.locate.ensures in
     let at = subst (λ o. MatchOption o (map.get (map.from_entries {R = nat_cmp} (keyed number es)) k ≡ None)
-    (StandsIn k (keyed number es))) c.unwrap-place.ensures found in
+    (StandsIn k (keyed number es))) c.unwrap-index.ensures found in
     let lt : i < length es = subst (λ n. i < n) (length-keyed number es) at.within in
     ap (λ x. Some x.1) (sym (keyed-entry number es i e lt c.index.ensures (number e.0, e.1)))
     ∙ sym (keyed-found number c.args.key es c.self.invariant i at (number e.0, e.1))
@@ -41,6 +41,6 @@ returns-clause-changed g c =
     let found = subst (λ l. MatchOption c.locate.result (map.get (map.from_entries {R = nat_cmp} (keyed number l)) k ≡ None)
     (StandsIn k (keyed number l))) c.deref.ensures.value c.locate.ensures in
     let at = subst (λ o. MatchOption o (map.get (map.from_entries {R = nat_cmp} (keyed number es)) k ≡ None)
-    (StandsIn k (keyed number es))) c.unwrap-place.ensures found in
-    (keyed-replaced number c.args.key es c.self.invariant c.unwrap-place.result at c.args.value).1
+    (StandsIn k (keyed number es))) c.unwrap-index.ensures found in
+    (keyed-replaced number c.args.key es c.self.invariant c.unwrap-index.result at c.args.value).1
     ∙ ap (λ m. map.insert m k c.args.value) c.self.view_is

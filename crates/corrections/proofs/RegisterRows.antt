@@ -11,6 +11,7 @@ use Rattle.corrections.specs.declared.target.Target.{Target}
 use Rattle.corrections.specs.Targets.{key_cmp}
 use Rattle.corrections.proofs.Keyed.{key_total, key_exact, tied-same, tied-other}
 use Rattle.corrections.specs.TargetRows.{RowTargets, row_entries, targets_of_rows}
+use Rattle.tape_types.specs.Ranges.{FIRST_PARTICIPANT}
 
 -- a row's entries under its participant
 abbrev tagged : ℕ → List (ℕ × Target) → List ((ℕ × ℕ) × Target)
@@ -46,38 +47,38 @@ find-row w n who (suc i) (row ∷ rows) at =
     find-other w n who (map.entries row) (row_entries (who + 1) rows) (λ same. omega arith) ∙ find-row w n (who + 1) i rows (omega arith)
 
 -- what is found under a participant's number is what its row has
-pub get-row : (rows : List RowTargets) (w n i : ℕ) (d : RowTargets) → i + 65 ≡ w → i < length rows
+pub get-row : (rows : List RowTargets) (w n i : ℕ) (d : RowTargets) → i + FIRST_PARTICIPANT ≡ w → i < length rows
     → map.get (targets_of_rows rows) (w, n) ≡ map.get (get_or rows i d) n
 get-row rows w n i d at inside =
-    map.get-from_entries key_total (row_entries 65 rows) (w, n) ∙ find-row w n 65 i rows (omega arith)
+    map.get-from_entries key_total (row_entries FIRST_PARTICIPANT rows) (w, n) ∙ find-row w n FIRST_PARTICIPANT i rows (omega arith)
     ∙ ap (λ r. map.get r n) (get_or_default rows i map.empty d inside)
 
 -- or nothing, where it has none
-get-else : (rows : List RowTargets) (w n i : ℕ) → 65 + i ≡ w → map.get (targets_of_rows rows) (w, n) ≡ map.get (get_or rows i map.empty) n
-get-else rows w n i at = map.get-from_entries key_total (row_entries 65 rows) (w, n) ∙ find-row w n 65 i rows at
+get-else : (rows : List RowTargets) (w n i : ℕ) → FIRST_PARTICIPANT + i ≡ w → map.get (targets_of_rows rows) (w, n) ≡ map.get (get_or rows i map.empty) n
+get-else rows w n i at = map.get-from_entries key_total (row_entries FIRST_PARTICIPANT rows) (w, n) ∙ find-row w n FIRST_PARTICIPANT i rows at
 
--- there is nothing by a letter before `A`, which is 65
-get-before : (rows : List RowTargets) (w n : ℕ) → w < 65 → map.get (targets_of_rows rows) (w, n) ≡ None
-get-before rows w n before = map.get-from_entries key_total (row_entries 65 rows) (w, n) ∙ find-before w n 65 rows before
+-- there is nothing by a letter before the first participant's
+get-before : (rows : List RowTargets) (w n : ℕ) → w < FIRST_PARTICIPANT → map.get (targets_of_rows rows) (w, n) ≡ None
+get-before rows w n before = map.get-from_entries key_total (row_entries FIRST_PARTICIPANT rows) (w, n) ∙ find-before w n FIRST_PARTICIPANT rows before
 
 -- rows that answer alike are the same targets
-same_rows : (rows : List RowTargets) (m : map.FinMap key_cmp Target) → ((w n : ℕ) → w < 65 → map.get m (w, n) ≡ None)
-    → ((i n : ℕ) → map.get (get_or rows i map.empty) n ≡ map.get m (65 + i, n)) → targets_of_rows rows ≡ m
-same_rows rows m before rest = map.same_map key_total key_exact _ _ (λ q. elim (cases_lt q.0 65) [
+same_rows : (rows : List RowTargets) (m : map.FinMap key_cmp Target) → ((w n : ℕ) → w < FIRST_PARTICIPANT → map.get m (w, n) ≡ None)
+    → ((i n : ℕ) → map.get (get_or rows i map.empty) n ≡ map.get m (FIRST_PARTICIPANT + i, n)) → targets_of_rows rows ≡ m
+same_rows rows m before rest = map.same_map key_total key_exact _ _ (λ q. elim (cases_lt q.0 FIRST_PARTICIPANT) [
   | inl lt ↦ get-before rows q.0 q.1 lt ∙ sym (before q.0 q.1 lt)
   | inr le ↦
-      let at : 65 + (q.0 - 65) ≡ q.0 = omega arith in
-      get-else rows q.0 q.1 (q.0 - 65) at ∙ rest (q.0 - 65) q.1 ∙ ap (λ w. map.get m (w, q.1)) at
+      let at : FIRST_PARTICIPANT + (q.0 - FIRST_PARTICIPANT) ≡ q.0 = omega arith in
+      get-else rows q.0 q.1 (q.0 - FIRST_PARTICIPANT) at ∙ rest (q.0 - FIRST_PARTICIPANT) q.1 ∙ ap (λ w. map.get m (w, q.1)) at
 ])
 
 -- empty rows have no target
 pub targets-empty : (rows : List RowTargets) → ((i : ℕ) → i < length rows → get_or rows i map.empty ≡ map.empty) → targets_of_rows rows ≡ map.empty
 targets-empty rows empty = same_rows rows map.empty (λ w n lt. map.get-empty key_cmp (w, n)) (λ i n.
     let none : get_or rows i map.empty ≡ map.empty = elim (cases_lt i (length rows)) [ inl lt ↦ empty i lt | inr le ↦ get_or_past rows i map.empty le ] in
-    ap (λ row. map.get row n) none ∙ map.get-empty nat_cmp n ∙ sym (map.get-empty key_cmp (65 + i, n)))
+    ap (λ row. map.get row n) none ∙ map.get-empty nat_cmp n ∙ sym (map.get-empty key_cmp (FIRST_PARTICIPANT + i, n)))
 
 -- one more target in a row is one more of the day
-pub targets-insert : (rows : List RowTargets) (who n i : ℕ) (d row : RowTargets) (v : Target) → i + 65 ≡ who → i < length rows
+pub targets-insert : (rows : List RowTargets) (who n i : ℕ) (d row : RowTargets) (v : Target) → i + FIRST_PARTICIPANT ≡ who → i < length rows
     → row ≡ map.insert (get_or rows i d) n v → targets_of_rows (set rows i row) ≡ map.insert (targets_of_rows rows) (who, n) v
 targets-insert rows who n i d row v at inside is = same_rows (set rows i row) (map.insert (targets_of_rows rows) (who, n) v)
     (λ w m lt. map.get-insert key_total (targets_of_rows rows) (who, n) v (w, m)
@@ -87,12 +88,14 @@ targets-insert rows who n i d row v at inside is = same_rows (set rows i row) (m
           ap (λ k. map.get (get_or (set rows i row) k map.empty) m) same
           ∙ ap (λ r. map.get r m) (get_or-set_same rows i row map.empty inside ∙ is)
           ∙ map.get-insert nat_cmp_total (get_or rows i d) n v m
-          ∙ ap (λ b. cond b (Some v) (map.get (get_or rows i d) m)) (sym (tied-same (65 + j) m who n (omega arith)))
-          ∙ ap (λ o. cond (eq_by_cmp key_cmp (65 + j, m) (who, n)) (Some v) o) (sym (get-row rows (65 + j) m i d (omega arith) inside))
-          ∙ sym (map.get-insert key_total (targets_of_rows rows) (who, n) v (65 + j, m))
+          ∙ ap (λ b. cond b (Some v) (map.get (get_or rows i d) m)) (sym (tied-same (FIRST_PARTICIPANT + j) m who n (omega arith)))
+          ∙ ap (λ o. cond (eq_by_cmp key_cmp (FIRST_PARTICIPANT + j, m) (who, n)) (Some v) o)
+          (sym (get-row rows (FIRST_PARTICIPANT + j) m i d (omega arith) inside))
+          ∙ sym (map.get-insert key_total (targets_of_rows rows) (who, n) v (FIRST_PARTICIPANT + j, m))
       | inr other ↦
           ap (λ r. map.get r m) (get_or-set_other rows i j row map.empty other)
-          ∙ sym (get-else rows (65 + j) m j refl)
-          ∙ ap (λ b. cond b (Some v) (map.get (targets_of_rows rows) (65 + j, m))) (sym (tied-other (65 + j) m who n (λ same. other (omega arith))))
-          ∙ sym (map.get-insert key_total (targets_of_rows rows) (who, n) v (65 + j, m))
+          ∙ sym (get-else rows (FIRST_PARTICIPANT + j) m j refl)
+          ∙ ap (λ b. cond b (Some v) (map.get (targets_of_rows rows) (FIRST_PARTICIPANT + j, m)))
+          (sym (tied-other (FIRST_PARTICIPANT + j) m who n (λ same. other (omega arith))))
+          ∙ sym (map.get-insert key_total (targets_of_rows rows) (who, n) v (FIRST_PARTICIPANT + j, m))
     ])

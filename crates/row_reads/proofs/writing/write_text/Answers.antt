@@ -1,8 +1,8 @@
 use Rattle.std.proofs.Common.{◌∙◌, Bor, List, ℕ, ap}
 use Rattle.std.proofs.lemmas.List.{take_rest}
-use Rattle.tapebox.proofs.WriteLemmas.{WritesUpTo-both, WritesUpTo-count, WritesUpTo-kept}
-use Rattle.tapebox.proofs.writing.write_text.Goals.{in-Err, in-Ok}
-use Rattle.tapebox.proofs.writing.write_text.Goals as goal
+use Rattle.row_reads.proofs.WriteLemmas.{WritesUpTo-both, WritesUpTo-count, WritesUpTo-kept}
+use Rattle.row_reads.proofs.writing.write_text.Goals.{in-Err, in-Ok}
+use Rattle.row_reads.proofs.writing.write_text.Goals as goal
 
 pub loop-preserved : goal.loop-preserved
 loop-preserved g c = elim c.match-write.branch [

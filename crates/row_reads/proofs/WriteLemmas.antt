@@ -1,27 +1,9 @@
 -- A text that is written piece by piece.
-use Rattle.std.proofs.Common.{◌≡◌, ◌++◌, ◌∙◌, [], ℕ, List, Option, Some, None, OnErr, Result, Ok, Err, refl, sym, ap, subst, append-nil, append_assoc, take}
-use Rattle.std.proofs.Common.{drop}
+use Rattle.std.proofs.Common.{◌≡◌, ◌++◌, ◌∙◌, [], ℕ, List, Option, refl, sym, ap, subst, append-nil, append_assoc, take, drop}
 use Rattle.std.specs.Io.KnownBytes.{Appends, Keeps}
+use Rattle.std.proofs.KnownBytes.{Appends-kept, Appends-nil, Appends-trans}
 use Rattle.std.proofs.lemmas.List.{take-append-drop}
-use Rattle.tapebox.specs.Writing.{WritesFront, WritesUpTo}
-
--- nothing is appended
-Appends-nil : (known : Option (List ℕ)) → Appends known known []
-Appends-nil None = tt
-Appends-nil (Some xs) = sym (append-nil xs)
-
--- one text is appended after another
-Appends-both : (old now new : Option (List ℕ)) (first second : List ℕ) → Appends old now first → Appends now new second → Appends old new (first ++ second)
-Appends-both None now new first second one two = tt
-Appends-both (Some xs) None new first second one two = absurd one
-Appends-both (Some xs) (Some ys) None first second one two = absurd two
-Appends-both (Some xs) (Some ys) (Some zs) first second one two = two ∙ ap (λ (l : List ℕ). l ++ second) one ∙ append_assoc xs first second
-
--- known bytes that stay grow by nothing
-Appends-kept_nil : (old new : Option (List ℕ)) → Keeps old new → Appends old new []
-Appends-kept_nil None new kept = tt
-Appends-kept_nil (Some xs) None kept = absurd kept
-Appends-kept_nil (Some xs) (Some ys) kept = kept ∙ sym (append-nil xs)
+use Rattle.row_reads.specs.Writing.{WritesFront, WritesUpTo}
 
 -- nothing is written of a text
 pub WritesUpTo-none : (text : List ℕ) (known : Option (List ℕ)) → WritesUpTo text text known known
@@ -41,7 +23,7 @@ pub WritesUpTo-both : (text mid rest : List ℕ) (old now new : Option (List ℕ
 WritesUpTo-both text mid rest old now new one two = record {
   front = one.front ++ two.front;
   split = one.split ∙ ap (λ (l : List ℕ). one.front ++ l) two.split ∙ sym (append_assoc one.front two.front rest);
-  written = Appends-both old now new one.front two.front one.written two.written;
+  written = Appends-trans old now new one.front two.front one.written two.written;
 }
 
 -- so many bytes of a text are written
@@ -51,7 +33,7 @@ WritesUpTo-count text left old new n written is = record { front = take n text; 
 
 -- no byte of a text is written
 pub WritesUpTo-kept : (text : List ℕ) (old new : Option (List ℕ)) → Keeps old new → WritesUpTo text text old new
-WritesUpTo-kept text old new kept = record { front = []; split = refl; written = Appends-kept_nil old new kept }
+WritesUpTo-kept text old new kept = record { front = []; split = refl; written = Appends-kept old old new [] (Appends-nil old) kept }
 
 -- a text grows by more, and so does what is left of it
 pub WritesUpTo-longer : (text rest more : List ℕ) (old new : Option (List ℕ)) → WritesUpTo text rest old new → WritesUpTo (text ++ more) (rest ++ more) old new
@@ -93,13 +75,3 @@ pub WritesFront-then : (first second : List ℕ) (old now new : Option (List ℕ
     → WritesFront (first ++ second) old new
 WritesFront-then first second old now new written front =
     WritesFront-gathered first [] second second old now new refl (WritesUpTo-whole first old now written) front
-
--- what holds anyway holds at an error
-pub OnErr-any : {T E : Type 0} (r : Result T E) (P : Type 0) → P → OnErr r P
-OnErr-any (Ok value) P p = tt
-OnErr-any (Err error) P p = p
-
--- what follows from what holds at an error
-pub OnErr-map : {T E : Type 0} (r : Result T E) (P Q : Type 0) → (P → Q) → OnErr r P → OnErr r Q
-OnErr-map (Ok value) P Q f p = tt
-OnErr-map (Err error) P Q f p = f p

@@ -1,0 +1,32 @@
+//! Texts written whole to a writer.
+ghost use Rattle.std.specs.Prelude.{OnOk};
+ghost use Rattle.std.specs.Io.KnownBytes.{Appends};
+ghost use Rattle.row_reads.specs.Writing.{WritesFront};
+
+use std::io::{ErrorKind, Write};
+
+/// A write failed.
+#[derive(Clone, Copy, Debug, PartialEq, Eq)]
+pub struct WriteFault;
+
+/// Writes all of a text. After a write that failed, a front of the text and nothing else stands written. An interrupted
+/// write is made again.
+pub fn write_text<W: Write>(writer: &mut W, text: &[u8]) -> Result<(), WriteFault>
+    ensures written { OnOk result (Appends (W.contents writer.old) (W.contents writer.new) text.now) }
+    ensures front { WritesFront text.now (W.contents writer.old) (W.contents writer.new) }
+{
+    let mut rest = text;
+    // `write_all` would not tell what was written before a write that fails.
+    for _ in 0..u64::MAX {
+        if rest.is_empty() {
+            return Ok(());
+        }
+        match writer.write(rest) {
+            Ok(0) => return Err(WriteFault),
+            Ok(count) => rest = &rest[count..],
+            Err(error) if error.kind() == ErrorKind::Interrupted => {}
+            Err(_) => return Err(WriteFault),
+        }
+    }
+    Err(WriteFault)
+}
