@@ -1,7 +1,7 @@
 //! The rows of a report, made by pieces of the listing.
 ghost use Rattle.std.specs.Prelude.{◌≡◌, ◌≢◌, ◌++◌, ◌+◌, ◌*◌, ◌<◌, ◌≤◌, List, Err, Some, None, IfErr, IfOk, IfSome, OnOk, length, slice_get, take, drop};
 ghost use Rattle.std.specs.List.{AllByRecursion, flat_map};
-ghost use Rattle.day_report.specs.Pieces.{IsPieceAt, AreMade, AreFrom, AreFromSome, IsShare};
+ghost use Rattle.day_report.specs.Pieces.{IsPieceAt, AreMade, AreFrom, AreFromSome, IsShare, MAX_WORKERS};
 ghost use Rattle.day_report.specs.Rows.{report_rows, symbol_rows};
 ghost use Rattle.day_report.specs.declared.report_fault.ReportFault.TheVariants.{BadWorkers, Unstarted, WriteFault};
 ghost use Rattle.tape_types.specs.Ranges.{SYMBOLS_MOST};
@@ -171,7 +171,7 @@ fn joined<S: Store>(
     requires made { AllByRecursion (IsShare tape.now size) made.now }
     ensures { IfOk result (λ rows. rows.items ≡ report_rows tape.now) }
 {
-    // All of the room at once: a row that grew would be copied again and again, while the other workers have ended.
+    // All of the room at once, since one thread alone joins the pieces, and a list that grows may be copied.
     let mut rows = Vec::with_capacity(alloc, total_count(made))?;
     let mut start = 0;
     while let Some(piece) = piece_from(tape, start, size) {
@@ -215,8 +215,8 @@ pub fn rows<S: Store + Sync, G: Gate + Sync, R: Threads + Sync>(
     gate: &G,
 ) -> Result<Vec<Row>, ReportFault>
     ensures rows { IfOk result (λ rows. rows.items ≡ report_rows tape.now) }
-    ensures bad { result ≡ Err BadWorkers → ¬ ((1 ≤ workers) × (workers ≤ 64)) }
-    ensures within { ¬ ((1 ≤ workers) × (workers ≤ 64)) → result ≡ Err BadWorkers }
+    ensures bad { result ≡ Err BadWorkers → ¬ ((1 ≤ workers) × (workers ≤ MAX_WORKERS)) }
+    ensures within { ¬ ((1 ≤ workers) × (workers ≤ MAX_WORKERS)) → result ≡ Err BadWorkers }
     ensures unstarted { result ≡ Err Unstarted → 2 ≤ workers }
     ensures written { result ≢ Err WriteFault }
 {

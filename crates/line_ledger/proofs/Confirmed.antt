@@ -1,14 +1,14 @@
 -- What confirmed tokens show, and what is cut of it.
 use Rattle.std.proofs.Common.{◌≡◌, ℕ, suc, ◌+◌, ◌-◌, ◌<◌, ◌≤◌, List, [], ◌∷◌, ◌++◌, length, length-append, take, drop, slice_get, slice_index_or, Some}
 use Rattle.std.proofs.Common.{refl, sym, subst, ap, ◌∙◌, arith}
-use Rattle.std.proofs.lemmas.List.{append_assoc, length-map, take-append-drop}
+use Rattle.std.proofs.lemmas.List.{length-map}
 use Rattle.std.proofs.lemmas.Option.{none-some, same_Some}
 use Rattle.tape_core.specs.declared.entry.Entry.{Entry}
 use Rattle.tape_core.specs.Tape.{TapeState}
-use Rattle.tape_frames.specs.Limits.{most_entries}
 use Rattle.tape_frames.specs.Sources.{BeginsWith, cut_of}
 use Rattle.line_ledger.specs.Cells.{TokenState, FirstTokens, HaveAll, shown}
 use Rattle.tape_frames.specs.Cuts.{IsPartOf}
+use Rattle.tape_frames.proofs.Cuts.{cut_is_part}
 
 -- entries that have each token's entry at its place begin with what the tokens show
 begins : (tokens : List TokenState) (entries : List Entry)
@@ -28,23 +28,10 @@ front names tokens entries first all = begins tokens entries (λ i d low.
     let place : (slice_index_or tokens i d).number - 1 ≡ i = omega (arith, number) in
     subst (λ n. slice_get entries n ≡ Some (slice_index_or tokens i d).entry) place (all i d low))
 
--- some entries of the front are consecutive entries of the whole
-part : (es tape : List Entry) (from : ℕ) → BeginsWith es tape → IsPartOf (cut_of es from) tape
-part es tape from begin =
-    let skipped = take (from - 1) es in
-    let left = drop (from - 1) es in
-    let after = drop most_entries left in (
-      skipped,
-      after ++ begin.0,
-      begin.1 ∙ ap (λ xs. xs ++ begin.0) (sym (take-append-drop (from - 1) es)) ∙ append_assoc skipped left begin.0
-          ∙ ap (λ xs. skipped ++ (xs ++ begin.0)) (sym (take-append-drop most_entries left))
-          ∙ ap (λ xs. skipped ++ xs) (append_assoc (take most_entries left) after begin.0),
-    )
-
 -- what is cut of the entries that are shown is a part of the tape
 pub data_cut : (names : List ℕ) (tokens : List TokenState) (t : TapeState) (from : ℕ) → FirstTokens names tokens → HaveAll t.entries tokens
     → IsPartOf (cut_of (shown tokens) from) t.entries
-data_cut names tokens t from first all = part (shown tokens) t.entries from (front names tokens t.entries first all)
+data_cut names tokens t from first all = cut_is_part (shown tokens) t.entries from (front names tokens t.entries first all)
 
 -- there are no more tokens than entries
 pub as_many : (names : List ℕ) (tokens : List TokenState) (t : TapeState) (last : ℕ) → FirstTokens names tokens → HaveAll t.entries tokens

@@ -5,7 +5,7 @@ use Rattle.std.proofs.lemmas.List.{take-append-le}
 use Rattle.std.specs.Int.{w16, from_be_bytes}
 use Rattle.std.specs.Io.KnownBytes.{Consumes, IsAtEnd}
 use Rattle.std.proofs.KnownBytes.{Consumes-trans}
-use Rattle.reports.specs.Reading.{announced_length}
+use Rattle.reports.specs.Reading.{announced_length, LONGEST_BODY}
 use Rattle.participant_lines.specs.Frames.{IsFrame, IsLength, IsPart}
 
 -- bytes that have what they announce begin with a frame
@@ -36,7 +36,8 @@ unfolding announced_length
 announced-two row long = ap (from_be_bytes w16) (take_all 2 (take 2 row) (omega (arith, length-take-le 2 row long)))
 
 -- a length that no frame has
-pub oversize : (had left : Option (List ℕ)) (row : List ℕ) (len : ℕ) → 2 ≤ length row → len ≡ announced_length row → (len ≡ 0) ⊎ (¬ (len ≡ 0) × (64 < len))
+pub oversize : (had left : Option (List ℕ)) (row : List ℕ) (len : ℕ) → 2 ≤ length row → len ≡ announced_length row
+    → (len ≡ 0) ⊎ (¬ (len ≡ 0) × (LONGEST_BODY < len))
     → Consumes had left (take 2 row)
     → (head : List ℕ) × Consumes had left head × (length head ≡ 2) × ¬ (IsLength (announced_length head))
 oversize had left row len long is bad read = (

@@ -2,7 +2,7 @@
 use Rattle.std.proofs.Common.{◌≡◌, ℕ, ◌+◌, ◌≤◌, ◌==◌, ◌||◌, List, Result, Ok, Err, cond, ltb, length, take, drop, sym, ap, subst, ◌∙◌}
 use Rattle.std.proofs.Math.Seq.{take-length}
 use Rattle.reports.specs.Fields.{◌>>=◌}
-use Rattle.reports.specs.Reading.{announced_length, body_message, message_at}
+use Rattle.reports.specs.Reading.{announced_length, body_message, message_at, LONGEST_BODY}
 use Rattle.reports.specs.Spelling.{Spells}
 use Rattle.reports.specs.declared.fault.MessageFault.{MessageFault}
 use Rattle.reports.specs.declared.fault.MessageFault.TheVariants as fault
@@ -18,8 +18,8 @@ whole_message frame x is read =
     let inner = take len (drop 2 frame) in
     let body : Result (Message × ℕ) MessageFault = body_message inner >>= λ m. Ok (m, 2 + len) in
     let within = cond (ltb (length frame) (2 + len)) (Err fault.Short) body in
-    let g1 = passed (ltb (length frame) 2) fault.Short (cond ((len == 0) || ltb 64 len) (Err fault.Oversize) within) x (sym read) in
-    let g2 = passed ((len == 0) || ltb 64 len) fault.Oversize within x g1.1 in
+    let g1 = passed (ltb (length frame) 2) fault.Short (cond ((len == 0) || ltb LONGEST_BODY len) (Err fault.Oversize) within) x (sym read) in
+    let g2 = passed ((len == 0) || ltb LONGEST_BODY len) fault.Oversize within x g1.1 in
     let g3 = passed (ltb (length frame) (2 + len)) fault.Short body x g2.1 in
     let b = bind_ok (body_message inner) (λ m. Ok (m, 2 + len)) x g3.1 in
     ap (λ (y : Message × ℕ). y.1) (sym (ok_is fault.Short (b.0, 2 + len) x b.2)) ∙ sym is.whole

@@ -1,7 +1,7 @@
 -- A line's input: frames one after the other, and what may stand after them.
 use Rattle.std.specs.Prelude.{◌≡◌, ◌+◌, ◌<◌, ◌≤◌, ◌⊎◌, ℕ, List, [], length, Option, Result, Ok, Err}
 use Rattle.std.specs.Io.KnownBytes.{Consumes, IsAtEnd}
-use Rattle.reports.specs.Reading.{announced_length, message_at}
+use Rattle.reports.specs.Reading.{announced_length, message_at, LONGEST_BODY}
 use Rattle.reports.specs.Spelling.{Spells}
 use Rattle.reports.specs.declared.fault.MessageFault.{MessageFault}
 use Rattle.reports.specs.declared.message.Message.{Message}
@@ -10,7 +10,7 @@ use Rattle.participant_lines.specs.declared.line_end.Ended.TheVariants.{Clean, T
 
 -- how many bytes the body of a frame may have
 abbrev pub IsLength : ℕ → Type 0
-IsLength len = (1 ≤ len) × (len ≤ 64)
+IsLength len = (1 ≤ len) × (len ≤ LONGEST_BODY)
 
 -- a frame: a length of 1 to 64 in two bytes, and as many bytes
 pub record IsFrame (frame : List ℕ) : Type 0 where

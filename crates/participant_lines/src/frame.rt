@@ -1,19 +1,16 @@
 //! Frames read from a line.
 ghost use Rattle.std.specs.Prelude.{◌≡◌, ◌+◌, ◌≤◌, ◌<◌, ◌++◌, List, ℕ, None, IfErr, IfOk, IfNone, IfSome, length, take};
 ghost use Rattle.std.specs.Io.KnownBytes.{Consumes, IsAtEnd, Keeps};
-ghost use Rattle.reports.specs.Reading.{announced_length};
+ghost use Rattle.reports.specs.Reading.{announced_length, LONGEST_FRAME};
 ghost use Rattle.participant_lines.specs.Frames.{EndsInput, IsFrame, IsLength, IsSpelled, ReadsFrame};
 
 use crate::Ended;
-use reports::{LONGEST_BODY, Message, MessageFault, Unread, decode};
+use reports::{LONGEST_BODY, LONGEST_FRAME, Message, MessageFault, Unread, decode};
 use row_reads::fill;
 use std::io::{BufRead, ErrorKind, Read};
 
 /// How many bytes a frame's length has.
 const LENGTH_BYTES: usize = 2;
-
-/// How many bytes a frame has at most.
-pub(crate) const LONGEST_FRAME: usize = LENGTH_BYTES + LONGEST_BODY;
 
 /// Reads on from one place of the row until another or until the input ends: up to which place, or `None` where a read
 /// failed.
@@ -25,7 +22,7 @@ fn read_on<R: Read>(
     to: usize,
 ) -> Option<usize>
     requires order { from ≤ to }
-    requires within { to ≤ 66 }
+    requires within { to ≤ LONGEST_FRAME }
     ensures within { IfSome result (λ n. n ≤ to) }
     ensures bytes { IfSome result (λ n. (piece : List ℕ) × (from + length piece ≡ n) × (take n row.new ≡ take from row.old ++ piece)
         × Consumes (R.remaining reader.old) (R.remaining reader.new) piece) }
@@ -75,7 +72,7 @@ fn read_length<R: Read>(reader: &mut R, row: &mut [u8; LONGEST_FRAME]) -> Result
 /// Reads the next frame to the front of the row: how many bytes it has, or what comes in its place.
 #[inline(always)]
 fn read_frame<R: Read>(reader: &mut R, row: &mut [u8; LONGEST_FRAME]) -> Result<usize, Ended>
-    ensures within { IfOk result (λ len. len ≤ 66) }
+    ensures within { IfOk result (λ len. len ≤ LONGEST_FRAME) }
     ensures ok { IfOk result (λ len. IsFrame (take len row.new) × Consumes (R.remaining reader.old) (R.remaining reader.new) (take len row.new)) }
     ensures err { IfErr result (λ ended. EndsInput ended (R.remaining reader.old) (R.remaining reader.new)) }
 {

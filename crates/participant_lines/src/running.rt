@@ -3,10 +3,10 @@ ghost use Rattle.std.specs.Prelude.{◌≡◌, ◌≢◌, IfErr, IfOk};
 ghost use Rattle.participant_lines.specs.Runs.{Does, EndsAfter, Runs, StopsAt, Takes, effect_of};
 ghost use Rattle.participant_lines.specs.declared.line_end.Ended.TheVariants.{TooMany};
 
-use crate::frame::{LONGEST_FRAME, read_spelled};
+use crate::frame::read_spelled;
 use crate::{Ended, LineEnd};
 use line_ledger::{DayName, LineRefusal, LineSeat, Receipt, SharedTape};
-use reports::Message;
+use reports::{LONGEST_FRAME, Message};
 use std::io::BufRead;
 use std::sync::Wait;
 use tape_core::Refusal;

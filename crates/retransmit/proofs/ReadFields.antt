@@ -9,7 +9,7 @@ use Rattle.std.proofs.lemmas.Bool.{and_parts, cases_Bool, le-leb, le-ltb, leb-tr
 use Rattle.std.proofs.lemmas.List.{length-take, take_at, drop_at}
 use Rattle.reports.specs.Fields.{Reads, bytes_at, number_at, ranged_at}
 use Rattle.reports.proofs.Fields.{ok_is}
-use Rattle.retransmit.specs.Asking.{Follows, answered_at, as_is, first_fault, range_at, texts_of}
+use Rattle.retransmit.specs.Asking.{Follows, answered_at, as_is, answer_fault, range_at, texts_of}
 use Rattle.row_reads.specs.FailedReads.{ReadsFewer}
 use Rattle.retransmit.specs.declared.ask_fault.AskFault.{AskFault}
 use Rattle.retransmit.specs.declared.ask_fault.AskFault.TheVariants.{ReadFault, BadAnswer}
@@ -124,15 +124,15 @@ cond_tells true x y p q = p
 cond_tells false x y p q = q
 
 -- what is wrong with a first byte tells
-first_tells : (first : ℕ) → Tells (first_fault first)
+first_tells : (first : ℕ) → Tells (answer_fault first)
 first_tells first = cond_tells (first == 71) _ _ tt (cond_tells (first == 72) _ _ tt (cond_tells (first == 73) _ _ tt tt))
 
 -- a first byte of no range
-pub Follows-first : (first : ℕ) (fault : AskFault) (a : Option (List ℕ)) → (first ≡ 0 → ⊥) → fault ≡ first_fault first
+pub Follows-first : (first : ℕ) (fault : AskFault) (a : Option (List ℕ)) → (first ≡ 0 → ⊥) → fault ≡ answer_fault first
     → Follows texts_of (Err fault) a a (answered_at first)
 unfolding answered_at
 Follows-first first fault a some is =
-    rw is (Follows-fault texts_of (first_fault first) a (answered_at first) (first_tells first) (λ bytes. rw (ne_eqb first 0 some) refl))
+    rw is (Follows-fault texts_of (answer_fault first) a (answered_at first) (first_tells first) (λ bytes. rw (ne_eqb first 0 some) refl))
 
 -- the first byte of a range
 pub Follows-range : (first : ℕ) (result : Result (Vec (Vec ℕ)) AskFault) (a b : Option (List ℕ)) → first ≡ 0 → Follows texts_of result a b range_at

@@ -2,7 +2,7 @@
 use Rattle.std.proofs.Common.{◌≡◌, ℕ, zero, suc, ◌+◌, ◌-◌, ◌<◌, List, [], ◌∷◌, ◌++◌, Option, Result, Ok, Err, refl, ap, ◌∙◌, arith}
 use Rattle.std.specs.Global.{Vec}
 use Rattle.reports.specs.Fields.{◌>>=◌}
-use Rattle.retransmit.specs.Asking.{Follows, as_is, packet_at, packets_at, text_of}
+use Rattle.retransmit.specs.Asking.{Follows, as_is, sized_packet_at, packets_at, text_of}
 use Rattle.retransmit.specs.declared.ask_fault.AskFault.{AskFault}
 use Rattle.retransmit.specs.declared.ask_fault.AskFault.TheVariants.{OutOfMemory}
 use Rattle.retransmit.proofs.Readings.{Follows-gives_up, Follows-here, Follows-same, Follows-stops, Follows-then, Read}
@@ -56,7 +56,7 @@ packets_at-add zero m bytes =
     ap (λ (k : ℕ). packets_at k bytes) is ∙ same_value (packets_at m bytes)
 packets_at-add (suc n) m bytes =
     let is : suc n + m ≡ suc (n + m) = omega arith in
-    ap (λ (k : ℕ). packets_at k bytes) is ∙ first_step n m (packet_at bytes) (packets_at-add n m)
+    ap (λ (k : ℕ). packets_at k bytes) is ∙ first_step n m (sized_packet_at bytes) (packets_at-add n m)
 
 -- no packets yet
 pub Follows-none : (a : Option (List ℕ)) → Follows {A = List (List ℕ)} as_is (Ok []) a a (packets_at 0)
@@ -64,16 +64,16 @@ unfolding packets_at
 Follows-none a = Follows-here as_is [] a (packets_at 0) (λ bytes. refl)
 
 -- one packet
-one_packet : (packet : Vec ℕ) (b c : Option (List ℕ)) → Follows text_of (Ok packet) b c packet_at
+one_packet : (packet : Vec ℕ) (b c : Option (List ℕ)) → Follows text_of (Ok packet) b c sized_packet_at
     → Follows {A = List (List ℕ)} as_is (Ok (packet.items ∷ [])) b c (packets_at 1)
 unfolding packets_at
 one_packet packet b c first =
-    Follows-then text_of as_is packet (Ok (packet.items ∷ [])) b c c packet_at (first_at 0) first
+    Follows-then text_of as_is packet (Ok (packet.items ∷ [])) b c c sized_packet_at (first_at 0) first
     (Follows-here as_is (packet.items ∷ []) c (λ bytes. first_at 0 (packet.items, bytes)) (λ bytes. refl))
 
 -- one packet more
 pub Follows-push : (texts : List (List ℕ)) (packet : Vec ℕ) (place : ℕ) (a b c : Option (List ℕ)) → Follows as_is (Ok texts) a b (packets_at place)
-    → Follows text_of (Ok packet) b c packet_at
+    → Follows text_of (Ok packet) b c sized_packet_at
     → Follows as_is (Ok (texts ++ packet.items ∷ [])) a c (packets_at (place + 1))
 Follows-push texts packet place a b c some first =
     let last = one_packet packet b c first in
@@ -85,12 +85,12 @@ Follows-push texts packet place a b c some first =
 -- the packet after those that were read faults, so all of them do
 pub Follows-at_packet : (texts : List (List ℕ)) (fault : AskFault) (place count : ℕ) (a b c : Option (List ℕ)) → place < count
     → Follows as_is (Ok texts) a b (packets_at place)
-    → Follows text_of (Err fault) b c packet_at → Follows {A = List (List ℕ)} as_is (Err fault) a c (packets_at count)
+    → Follows text_of (Err fault) b c sized_packet_at → Follows {A = List (List ℕ)} as_is (Err fault) a c (packets_at count)
 unfolding packets_at
 Follows-at_packet texts fault place count a b c more some first =
     let left = count - (place + 1) in
     let is : count ≡ place + suc left = omega (arith, more) in
-    let next = Follows-stops text_of (as_is {A = List (List ℕ)}) fault b c packet_at (first_at left) first in
+    let next = Follows-stops text_of (as_is {A = List (List ℕ)}) fault b c sized_packet_at (first_at left) first in
     let put = Follows-stops as_is (as_is {A = List (List ℕ)}) fault b c (packets_at (suc left)) (after (texts, [])) next in
     Follows-same as_is (Err fault) a c (λ bytes. packets_at place bytes >>= more_at (suc left)) (packets_at count)
     (λ bytes. ap (λ (k : ℕ). packets_at k bytes) is ∙ packets_at-add place (suc left) bytes)
@@ -99,7 +99,7 @@ Follows-at_packet texts fault place count a b c more some first =
 -- there is no room for the packet after those that were read
 pub Follows-no_push : (texts : List (List ℕ)) (packet : Vec ℕ) (place count : ℕ) (a b c : Option (List ℕ)) → place < count
     → Follows as_is (Ok texts) a b (packets_at place)
-    → Follows text_of (Ok packet) b c packet_at → Follows {A = List (List ℕ)} as_is (Err OutOfMemory) a c (packets_at count)
+    → Follows text_of (Ok packet) b c sized_packet_at → Follows {A = List (List ℕ)} as_is (Err OutOfMemory) a c (packets_at count)
 Follows-no_push texts packet place count a b c more some first =
     let left = count - (place + 1) in
     let is : count ≡ (place + 1) + left = omega (arith, more) in

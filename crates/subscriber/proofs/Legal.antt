@@ -3,12 +3,12 @@ use Rattle.std.proofs.Common.{◌≡◌, ℕ, zero, suc, true, false, not, List,
 use Rattle.std.proofs.lemmas.Bool.{true≢false, not-true, not_from_false}
 use Rattle.tape_core.specs.declared.entry.Entry.{Entry}
 use Rattle.tape_core.specs.Laws.{entry_eq}
-use Rattle.tape_core.specs.Tape.{IsLegal, refusal}
+use Rattle.tape_core.specs.Tape.{IsLegal, empty_tape, refusal}
 use Rattle.tape_types.specs.Names.{Names}
 use Rattle.tape_core.proofs.LegalNext.{IsLegal-with_message}
 use Rattle.tape_core.proofs.Equality.{entry-Decides}
 use Rattle.arbitration.specs.Windows.{next_of}
-use Rattle.subscriber.specs.Subscribers.{SubscriberState, empty_tape, own_entry, subscriber_after_entry, subscriber_after}
+use Rattle.subscriber.specs.Subscribers.{SubscriberState, own_entry, subscriber_after_entry, subscriber_after}
 use Rattle.subscriber.specs.Schedules.{World, Event, Admits, Closes, Comes, Drains, Restarts, world_after, run, start, EndsIn}
 use Rattle.subscriber.proofs.Turns.{after_entry-keeps, after_entry-admitted}
 

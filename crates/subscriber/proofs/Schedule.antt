@@ -33,9 +33,7 @@ use Rattle.subscriber.specs.declared.drain_fault.Stop.TheVariants.{Refused, Othe
 use Rattle.subscriber.specs.declared.drain_fault.DrainFault.{DrainFault}
 use Rattle.subscriber.specs.Subscribers.{SubscriberState, with_entry, subscriber_after_entry, subscriber_after}
 use Rattle.subscriber.specs.Drains.{Delivers, RefusesDelivery, DrainStops, StopsFor, IsRefused, IsHonestStop}
-use Rattle.tape_frames.specs.Cuts.{IsPartOf}
 use Rattle.subscriber.specs.Schedules.{World, Event, Admits, Closes, Comes, Drains, Restarts, world_after}
-use Rattle.tape_frames.specs.Cuts.{IsPartOf}
 use Rattle.subscriber.specs.Schedules.{run, start, IsCut, announced_by, held_prefix, LeadsTo}
 use Rattle.subscriber.proofs.Due.{FromDue-at}
 use Rattle.subscriber.proofs.Turns.{after_entry-keeps, after_entry-admitted, after_entry-refused}
@@ -160,12 +158,6 @@ never_refused w packet bytes fault s cut spelled = by fault
     by (delivery.Refused f) refused =
         by_window f (subst (λ (q : Packet). Refuses w.subscriber.window w.subscriber.tape.entries q f) (one_packet bytes refused.1 packet refused.2 spelled)
         refused.3)
-
--- what is cut of the tape from a number on is a part of it
-pub cut_is_part : (es : List Entry) (from : ℕ) → IsPartOf (cut_of es from) es
-cut_is_part es from =
-    let rest = drop (from - 1) es in
-    (take (from - 1) es, drop 8 rest, sym (take-append-drop (from - 1) es) ∙ ap (λ t. take (from - 1) es ++ t) (sym (take-append-drop 8 rest)))
 
 -- bytes that are taken are the event of their packet
 pub bytes_come : (w : World) (line : Line) (packet : Packet) (bytes : List ℕ) (taken : Taken) (after : SubscriberState) → Spells bytes packet

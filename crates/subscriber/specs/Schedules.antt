@@ -3,13 +3,13 @@ use Rattle.std.specs.Prelude.{◌≡◌, ℕ, ◌≤◌, Bool, true, false, if�
 use Rattle.tape_types.specs.Names.{Names}
 use Rattle.reports.specs.declared.message.Message.{Message}
 use Rattle.tape_core.specs.declared.entry.Entry.{Entry}
-use Rattle.tape_core.specs.Tape.{TapeState, refusal, tape_before, with_message}
+use Rattle.tape_core.specs.Tape.{TapeState, empty_tape, refusal, tape_before, with_message}
 use Rattle.tape_frames.specs.declared.packet.Packet.{Packet}
 use Rattle.tape_frames.specs.Cuts.{IsCutOf}
 use Rattle.tape_frames.specs.Packets.{entries_of, last_of}
 use Rattle.arbitration.specs.declared.line.Line.{Line}
 use Rattle.arbitration.specs.Deliveries.{window_after, entry_numbered}
-use Rattle.subscriber.specs.Subscribers.{SubscriberState, empty_tape, new_subscriber, subscriber_after}
+use Rattle.subscriber.specs.Subscribers.{SubscriberState, new_subscriber, subscriber_after}
 
 -- a tape, the session under which it is sent, and a subscriber with a limit of its own
 pub record World : Type 0 where
@@ -56,10 +56,6 @@ world_after w Restarts = record w { subscriber = new_subscriber w.tape.listing w
 abbrev pub run : World → List Event → World
 run w [] = w
 run w (event ∷ events) = run (world_after w event) events
-
--- the one list begins with the other
-abbrev pub IsPrefixOf : List Entry → List Entry → Type 0
-IsPrefixOf xs ys = (rest : List Entry) × (ys ≡ xs ++ rest)
 
 -- the tape as far as the subscriber holds it
 abbrev pub held_prefix : World → TapeState

@@ -1,10 +1,10 @@
 -- A subscriber as contracts see it, and what its next entry does to it.
-use Rattle.std.specs.Prelude.{◌≡◌, ℕ, zero, suc, Bool, false, not, nat_lt, ◌||◌, [], length, Option, None, Some, is_some, IfSome, if◌then◌else◌}
+use Rattle.std.specs.Prelude.{◌≡◌, ℕ, zero, suc, Bool, false, not, nat_lt, ◌||◌, length, Option, None, Some, is_some, IfSome, if◌then◌else◌}
 use Rattle.tape_types.specs.Names.{Names}
 use Rattle.reports.specs.declared.message.Message.{Message}
 use Rattle.tape_core.specs.declared.entry.Entry.{Entry}
 use Rattle.tape_core.specs.Laws.{entry_eq}
-use Rattle.tape_core.specs.Tape.{TapeState, refusal, next_entry, with_message}
+use Rattle.tape_core.specs.Tape.{TapeState, empty_tape, refusal, next_entry, with_message}
 use Rattle.arbitration.specs.Windows.{WindowState, empty_window, next_of, window_past}
 
 -- a window, the own tape, and whether its own entry was once not the feed's
@@ -12,10 +12,6 @@ pub record SubscriberState : Type 0 where
   pub window : WindowState
   pub tape : TapeState
   pub failed : Bool
-
--- an empty open tape
-abbrev pub empty_tape : Names → ℕ → TapeState
-empty_tape listing limit = record { listing = listing; limit = limit; closed = false; entries = [] }
 
 -- a new subscriber
 abbrev pub new_subscriber : Names → ℕ → ℕ → SubscriberState

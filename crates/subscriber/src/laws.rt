@@ -7,7 +7,7 @@ ghost use Rattle.tape_core.specs.declared.refusal.Refusal.TheVariants.{OutOfMemo
 ghost use Rattle.tape_core.specs.Tape.{TapeState, Answers, IsLegal, refusal, summary_at, participant_summary_at};
 ghost use Rattle.tape_frames.specs.declared.packet.Packet.{Packet};
 ghost use Rattle.tape_frames.specs.declared.packet.Packet.TheVariants.{Data};
-ghost use Rattle.tape_frames.specs.Sources.{cut_of};
+ghost use Rattle.tape_frames.specs.Sources.{BeginsWith, cut_of};
 ghost use Rattle.tape_frames.specs.Spelling.{Spells};
 ghost use Rattle.arbitration.specs.declared.line.Line.{Line};
 ghost use Rattle.arbitration.specs.declared.taken.Taken.{Taken};
@@ -19,7 +19,7 @@ ghost use Rattle.subscriber.specs.declared.drain_fault.DrainFault.{DrainFault};
 ghost use Rattle.subscriber.specs.declared.drain_fault.Stop.TheVariants.{OtherSummary};
 ghost use Rattle.subscriber.specs.Subscribers.{SubscriberState, subscriber_after, subscriber_after_entry, own_entry, has_gap, NextIsOwn};
 ghost use Rattle.subscriber.specs.Drains.{Delivers, RefusesDelivery, DrainsAll, DrainStops, OwnFor, IsHonestStop};
-ghost use Rattle.subscriber.specs.Schedules.{World, Event, Comes, Drains, tape_after, world_after, held_prefix, LeadsTo, EndsIn, IsCut, IsPrefixOf};
+ghost use Rattle.subscriber.specs.Schedules.{World, Event, Comes, Drains, tape_after, world_after, held_prefix, LeadsTo, EndsIn, IsCut};
 ghost use Rattle.subscriber.specs.Schedules.{announced_by, IsSchedule, HasNoRestart, Brings, run};
 
 /// What holds after every schedule of a tape and a subscriber. The clauses up to `gap_filled` are of an honest feed, whose
@@ -28,7 +28,7 @@ pub fn schedule()
     // The tape that is sent is legal.
     ensures tape { (events : List Event) (w : World) → LeadsTo events w → IsLegal w.tape }
     // What is held is a prefix of it, with that prefix's summaries.
-    ensures prefix { (events : List Event) (w : World) → LeadsTo events w → IsPrefixOf w.subscriber.tape.entries w.tape.entries }
+    ensures prefix { (events : List Event) (w : World) → LeadsTo events w → BeginsWith w.subscriber.tape.entries w.tape.entries }
     ensures summaries { (events : List Event) (w : World) → LeadsTo events w → (symbol : List ℕ)
         → summary_at w.subscriber.tape symbol ≡ summary_at (held_prefix w) symbol }
     ensures own_summaries { (events : List Event) (w : World) → LeadsTo events w → (symbol : List ℕ) (who : ℕ)

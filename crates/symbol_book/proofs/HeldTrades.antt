@@ -1,6 +1,6 @@
 -- Trades in two sets of columns, and the stores that hold them.
 use Rattle.std.proofs.Common.{◌≡◌, ℕ, Bool, true, false, cond, ◌==◌, List, [], ◌∷◌, map, Option, Some, None, refl, sym, ap, subst, ◌∙◌, arith, Result, Ok, Err}
-use Rattle.std.proofs.Common.{OnErr, OnOk, IsSome}
+use Rattle.std.proofs.Common.{OnErr, OnOk, IsSome, IsSomeAnd}
 use Rattle.std.specs.Option.{option_map, unwrap_or}
 use Rattle.std.specs.Ordering.{nat_cmp, eq_by_cmp}
 use Rattle.std.specs.Cmp.{nat_cmp_total}
@@ -297,6 +297,15 @@ module _ {S : Type 0} (effects_in : S → Effects) (change_in : S → Change) wh
       let m : Trades = book_trades effects_in all stores in
       let at = trade_there m (effects_in all) (participant_effects effects_in stores) k e b.trades here in
       ap (λ o. with_content m k o content) at.1 ∙ ap (λ (x : Effect). map.insert m k (reported_trade x.who content)) at.2
+
+-- where a participant's trade is, its effect in the consolidated columns is the participant's too
+pub effect_of_theirs : (m : Trades) (all : Effects) (of_who : ℕ → Effects) (k who : ℕ) → HoldTrades m all of_who
+    → IsSomeAnd (map.get m k) (λ t. t.who ≡ who) → (e : Effect) × (map.get all k ≡ Some e) × (who ≡ e.who)
+effect_of_theirs m all of_who k who held theirs =
+    elim (map.get m k) as (λ o. map.get m k ≡ o → IsSomeAnd o (λ t. t.who ≡ who) → (e : Effect) × (map.get all k ≡ Some e) × (who ≡ e.who)) [
+      | None ↦ λ is none. absurd none
+      | Some t ↦ λ is same. (consolidated_effect_of t, held.all_are k ∙ ap (option_map consolidated_effect_of) is, sym same)
+    ] refl theirs
 
 -- one fact from those on `Ok` or those on `Err`
 pub either : {T E A B C D P : Type 0} (r : Result T E) → OnOk r A → OnOk r B → OnErr r C → OnErr r D → (A → B → P) → (C → D → P) → P

@@ -1,5 +1,5 @@
 //! A symbol's book.
-ghost use Rattle.std.specs.Prelude.{◌≡◌, OnOk, OnErr, IsSome, None};
+ghost use Rattle.std.specs.Prelude.{◌≡◌, OnOk, OnErr, IsSome, IsSomeAnd, None};
 ghost use Rattle.std.specs.FinMap as map;
 ghost use Rattle.symbol_book.specs.Columns.{content_of, reported_trade, consolidated_summary, own_summary, trades_with_content};
 
@@ -122,6 +122,29 @@ impl<S: Store> Book<S> {
             place,
             &trade,
             &mut searches,
+        )
+    }
+
+    /// Gives the report at a place, which is this participant's, another content, as `replace` does, and looks nothing up for
+    /// it. Out of memory, both of its stores are unchanged.
+    pub fn correct(
+        &mut self,
+        place: TapeNumber,
+        who: Participant,
+        content: &Content,
+    ) -> Result<(), AllocError>
+        requires theirs { IsSomeAnd (map.get self.old place) (λ t. t.who ≡ who) }
+        ensures ok { OnOk result (self.new ≡ trades_with_content self.old place content.now) }
+        ensures err { OnErr result (self.new ≡ self.old) }
+    {
+        let trade = Trade::new(who, content);
+        participant_stores::replace(
+            &mut self.consolidated,
+            &mut self.own,
+            who,
+            place,
+            &trade,
+            &mut Searches::new(),
         )
     }
 

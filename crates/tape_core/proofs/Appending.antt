@@ -16,7 +16,7 @@ use Rattle.tape_core.specs.Routes.{IsRoute}
 use Rattle.tape_core.specs.Standing.{is_of, reported_size}
 use Rattle.tape_core.specs.Tape.{TapeState, refusal, messages_of, next_entry, with_message}
 use Rattle.tape_core.specs.Totals.{total_at, total_after}
-use Rattle.tape_core.proofs.Keeping.{place-vacant, number-vacant, place-present, entry-cancel, entry-correct, KeepsTape-report, KeepsTape-cancel}
+use Rattle.tape_core.proofs.Keeping.{place-vacant, number-vacant, place-present, place-theirs, entry-cancel, entry-correct, KeepsTape-report, KeepsTape-cancel}
 use Rattle.tape_core.proofs.Keeping.{KeepsTape-correct}
 use Rattle.tape_core.proofs.LegalNext.{admissible}
 use Rattle.tape_core.proofs.NamedTargets.{IsTarget-faultless, IsTarget-standing}
@@ -42,7 +42,7 @@ module _ (t : TapeState) (kept : List Trades) (register : RegisterState) (row : 
         IsTarget-standing (messages_of t.entries) header.symbol register.targets header.participant target route.place keeps.targets there,
       )
   can-change (Correct header target content) none is =
-      place-present t kept register row keeps header target route.place route.book book is.book read
+      place-theirs t kept register row keeps header target route.place route.book book is.book read
       (IsTarget-faultless (messages_of t.entries) header.symbol header.participant target route.place
       (admissible t (Correct header target content) none).target is.place)
 

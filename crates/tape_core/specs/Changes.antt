@@ -1,16 +1,16 @@
 -- What a message changes in its symbol's book and in the register, at a place.
-use Rattle.std.specs.Prelude.{◌≡◌, ℕ, None, IsSome}
+use Rattle.std.specs.Prelude.{◌≡◌, ℕ, None, IsSome, IsSomeAnd}
 use Rattle.std.specs.FinMap as map
 use Rattle.reports.specs.declared.message.Message.{Message}
 use Rattle.reports.specs.declared.message.Message.TheVariants.{Report, Cancel, Correct}
 use Rattle.corrections.specs.Targets.{Targets, IsStanding, standing_target, targets_after_cancel}
 use Rattle.symbol_book.specs.Columns.{Trades, reported_trade, trades_with_content}
 
--- the book has room at a report's place, and has the report that another message names; the register too
+-- the book has room at a report's place, and has the report that another message names, a correction's as its participant's; the register too
 abbrev pub CanChange : Trades → Targets → ℕ → Message → Type 0
 CanChange book targets place (Report header content) = (map.get book place ≡ None) × (map.get targets (header.participant, header.number) ≡ None)
 CanChange book targets place (Cancel header target) = IsSome (map.get book place) × IsStanding (map.get targets (header.participant, target))
-CanChange book targets place (Correct header target content) = IsSome (map.get book place)
+CanChange book targets place (Correct header target content) = IsSomeAnd (map.get book place) (λ t. t.who ≡ header.participant)
 
 -- the book after a report, a cancel or a correction
 abbrev pub book_after : Trades → ℕ → Message → Trades

@@ -83,7 +83,7 @@ module _ {X : Type 0} where
       rw (add-one, here, next) (keys-step (e ∷ es) h k e within)
 
   -- a position in the tail is one less
-  position-tail : (k : ℕ) (e : ℕ × X) (es : List (ℕ × X)) (i : ℕ) → IsPosition k (e ∷ es) (suc i) → IsPosition k es i
+  pub position-tail : (k : ℕ) (e : ℕ × X) (es : List (ℕ × X)) (i : ℕ) → IsPosition k (e ∷ es) (suc i) → IsPosition k es i
   position-tail k e es i p = record {
     in_range = omega (arith, p.in_range);
     below = λ j d low lt. p.below (suc j) d (omega arith) (omega arith);

@@ -1,9 +1,10 @@
-use Rattle.std.proofs.Common.{◌≡◌, ◌+◌, ◌++◌, length, refl, inl, inr, arith}
+use Rattle.std.proofs.Common.{◌≡◌, ◌+◌, ◌++◌, [], append-nil, length, refl, sym, inl, inr, arith}
 use Rattle.std.proofs.lemmas.Bool.{both_ways, cases_lt, lt-ltb, ltb-true}
 use Rattle.arbitration.specs.Windows.{ready_entries}
 use Rattle.subscriber.specs.Schedules.{announced_by}
+use Rattle.tape_frames.proofs.Cuts.{cut_is_part}
 use Rattle.subscriber.proofs.Sound.{sound, next_own, after_drain}
-use Rattle.subscriber.proofs.Schedule.{announced_told, accepts, never_refused, cut_is_part, bytes_come}
+use Rattle.subscriber.proofs.Schedule.{announced_told, accepts, never_refused, bytes_come}
 use Rattle.subscriber.proofs.Schedule.{empties, honest_stop, prefix_summary, prefix_own_summary}
 use Rattle.subscriber.proofs.Failures.{runs, fails, other_summary}
 use Rattle.subscriber.proofs.Events.{admits, drain_event, stop_event}
@@ -80,7 +81,7 @@ pub returns-clause-other : goal.returns-clause-other
 returns-clause-other c = fails_by_other
 
 pub returns-clause-cut : goal.returns-clause-cut
-returns-clause-cut c w from = (refl, cut_is_part w.tape.entries from)
+returns-clause-cut c w from = (refl, cut_is_part w.tape.entries w.tape.entries from ([], sym (append-nil w.tape.entries)))
 
 pub returns-clause-comes : goal.returns-clause-comes
 returns-clause-comes c = bytes_come
