@@ -200,7 +200,8 @@ impl Gate for Count {
 }
 
 /// How often so many workers called the gate while they made the rows of a tape, and how many rows they made. `None` where
-/// a worker did not tell how many of its own symbols were done, however many it took, or one alone told a worker that there is not.
+/// the turns do not add up as those of two workers that each count their own symbols from 1, or where one worker alone gave another
+/// number than 0.
 fn calls<R: Threads + Sync>(
     rt: &R,
     alloc: Global,

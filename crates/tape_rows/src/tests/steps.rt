@@ -13,6 +13,8 @@ use tape_types::{Listing, MsgNumber, Participant, Price, Size, Symbol};
 pub(super) enum Kind {
     /// A report of a hundred shares: its condition and its price.
     Report(&'static [u8; 4], u64),
+    /// A report of other shares: its condition, its price and them.
+    Lot(&'static [u8; 4], u64, u32),
     /// A cancel of a message number.
     Cancel(u32),
     /// A correction of a message number: the condition, the price and the shares that it has from now on.
@@ -131,6 +133,10 @@ fn message(header: Header, kind: Kind) -> Option<Message> {
         Kind::Report(condition, price) => Message::Report {
             header,
             content: content(condition, price, 100)?,
+        },
+        Kind::Lot(condition, price, shares) => Message::Report {
+            header,
+            content: content(condition, price, shares)?,
         },
         Kind::Cancel(target) => Message::Cancel {
             header,
