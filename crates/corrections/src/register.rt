@@ -38,7 +38,7 @@ impl Model for Register {
 }
 
 impl Register {
-    /// A register of no report, in which no participant has a message. It takes no memory.
+    /// An empty register, in which no participant has a message. It takes no memory.
     pub fn new(alloc: Global) -> Self
         ensures targets { result.targets ≡ map.empty }
         ensures last_numbers { (who : ℕ) → last_of result who ≡ 0 }

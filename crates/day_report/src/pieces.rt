@@ -76,7 +76,7 @@ fn piece_rows<S: Store, G: Gate>(
     Ok(rows)
 }
 
-/// The symbols of the listing from an index of it on, at most so many.
+/// At most `size` symbols of the listing from the index `start` on; `None` from its end on.
 fn piece_from<S: Store>(tape: &Tape<S>, start: usize, size: usize) -> Option<&[Symbol]>
     ensures piece { IfSome result (λ piece. piece.now ≡ take size (drop start tape.now.listing.symbols)) }
     ensures place { IfSome result (λ piece. IsPieceAt tape.now.listing.symbols start piece.now) }
@@ -105,6 +105,7 @@ fn worker_pieces<S: Store, G: Gate>(
 {
     let mut pieces = Vec::new(alloc);
     let mut done = 0;
+    // There are no more pieces than symbols: the bound only shows that the loop ends.
     for _ in 0..SYMBOLS_MOST {
         let start = next.fetch_add(size, Ordering::SeqCst);
         let Some(piece) = piece_from(tape, start, size) else {
@@ -199,8 +200,8 @@ fn try_start<R: Threads>(rt: &R) -> Result<(), ReportFault>
 }
 
 /// The rows of a tape: by symbol in listing order the consolidated row, then in listing order one row for each
-/// participant with a report that stands there. They are the same for every number of workers, 1 to 64: each takes a piece
-/// of the listing after another and makes its rows, and one alone starts no thread.
+/// participant with a report that stands there. They are the same for every number of workers, 1 to 64: each takes one
+/// piece of the listing after another and makes its rows, and one alone starts no thread.
 ///
 /// Refused: `BadWorkers` exactly outside 1 to 64, `Unstarted` where two workers or more were asked for and no thread can be
 /// started, `OutOfMemory` last. The tape is only read, and stays as it is.

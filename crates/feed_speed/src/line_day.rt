@@ -150,12 +150,12 @@ pub fn entries_at_end<D: DayName>(shared: SharedTape<D>, seats: Vec<LineSeat<D>>
     }
 }
 
-/// The time since then.
+/// The time since `began`, if the clock told both.
 pub fn elapsed<R: Clock>(rt: &R, began: io::Result<Instant>) -> Option<Duration> {
     began.ok()?.elapsed(rt).ok()
 }
 
-/// The same under a name of the day.
+/// Runs a day as `run_day` does, under a name of it.
 fn run_named_day<D: DayName + Send + Sync, R: Clock + Threads + Wait + Sync>(
     rt: &R,
     alloc: Global,

@@ -173,7 +173,7 @@ fn look_alone<D: DayName + Send + Sync, R: Clock + Threads + Sync>(
     })
 }
 
-/// The same under a name of the day.
+/// Does what `look_day` does, under a name of the day.
 fn look_named_day<D: DayName + Send + Sync, R: Clock + Threads + Wait + Sync>(
     rt: &R,
     alloc: Global,

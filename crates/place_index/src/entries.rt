@@ -47,6 +47,7 @@ pub fn insert<V: Copy>(
         return block_list::insert(alloc, blocks, place, value);
     }
     make_room(alloc, blocks, last, MAX_BLOCK_LEN / 2)?;
+    // Where the block was cut, the place may belong below the cut, so it is asked again.
     if goes_last(blocks, last, place) {
         last.insert(place, value)
     } else {
@@ -119,6 +120,7 @@ fn cut<V: Copy>(
     let upper = last.copy_from(alloc, index)?;
     blocks.push(upper)?;
     let at = blocks.len() - 1;
+    // The block itself goes into the list, so that a push copies nothing.
     mem::swap(&mut blocks[at], last);
     blocks[at].truncate(index);
     Ok(())

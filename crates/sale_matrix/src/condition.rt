@@ -36,7 +36,7 @@ impl Condition {
         ensures valid { IsSome result ↔ IsCondition codes }
         ensures value { IfSome result (λ c. c ≡ codes) }
     {
-        if joined(codes).is_some() {
+        if have_rows(codes) {
             Some(Condition { codes })
         } else {
             None
@@ -52,9 +52,17 @@ impl Condition {
     }
 }
 
-/// The cells of the four codes joined, where each has a row. Whoever asks only whether there are any needs none of them
-/// computed.
-#[inline(always)]
+/// Whether each of the four codes has a row in its position. No cells are joined for it.
+fn have_rows(codes: [u8; 4]) -> bool
+    ensures { result ≡ list_all is_some (cells_of_codes codes) }
+{
+    first_position(codes[0]).is_some()
+        && second_position(codes[1]).is_some()
+        && third_position(codes[2]).is_some()
+        && fourth_position(codes[3]).is_some()
+}
+
+/// The cells of the four codes joined, where each has a row.
 fn joined(codes: [u8; 4]) -> Option<Cells>
     ensures found { IsSome result ↔ (list_all is_some (cells_of_codes codes) ≡ true) }
     ensures cells { IfSome result (λ c. c ≡ cells_of codes) }

@@ -41,7 +41,7 @@ impl<S: Store> Model for Book<S> {
 }
 
 impl<S: Store> Book<S> {
-    /// A book of no report. It takes no memory.
+    /// An empty book. It takes no memory.
     pub fn new(alloc: Global) -> Self
         ensures empty { result ≡ map.empty }
     {

@@ -31,8 +31,8 @@ is_nil [] = true
 is_nil (x ∷ xs) = false
 
 -- the fault of two lists of names, out of memory aside
-abbrev pub listing_refusal : List (List ℕ) → List ℕ → Option ListingFault
-listing_refusal symbols participants = first_fault (
+abbrev pub names_fault : List (List ℕ) → List ℕ → Option ListingFault
+names_fault symbols participants = first_fault (
     (is_nil symbols || is_nil participants, Empty) ∷
     (nat_lt SYMBOLS_MOST (length symbols) || nat_lt PARTICIPANTS_MOST (length participants), TooMany) ∷
     (has_repeat symbol_eq symbols || has_repeat nat_eq participants, Repeated) ∷ [])

@@ -1,7 +1,7 @@
 //! The listing of a day.
 ghost use Rattle.std.specs.Prelude.{◌≡◌, position, None, unwrap_or, ◌==◌, false, IfOk, IfErr, OnOk, if◌then◌else◌};
 ghost use Rattle.std.specs.List.{list_any};
-ghost use Rattle.tape_types.specs.Names.{Names, listing_refusal, symbol_eq, has_repeat};
+ghost use Rattle.tape_types.specs.Names.{Names, names_fault, symbol_eq, has_repeat};
 ghost use Rattle.std.specs.Slice.Iter.{iter_rest};
 ghost use Rattle.tape_types.specs.declared.listing_fault.ListingFault.TheVariants.{OutOfMemory, Repeated};
 
@@ -21,13 +21,13 @@ pub struct Listing {
 
 impl Model for Listing {
     ghost use Rattle.std.specs.Prelude.{◌≡◌, None};
-    ghost use Rattle.tape_types.specs.Names.{Names, listing_refusal};
+    ghost use Rattle.tape_types.specs.Names.{Names, names_fault};
 
     ghost Value = { Names };
 
     ghost view = { λ l. record { symbols = l.symbols.keys; participants = l.participants.keys } };
 
-    ghost invariant = { λ l. listing_refusal l.symbols.keys l.participants.keys ≡ None };
+    ghost invariant = { λ l. names_fault l.symbols.keys l.participants.keys ≡ None };
 }
 
 impl Listing {
@@ -41,8 +41,8 @@ impl Listing {
         participants: &[Participant],
     ) -> Result<Self, ListingFault>
         ensures names { IfOk result (λ l. l ≡ record { symbols = symbols.now; participants = participants.now }) }
-        ensures ok { OnOk result (listing_refusal symbols.now participants.now ≡ None) }
-        ensures refused { IfErr result (λ e. e ≡ unwrap_or (listing_refusal symbols.now participants.now) OutOfMemory) }
+        ensures ok { OnOk result (names_fault symbols.now participants.now ≡ None) }
+        ensures refused { IfErr result (λ e. e ≡ unwrap_or (names_fault symbols.now participants.now) OutOfMemory) }
     {
         if symbols.is_empty() || participants.is_empty() {
             return Err(ListingFault::Empty);
@@ -68,7 +68,7 @@ impl Listing {
     /// The symbol's position in the listing, from 0, or `None` where it is not listed. It is looked up by its hash.
     pub fn position(&self, symbol: Symbol) -> Option<usize>
         ensures position { result ≡ position (symbol_eq symbol) self.now.symbols }
-        ensures distinct { listing_refusal self.now.symbols self.now.participants ≡ None }
+        ensures distinct { names_fault self.now.symbols self.now.participants ≡ None }
     {
         self.symbols.get_index_of(&symbol)
     }
@@ -83,7 +83,7 @@ impl Listing {
     /// The symbols in the order in which they were given.
     pub fn symbols(&self) -> slice::Iter<'_, Symbol>
         ensures rest { iter_rest result ≡ self.now.symbols }
-        ensures distinct { listing_refusal self.now.symbols self.now.participants ≡ None }
+        ensures distinct { names_fault self.now.symbols self.now.participants ≡ None }
     {
         self.symbols.as_slice().iter()
     }
@@ -91,7 +91,7 @@ impl Listing {
     /// The participants in the order in which they were given.
     pub fn participants(&self) -> slice::Iter<'_, Participant>
         ensures rest { iter_rest result ≡ self.now.participants }
-        ensures distinct { listing_refusal self.now.symbols self.now.participants ≡ None }
+        ensures distinct { names_fault self.now.symbols self.now.participants ≡ None }
     {
         self.participants.as_slice().iter()
     }

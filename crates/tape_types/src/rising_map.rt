@@ -35,7 +35,7 @@ impl<K: NumberKey, V> Model for RisingMap<K, V> {
 }
 
 impl<K: NumberKey, V: Copy> RisingMap<K, V> {
-    /// A map of no entry. It takes no memory.
+    /// An empty map. It takes no memory.
     pub fn new(alloc: Global) -> Self
         ensures empty { result ≡ map.empty }
     {

@@ -1,6 +1,6 @@
 -- What was written of what was read is right for the input, and stays so when it is flushed.
 use Rattle.std.proofs.Common.{◌≡◌, ◌⊎◌, ◌≤◌, ℕ, List, Option, Some, None, IfSome, Result, Ok, Err, inl, inr, length, refl}
-use Rattle.std.specs.Io.KnownBytes.{Appends, Keeps}
+use Rattle.std.specs.Io.KnownBytes.{Keeps}
 use Rattle.std.specs.List.{flat_map}
 use Rattle.tape_types.specs.Names.{Names}
 use Rattle.tapebox.specs.Batch.{INPUT_MOST, answer_line, fault_line, input_listing, message_lines}
@@ -8,7 +8,6 @@ use Rattle.tapebox.specs.BatchEnds.{EndsAt, Wrote, WroteForMemory}
 use Rattle.tapebox.specs.Ends.{end_of_reading}
 use Rattle.tapebox.specs.Finish.{Finishes, report_unless}
 use Rattle.tapebox.specs.Reading.{ReadsBatch}
-use Rattle.row_reads.specs.Writing.{WritesFront}
 use Rattle.tapebox.specs.declared.batch_end.BatchEnd.{BatchEnd}
 use Rattle.tapebox.specs.declared.batch_end.BatchEnd.TheVariants.{Done, BadHeader, TooLarge, ReadFault, WriteFault, OutOfMemory}
 use Rattle.tapebox.specs.declared.header_fault.HeaderFault.{HeaderFault}

@@ -188,8 +188,8 @@ fn batch_kept<T: Threads + Sync, R: Read, W: Write>(
     }
 }
 
-/// Reads a batch whole, and writes its answers and its report, in large pieces that are flushed once at the end. How it
-/// ends, and what stands written then, `BatchEnd` tells.
+/// Reads a batch whole, and writes its answers and its report, in large pieces that are flushed once at the end. `BatchEnd`
+/// says how it ended and what was written.
 pub fn batch_over<T: Threads + Sync, R: Read, W: Write>(
     rt: &T,
     alloc: Global,

@@ -4,6 +4,7 @@ ghost use Rattle.live_feed.specs.Reports.{WritesOneReport};
 ghost use Rattle.tapebox.specs.Program.{RunsFeed, feed_text};
 ghost use Rattle.row_reads.specs.Writing.{WritesFront};
 
+use crate::BatchEnd;
 use crate::command::{FollowWords, LiveWords};
 use crate::writing::say;
 use live_feed::{Fault, FollowSockets, LiveSockets, NoLoss, follow_over, here, live_over};
@@ -68,14 +69,14 @@ fn open_follow<T: Net<Listener = TcpListener, Stream = TcpStream>>(
     })
 }
 
-/// What is said of a status: nothing, or one line.
+/// What is said of a status: nothing, or one line. Of a fault that a batch has too, the same is said.
 fn text_of(status: u8) -> &'static str
     ensures { result.now ≡ feed_text status }
 {
     match status {
-        3 => "tapebox: read fault\n",
-        4 => "tapebox: write fault\n",
-        5 => "tapebox: out of memory\n",
+        3 => BatchEnd::ReadFault.text(),
+        4 => BatchEnd::WriteFault.text(),
+        5 => BatchEnd::OutOfMemory.text(),
         6 => "tapebox: worker not started\n",
         7 => "tapebox: tape disagrees\n",
         _ => "",

@@ -1,6 +1,5 @@
 //! What a piece of a header's line names.
 ghost use Rattle.std.specs.Prelude.{◌≡◌, List, ℕ, Option};
-ghost use Rattle.tapebox.specs.Header.{participant_named, symbol_named};
 
 use tape_types::{Participant, Symbol};
 
@@ -14,51 +13,39 @@ pub trait Named: Copy {
         ensures { result ≡ named name.now };
 }
 
+/// A symbol stands without the spaces that it has at its end.
 impl Named for Symbol {
     ghost use Rattle.tapebox.specs.Header.{symbol_named};
 
     ghost named = { symbol_named };
 
     fn of_name(name: &[u8]) -> Option<Symbol> {
-        symbol_named(name)
+        if name.len() > 8 {
+            return None;
+        }
+        let mut bytes = [b' '; 8];
+        bytes[..name.len()].copy_from_slice(name);
+        let Some(symbol) = Symbol::try_new(bytes) else {
+            return None;
+        };
+        // A space at the end of a name would pass for padding.
+        if symbol.name() != name {
+            return None;
+        }
+        Some(symbol)
     }
 }
 
+/// A participant's name is its letter.
 impl Named for Participant {
     ghost use Rattle.tapebox.specs.Header.{participant_named};
 
     ghost named = { participant_named };
 
     fn of_name(name: &[u8]) -> Option<Participant> {
-        participant_named(name)
-    }
-}
-
-/// The symbol of a name, with spaces to the end.
-fn symbol_named(name: &[u8]) -> Option<Symbol>
-    ensures { result ≡ symbol_named name.now }
-{
-    if name.len() > 8 {
-        return None;
-    }
-    let mut bytes = [b' '; 8];
-    bytes[..name.len()].copy_from_slice(name);
-    let Some(symbol) = Symbol::try_new(bytes) else {
-        return None;
-    };
-    // A space at the end of a name would pass for padding.
-    if symbol.name() != name {
-        return None;
-    }
-    Some(symbol)
-}
-
-/// The participant of a name.
-fn participant_named(name: &[u8]) -> Option<Participant>
-    ensures { result ≡ participant_named name.now }
-{
-    match name {
-        [letter] => Participant::try_new(*letter),
-        _ => None,
+        match name {
+            [letter] => Participant::try_new(*letter),
+            _ => None,
+        }
     }
 }

@@ -1,0 +1,6 @@
+-- Numbers in three bytes.
+use Rattle.std.specs.Prelude.{ℕ}
+
+-- how many numbers three bytes have
+abbrev pub THREE_BYTE_NUMBERS : ℕ
+THREE_BYTE_NUMBERS = 16777216

@@ -1,0 +1,120 @@
+//! A price with a place.
+ghost use Rattle.std.specs.Prelude.{◌≡◌};
+ghost use Rattle.std.specs.Ordering.{eq_by_cmp, as_partial_cmp};
+ghost use Rattle.std.specs.Cmp.Rules.{comparing};
+ghost use Rattle.std.proofs.Common.{rules};
+ghost use Rattle.price_index.specs.Pairs.{pair_cmp, rank};
+ghost use Rattle.tape_types.specs.Ranges.{IsTapeNumber};
+
+use crate::three_bytes::{THREE_BYTE_NUMBERS, ThreeBytes};
+use std::cmp::Ordering;
+use std::marker::Model;
+use tape_types::{Price, TapeNumber};
+
+/// A price with a place where a report has it, in the order of the prices and then of the places.
+///
+/// Both are kept in eight bytes, the place's below the price's, so that two are compared as one number each.
+#[derive(Clone, Copy)]
+pub struct PricePlace {
+    /// How many places are before this one.
+    before: ThreeBytes,
+    price: Price,
+}
+
+impl Model for PricePlace {
+    ghost use Rattle.std.specs.Prelude.{ℕ, ◌+◌, ◌-◌};
+    ghost use Rattle.tape_types.specs.Ranges.{IsTapeNumber};
+
+    ghost Value = { ℕ × ℕ };
+
+    ghost view = { λ k. (k.price, k.before + 1) };
+
+    ghost invariant = { λ k. IsTapeNumber (k.before + 1) };
+
+    ghost inverse = { λ p. record { before = p.1 - 1; price = p.0 } };
+}
+
+impl PricePlace {
+    /// A price with a place.
+    #[inline(always)]
+    pub fn new(price: Price, place: TapeNumber) -> Self
+        ensures value { result ≡ (price, place) }
+    {
+        PricePlace {
+            before: ThreeBytes::new(place.value() - 1),
+            price,
+        }
+    }
+
+    /// The price and the place.
+    pub fn pair(self) -> (Price, TapeNumber)
+        ensures value { result ≡ self }
+    {
+        let place = TapeNumber::try_new(self.before.value() + 1).unwrap();
+        (self.price, place)
+    }
+
+    /// The price.
+    pub fn price(self) -> Price
+        ensures value { result ≡ self.0 }
+    {
+        self.price
+    }
+
+    /// A number that is less for a lower price, and for an earlier place of the same price. The compiler reads it as the
+    /// eight bytes at once.
+    #[inline(always)]
+    fn rank(self) -> u64
+        ensures value { result ≡ rank self }
+        ensures placed { IsTapeNumber self.1 }
+    {
+        u64::from(self.before.value()) + THREE_BYTE_NUMBERS * self.price.value()
+    }
+}
+
+impl PartialEq for PricePlace {
+    ghost eq = { eq_by_cmp pair_cmp };
+
+    ghost laws = { Prim.search (comparing, rules) };
+
+    fn eq(&self, other: &PricePlace) -> bool {
+        self.rank() == other.rank()
+    }
+}
+
+impl Eq for PricePlace {
+    ghost laws = { Prim.search (comparing, rules) };
+}
+
+impl PartialOrd for PricePlace {
+    ghost partial_cmp = { as_partial_cmp pair_cmp };
+
+    ghost laws = { Prim.search (comparing, rules) };
+
+    fn partial_cmp(&self, other: &PricePlace) -> Option<Ordering> {
+        Some(self.cmp(other))
+    }
+}
+
+impl Ord for PricePlace {
+    ghost cmp = { pair_cmp };
+
+    ghost total = { Prim.search (comparing, rules) };
+
+    ghost matches_partial_cmp = { Prim.search (comparing, rules) };
+
+    ghost matches_eq = { Prim.search (comparing, rules) };
+
+    #[inline(always)]
+    fn cmp(&self, other: &PricePlace) -> Ordering {
+        let rank = self.rank();
+        let others = other.rank();
+        if rank > others {
+            Ordering::Greater
+        } else if rank < others {
+            Ordering::Less
+        } else {
+            Ordering::Equal
+        }
+    }
+}
