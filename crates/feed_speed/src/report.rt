@@ -68,7 +68,7 @@ pub fn measure<R: AllocGlobal + Clock + Threads + Sync>(
     measure_rows(rt, &tape)
 }
 
-/// The same of a tape. Making the rows that are counted warms the caches, and its time is not taken.
+/// Measures the rows of a tape. Making the rows that are counted warms the caches, and its time is not taken.
 fn measure_rows<R: AllocGlobal + Clock + Threads + Sync>(
     rt: &R,
     tape: &Tape<IndexStore>,

@@ -35,7 +35,7 @@ impl Model for PricePlace {
 }
 
 impl PricePlace {
-    /// A price with a place.
+    /// The price with the place.
     #[inline(always)]
     pub fn new(price: Price, place: TapeNumber) -> Self
         ensures value { result ≡ (price, place) }
@@ -61,8 +61,8 @@ impl PricePlace {
         self.price
     }
 
-    /// A number that is less for a lower price, and for an earlier place of the same price. The compiler reads it as the
-    /// eight bytes at once.
+    /// A number that is less for a lower price, and for an earlier place of the same price, since a place is a tape number.
+    /// The compiler reads it as the eight bytes at once.
     #[inline(always)]
     fn rank(self) -> u64
         ensures value { result ≡ rank self }
@@ -107,11 +107,12 @@ impl Ord for PricePlace {
 
     #[inline(always)]
     fn cmp(&self, other: &PricePlace) -> Ordering {
+        // Two tests of numbers, since the compiler keeps `Ord::cmp` of them as a value that is tested again.
         let rank = self.rank();
-        let others = other.rank();
-        if rank > others {
+        let other_rank = other.rank();
+        if rank > other_rank {
             Ordering::Greater
-        } else if rank < others {
+        } else if rank < other_rank {
             Ordering::Less
         } else {
             Ordering::Equal

@@ -10,4 +10,4 @@ pub(crate) const CANCEL: u8 = b'X';
 pub(crate) const CORRECTION: u8 = b'C';
 
 /// How many bytes the longest message has, a correction, with its length of two bytes before its body.
-pub(crate) const LONGEST_MESSAGE: usize = 44;
+pub(crate) const LONGEST_SPELLING: usize = 44;

@@ -6,8 +6,8 @@ use Rattle.tapebox.specs.MessageLine.{hex_bytes}
 use Rattle.tapebox.proofs.HexLemmas.{hex_bytes-append, hex_bytes-front_None}
 
 -- digits that spell bytes, before others that do, spell both
-more : (front rest x y : List ℕ) → length front % 2 ≡ 0 → hex_bytes front ≡ Some x → hex_bytes rest ≡ Some y → hex_bytes (front ++ rest) ≡ Some (x ++ y)
-more front rest x y even first second = hex_bytes-append front rest even ∙ rw (first, second) refl
+hex_bytes-both : (front rest x y : List ℕ) → length front % 2 ≡ 0 → hex_bytes front ≡ Some x → hex_bytes rest ≡ Some y → hex_bytes (front ++ rest) ≡ Some (x ++ y)
+hex_bytes-both front rest x y even first second = hex_bytes-append front rest even ∙ rw (first, second) refl
 
 module _ (digits row rest : List ℕ) (at : ℕ) (rest_is : rest ≡ drop (2 * at) digits) (within : 2 * at ≤ length digits)
     (spelled : hex_bytes (take (2 * at) digits) ≡ Some (take at row))
@@ -27,7 +27,7 @@ module _ (digits row rest : List ℕ) (at : ℕ) (rest_is : rest ≡ drop (2 * a
         let twice : 2 * (at + 4) ≡ 2 * at + 8 = omega arith in
         ap (λ n. hex_bytes (take n digits)) twice
         ∙ ap hex_bytes (take-add (2 * at) 8 digits ∙ ap (λ x. take (2 * at) digits ++ x) (ap (take 8) (sym rest_is) ∙ sym eight_is))
-        ∙ more (take (2 * at) digits) eight (take at row) bytes even spelled (sym is)
+        ∙ hex_bytes-both (take (2 * at) digits) eight (take at row) bytes even spelled (sym is)
 
     -- the rest spells nothing
     pub spelled-none : hex_bytes rest ≡ None → hex_bytes digits ≡ None
@@ -40,4 +40,4 @@ module _ (digits row rest : List ℕ) (at : ℕ) (rest_is : rest ≡ drop (2 * a
 
     -- the rest spells bytes
     pub spelled-whole : (bytes : List ℕ) → hex_bytes rest ≡ Some bytes → hex_bytes digits ≡ Some (take at row ++ bytes)
-    spelled-whole bytes is = ap hex_bytes whole ∙ more (take (2 * at) digits) rest (take at row) bytes even spelled is
+    spelled-whole bytes is = ap hex_bytes whole ∙ hex_bytes-both (take (2 * at) digits) rest (take at row) bytes even spelled is

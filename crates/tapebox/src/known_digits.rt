@@ -1,5 +1,5 @@
-//! Digits whose bytes are known from the line before.
-ghost use Rattle.std.specs.Prelude.{◌≡◌, ◌≤◌, ◌*◌, ◌%◌, length, IfSome, take};
+//! Digits whose bytes are known from an earlier line.
+ghost use Rattle.std.specs.Prelude.{◌≡◌, ◌≤◌, ◌*◌, ◌%◌, length, IfSome, OnSome, None, take};
 ghost use Rattle.std.specs.Option.{option_map};
 ghost use Rattle.reports.specs.Reading.{LONGEST_FRAME};
 ghost use Rattle.tapebox.specs.MessageLine.{hex_bytes};
@@ -9,7 +9,7 @@ use reports::LONGEST_FRAME;
 use std::array;
 use std::marker::Model;
 
-/// How many times eight digits a message has at most; the last four stand alone.
+/// How many groups of eight digits the longest frame has. The four digits after them are decoded each time.
 const EIGHTS: usize = LONGEST_FRAME / 4;
 
 /// Eight hexadecimal digits, and the four bytes that they spell.
@@ -40,12 +40,14 @@ impl EightDigits {
         }
     }
 
-    /// The bytes that eight digits spell, or `None` where one of them is none. Those that were spelled last are not decoded
-    /// again.
+    /// The bytes that eight digits spell, or `None` where one of them is no digit, which changes nothing. Those that were
+    /// spelled last are not decoded again.
     fn spell(&mut self, digits: [u8; 8]) -> Option<[u8; 4]>
-        ensures { option_map (λ bytes. bytes) result ≡ hex_bytes digits }
+        ensures bytes { option_map (λ bytes. bytes) result ≡ hex_bytes digits }
+        ensures known { OnSome result (self.new ≡ digits) }
+        ensures kept { result ≡ None → self.new ≡ self.old }
     {
-        // The eight are compared as one number each.
+        // Each eight is compared as one number.
         if u64::from_le_bytes(digits) == u64::from_le_bytes(self.digits) {
             return Some(self.bytes);
         }
@@ -59,22 +61,23 @@ impl EightDigits {
     }
 }
 
-/// The digits of a message, eight by eight, each eight as they were spelled last. Lines in a row share many of their digits, as
-/// those of a symbol, and digits that stand as in the line before are not decoded again.
+/// For each group of eight digits of a message, those that were last decoded there, with their bytes. Lines in a row share
+/// many digits, such as a symbol's, and a group that is the same as last time is not decoded again.
 #[derive(Drop)]
 pub struct KnownDigits {
     eights: [EightDigits; EIGHTS],
 }
 
 impl KnownDigits {
-    /// The digits of no line.
+    /// Nothing decoded yet: eight zeros in each group.
     pub fn new() -> Self {
         KnownDigits {
             eights: array::from_fn(|_| EightDigits::zeros()),
         }
     }
 
-    /// Decodes digits into as many bytes of the row as they spell: how many, or `None` where one of them is none.
+    /// Decodes digits to the front of the row, and answers how many bytes they spell, or `None` where one of them is no digit.
+    /// What the row has after them is not said.
     pub fn decode(&mut self, digits: &[u8], row: &mut [u8; LONGEST_FRAME]) -> Option<usize>
         requires fits { length digits.now ≤ 2 * LONGEST_FRAME }
         requires even { length digits.now % 2 ≡ 0 }
