@@ -1,3 +1,3 @@
 pub mod Keyed
-pub mod LastNumbers
-pub mod RegisterRows
+mod LastNumbers
+mod RegisterRows

@@ -1,7 +1,6 @@
 -- The pieces of a listing, and the rows that workers made of them.
-use Rattle.std.specs.Prelude.{◌≡◌, ◌≤◌, ◌<◌, ◌+◌, ℕ, List, Result, IfOk, length, slice_index_or, take, drop}
+use Rattle.std.specs.Prelude.{◌≡◌, ◌≤◌, ◌<◌, ◌+◌, ℕ, List, length, slice_index_or, take, drop}
 use Rattle.std.specs.List.{AllByRecursion, flat_map}
-use Rattle.std.specs.Global.{Vec}
 use Rattle.tape_core.specs.Tape.{TapeState}
 use Rattle.day_report.specs.Rows.{symbol_rows}
 use Rattle.day_report.specs.declared.pieces.Piece.{Piece}
@@ -24,14 +23,6 @@ rows_of_piece t size start = flat_map (symbol_rows t) (take size (drop start t.l
 abbrev pub AreMade : TapeState → ℕ → List Piece → Type 0
 AreMade t size pieces = AllByRecursion (λ p. p.rows.items ≡ rows_of_piece t size p.start) pieces
 
--- what a worker made, if memory sufficed
-abbrev pub IsShare : {E : Type 0} → TapeState → ℕ → Result (Vec Piece) E → Type 0
-IsShare t size made = IfOk made (λ v. AreMade t size v.items)
-
 -- these rows are those of the piece that begins at an index, whatever the tape of which the pieces were made
 abbrev pub AreFrom : List Piece → ℕ → List Row → Type 0
 AreFrom pieces start rows = (t : TapeState) (size : ℕ) → AreMade t size pieces → rows ≡ rows_of_piece t size start
-
--- the same, of the pieces of all workers
-abbrev pub AreFromSome : {E : Type 0} → List (Result (Vec Piece) E) → ℕ → List Row → Type 0
-AreFromSome made start rows = (t : TapeState) (size : ℕ) → AllByRecursion (IsShare t size) made → rows ≡ rows_of_piece t size start

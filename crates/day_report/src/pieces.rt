@@ -1,7 +1,8 @@
 //! The rows of a report, made by pieces of the listing.
-ghost use Rattle.std.specs.Prelude.{◌≡◌, ◌≢◌, ◌++◌, ◌+◌, ◌*◌, ◌<◌, ◌≤◌, List, Err, Some, None, IfErr, IfOk, IfSome, OnOk, length, slice_get, take, drop};
-ghost use Rattle.std.specs.List.{AllByRecursion, flat_map};
-ghost use Rattle.day_report.specs.Pieces.{IsPieceAt, AreMade, AreFrom, AreFromSome, IsShare, MAX_WORKERS};
+ghost use Rattle.std.specs.Prelude.{◌≡◌, ◌≢◌, ◌++◌, ◌+◌, ◌*◌, ◌^◌, ◌<◌, ◌≤◌, List, Err, Some, None, IfErr, IfOk, IfSome, OnOk, length, slice_get, take, drop};
+ghost use Rattle.std.specs.List.{flat_map};
+ghost use Rattle.day_report.specs.Pieces.{IsPieceAt, AreMade, AreFrom, MAX_WORKERS};
+ghost use denote.Param.Send.{IsSync};
 ghost use Rattle.day_report.specs.Rows.{report_rows, symbol_rows};
 ghost use Rattle.day_report.specs.declared.report_fault.ReportFault.TheVariants.{BadWorkers, Unstarted, WriteFault};
 ghost use Rattle.tape_types.specs.Ranges.{SYMBOLS_MOST};
@@ -118,6 +119,40 @@ fn worker_pieces<S: Store, G: Gate>(
     Ok(pieces)
 }
 
+/// The pieces that some workers take, each worker in a thread of its own where one can be made, but the last, which works in
+/// this one. The threads are started one after another: two that are started at the same time may be given one processor.
+#[cycle(workers)]
+fn pieces_by<S: Store + Sync, G: Gate + Sync, R: Threads + Sync>(
+    rt: &R,
+    alloc: Global,
+    tape: &Tape<S>,
+    size: usize,
+    next: &AtomicUsize,
+    worker: usize,
+    count: usize,
+    gate: &G,
+) -> Result<Vec<Piece>, AllocError>
+    requires count { 0 < count }
+    requires room { worker + count < 2 ^ 64 }
+    ensures { IfOk result (λ pieces. AreMade tape.now size pieces.items) }
+{
+    if count == 1 {
+        return worker_pieces(alloc, tape, size, next, worker, gate);
+    }
+    let own = move || -> Result<Vec<Piece>, AllocError>
+        ensures { IfOk result (λ pieces. AreMade tape.entry.now size pieces.items) }
+    { worker_pieces(alloc, tape, size, next, worker, gate) };
+    let others = move || -> Result<Vec<Piece>, AllocError>
+        requires { IsSync R.row × (1 < count) × (worker + count < 2 ^ 64) }
+        ensures { IfOk result (λ pieces. AreMade tape.entry.now size pieces.items) }
+    { pieces_by(rt, alloc, tape, size, next, worker + 1, count - 1, gate) };
+    let (own, others) = thread::join(rt, own, others);
+    let mut pieces = others?;
+    let mut own = own?;
+    pieces.append(&mut own)?;
+    Ok(pieces)
+}
+
 /// The rows of the piece that begins at an index of the listing, where it is among these.
 fn rows_from(pieces: &[Piece], start: usize) -> Option<&[Row]>
     ensures { IfSome result (λ rows. AreFrom pieces.now start rows.now) }
@@ -126,22 +161,7 @@ fn rows_from(pieces: &[Piece], start: usize) -> Option<&[Row]>
     Some(piece.rows.as_slice())
 }
 
-/// The same among the pieces of all workers.
-fn taken_from(made: &[Result<Vec<Piece>, AllocError>], start: usize) -> Option<&[Row]>
-    ensures { IfSome result (λ rows. AreFromSome made.now start rows.now) }
-{
-    for pieces in made {
-        if let Ok(pieces) = pieces {
-            let rows = rows_from(pieces, start);
-            if rows.is_some() {
-                return rows;
-            }
-        }
-    }
-    None
-}
-
-/// How many rows the pieces of one worker have.
+/// How many rows these pieces have.
 fn row_count(pieces: &[Piece]) -> usize {
     let mut count: usize = 0;
     for piece in pieces {
@@ -150,33 +170,22 @@ fn row_count(pieces: &[Piece]) -> usize {
     count
 }
 
-/// How many rows the pieces of all workers have.
-fn total_count(made: &[Result<Vec<Piece>, AllocError>]) -> usize {
-    let mut count: usize = 0;
-    for pieces in made {
-        if let Ok(pieces) = pieces {
-            count = count.saturating_add(row_count(pieces));
-        }
-    }
-    count
-}
-
-/// The rows of a tape, from the pieces that workers made. Where one is missing, memory ran out for the worker that took it.
+/// The rows of a tape, from the pieces that its workers made.
 fn joined<S: Store>(
     alloc: Global,
     tape: &Tape<S>,
     size: usize,
-    made: &[Result<Vec<Piece>, AllocError>],
+    pieces: &[Piece],
 ) -> Result<Vec<Row>, AllocError>
     requires size { 0 < size }
-    requires made { AllByRecursion (IsShare tape.now size) made.now }
+    requires made { AreMade tape.now size pieces.now }
     ensures { IfOk result (λ rows. rows.items ≡ report_rows tape.now) }
 {
     // All of the room at once, since one thread alone joins the pieces, and a list that grows may be copied.
-    let mut rows = Vec::with_capacity(alloc, total_count(made))?;
+    let mut rows = Vec::with_capacity(alloc, row_count(pieces))?;
     let mut start = 0;
     while let Some(piece) = piece_from(tape, start, size) {
-        let Some(made) = taken_from(made, start) else {
+        let Some(made) = rows_from(pieces, start) else {
             return Err(AllocError);
         };
         rows.extend_from_slice(made)?;
@@ -232,10 +241,16 @@ pub fn rows<S: Store + Sync, G: Gate + Sync, R: Threads + Sync>(
     try_start(rt)?;
     let size = symbols.len().div_ceil(workers * PIECES_EACH);
     let next = AtomicUsize::new(0);
-    let share = |worker: usize| -> Result<Vec<Piece>, AllocError>
-        ensures { IsShare tape.entry.now size result }
-    { worker_pieces(alloc, tape, size, &next, worker, gate) };
-    let made = thread::map_indices(rt, alloc, workers.min(symbols.len()), &share)?;
-    let rows = joined(alloc, tape, size, &made)?;
+    let pieces = pieces_by(
+        rt,
+        alloc,
+        tape,
+        size,
+        &next,
+        0,
+        workers.min(symbols.len()),
+        gate,
+    )?;
+    let rows = joined(alloc, tape, size, &pieces)?;
     Ok(rows)
 }

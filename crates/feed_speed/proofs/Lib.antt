@@ -1,1 +1,1 @@
-pub mod OnlyElement
+mod OnlyElement

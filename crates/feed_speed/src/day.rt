@@ -27,17 +27,29 @@ fn participant_named(name: &[u8]) -> Option<Participant> {
     }
 }
 
+/// The symbols of a line of names.
+fn read_symbols(alloc: Global, line: &[u8]) -> anyhow::Result<Vec<Symbol>> {
+    let mut symbols = Vec::new(alloc);
+    for name in line.split_str(b" ") {
+        symbols.push(symbol_named(name).context("a name is no symbol")?)?;
+    }
+    Ok(symbols)
+}
+
+/// The participants of a line of letters.
+fn read_participants(alloc: Global, line: &[u8]) -> anyhow::Result<Vec<Participant>> {
+    let mut participants = Vec::new(alloc);
+    for name in line.split_str(b" ") {
+        participants.push(participant_named(name).context("a name is no participant")?)?;
+    }
+    Ok(participants)
+}
+
 /// The listing of a day's first two lines: symbols, and the letters of participants.
 pub fn read_listing(alloc: Global, input: &[u8]) -> anyhow::Result<Listing> {
     let mut lines = input.lines();
-    let mut symbols = Vec::new(alloc);
-    for name in lines.next().unwrap_or(&[]).split_str(b" ") {
-        symbols.push(symbol_named(name).context("a name is no symbol")?)?;
-    }
-    let mut participants = Vec::new(alloc);
-    for name in lines.next().unwrap_or(&[]).split_str(b" ") {
-        participants.push(participant_named(name).context("a name is no participant")?)?;
-    }
+    let symbols = read_symbols(alloc, lines.next().unwrap_or(&[]))?;
+    let participants = read_participants(alloc, lines.next().unwrap_or(&[]))?;
     Ok(Listing::new(alloc, &symbols, &participants)?)
 }
 

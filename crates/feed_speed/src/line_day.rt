@@ -144,8 +144,15 @@ pub fn entries_at_end<D: DayName>(shared: SharedTape<D>, seats: Vec<LineSeat<D>>
     requires { IsOneEach D.listing.participants seats.items }
 {
     match shared.end(seats) {
-        Ok(day) => Some(day.tape().entries().len()),
-        Err(EndFault::Disagrees(_)) => None,
+        Ok(day) => {
+            let entries = day.tape().entries().len();
+            drop(day);
+            Some(entries)
+        }
+        Err(EndFault::Disagrees(disagreement)) => {
+            drop(disagreement);
+            None
+        }
         Err(EndFault::MissingSeat(_unended)) => unreachable!(),
     }
 }

@@ -1,10 +1,10 @@
-pub mod Confirmed
-pub mod Differences
-pub mod Endings
-pub mod KeptSeats
-pub mod OneDisagreement
 pub mod OneEach
-pub mod Openings
-pub mod Pushes
-pub mod Reasons
-pub mod Tellings
+mod Confirmed
+mod Differences
+mod Endings
+mod KeptSeats
+mod OneDisagreement
+mod Openings
+mod Pushes
+mod Reasons
+mod Tellings

@@ -74,7 +74,9 @@ fn follow<R: Threads + Wait + Net<Listener = TcpListener, Stream = TcpStream> + 
     ensures { OnOk result (WritesOneReport (W.contents writer.old) (W.contents writer.new)) }
 {
     let subscriber = follow_to_end(rt, sockets, follower?)?;
-    report(rt, alloc, &subscriber, writer)
+    let written = report(rt, alloc, &subscriber, writer);
+    drop(subscriber);
+    written
 }
 
 /// Follows a day over sockets until its end is known and all of it is held, and writes the report of what is held to `writer`.

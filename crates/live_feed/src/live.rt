@@ -61,7 +61,10 @@ fn end_day<D: DayName>(shared: SharedTape<D>, seats: Vec<LineSeat<D>>) -> Result
 {
     match shared.end(seats) {
         Ok(day) => Ok(day),
-        Err(EndFault::Disagrees(_)) => Err(Fault::Disagrees),
+        Err(EndFault::Disagrees(disagreement)) => {
+            drop(disagreement);
+            Err(Fault::Disagrees)
+        }
         Err(EndFault::MissingSeat(_unended)) => unreachable!(),
     }
 }
@@ -236,7 +239,9 @@ fn live<R: Threads + Wait + Clock + Sync, L: Loss + Sync, W: Write>(
     ensures listed { OnOk result (WritesItsReport listing (W.contents writer.old) (W.contents writer.new)) }
 {
     let day = hold_day(rt, feed, listing, limit, sockets)?;
-    write_day(rt, feed.alloc, day.tape(), writer)
+    let written = write_day(rt, feed.alloc, day.tape(), writer);
+    drop(day);
+    written
 }
 
 /// Runs a day over sockets, and writes its report to `writer`.

@@ -1,2 +1,2 @@
-pub mod Rising
-pub mod Volumes
+mod Rising
+mod Volumes

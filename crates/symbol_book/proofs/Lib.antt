@@ -1,3 +1,3 @@
-pub mod ParticipantStores
-pub mod HeldTrades
 pub mod Entries
+mod HeldTrades
+mod ParticipantStores

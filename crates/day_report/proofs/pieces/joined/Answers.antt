@@ -12,7 +12,7 @@ loop-piece-preserved g c =
     let before = c.loop-piece.rows.items in
     let more : c.extend_from_slice.new.self.items ≡ before ++ flat_map (symbol_rows t) part =
     c.in_ok-extend_from_slice.ensures.items
-    ∙ ap (λ (rows : List Row). before ++ rows) (c.in-Some-taken_from.ensures t c.args.size c.requires.made
+    ∙ ap (λ (rows : List Row). before ++ rows) (c.in-Some-rows_from.ensures t c.args.size c.requires.made
     ∙ ap (flat_map (symbol_rows t)) (sym c.in-Some.ensures.piece)) in
     record {
       within = c.in-Some.ensures.place.within;
