@@ -1,5 +1,5 @@
 #!/usr/bin/env python3
-"""Running days and followers for which no thread is started, or no connection opened: few_resources.py TAPEBOX
+"""Running days and followers for which no thread is started, or no connection opened, and a report's rows: few_resources.py TAPEBOX FEED_SPEED
 
 Each ends by its status and text and writes no report; where two faults meet, the one of the lesser status is told. A limit of
 threads binds no superuser, so the program runs as a user of its own then. Where that can't be had, this says so
@@ -21,9 +21,11 @@ from peers import HOST, LIMIT, connect, free_ports, report
 
 READ = (3, "tapebox: read fault\n")
 WORKER = (6, "tapebox: worker not started\n")
+ROWS = (1, "Error: Unstarted\n")
 # A user that runs nothing else.
 USER = 61_000 + os.getpid() % 4_000
 IS_ROOT = os.geteuid() == 0
+DAY = os.path.join(os.path.dirname(os.path.realpath(__file__)), "..", "samples", "first-day.txt")
 # How often a day is started again, and after how many seconds.
 TRIES = 5
 PATIENCE = 10
@@ -46,10 +48,11 @@ def limit(files, threads):
         resource.setrlimit(resource.RLIMIT_NOFILE, (files, files))
 
 
-def start(words, files=None, threads=None, output=subprocess.PIPE):
+def start(words, files=None, threads=None, output=subprocess.PIPE, program=None, given=None):
     """Starts the program under these limits."""
     return subprocess.Popen(
-        [PROGRAM, *map(str, words)],
+        [program or PROGRAM, *map(str, words)],
+        stdin=given,
         stdout=output,
         stderr=subprocess.PIPE,
         text=True,
@@ -98,6 +101,12 @@ def live_without_a_thread():
     run = start(live_words(port, "N", 1), threads=1)
     with connect(port):
         end("live without a thread", run, WORKER)
+
+
+def rows_without_a_thread():
+    """One worker needs no thread; two workers do, and the first of them is refused."""
+    with open(DAY) as day:
+        end("rows without a thread", start(["rows"], threads=1, program=MEASURE, given=day), ROWS)
 
 
 def forbid_files(run, is_users=False):
@@ -167,6 +176,7 @@ def main():
         return
     follow_without_a_thread()
     live_without_a_thread()
+    rows_without_a_thread()
     if IS_ROOT:
         live_with_one_thread("live with one thread", False, WORKER)
         live_with_one_thread("live with one thread and without a subscriber's connection", True, READ)
@@ -175,6 +185,7 @@ def main():
 if __name__ == "__main__":
     with tempfile.TemporaryDirectory() as folder:
         os.chmod(folder, 0o755)
-        PROGRAM = shutil.copy(sys.argv[1], folder)
+        PROGRAM, MEASURE = (shutil.copy(program, folder) for program in sys.argv[1:3])
         os.chmod(PROGRAM, 0o755)
+        os.chmod(MEASURE, 0o755)
         main()

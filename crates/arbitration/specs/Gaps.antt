@@ -1,12 +1,12 @@
 -- What is missing of a window, and what is asked for.
 use Rattle.std.specs.Prelude.{◌≡◌, ℕ, ◌+◌, ◌-◌, ◌≤◌, ◌<◌, nat_lt, if◌then◌else◌, List, Option, None, slice_get}
 use Rattle.tape_core.specs.declared.entry.Entry.{Entry}
-use Rattle.tape_frames.specs.Limits.{longest_span}
+use Rattle.tape_frames.specs.Limits.{LONGEST_SPAN}
 use Rattle.arbitration.specs.Windows.{WindowState, flat}
 
 -- the most numbers that one request asks for
-abbrev pub most_asked : ℕ
-most_asked = longest_span
+abbrev pub MOST_ASKED : ℕ
+MOST_ASKED = LONGEST_SPAN
 
 -- the entry that waits under a number, where the first slot is of the number next
 abbrev pub waiting_entry : ℕ → List (Option Entry) → ℕ → Option Entry
@@ -21,5 +21,5 @@ pub record IsGap (w : WindowState) (from count : ℕ) : Type 0 where
   pub least : (n : ℕ) → IsMissing w n → from ≤ n
   pub all : (n : ℕ) → from ≤ n → n < from + count → IsMissing w n
   pub some : 1 ≤ count
-  pub few : count ≤ most_asked
-  pub ends : count < most_asked → ¬ (IsMissing w (from + count))
+  pub few : count ≤ MOST_ASKED
+  pub ends : count < MOST_ASKED → ¬ (IsMissing w (from + count))

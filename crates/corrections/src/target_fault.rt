@@ -19,14 +19,14 @@ pub enum TargetFault {
 impl TargetFault {
     /// The number of the fault.
     pub fn code(self) -> u8
-        ensures { result ≡ target_fault_code self }
+        ensures number { result ≡ target_fault_code self }
     {
         self as u8
     }
 
     /// The name of the fault, as it is printed.
     pub fn name(self) -> &'static str
-        ensures { result.now ≡ target_fault_name self }
+        ensures text { result.now ≡ target_fault_name self }
     {
         match self {
             TargetFault::NoSuchReport => "NoSuchReport",

@@ -23,14 +23,14 @@ pub enum ReportFault {
 impl ReportFault {
     /// The number of the fault.
     pub fn code(self) -> u8
-        ensures { result ≡ report_fault_code self }
+        ensures number { result ≡ report_fault_code self }
     {
         self as u8
     }
 
     /// The name of the fault, as it is printed.
     pub fn name(self) -> &'static str
-        ensures { result.now ≡ report_fault_name self }
+        ensures text { result.now ≡ report_fault_name self }
     {
         match self {
             ReportFault::BadWorkers => "BadWorkers",

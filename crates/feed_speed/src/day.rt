@@ -2,7 +2,7 @@
 
 use anyhow::Context;
 use bstr::ByteSlice;
-use reports::{Message, decode};
+use reports::{LONGEST_MESSAGE, Message, decode};
 use std::alloc::Global;
 use subscriber::Subscriber;
 use summaries::IndexStore;
@@ -58,7 +58,7 @@ fn read_message(line: &[u8]) -> Option<Message> {
     let [letter, b' ', digits @ ..] = line else {
         return None;
     };
-    let mut row = [0; 44];
+    let mut row = [0; LONGEST_MESSAGE];
     let bytes = row.get_mut(..digits.len() / 2)?;
     hex::decode_to_slice(digits, bytes).ok()?;
     let (message, taken) = decode(bytes).ok()?;

@@ -6,7 +6,7 @@ use crate::line_day::{DayTime, run_day};
 use crate::times::{Ratio, Seconds, lesser};
 use anyhow::{Context, ensure};
 use line_ledger::prepare;
-use reports::{Message, encode_into};
+use reports::{LONGEST_MESSAGE, Message, encode_into};
 use std::alloc::{AllocError, Global};
 use std::io;
 use std::rt::Clock;
@@ -68,7 +68,7 @@ impl LineFigures {
 
 /// The bytes of a participant's messages.
 fn input_of(alloc: Global, who: Participant, messages: &[Message]) -> Result<Vec<u8>, AllocError> {
-    let mut row = [0; 44];
+    let mut row = [0; LONGEST_MESSAGE];
     let mut bytes = Vec::new(alloc);
     for message in messages {
         if message.header().participant == who {

@@ -2,7 +2,7 @@
 //! place above all others and are found there at once.
 ghost use Rattle.std.specs.Prelude.{◌≡◌, ◌<◌, ◌≤◌, ◌++◌, ◌∷◌, [], ℕ, length, take, drop, OnOk, OnErr, MatchOption, Some, None, IsSome};
 ghost use Rattle.std.specs.FinMap as map;
-ghost use Rattle.place_index.specs.Blocks.{all_values, max_block_len, GoesLast, HasLastBlock};
+ghost use Rattle.place_index.specs.Blocks.{all_values, MAX_BLOCK_LEN, GoesLast, HasLastBlock};
 ghost use Rattle.place_index.specs.Places.{IsVacant, IsFirstPlace, IsLastPlace};
 ghost use Rattle.tape_types.specs.RisingEntries.{AllBelow};
 
@@ -94,10 +94,10 @@ fn make_room<V: Copy>(
     index: usize,
 ) -> Result<(), AllocError>
     requires valid { HasLastBlock blocks.old.items last.old }
-    requires index { (0 < index) × (index ≤ max_block_len) }
+    requires index { (0 < index) × (index ≤ MAX_BLOCK_LEN) }
     ensures valid { HasLastBlock blocks.new.items last.new }
     ensures values { all_values blocks.new.items last.new ≡ all_values blocks.old.items last.old }
-    ensures room { OnOk result (length last.new < max_block_len) }
+    ensures room { OnOk result (length last.new < MAX_BLOCK_LEN) }
 {
     if last.len() < MAX_BLOCK_LEN {
         return Ok(());

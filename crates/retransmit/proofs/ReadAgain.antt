@@ -12,11 +12,11 @@ use Rattle.tape_core.specs.declared.entry.Entry.{Entry}
 use Rattle.tape_frames.specs.declared.request.Request.{Request}
 use Rattle.tape_frames.specs.declared.request_fault.RequestFault.{RequestFault}
 use Rattle.tape_frames.specs.declared.request_fault.RequestFault.TheVariants as request
-use Rattle.tape_frames.specs.Limits.{IsSpan, longest_span, most_entries}
+use Rattle.tape_frames.specs.Limits.{IsSpan, LONGEST_SPAN, MOST_ENTRIES}
 use Rattle.tape_frames.specs.Requests.{request_at, request_of}
 use Rattle.tape_frames.specs.Spelling.{IsEntry}
 use Rattle.retransmit.specs.Answers.{IsAnswer, answer_of, framed, given_text, packet_count, range_packets, range_text}
-use Rattle.retransmit.specs.Asking.{answer_at, answered_at, most_packets}
+use Rattle.retransmit.specs.Asking.{answer_at, answered_at, MOST_PACKETS}
 use Rattle.retransmit.specs.Faults.{refusal_code}
 use Rattle.retransmit.specs.Laws.{ArePackets, EachAnswerIsRead}
 use Rattle.retransmit.specs.Replies.{IsReadAgain, given_packets}
@@ -56,12 +56,12 @@ IsShort es session (Refused refusal) = Unit {0}
 IsShort es session (Range from to) = ArePackets (range_packets es session from to)
 
 -- a range is read as its packets
-range_is_read : (es : List Entry) (session from to : ℕ) → from ≤ to → to < from + longest_span → ArePackets (range_packets es session from to) → (rest : List ℕ)
+range_is_read : (es : List Entry) (session from to : ℕ) → from ≤ to → to < from + LONGEST_SPAN → ArePackets (range_packets es session from to) → (rest : List ℕ)
     → answer_at (range_text es session from to ++ rest) ≡ Ok (range_packets es session from to, rest)
 range_is_read es session from to order few short rest =
     let texts = range_packets es session from to in
     let count : length texts ≡ packet_count from to = length-packet_texts (packet_count from to) session (take to es) from in
-    let below : packet_count from to ≤ most_packets = omega (arith, few) in
+    let below : packet_count from to ≤ MOST_PACKETS = omega (arith, few) in
     let read = answers_are_read texts rest (omega (arith, count)) (omega (arith, count, below)) short in
     ap (λ (n : ℕ). answer_at (0 ∷ n ∷ (flat_map framed texts ++ rest))) (sym count) ∙ read
 
@@ -89,10 +89,10 @@ request_span bytes r read =
     let all = bind_ok (request_at bytes) (λ (x : Request × List ℕ). Ok x.0) r read in
     let session = bind_ok (number_at request.BadSpan w64 bytes) _ all.0 all.1 in
     let from = bind_ok (number_at request.BadSpan w32 session.0.1) _ all.0 session.2 in
-    let count = bind_ok (ranged_at request.BadSpan w16 1 longest_span request.BadSpan from.0.1) _ all.0 from.2 in
+    let count = bind_ok (ranged_at request.BadSpan w16 1 LONGEST_SPAN request.BadSpan from.0.1) _ all.0 from.2 in
     let number = bind_ok (number_at request.BadSpan w16 from.0.1) _ count.0 count.1 in
-    let good = chosen (nat_le 1 number.0.0 && nat_le number.0.0 longest_span) request.BadSpan number.0 count.0 number.2 in
-    let range = and_parts (nat_le 1 number.0.0) (nat_le number.0.0 longest_span) good.0 in
+    let good = chosen (nat_le 1 number.0.0 && nat_le number.0.0 LONGEST_SPAN) request.BadSpan number.0 count.0 number.2 in
+    let range = and_parts (nat_le 1 number.0.0) (nat_le number.0.0 LONGEST_SPAN) good.0 in
     let is : number.0.0 ≡ r.count = ap (λ (x : ℕ × List ℕ). x.0) good.1 ∙ ap (λ (x : Request × List ℕ). x.0.count) (ok_is request.BadSpan _ all.0 count.2)
     ∙ ap (λ (x : Request). x.count) (ok_is request.BadSpan all.0.0 r all.2) in
     (omega (arith, leb-true _ _ range.0, is), omega (arith, leb-true _ _ range.1, is))
@@ -116,9 +116,9 @@ answer_short : (es : List Entry) (session : ℕ) (a : Answer) → All IsEntry es
 answer_short es session (Refused refusal) all = tt
 answer_short es session (Range from to) all =
     ArePackets-short (packet_count from to) session (take to es) from
-    (λ k lt. length-data_text session (take most_entries (drop ((from + most_entries * k) - 1) (take to es)))
-    (All-take IsEntry most_entries _ (All-drop IsEntry ((from + most_entries * k) - 1) (take to es) (All-take IsEntry to es all)))
-    (omega (arith, length-take most_entries (drop ((from + most_entries * k) - 1) (take to es)))))
+    (λ k lt. length-data_text session (take MOST_ENTRIES (drop ((from + MOST_ENTRIES * k) - 1) (take to es)))
+    (All-take IsEntry MOST_ENTRIES _ (All-drop IsEntry ((from + MOST_ENTRIES * k) - 1) (take to es) (All-take IsEntry to es all)))
+    (omega (arith, length-take MOST_ENTRIES (drop ((from + MOST_ENTRIES * k) - 1) (take to es)))))
 
 -- whatever was read of a request, the answer is read again
 read_cases : (es : List Entry) (session : ℕ) (bytes : List ℕ) (read : Result Request RequestFault) → request_of bytes ≡ read → All IsEntry es

@@ -19,7 +19,7 @@ use Rattle.subscriber.specs.Schedules.{World, Event, Admits, Closes, Comes, Drai
 use Rattle.subscriber.specs.Schedules.{run, IsSchedule, is_restart, brings, HasNoRestart, Brings}
 use Rattle.subscriber.proofs.Turns.{after_entry-keeps, length-with_entry}
 use Rattle.subscriber.proofs.Sound.{IsSound, keeps, keeps_all}
-use Rattle.tape_frames.specs.Limits.{longest_span}
+use Rattle.tape_frames.specs.Limits.{LONGEST_SPAN}
 
 -- the entry of a number is held or waits
 abbrev IsKept : SubscriberState → ℕ → Type 0
@@ -212,7 +212,7 @@ gap_filled w from count more later last s empty gap ok stays brought all =
     let end = (run w more).subscriber in
     let n = length last.tape.entries + 1 in
     let first : from ≡ length w.subscriber.tape.entries + 1 = gap_next w from count s empty gap in
-    let few : count ≤ longest_span = gap.few in
+    let few : count ≤ LONGEST_SPAN = gap.few in
     let grown = grows_run more w stays in
     let drained : length last.tape.entries ≡ length end.tape.entries + later = all.held in
     let based = (keeps_all more w s ok).base in

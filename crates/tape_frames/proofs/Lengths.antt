@@ -9,7 +9,7 @@ use Rattle.reports.proofs.Messages.{length-content, length-header}
 use Rattle.scratch_fold.specs.declared.summary.Summary.{Summary}
 use Rattle.tape_core.specs.declared.entry.Entry.{Entry}
 use Rattle.tape_frames.specs.declared.packet.Packet.TheVariants.{Data, Beat, End}
-use Rattle.tape_frames.specs.Limits.{most_entries, summary_length, longest_entry, longest_packet}
+use Rattle.tape_frames.specs.Limits.{MOST_ENTRIES, SUMMARY_LENGTH, LONGEST_ENTRY, LONGEST_PACKET}
 use Rattle.tape_frames.specs.Lengths.{EntryLengths, PacketLengths, RequestLengths, entry_length}
 use Rattle.tape_frames.specs.EntryRows.{CarriesFor, first_number}
 use Rattle.tape_frames.specs.Spelling as frames
@@ -22,8 +22,8 @@ use Rattle.tape_frames.proofs.Packets.{length-packet_text}
 -- what a cancel or a correction carries is a summary
 abbrev carried_length : Message → ℕ
 carried_length (Report header content) = 0
-carried_length (Cancel header target) = summary_length
-carried_length (Correct header target content) = summary_length
+carried_length (Cancel header target) = SUMMARY_LENGTH
+carried_length (Correct header target content) = SUMMARY_LENGTH
 
 -- what is carried is as long as the kind asks for
 length-carried_text : (m : Message) (after : Option Summary) → CarriesFor m after → length (carried_text after) ≡ carried_length m
@@ -65,7 +65,7 @@ entry_lengths e is = omega (
 )
 
 -- no entry is longer than a correction
-entry_at_most : (m : Message) → entry_length m ≤ longest_entry
+entry_at_most : (m : Message) → entry_length m ≤ LONGEST_ENTRY
 entry_at_most (Report h c) = omega arith
 entry_at_most (Cancel h n) = omega arith
 entry_at_most (Correct h n c) = omega arith
@@ -73,7 +73,7 @@ entry_at_most (Correct h n c) = omega arith
 -- ---- packets
 
 -- entries are no longer than as many corrections
-length-entries : (es : List Entry) → All IsEntry es → length (flat_map entry_text es) ≤ longest_entry * length es
+length-entries : (es : List Entry) → All IsEntry es → length (flat_map entry_text es) ≤ LONGEST_ENTRY * length es
 length-entries [] all = omega arith
 length-entries (e ∷ es) all =
     let first : IsEntry e = All-head IsEntry e es all in
@@ -86,8 +86,8 @@ length-entries (e ∷ es) all =
     )
 
 -- a data packet of no more entries than a packet has is no longer than the longest packet
-pub length-data_text : (session : ℕ) (es : List Entry) → All IsEntry es → length es ≤ most_entries
-    → length (packet_text (Data session es)) ≤ longest_packet
+pub length-data_text : (session : ℕ) (es : List Entry) → All IsEntry es → length es ≤ MOST_ENTRIES
+    → length (packet_text (Data session es)) ≤ LONGEST_PACKET
 length-data_text session es all few =
     omega (arith, length-append (frames.header_text 68 session (first_number es) (length es)) (flat_map entry_text es), length-entries es all, few)
 

@@ -5,7 +5,7 @@ use Rattle.reports.specs.declared.message.Message.TheVariants.{Report, Cancel, C
 use Rattle.tape_core.specs.declared.entry.Entry.{Entry}
 use Rattle.tape_frames.specs.declared.packet.Packet.{Packet}
 use Rattle.tape_frames.specs.declared.request.Request.{Request}
-use Rattle.tape_frames.specs.Limits.{header_length, longest_packet, longest_entry, request_length}
+use Rattle.tape_frames.specs.Limits.{HEADER_LENGTH, LONGEST_PACKET, LONGEST_ENTRY, REQUEST_LENGTH}
 use Rattle.tape_frames.specs.Requests.{request_text}
 use Rattle.tape_frames.specs.Spelling.{IsEntry, IsPacket, entry_text, packet_text}
 
@@ -13,7 +13,7 @@ use Rattle.tape_frames.specs.Spelling.{IsEntry, IsPacket, entry_text, packet_tex
 abbrev pub entry_length : Message → ℕ
 entry_length (Report header content) = 44
 entry_length (Cancel header target) = 97
-entry_length (Correct header target content) = longest_entry
+entry_length (Correct header target content) = LONGEST_ENTRY
 
 -- each entry has as many bytes as its kind asks for
 abbrev pub EntryLengths : Type 0
@@ -21,8 +21,8 @@ EntryLengths = (e : Entry) → IsEntry e → length (entry_text e) ≡ entry_len
 
 -- each packet has a header at least, and no packet is longer than the longest
 abbrev pub PacketLengths : Type 0
-PacketLengths = (q : Packet) → IsPacket q → (header_length ≤ length (packet_text q)) × (length (packet_text q) ≤ longest_packet)
+PacketLengths = (q : Packet) → IsPacket q → (HEADER_LENGTH ≤ length (packet_text q)) × (length (packet_text q) ≤ LONGEST_PACKET)
 
 -- all requests have the same length
 abbrev pub RequestLengths : Type 0
-RequestLengths = (r : Request) → length (request_text r) ≡ request_length
+RequestLengths = (r : Request) → length (request_text r) ≡ REQUEST_LENGTH

@@ -1,5 +1,7 @@
 //! The limits of packets and requests, each once: a second version of the format begins here.
 
+use reports::LONGEST_MESSAGE;
+
 /// The version of a packet, as its first byte.
 pub const VERSION: u8 = 1;
 
@@ -20,9 +22,6 @@ pub const ALL_MARKS: u8 = 0x0f;
 
 /// How many bytes a summary has: presence 1, four marks, volume 8, trades 4.
 pub const SUMMARY_LENGTH: usize = 1 + 4 * MARK_LENGTH + 12;
-
-/// How many bytes a message has at most: those of a correction.
-pub const LONGEST_MESSAGE: usize = 44;
 
 /// How many bytes an entry has at most: the number (4), message and summary of a correction.
 pub const LONGEST_ENTRY: usize = 4 + LONGEST_MESSAGE + SUMMARY_LENGTH;

@@ -2,14 +2,14 @@
 ghost use Rattle.std.specs.Prelude.{◌≡◌, ◌+◌, ◌*◌, ◌≤◌, ◌++◌, ◌∷◌, [], All, length, take, drop, OnOk, OnErr, IfSome, List, flat_map, is_some};
 ghost use Rattle.std.specs.Int.{w8, w16, w32, w64, to_be_bytes};
 ghost use Rattle.reports.specs.ByteRows.{Puts};
-ghost use Rattle.tape_frames.specs.Limits.{most_entries, header_length, mark_length, summary_length, longest_entry, longest_packet, all_marks};
+ghost use Rattle.tape_frames.specs.Limits.{MOST_ENTRIES, HEADER_LENGTH, MARK_LENGTH, SUMMARY_LENGTH, LONGEST_ENTRY, LONGEST_PACKET, ALL_MARKS};
 ghost use Rattle.tape_frames.specs.EntryRows.{Carries, IsRow, first_number};
 ghost use Rattle.tape_frames.specs.Spelling.{IsEntry, IsFigure, IsMark, IsPacket, IsSummary, bit, carried_text, entry_text};
 ghost use Rattle.tape_frames.specs.Spelling.{figure_text, header_text, mark_text, packet_text, presence, summary_text};
 
-use crate::limits::{LONGEST_MESSAGE, LONGEST_PACKET, MARK_LENGTH, VERSION};
+use crate::limits::{LONGEST_PACKET, MARK_LENGTH, VERSION};
 use crate::{EntryCount, EntryRow, Packet};
-use reports::{encode_into, put};
+use reports::{LONGEST_MESSAGE, encode_into, put};
 use scratch_fold::{Mark, Summary};
 use std::alloc::AllocError;
 use tape_core::Entry;
@@ -20,7 +20,7 @@ pub fn write_packet(packet: &Packet, text: &mut Vec<u8>) -> Result<(), AllocErro
     ensures ok { OnOk result (text.new.items ≡ text.old.items ++ packet_text packet.now) }
     // With `ok`, what was written spells the packet.
     ensures valid { IsPacket packet.now }
-    ensures short { length (packet_text packet.now) ≤ longest_packet }
+    ensures short { length (packet_text packet.now) ≤ LONGEST_PACKET }
     ensures err { OnErr result (text.new.items ≡ text.old.items) }
 {
     let mut row = [0; LONGEST_PACKET];
@@ -32,7 +32,7 @@ pub fn write_packet(packet: &Packet, text: &mut Vec<u8>) -> Result<(), AllocErro
 
 /// The whole packet, at the front of the row.
 fn put_packet(row: &mut [u8], packet: &Packet) -> usize
-    requires { longest_packet ≤ length row.old }
+    requires { LONGEST_PACKET ≤ length row.old }
     ensures puts { Puts 0 (packet_text packet.now) row.old row.new result }
     ensures valid { IsPacket packet.now }
 {
@@ -50,7 +50,7 @@ fn put_packet(row: &mut [u8], packet: &Packet) -> usize
 
 /// Version, kind, session, number and count, at the front of the row.
 fn put_header(row: &mut [u8], kind: u8, session: u64, number: u32, count: u8) -> usize
-    requires { header_length ≤ length row.old }
+    requires { HEADER_LENGTH ≤ length row.old }
     ensures puts { Puts 0 (header_text kind session number count) row.old row.new result }
 {
     let at = put(row, 0, &[VERSION, kind]);
@@ -61,9 +61,9 @@ fn put_header(row: &mut [u8], kind: u8, session: u64, number: u32, count: u8) ->
 
 /// The entries, one after the other.
 fn put_entries(row: &mut [u8], at: usize, entries: &[Entry]) -> usize
-    requires few { length entries.now ≤ most_entries }
+    requires few { length entries.now ≤ MOST_ENTRIES }
     requires carry { All Carries entries.now }
-    requires room { at + most_entries * longest_entry ≤ length row.old }
+    requires room { at + MOST_ENTRIES * LONGEST_ENTRY ≤ length row.old }
     ensures puts { Puts at (flat_map entry_text entries.now) row.old row.new result }
     ensures valid { All IsEntry entries.now }
 {
@@ -76,10 +76,10 @@ fn put_entries(row: &mut [u8], at: usize, entries: &[Entry]) -> usize
 
 /// An entry: its number, its message, and what it carries.
 fn put_entry(row: &mut [u8], at: usize, entry: &Entry) -> usize
-    requires room { at + longest_entry ≤ length row.old }
+    requires room { at + LONGEST_ENTRY ≤ length row.old }
     requires carries { Carries entry.now }
     ensures puts { Puts at (entry_text entry.now) row.old row.new result }
-    ensures within { result ≤ at + longest_entry }
+    ensures within { result ≤ at + LONGEST_ENTRY }
     ensures valid { IsEntry entry.now }
 {
     let at = put(row, at, &entry.number.value().to_be_bytes());
@@ -94,9 +94,9 @@ fn put_entry(row: &mut [u8], at: usize, entry: &Entry) -> usize
 
 /// A summary: which marks are there, the marks, and the two sums.
 fn put_summary(row: &mut [u8], at: usize, summary: &Summary) -> usize
-    requires { at + summary_length ≤ length row.old }
+    requires { at + SUMMARY_LENGTH ≤ length row.old }
     ensures puts { Puts at (summary_text summary.now) row.old row.new result }
-    ensures len { result ≡ at + summary_length }
+    ensures len { result ≡ at + SUMMARY_LENGTH }
     ensures valid { IsSummary summary.now }
 {
     let at = put(row, at, &[presence(summary)]);
@@ -111,7 +111,7 @@ fn put_summary(row: &mut [u8], at: usize, summary: &Summary) -> usize
 /// Which marks are there: a bit for each, from the lowest.
 fn presence(summary: &Summary) -> u8
     ensures value { result ≡ presence summary.now }
-    ensures low { result ≤ all_marks }
+    ensures low { result ≤ ALL_MARKS }
 {
     u8::from(summary.opening.is_some())
         + 2 * u8::from(summary.high.is_some())
@@ -121,9 +121,9 @@ fn presence(summary: &Summary) -> u8
 
 /// A mark that is there, or zeros.
 fn put_figure(row: &mut [u8], at: usize, figure: &Option<Mark>) -> usize
-    requires { at + mark_length ≤ length row.old }
+    requires { at + MARK_LENGTH ≤ length row.old }
     ensures puts { Puts at (figure_text figure.now) row.old row.new result }
-    ensures len { result ≡ at + mark_length }
+    ensures len { result ≡ at + MARK_LENGTH }
     ensures valid { IsFigure figure.now }
 {
     match figure {
@@ -134,9 +134,9 @@ fn put_figure(row: &mut [u8], at: usize, figure: &Option<Mark>) -> usize
 
 /// The mark of a report.
 fn put_mark(row: &mut [u8], at: usize, mark: &Mark) -> usize
-    requires { at + mark_length ≤ length row.old }
+    requires { at + MARK_LENGTH ≤ length row.old }
     ensures puts { Puts at (mark_text mark.now) row.old row.new result }
-    ensures len { result ≡ at + mark_length }
+    ensures len { result ≡ at + MARK_LENGTH }
     ensures valid { IsMark mark.now }
 {
     let at = put(row, at, &mark.price.value().to_be_bytes());

@@ -21,14 +21,14 @@ pub enum ListingFault {
 impl ListingFault {
     /// The number of the fault.
     pub fn code(self) -> u8
-        ensures { result ≡ listing_fault_code self }
+        ensures number { result ≡ listing_fault_code self }
     {
         self as u8
     }
 
     /// The name of the fault, as it is printed.
     pub fn name(self) -> &'static str
-        ensures { result.now ≡ listing_fault_name self }
+        ensures text { result.now ≡ listing_fault_name self }
     {
         match self {
             ListingFault::Empty => "Empty",

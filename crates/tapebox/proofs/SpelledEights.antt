@@ -6,7 +6,8 @@ use Rattle.tapebox.specs.MessageLine.{hex_bytes}
 use Rattle.tapebox.proofs.HexLemmas.{hex_bytes-append, hex_bytes-front_None}
 
 -- digits that spell bytes, before others that do, spell both
-hex_bytes-both : (front rest x y : List ℕ) → length front % 2 ≡ 0 → hex_bytes front ≡ Some x → hex_bytes rest ≡ Some y → hex_bytes (front ++ rest) ≡ Some (x ++ y)
+hex_bytes-both : (front rest x y : List ℕ) → length front % 2 ≡ 0 → hex_bytes front ≡ Some x → hex_bytes rest ≡ Some y
+    → hex_bytes (front ++ rest) ≡ Some (x ++ y)
 hex_bytes-both front rest x y even first second = hex_bytes-append front rest even ∙ rw (first, second) refl
 
 module _ (digits row rest : List ℕ) (at : ℕ) (rest_is : rest ≡ drop (2 * at) digits) (within : 2 * at ≤ length digits)

@@ -7,7 +7,7 @@ use super::days::{Confirmed, confirmed, ended_day};
 use super::lines::{LineFigures, run_inputs};
 use line_ledger::{Day, DayName, LineSeat, Prepared, Published, SharedTape, Token, prepare};
 use participant_lines::Ended;
-use reports::{Content, Header, Message, Moment, encode_into};
+use reports::{Content, Header, LONGEST_MESSAGE, Message, Moment, encode_into};
 use sale_matrix::Condition;
 use std::alloc::Global;
 use std::marker::Brand;
@@ -122,7 +122,7 @@ fn header(who: Participant, number: u32, report: u32) -> Option<Header> {
 
 /// Appends a message's bytes, if it is one.
 fn put(bytes: &mut Vec<u8>, message: Option<Message>) -> Option<()> {
-    let mut row = [0; 44];
+    let mut row = [0; LONGEST_MESSAGE];
     let len = encode_into(&message?, &mut row);
     bytes.extend_from_slice(row.get(..len)?).ok()
 }

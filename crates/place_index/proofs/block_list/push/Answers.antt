@@ -1,6 +1,6 @@
 use Rattle.std.proofs.Common.{◌≡◌, ◌<◌, ◌-◌, ◌∙◌, ◌++◌, ◌∷◌, suc, length, get_or, set, [], sym, ap, subst, arith}
 use Rattle.std.proofs.lemmas.Result.{on_ok_weaker, on_err_weaker}
-use Rattle.place_index.specs.Blocks.{IsBlockList, values_of, max_block_len}
+use Rattle.place_index.specs.Blocks.{IsBlockList, values_of, MAX_BLOCK_LEN}
 use Rattle.place_index.proofs.BlockMaps.{above-block}
 use Rattle.place_index.proofs.BlockOrder.{block-is, blocks-push, blocks-more, set-back, in-either}
 use Rattle.place_index.proofs.block_list.push.Goals as goal
@@ -23,7 +23,7 @@ returns-then-len-lt-MAX_BLOCK_LEN-clause-valid g c =
     let last : suc b ≡ length bs = omega (arith, c.len-count.ensures, c.args.blocks.now.ok, c.if-count-gt0.true) in
     let lt : b < length bs = omega (arith, last) in
     let is = block-is bs b c.index_mut.result.now c.index_mut.ensures.value lt in
-    let room : length (get_or bs b []) < max_block_len =
+    let room : length (get_or bs b []) < MAX_BLOCK_LEN =
     omega (arith, c.if-len-lt-MAX_BLOCK_LEN.true, c.len.ensures, ap length (block-is bs b c.index.result.now c.index.ensures lt)) in
     in-either c.push.result
     (on_ok_weaker c.push.result
@@ -38,7 +38,7 @@ returns-then-len-lt-MAX_BLOCK_LEN-clause-ok g c =
     let last : suc b ≡ length bs = omega (arith, c.len-count.ensures, c.args.blocks.now.ok, c.if-count-gt0.true) in
     let lt : b < length bs = omega (arith, last) in
     let is = block-is bs b c.index_mut.result.now c.index_mut.ensures.value lt in
-    let room : length (get_or bs b []) < max_block_len =
+    let room : length (get_or bs b []) < MAX_BLOCK_LEN =
     omega (arith, c.if-len-lt-MAX_BLOCK_LEN.true, c.len.ensures, ap length (block-is bs b c.index.result.now c.index.ensures lt)) in
     on_ok_weaker c.push.result (λ new.
     ap (λ x. values_of (set bs b x)) (new ∙ ap (λ x. x ++ (c.args.place, c.args.value) ∷ []) is)

@@ -1,4 +1,5 @@
-use Rattle.std.proofs.Common.{rules, ◌≡◌, ◌≤◌, ◌*◌, ◌+◌, ◌%◌, ◌∙◌, ◌++◌, ◌-◌, length, length-take, length-drop, length-append, take, drop, Some, sym, ap, arith, refl}
+use Rattle.std.proofs.Common.{rules, ◌≡◌, ◌≤◌, ◌*◌, ◌+◌, ◌%◌, ◌∙◌, ◌++◌, ◌-◌, length, take, drop, Some, sym, ap, arith, refl}
+use Rattle.std.proofs.Common.{length-take, length-drop, length-append}
 use Rattle.std.proofs.lemmas.List.{drop-drop, length-set}
 use Rattle.std.proofs.lemmas.Slice.{take-put_mid}
 use Rattle.tapebox.specs.MessageLine.{hex_bytes}
