@@ -2,7 +2,6 @@ pub mod OneEach
 mod Confirmed
 mod Differences
 mod Endings
-mod KeptSeats
 mod OneDisagreement
 mod Openings
 mod Pushes

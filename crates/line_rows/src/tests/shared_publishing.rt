@@ -141,7 +141,7 @@ fn admit_one<D: DayName>(locked: &mut Locked<D>, seat: &mut LineSeat<D>, number:
 }
 
 /// Admits two reports on the first line.
-#[tactic(auto, using(line_ledger::proofs::KeptSeats::each_set))]
+#[tactic(auto, using(crate::proofs::KeptSeats::each_set))]
 fn admit_two<D: DayName>(locked: &mut Locked<D>, seats: &mut Vec<LineSeat<D>>)
     requires { IsOneEach D.listing.participants seats.old.items }
     ensures { IsOneEach D.listing.participants seats.new.items }
