@@ -132,32 +132,44 @@ fn no_worker_and_one_too_many_are_refused(rt: HostRuntime) {
     }
 }
 
-/// How many rows two workers make past a gate.
-fn made_by_two<R: Threads + Sync, G: Gate + Sync>(rt: &R, alloc: Global, gate: &G) -> usize {
-    match made(rt, alloc, 2, gate) {
-        Some(Ok(rows)) => rows.len(),
-        _ => 0,
-    }
-}
-
 /// How many turns a worker waits at most.
 const TURNS: u32 = 100_000_000;
 
-/// Holds each of two workers after its first symbol until the other's first symbol is done.
+/// Holds each of the first two or three workers after its first symbol until the others' first symbols are done.
 #[derive(Drop)]
 struct Meeting {
-    done: [AtomicU32; 2],
+    workers: usize,
+    done: [AtomicU32; 3],
     met: AtomicU32,
+}
+
+impl Meeting {
+    /// A meeting of so many workers where none is yet.
+    fn of(workers: usize) -> Self {
+        Meeting {
+            workers,
+            done: [AtomicU32::new(0), AtomicU32::new(0), AtomicU32::new(0)],
+            met: AtomicU32::new(0),
+        }
+    }
+
+    /// Whether the first symbol of this worker is done, or the worker is not awaited.
+    fn is_done(&self, worker: usize) -> bool {
+        match self.done.get(worker) {
+            Some(done) if worker < self.workers => done.load(Ordering::SeqCst) == 1,
+            _ => true,
+        }
+    }
 }
 
 impl Gate for Meeting {
     fn between(&self, worker: usize, turn: u32) {
-        if worker > 1 || turn != 1 {
+        if worker > 2 || turn != 1 {
             return;
         }
         self.done[worker].store(1, Ordering::SeqCst);
         for _ in 0..TURNS {
-            if self.done[1 - worker].load(Ordering::SeqCst) == 1 {
+            if self.is_done(0) && self.is_done(1) && self.is_done(2) {
                 self.met.fetch_add(1, Ordering::SeqCst);
                 return;
             }
@@ -166,19 +178,19 @@ impl Gate for Meeting {
     }
 }
 
-/// A meeting where no worker is yet.
-fn nobody_met() -> Meeting {
-    Meeting {
-        done: [AtomicU32::new(0), AtomicU32::new(0)],
-        met: AtomicU32::new(0),
+/// How many of so many workers met, and how many rows they made.
+fn meeting_of<R: Threads + Sync>(rt: &R, alloc: Global, workers: usize) -> (u32, usize) {
+    let meeting = Meeting::of(workers);
+    match made(rt, alloc, workers, &meeting) {
+        Some(Ok(rows)) => (meeting.met.load(Ordering::SeqCst), rows.len()),
+        _ => (0, 0),
     }
 }
 
 #[test]
-fn two_workers_run_at_once(rt: HostRuntime) {
-    let meeting = nobody_met();
-    assert_eq!(rt; made_by_two(&rt, rt.alloc(), &meeting), 10);
-    assert_eq!(rt; meeting.met.load(Ordering::SeqCst), 2);
+fn workers_run_at_once(rt: HostRuntime) {
+    assert_eq!(rt; meeting_of(&rt, rt.alloc(), 2), (2, 10));
+    assert_eq!(rt; meeting_of(&rt, rt.alloc(), 3), (3, 10));
 }
 
 /// A gate that counts its calls, and those of workers beside the first, and adds up the turns that it is told.
