@@ -232,7 +232,6 @@ mod tests {
     use crate::BatchRefusal;
     use std::io;
     use std::io::ErrorKind;
-    use std::test::Fail;
     use tape_core::Refusal;
     use tape_types::{Listing, Participant, Symbol};
 
@@ -258,29 +257,50 @@ mod tests {
         }
     }
 
-    #[test]
-    fn a_day_that_ran_out_of_memory_is_written_and_flushed(rt: HostRuntime) -> Result<(), Fail> {
-        let symbol = Symbol::try_new(*b"AB      ").ok_or("symbol")?;
-        let participant = Participant::try_new(b'N').ok_or("participant")?;
-        let listing = Listing::new(rt.alloc(), &[symbol], &[participant])?;
-        let mut day = Day::new(rt.alloc(), DayTape::new(rt.alloc(), listing, 1)?);
-        day.answers
-            .push(Err(BatchRefusal::Refused(Refusal::OutOfMemory)))?;
-        day.is_stopped = true;
+    /// A day whose memory ran out at its first line.
+    fn stopped_day(alloc: Global) -> Option<Day> {
+        let symbol = Symbol::try_new(*b"AB      ")?;
+        let participant = Participant::try_new(b'N')?;
+        let listing = Listing::new(alloc, &[symbol], &[participant]).ok()?;
+        let mut day = Day::new(alloc, DayTape::new(alloc, listing, 1).ok()?);
+        let answer = Err(BatchRefusal::Refused(Refusal::OutOfMemory));
+        day.is_stopped = day.answers.push(answer).is_ok();
+        Some(day)
+    }
 
-        let read = Batch::Answered(day);
-        let mut gathered = Gathered::new(rt.alloc())?;
+    /// How a batch ends that read this.
+    fn end_of<T: Threads + Sync>(
+        rt: &T,
+        alloc: Global,
+        read: &Batch,
+        writer: &mut Flushed,
+    ) -> Option<BatchEnd> {
+        let mut gathered = Gathered::new(alloc).ok()?;
+        Some(finish_batch(rt, alloc, read, &mut gathered, writer))
+    }
+
+    /// How a batch ends whose memory ran out at its first line.
+    fn end_of_stopped_day<T: Threads + Sync>(
+        rt: &T,
+        alloc: Global,
+        writer: &mut Flushed,
+    ) -> Option<BatchEnd> {
+        let read = Batch::Answered(stopped_day(alloc)?);
+        end_of(rt, alloc, &read, writer)
+    }
+
+    #[test]
+    fn a_day_that_ran_out_of_memory_is_written_and_flushed(rt: HostRuntime) {
         let mut writer = Flushed {
             taken: Vec::new(rt.alloc()),
             is_flushed: false,
         };
-        let end = finish_batch(&rt, rt.alloc(), &read, &mut gathered, &mut writer);
-        assert_eq!(rt; end, BatchEnd::OutOfMemory);
+        let end = end_of_stopped_day(&rt, rt.alloc(), &mut writer);
+        assert_eq!(rt; end, Some(BatchEnd::OutOfMemory));
         assert_eq!(rt;
             writer.taken.as_slice(),
             b"refused 40 OutOfMemory\n".as_slice()
         );
         assert!(rt; writer.is_flushed);
-        Ok(())
     }
 }

@@ -9,7 +9,6 @@ use super::steps::{Step, Told, listing_of, told_so};
 use day_report::{ReportFault, Row, rows, write_report};
 use std::alloc::Global;
 use std::sync::atomic::{AtomicU32, Ordering};
-use std::test::Fail;
 use std::thread::Threads;
 use std::{io, thread};
 use summaries::ScratchStore;
@@ -253,24 +252,34 @@ fn hundred(alloc: Global) -> Option<Tape<ScratchStore>> {
     Tape::new(alloc, listing, 1).ok()
 }
 
+/// The same of five symbols.
+fn calls_of_five<R: Threads + Sync>(rt: &R, alloc: Global, workers: usize) -> Option<(u32, usize)> {
+    calls(rt, alloc, &empty(alloc)?, workers)
+}
+
+/// The same of a hundred symbols, of which two workers have more than one in a piece.
+fn calls_of_hundred<R: Threads + Sync>(
+    rt: &R,
+    alloc: Global,
+    workers: usize,
+) -> Option<(u32, usize)> {
+    calls(rt, alloc, &hundred(alloc)?, workers)
+}
+
 #[test]
-fn the_gate_is_called_after_each_symbol(rt: HostRuntime) -> Result<(), Fail> {
-    let five = empty(rt.alloc()).ok_or("a tape")?;
-    let hundred = hundred(rt.alloc()).ok_or("a tape")?;
+fn the_gate_is_called_after_each_symbol(rt: HostRuntime) {
     for workers in [1, 2] {
         assert_eq!(rt;
-            calls(&rt, rt.alloc(), &five, workers),
+            calls_of_five(&rt, rt.alloc(), workers),
             Some((5, 5)),
             "{workers} workers"
         );
-        // Two workers have more than one symbol in a piece here.
         assert_eq!(rt;
-            calls(&rt, rt.alloc(), &hundred, workers),
+            calls_of_hundred(&rt, rt.alloc(), workers),
             Some((100, 100)),
             "{workers} workers"
         );
     }
-    Ok(())
 }
 
 /// A writer that takes nothing.
