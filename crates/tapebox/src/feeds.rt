@@ -1,7 +1,7 @@
 //! `live` and `follow`: their sockets, their engines, and what is said of how they end.
 ghost use Rattle.std.specs.Prelude.{◌≡◌, []};
 ghost use Rattle.live_feed.specs.Reports.{WritesOneReport};
-ghost use Rattle.tapebox.specs.Program.{RunsFeed, feed_text};
+ghost use Rattle.tapebox.specs.Program.{IsFeedStatus, RunsFeed, feed_text};
 ghost use Rattle.row_reads.specs.Writing.{WritesFront};
 
 use crate::BatchEnd;
@@ -98,7 +98,8 @@ fn live_status<T, W>(rt: &T, alloc: Global, words: LiveWords, writer: &mut W) ->
 where
     T: Threads + Wait + Clock + Net<Listener = TcpListener, Stream = TcpStream> + Sync,
     W: Write,
-    ensures { result ≡ 0 → WritesOneReport (W.contents writer.old) (W.contents writer.new) }
+    ensures report { result ≡ 0 → WritesOneReport (W.contents writer.old) (W.contents writer.new) }
+    ensures known { IsFeedStatus result }
 {
     match open_live(rt, alloc, &words) {
         Ok(sockets) => live_over(
@@ -139,7 +140,8 @@ fn follow_status<T, W>(rt: &T, alloc: Global, words: FollowWords, writer: &mut W
 where
     T: Threads + Wait + Net<Listener = TcpListener, Stream = TcpStream> + Sync,
     W: Write,
-    ensures { result ≡ 0 → WritesOneReport (W.contents writer.old) (W.contents writer.new) }
+    ensures report { result ≡ 0 → WritesOneReport (W.contents writer.old) (W.contents writer.new) }
+    ensures known { IsFeedStatus result }
 {
     match open_follow(rt, &words) {
         Ok(sockets) => follow_over(
