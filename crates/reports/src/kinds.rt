@@ -19,4 +19,4 @@ pub(crate) const CANCEL_LENGTH: usize = 26;
 pub(crate) const CORRECTION_LENGTH: usize = 42;
 
 /// How many bytes the longest message has, a correction, with its length of two bytes before its body.
-pub const LONGEST_MESSAGE: usize = 44;
+pub const LONGEST_MESSAGE: usize = 2 + CORRECTION_LENGTH;

@@ -30,20 +30,20 @@ abbrev pub IsPrice : ℕ → Type 0
 IsPrice n = (1 ≤ n) × (n ≤ PRICE_MOST)
 
 -- how many values the low part of a number has: 32 bits
-abbrev pub LOW_VALUES : ℕ
-LOW_VALUES = 4294967296
+abbrev pub FOUR_BYTE_NUMBERS : ℕ
+FOUR_BYTE_NUMBERS = 4294967296
 
 -- a number of two parts
 abbrev pub of_parts : ℕ → ℕ → ℕ
-of_parts low high = low + LOW_VALUES * high
+of_parts low high = low + FOUR_BYTE_NUMBERS * high
 
 -- the low part of a number
 abbrev pub low_part : ℕ → ℕ
-low_part number = number % LOW_VALUES
+low_part number = number % FOUR_BYTE_NUMBERS
 
 -- the high part of a number
 abbrev pub high_part : ℕ → ℕ
-high_part number = number / LOW_VALUES
+high_part number = number / FOUR_BYTE_NUMBERS
 
 -- a number of shares
 abbrev pub IsSize : ℕ → Type 0

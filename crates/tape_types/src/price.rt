@@ -25,13 +25,13 @@ pub struct Price {
 
 impl Model for Price {
     ghost use Rattle.std.specs.Prelude.{ℕ, ◌<◌};
-    ghost use Rattle.tape_types.specs.Ranges.{IsPrice, LOW_VALUES, of_parts, low_part, high_part};
+    ghost use Rattle.tape_types.specs.Ranges.{IsPrice, FOUR_BYTE_NUMBERS, of_parts, low_part, high_part};
 
     ghost Value = { ℕ };
 
     ghost view = { λ p. of_parts p.low p.high };
 
-    ghost invariant = { λ p. IsPrice (of_parts p.low p.high) × (p.low < LOW_VALUES) };
+    ghost invariant = { λ p. IsPrice (of_parts p.low p.high) × (p.low < FOUR_BYTE_NUMBERS) };
 
     ghost inverse = { λ n. record { low = low_part n; high = high_part n } };
 }
