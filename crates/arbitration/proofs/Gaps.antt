@@ -1,8 +1,9 @@
--- The first gap of a window.
-use Rattle.std.proofs.Common.{◌≡◌, ℕ, zero, suc, ◌+◌, ◌-◌, ◌≤◌, ◌<◌, true, List, [], ◌∷◌, length, Option, None, Some, refl, sym, ap, ◌∙◌, inl, inr, arith, min}
+-- What is ready in a window, and its first gap.
+use Rattle.std.proofs.Common.{◌≡◌, ℕ, zero, suc, ◌+◌, ◌-◌, ◌≤◌, ◌<◌, true, List, [], ◌∷◌, ◌++◌, length, Option, None, Some, refl, sym, ap, ap₂, ◌∙◌}
+use Rattle.std.proofs.Common.{drop, inl, inr, arith, min}
 use Rattle.std.proofs.lemmas.Bool.{cases_lt, cond-false, le-ltb, false≢true}
-use Rattle.std.proofs.lemmas.Option.{none-some}
-use Rattle.std.specs.Prelude.{slice_get, is_some, nat_lt}
+use Rattle.std.proofs.lemmas.Option.{none-some, same_Some}
+use Rattle.std.specs.Prelude.{slice_get, is_some, nat_lt, ◌↔◌}
 use Rattle.tape_core.specs.declared.entry.Entry.{Entry}
 use Rattle.arbitration.specs.Gaps.{MOST_ASKED, IsMissing, IsGap, waiting_entry}
 use Rattle.arbitration.specs.Windows.{WindowState, ready_entries, flat}
@@ -12,6 +13,25 @@ pub ready_within : (slots : List (Option Entry)) → length (ready_entries slots
 ready_within [] = omega arith
 ready_within (None ∷ slots) = omega arith
 ready_within (Some e ∷ slots) = let rest = ready_within slots in omega arith
+
+-- nothing is ready exactly where the first slot is empty
+pub none_ready : (slots : List (Option Entry)) → (length (ready_entries slots) ≡ 0) ↔ (flat (slice_get slots 0) ≡ None)
+none_ready [] = (λ h. refl, λ h. refl)
+none_ready (None ∷ slots) = (λ h. refl, λ h. refl)
+none_ready (Some e ∷ slots) = (λ h. absurd (omega arith), λ h. absurd (none-some e (sym h)))
+
+-- an empty slot at the end makes nothing ready
+pub ready-push : (slots : List (Option Entry)) → ready_entries (slots ++ None ∷ []) ≡ ready_entries slots
+ready-push [] = refl
+ready-push (None ∷ slots) = refl
+ready-push (Some e ∷ slots) = ap (λ es. e ∷ es) (ready-push slots)
+
+-- once the first ready entry is taken out, the ready ones after it are ready
+pub ready-past : (slots : List (Option Entry)) (e : Entry) → flat (slice_get slots 0) ≡ Some e
+    → ready_entries slots ≡ e ∷ ready_entries (drop 1 slots ++ None ∷ [])
+ready-past [] e h = absurd (none-some e h)
+ready-past (None ∷ slots) e h = absurd (none-some e h)
+ready-past (Some x ∷ slots) e h = ap₂ ◌∷◌ (same_Some x e h) (sym (ready-push slots))
 
 -- the slots before the first empty one are full
 pub ready_full : (slots : List (Option Entry)) (k : ℕ) → k < length (ready_entries slots) → flat (slice_get slots k) ≡ None → ⊥

@@ -14,14 +14,25 @@ use Rattle.arbitration.proofs.Counts.{count_push_no, count_full, count_none, bro
 use Rattle.arbitration.proofs.Numbers.{packet_numbers, packet_within, packet_end}
 use Rattle.arbitration.proofs.Slots.{length-slots_after}
 use Rattle.arbitration.specs.Counts.{taken_of}
+use Rattle.arbitration.specs.Gaps.{MOST_ASKED}
 use Rattle.arbitration.specs.Deliveries.{entry_numbered, slots_after, is_beyond, is_other_end, is_past_end, window_after}
 use Rattle.arbitration.specs.Windows.{WindowState, IsWindow, flat, ArePlaced, window_past, next_of, empty_window, reach}
 use Rattle.arbitration.specs.declared.line.Line.{Line}
 
--- how far a window reaches
+-- how far a window reaches, for arithmetic that has to fit a word
 pub reach-is : reach ≡ 1024
 unfolding reach
 reach-is = refl
+
+-- a window reaches some number
+reach-some : 1 ≤ reach
+unfolding reach
+reach-some = omega arith
+
+-- a request asks for no more numbers than a window reaches
+pub reach-asked : MOST_ASKED ≤ reach
+unfolding reach
+reach-asked = omega arith
 
 -- a slot that got the entry of its number is placed
 placed_found : (next more : ℕ) (o : Option Entry) (slots : List (Option Entry)) → ((e : Entry) → o ≡ Some e → (e.number ≡ next) × (next ≤ more))
@@ -128,7 +139,7 @@ brought_fits w h =
 
 -- a window has a slot
 pub some_slots : (w : WindowState) → IsWindow w → 1 ≤ length w.slots
-some_slots w h = let size : length w.slots ≡ 1024 = h.size ∙ reach-is in omega arith
+some_slots w h = omega (arith, h.size, reach-some)
 
 -- the slots with the first one emptied and put last
 pub rotated : (slots : List (Option Entry)) → 1 ≤ length slots → drop 1 (set slots 0 None) ++ take 1 (set slots 0 None) ≡ drop 1 slots ++ None ∷ []

@@ -171,6 +171,7 @@ impl Window {
 }
 
 /// As many empty slots as a window has.
+#[tactic(auto, unfolding(crate::specs::Windows::reach))]
 fn empty_slots<T: Copy>(alloc: Global) -> Result<VecDeque<Option<T>>, AllocError>
     ensures { IfOk result (λ slots. slots.items ≡ replicate reach None) }
 {
