@@ -3,7 +3,6 @@ use Rattle.std.proofs.Common.{◌≡◌, ℕ, zero, suc, ◌+◌, ◌-◌, ◌�
 use Rattle.std.proofs.Common.{take, drop, get_or, Option, None, Some, refl, sym, ap, subst, ◌∙◌, inl, inr, arith, length-append, eq-eqb}
 use Rattle.std.specs.Prelude.{slice_get, IfOk, IfSome, Result, is_some, unwrap_or, nat_lt}
 use Rattle.std.proofs.Math.Seq.{take-append_seam}
-use Rattle.std.proofs.lemmas.List.{take-append-drop}
 use Rattle.std.proofs.lemmas.Bool.{cases_Bool, cases_lt, cond-true, cond-false, lt-ltb, le-ltb, or_from, not_from_true, eqb-true, both_ways}
 use Rattle.std.proofs.lemmas.Option.{same_Some, slice_get_within, slice_get-get_or}
 use Rattle.std.proofs.lemmas.List.Elements.{All-contains}
@@ -16,7 +15,6 @@ use Rattle.tape_frames.specs.declared.packet.Packet.{Packet}
 use Rattle.tape_frames.specs.Packets.{entries_of, last_of, end_of}
 use Rattle.tape_frames.specs.declared.packet_fault.PacketFault.{PacketFault}
 use Rattle.tape_frames.specs.Reading.{packet_of}
-use Rattle.tape_frames.specs.Sources.{cut_of}
 use Rattle.tape_frames.specs.Spelling.{Spells}
 use Rattle.tape_frames.proofs.Packets.{one_packet_spelling, packet_again}
 use Rattle.tape_frames.proofs.Numbers.{slice_get-append-add, slice_get-append-lt}
@@ -25,6 +23,7 @@ use Rattle.arbitration.specs.declared.taken.Taken.{Taken}
 use Rattle.arbitration.specs.declared.deliver_fault.DeliverFault.{DeliverFault}
 use Rattle.arbitration.specs.declared.deliver_fault.DeliverFault.TheVariants.{Foreign, Conflict, PastEnd}
 use Rattle.arbitration.specs.Windows.{ready_entries, flat, next_of}
+use Rattle.arbitration.proofs.Gaps.{none_ready, ready-past}
 use Rattle.arbitration.specs.Deliveries.{known_entry, Agrees, Accepts, Refuses, window_after, is_beyond, is_other_end, is_past_end}
 use Rattle.subscriber.specs.declared.delivery_fault.DeliveryFault.{DeliveryFault}
 use Rattle.subscriber.specs.declared.delivery_fault.DeliveryFault.TheVariants as delivery
@@ -167,24 +166,12 @@ bytes_come w line packet bytes taken after spelled is =
     (ap (λ (q : Packet). record w.subscriber { window = window_after w.subscriber.window line q }) (one_packet bytes packet is.packet spelled is.spelled)
     ∙ sym is.state)
 
--- where no entry is ready the first slot is empty
-none_ready : (slots : List (Option Entry)) → length (ready_entries slots) ≡ 0 → flat (slice_get slots 0) ≡ None
-none_ready [] h = refl
-none_ready (None ∷ slots) h = refl
-none_ready (Some e ∷ slots) h = absurd (omega arith)
-
--- an empty slot at the end makes nothing ready
-ready-push : (slots : List (Option Entry)) → ready_entries (slots ++ None ∷ []) ≡ ready_entries slots
-ready-push [] = refl
-ready-push (None ∷ slots) = refl
-ready-push (Some e ∷ slots) = ap (λ es. e ∷ es) (ready-push slots)
-
 -- the first slot, where something is ready
 first_ready : (slots : List (Option Entry)) (n : ℕ) → length (ready_entries slots) ≡ suc n
     → (e : Entry) × (flat (slice_get slots 0) ≡ Some e) × (length (ready_entries (drop 1 slots ++ None ∷ [])) ≡ n)
 first_ready [] n h = absurd (omega arith)
 first_ready (None ∷ slots) n h = absurd (omega arith)
-first_ready (Some e ∷ slots) n h = (e, refl, ap length (ready-push slots) ∙ omega arith)
+first_ready (Some e ∷ slots) n h = (e, refl, omega (arith, h, ap length (ready-past (Some e ∷ slots) e refl)))
 
 -- a subscriber whose next entry changes nothing stays as it is
 stays_drained : (n : ℕ) (s : SubscriberState) → subscriber_after_entry (next_of s.window) s ≡ s → subscriber_after n s ≡ s
@@ -198,7 +185,7 @@ limit-open t b open' full = cond-false t.closed (Some Closed) _ open' ∙ ap (λ
 -- a drain of all that is ready leaves nothing ready, or stops at the subscriber's limit
 pub empties : (n : ℕ) (w : World) → IsSound w → length (ready_entries w.subscriber.window.slots) ≡ n
     → (next_of (subscriber_after n w.subscriber).window ≡ None) ⊎ (length (subscriber_after n w.subscriber).tape.entries ≡ w.limit)
-empties zero w s size = inl (none_ready w.subscriber.window.slots size)
+empties zero w s size = inl ((none_ready w.subscriber.window.slots).0 size)
 empties (suc n) w s size =
     let own = w.subscriber in
     let first = first_ready own.window.slots n size in

@@ -1,8 +1,7 @@
 -- The schedules of a tape and a subscriber: messages are admitted, packets come, the subscriber drains and starts anew.
-use Rattle.std.specs.Prelude.{◌≡◌, ℕ, ◌≤◌, Bool, true, false, if◌then◌else◌, List, [], ◌∷◌, ◌++◌, length, max, is_some, ◌⊎◌}
+use Rattle.std.specs.Prelude.{◌≡◌, ℕ, Bool, true, false, if◌then◌else◌, List, [], ◌∷◌, length, max, is_some, ◌⊎◌}
 use Rattle.tape_types.specs.Names.{Names}
 use Rattle.reports.specs.declared.message.Message.{Message}
-use Rattle.tape_core.specs.declared.entry.Entry.{Entry}
 use Rattle.tape_core.specs.Tape.{TapeState, empty_tape, refusal, tape_before, with_message}
 use Rattle.tape_frames.specs.declared.packet.Packet.{Packet}
 use Rattle.tape_frames.specs.Cuts.{IsCutOf}
