@@ -5,7 +5,7 @@ ghost use Rattle.tapebox.specs.Program.{AsksFor, asks_follow, asks_live, batch_w
 ghost use Rattle.tapebox.specs.declared.command.Command.TheVariants.{Batch};
 ghost use Rattle.tapebox.specs.declared.command.Refused.TheVariants.{OutOfMemory};
 
-use crate::named::Named;
+use batch::Named;
 use std::alloc::Global;
 use std::str;
 use tape_types::{Listing, ListingFault, PARTICIPANTS_MOST, Participant, SYMBOLS_MOST, Symbol};

@@ -4,9 +4,9 @@ ghost use Rattle.live_feed.specs.Reports.{WritesOneReport};
 ghost use Rattle.tapebox.specs.Program.{IsFeedStatus, RunsFeed, feed_text};
 ghost use Rattle.row_reads.specs.Writing.{WritesFront};
 
-use crate::BatchEnd;
 use crate::command::{FollowWords, LiveWords};
 use crate::writing::say;
+use batch::BatchEnd;
 use live_feed::{Fault, FollowSockets, LiveSockets, NoLoss, follow_over, here, live_over};
 use std::alloc::Global;
 use std::io;

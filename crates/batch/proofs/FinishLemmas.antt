@@ -1,0 +1,112 @@
+-- What was written of what was read is right for the input, and stays so when it is flushed.
+use Rattle.std.proofs.Common.{◌≡◌, ◌⊎◌, ◌≤◌, ℕ, List, Option, Some, None, IfSome, Result, Ok, Err, inl, inr, length, refl}
+use Rattle.std.specs.Io.KnownBytes.{Keeps}
+use Rattle.std.specs.List.{flat_map}
+use Rattle.tape_types.specs.Names.{Names}
+use Rattle.batch.specs.Batch.{INPUT_MOST, answer_line, fault_line, input_listing, message_lines}
+use Rattle.batch.specs.BatchEnds.{EndsAt, Wrote, WroteForMemory}
+use Rattle.batch.specs.Ends.{end_of_reading}
+use Rattle.batch.specs.Finish.{Finishes, report_unless}
+use Rattle.batch.specs.Reading.{ReadsBatch}
+use Rattle.batch.specs.declared.batch_end.BatchEnd.{BatchEnd}
+use Rattle.batch.specs.declared.batch_end.BatchEnd.TheVariants.{Done, BadHeader, TooLarge, ReadFault, WriteFault, OutOfMemory}
+use Rattle.batch.specs.declared.header_fault.HeaderFault.{HeaderFault}
+use Rattle.batch.specs.declared.read_end.ReadEnd.{ReadEnd}
+use Rattle.batch.specs.declared.read_end.ReadEnd.TheVariants.{TooLarge as ReadTooLarge, ReadFault as ReadFailed, OutOfMemory as ReadOutOfMemory}
+use Rattle.batch.specs.declared.reading.Batch.{Batch}
+use Rattle.batch.specs.declared.reading.Batch.TheVariants.{Answered, Refused}
+use Rattle.batch.proofs.BatchLemmas.{Appends-kept, Appends-same}
+use Rattle.row_reads.proofs.WriteLemmas.{WritesFront-kept, WritesFront-longer, WritesFront-whole}
+use Rattle.batch.proofs.WrittenDay.{ReadsBatch-may, ReadsBatch-stop, ReadsBatch-text}
+
+-- what was written is what the end says
+pub Finishes-wrote : (read : Batch) (end : BatchEnd) (input : List ℕ) (old new : Option (List ℕ)) → ReadsBatch read input
+    → Finishes read end old new → Wrote end input old new
+Finishes-wrote (Answered day) Done input old new read h = Appends-same old new _ _ (ReadsBatch-text day input h.0 read) h.1
+Finishes-wrote (Answered day) OutOfMemory input old new read h = ReadsBatch-stop day input old new read h
+Finishes-wrote (Answered day) WriteFault input old new read h = (_, ReadsBatch-may day input read, h)
+Finishes-wrote (Answered day) BadHeader input old new read h = absurd h
+Finishes-wrote (Answered day) TooLarge input old new read h = absurd h
+Finishes-wrote (Answered day) ReadFault input old new read h = absurd h
+Finishes-wrote (Refused fault) BadHeader input old new read h = rw read h
+Finishes-wrote (Refused fault) WriteFault input old new read h = (fault_line fault, rw read refl, h)
+Finishes-wrote (Refused fault) Done input old new read h = absurd h
+Finishes-wrote (Refused fault) OutOfMemory input old new read h = absurd h
+Finishes-wrote (Refused fault) TooLarge input old new read h = absurd h
+Finishes-wrote (Refused fault) ReadFault input old new read h = absurd h
+
+-- the end comes at that input
+pub Finishes-ends : (read : Batch) (end : BatchEnd) (input : List ℕ) (old new : Option (List ℕ)) → ReadsBatch read input
+    → Finishes read end old new → length input ≤ INPUT_MOST → EndsAt end input
+Finishes-ends (Answered day) Done input old new read h fits = (fits, rw read.1 refl)
+Finishes-ends (Answered day) OutOfMemory input old new read h fits = tt
+Finishes-ends (Answered day) WriteFault input old new read h fits = fits
+Finishes-ends (Answered day) BadHeader input old new read h fits = absurd h
+Finishes-ends (Answered day) TooLarge input old new read h fits = absurd h
+Finishes-ends (Answered day) ReadFault input old new read h fits = absurd h
+Finishes-ends (Refused fault) BadHeader input old new read h fits = (fits, rw read refl)
+Finishes-ends (Refused fault) WriteFault input old new read h fits = fits
+Finishes-ends (Refused fault) Done input old new read h fits = absurd h
+Finishes-ends (Refused fault) OutOfMemory input old new read h fits = absurd h
+Finishes-ends (Refused fault) TooLarge input old new read h fits = absurd h
+Finishes-ends (Refused fault) ReadFault input old new read h fits = absurd h
+
+-- what was read is not written at an end of reading
+pub Finishes-silent : (read : Batch) (end : BatchEnd) (old new : Option (List ℕ)) → Finishes read end old new → (end ≡ TooLarge) ⊎ (end ≡ ReadFault) → ⊥
+Finishes-silent (Answered day) end old new h (inl is) = rw is at h
+Finishes-silent (Answered day) end old new h (inr is) = rw is at h
+Finishes-silent (Refused fault) end old new h (inl is) = rw is at h
+Finishes-silent (Refused fault) end old new h (inr is) = rw is at h
+
+-- what was written stays so when it is flushed
+pub Finishes-kept : (read : Batch) (end : BatchEnd) (old now new : Option (List ℕ)) → Finishes read end old now → Keeps now new → Finishes read end old new
+Finishes-kept (Answered day) Done old now new h kept = (h.0, Appends-kept old now new _ h.1 kept)
+Finishes-kept (Answered day) OutOfMemory old now new h kept = Appends-kept old now new _ h kept
+Finishes-kept (Answered day) WriteFault old now new h kept = WritesFront-kept _ old now new h kept
+Finishes-kept (Answered day) BadHeader old now new h kept = absurd h
+Finishes-kept (Answered day) TooLarge old now new h kept = absurd h
+Finishes-kept (Answered day) ReadFault old now new h kept = absurd h
+Finishes-kept (Refused fault) BadHeader old now new h kept = Appends-kept old now new _ h kept
+Finishes-kept (Refused fault) WriteFault old now new h kept = WritesFront-kept _ old now new h kept
+Finishes-kept (Refused fault) Done old now new h kept = absurd h
+Finishes-kept (Refused fault) OutOfMemory old now new h kept = absurd h
+Finishes-kept (Refused fault) TooLarge old now new h kept = absurd h
+Finishes-kept (Refused fault) ReadFault old now new h kept = absurd h
+
+-- whatever was written is a front of the text where the flush fails
+pub Finishes-fault : (read : Batch) (end : BatchEnd) (old new : Option (List ℕ)) → Finishes read end old new → Finishes read WriteFault old new
+Finishes-fault (Answered day) Done old new h = WritesFront-whole _ old new h.1
+Finishes-fault (Answered day) OutOfMemory old new h =
+    WritesFront-longer (flat_map answer_line day.answers.items) (report_unless day.is_stopped day.tape) old new (WritesFront-whole _ old new h)
+Finishes-fault (Answered day) WriteFault old new h = h
+Finishes-fault (Answered day) BadHeader old new h = absurd h
+Finishes-fault (Answered day) TooLarge old new h = absurd h
+Finishes-fault (Answered day) ReadFault old new h = absurd h
+Finishes-fault (Refused fault) BadHeader old new h = WritesFront-whole _ old new h
+Finishes-fault (Refused fault) WriteFault old new h = h
+Finishes-fault (Refused fault) Done old new h = absurd h
+Finishes-fault (Refused fault) OutOfMemory old new h = absurd h
+Finishes-fault (Refused fault) TooLarge old new h = absurd h
+Finishes-fault (Refused fault) ReadFault old new h = absurd h
+
+-- the end once it is flushed
+pub Finishes-flushed : (read : Batch) (end ended : BatchEnd) (old now new : Option (List ℕ)) → Finishes read end old now → Keeps now new
+    → (ended ≡ end) ⊎ (ended ≡ WriteFault) → Finishes read ended old new
+Finishes-flushed read end ended old now new h kept (inl is) = rw is (Finishes-kept read end old now new h kept)
+Finishes-flushed read end ended old now new h kept (inr is) = rw is (Finishes-fault read end old new (Finishes-kept read end old now new h kept))
+
+-- known bytes stay as they are
+kept : (known : Option (List ℕ)) → Keeps known known
+kept None = tt
+kept (Some xs) = refl
+
+-- where reading stopped, nothing was written
+pub reading-wrote : (known : Option (List ℕ)) (end : ReadEnd) (held : Option (List ℕ)) → IfSome known (λ input. Wrote (end_of_reading end) input held held)
+reading-wrote None end held = tt
+reading-wrote (Some input) ReadTooLarge held = kept held
+reading-wrote (Some input) ReadFailed held = kept held
+reading-wrote (Some input) ReadOutOfMemory held = without (input_listing input)
+  where
+    without : (listing : Result Names HeaderFault) → WroteForMemory listing (message_lines input) held held
+    without (Ok names) = inl (kept held)
+    without (Err fault) = kept held

@@ -1,0 +1,16 @@
+mod AnswerLemmas
+mod BatchLemmas
+mod DayLemmas
+mod FinishLemmas
+mod FrontLemmas
+mod HeaderTaken
+mod HexLemmas
+mod InputLemmas
+mod LineLemmas
+mod NameLemmas
+mod PieceLemmas
+mod RefusalLemmas
+mod SpelledEights
+mod SymbolLemmas
+mod WholeInput
+mod WrittenDay

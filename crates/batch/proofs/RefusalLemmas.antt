@@ -1,0 +1,107 @@
+-- What a tape and a line refuse out of memory, and what not.
+use Rattle.std.proofs.Common.{◌≡◌, ◌≢◌, ◌==◌, ◌∷◌, ◌∙◌, [], ℕ, List, Bool, true, false, Option, Some, None, Result, Ok, Err, IsOk, refl, sym, ap, inl, inr}
+use Rattle.std.proofs.Common.{unwrap_or, cond}
+use Rattle.std.specs.List.{AllByRecursion}
+use Rattle.std.proofs.lemmas.Bool.{cases_Bool}
+use Rattle.reports.specs.Messages.{header_of}
+use Rattle.reports.specs.Reading.{message_at}
+use Rattle.reports.specs.declared.fault.MessageFault.{MessageFault}
+use Rattle.reports.specs.declared.message.Message.{Message}
+use Rattle.reports.specs.declared.message.Message.TheVariants.{Report, Cancel, Correct}
+use Rattle.tape_types.specs.Names.{first_fault}
+use Rattle.tape_core.specs.Standing.{NumberedMessage, named_report}
+use Rattle.tape_core.specs.Tape.{TapeState, message_faults, messages_of, refusal, target_faults}
+use Rattle.tape_core.specs.declared.refusal.Refusal.{Refusal}
+use Rattle.tape_core.specs.declared.refusal.Refusal.TheVariants.{Closed, Full, OutOfMemory, Stale, UnknownParticipant, UnknownSymbol}
+use Rattle.batch.specs.Batch.{line_answer, tape_after_line}
+use Rattle.batch.specs.MessageLine.{from_bytes, hex_bytes, line_message, line_parts, message_of_parts, spelled_message, whole_message}
+use Rattle.batch.specs.declared.batch_refusal.BatchRefusal.TheVariants.{Refused}
+
+-- ## A message is never refused by definition for running out of memory
+
+-- a fault that no case has is not the first
+first_fault-other : {F : Type 0} (x : F) (cases : List (Bool × F)) → AllByRecursion (λ c. c.1 ≢ x) cases → first_fault cases ≢ Some x
+first_fault-other x [] all = λ e. cc
+first_fault-other x ((true, f) ∷ cases) all = λ e. all.0 cc
+first_fault-other x ((false, f) ∷ cases) all = first_fault-other x cases all.1
+
+-- no fault of a target is lack of memory
+target_faults-other : (tape : List NumberedMessage) (symbol : List ℕ) (named : Option NumberedMessage)
+    → AllByRecursion (λ c. c.1 ≢ OutOfMemory) (target_faults tape symbol named)
+target_faults-other tape symbol None = (λ e. cc, tt)
+target_faults-other tape symbol (Some report) = (λ e. cc, (λ e. cc, tt))
+
+-- no fault of what a message names is lack of memory
+message_faults-other : (tape : List NumberedMessage) (m : Message) → AllByRecursion (λ c. c.1 ≢ OutOfMemory) (message_faults tape m)
+message_faults-other tape (Report header content) = tt
+message_faults-other tape (Cancel header target) = target_faults-other tape header.symbol (named_report tape header.participant target)
+message_faults-other tape (Correct header target content) = target_faults-other tape header.symbol (named_report tape header.participant target)
+
+-- one case more in front
+first-other : {F : Type 0} (x f : F) (test : Bool) (rest : Option F) → f ≢ x → rest ≢ Some x → cond test (Some f) rest ≢ Some x
+first-other x f true rest here later = λ e. here cc
+first-other x f false rest here later = later
+
+-- a tape refuses no message for lack of memory
+refusal-other : (t : TapeState) (m : Message) → refusal t m ≢ Some OutOfMemory
+refusal-other t m =
+    let targets = first_fault-other OutOfMemory (message_faults (messages_of t.entries) m) (message_faults-other (messages_of t.entries) m) in
+    first-other _ Closed _ _ (λ e. cc)
+    (first-other _ Full _ _ (λ e. cc)
+    (first-other _ UnknownParticipant _ _ (λ e. cc) (first-other _ Stale _ _ (λ e. cc) (first-other _ UnknownSymbol _ _ (λ e. cc) targets))))
+
+-- a message that is read from bytes is not refused for lack of memory
+whole_message-other : (letter len : ℕ) (read : Result (Message × ℕ) MessageFault) → whole_message letter len (from_bytes read) ≢ Err (Refused OutOfMemory)
+whole_message-other letter len (Err fault) = λ e. cc
+whole_message-other letter len (Ok (m, taken)) = elim (cases_Bool (taken == len)) [
+  | inl all ↦ rw all (elim (cases_Bool ((header_of m).participant == letter)) [
+    | inl own ↦ rw own (λ e. cc)
+    | inr other ↦ rw other (λ e. cc)
+  ])
+  | inr more ↦ rw more (λ e. cc)
+]
+
+-- nor is one that digits spell
+parts-other : (letter len : ℕ) (bytes : Option (List ℕ)) → whole_message letter len (spelled_message bytes) ≢ Err (Refused OutOfMemory)
+parts-other letter len None = λ e. cc
+parts-other letter len (Some bytes) = whole_message-other letter len (message_at bytes)
+
+-- nor is one that the parts of a line make up
+message_of_parts-other : (parts : Option (ℕ × List ℕ)) → message_of_parts parts ≢ Err (Refused OutOfMemory)
+message_of_parts-other None = λ e. cc
+message_of_parts-other (Some (letter, digits)) = parts-other letter _ (hex_bytes digits)
+
+-- a line that brings no message is not refused for running out of memory
+pub line_message-other : (line : List ℕ) → line_message line ≢ Err (Refused OutOfMemory)
+unfolding line_message
+line_message-other line = message_of_parts-other (line_parts line)
+
+-- ## A refusal of the tape
+
+-- a refusal that is not out of memory is the message's own
+refusal_is : (own : Option Refusal) (r : Refusal) → r ≡ unwrap_or own OutOfMemory → r ≢ OutOfMemory → own ≡ Some r
+refusal_is None r is other = absurd (other is)
+refusal_is (Some own) r is other = ap Some (sym is)
+
+-- out of memory is no refusal of the message's own
+none_is : (own : Option Refusal) → OutOfMemory ≡ unwrap_or own OutOfMemory → own ≢ Some OutOfMemory → own ≡ None
+none_is None is other = refl
+none_is (Some own) is other = absurd (other (ap Some (sym is)))
+
+-- a message that the tape refuses is answered by the refusal
+pub refused_answer : (t : TapeState) (line : List ℕ) (m : Message) (r : Refusal)
+    → Ok m ≡ line_message line → r ≡ unwrap_or (refusal t m) OutOfMemory → r ≢ OutOfMemory → Err (Refused r) ≡ line_answer t line
+unfolding line_answer
+refused_answer t line m r brings is other = rw (← brings, refusal_is (refusal t m) r is other) refl
+
+-- a message that the tape refuses leaves the tape as it was
+pub refused_tape : (t new : TapeState) (line : List ℕ) (m : Message) (r : Refusal)
+    → Ok m ≡ line_message line → r ≡ unwrap_or (refusal t m) OutOfMemory → r ≢ OutOfMemory → new ≡ t → new ≡ tape_after_line t line
+unfolding tape_after_line
+refused_tape t new line m r brings is other same = rw (← brings, refusal_is (refusal t m) r is other) same
+
+-- a message that met a lack of memory was acceptable
+pub acceptable : (t : TapeState) (line : List ℕ) (m : Message) (r : Refusal) → Ok m ≡ line_message line → r ≡ unwrap_or (refusal t m) OutOfMemory
+    → r ≡ OutOfMemory → IsOk (line_answer t line)
+unfolding line_answer
+acceptable t line m r brings is memory = rw (← brings, none_is (refusal t m) (sym memory ∙ is) (refusal-other t m)) refl

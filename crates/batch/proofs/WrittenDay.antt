@@ -1,0 +1,69 @@
+-- A day's answers and its report, as they are written.
+use Rattle.std.proofs.Common.{◌≡◌, ◌∷◌, ◌++◌, ◌∙◌, [], inl, inr, ℕ, List, Bool, true, false, Option, Result, Ok, Err, refl, ap, append-nil}
+use Rattle.std.specs.Io.KnownBytes.{Appends}
+use Rattle.std.specs.List.{flat_map}
+use Rattle.std.proofs.lemmas.Grind.{flat_map-append}
+use Rattle.tape_types.specs.Names.{Names}
+use Rattle.tape_core.specs.Tape.{TapeState}
+use Rattle.tape_core.specs.declared.refusal.Refusal.TheVariants.{OutOfMemory}
+use Rattle.batch.specs.Batch.{IsStopText, StopsForMemory, answer_line, answer_lines, batch_text, batch_tape, input_listing, line_answers, message_lines}
+use Rattle.batch.specs.Batch.{tape_after_lines, tape_report}
+use Rattle.batch.specs.BatchEnds.{IsTextUnder, WroteForMemory}
+use Rattle.batch.specs.Day.{AnswersLines, RunsOut}
+use Rattle.batch.specs.Finish.{day_text, report_unless}
+use Rattle.batch.specs.Reading.{ReadsBatch}
+use Rattle.batch.specs.declared.day.Day.{Day}
+use Rattle.batch.specs.declared.batch_refusal.BatchRefusal.{BatchRefusal}
+use Rattle.batch.specs.declared.batch_refusal.BatchRefusal.TheVariants.{Refused}
+use Rattle.batch.specs.declared.reading.Batch.TheVariants.{Answered}
+use Rattle.batch.proofs.BatchLemmas.{Appends-same}
+
+-- a day that goes on has the text of its lines
+AnswersLines-text : (t : TapeState) (lines : List (List ℕ)) (now : TapeState) (answers : List (Result ℕ BatchRefusal)) → AnswersLines t lines false now answers
+    → flat_map answer_line answers ++ tape_report now ≡ answer_lines t lines ++ tape_report (tape_after_lines t lines)
+unfolding answer_lines
+AnswersLines-text t lines now answers h = rw (h.0, h.1) refl
+
+-- the text of answers of which the last is a refusal out of memory
+stop_text : (t : TapeState) (lines : List (List ℕ)) (answers : List (Result ℕ BatchRefusal)) → RunsOut t lines answers
+    → IsStopText t lines (flat_map answer_line answers)
+unfolding answer_lines
+stop_text t lines answers out = record {
+  answered = out.answered;
+  refused = out.refused;
+  left = out.left;
+  split = out.split;
+  acceptable = out.acceptable;
+  text_is = ap (flat_map answer_line) out.answers_are ∙ flat_map-append answer_line (line_answers t out.answered) (Err (Refused OutOfMemory) ∷ [])
+      ∙ ap (λ (l : List ℕ). flat_map answer_line (line_answers t out.answered) ++ l) (append-nil (answer_line (Err (Refused OutOfMemory))));
+}
+
+-- a day of which all answers were written stops out of memory
+AnswersLines-stop : (t : TapeState) (lines : List (List ℕ)) (stopped : Bool) (now : TapeState) (answers : List (Result ℕ BatchRefusal))
+    (old new : Option (List ℕ))
+    → AnswersLines t lines stopped now answers
+    → Appends old new (flat_map answer_line answers) → StopsForMemory t lines old new
+unfolding answer_lines
+AnswersLines-stop t lines false now answers old new h written = inr (inr (Appends-same old new _ _ (ap (flat_map answer_line) h.1) written))
+AnswersLines-stop t lines true now answers old new h written = inr (inl (flat_map answer_line answers, stop_text t lines answers h, written))
+
+-- the text of a day is one that may be written for its lines
+AnswersLines-may : (names : Names) (lines : List (List ℕ)) (stopped : Bool) (now : TapeState) (answers : List (Result ℕ BatchRefusal))
+    → AnswersLines (batch_tape names) lines stopped now answers
+    → IsTextUnder (Ok names) lines (flat_map answer_line answers ++ report_unless stopped now)
+AnswersLines-may names lines false now answers h = inl (AnswersLines-text (batch_tape names) lines now answers h)
+AnswersLines-may names lines true now answers h = inr (rw (append-nil (flat_map answer_line answers)) (stop_text (batch_tape names) lines answers h))
+
+-- the text of a batch of which a day was read that goes on
+pub ReadsBatch-text : (day : Day) (input : List ℕ) → day.is_stopped ≡ false → ReadsBatch (Answered day) input → day_text day ≡ batch_text input
+ReadsBatch-text day input on read = rw (on, read.1) (AnswersLines-text (batch_tape read.0) (message_lines input) day.tape day.answers.items (rw on at read.2))
+
+-- the text of a day that was read is one that may be written for its input
+pub ReadsBatch-may : (day : Day) (input : List ℕ) → ReadsBatch (Answered day) input → IsTextUnder (input_listing input) (message_lines input) (day_text day)
+ReadsBatch-may day input read = rw read.1 (AnswersLines-may read.0 (message_lines input) day.is_stopped day.tape day.answers.items read.2)
+
+-- a batch of which a day was read stops out of memory
+pub ReadsBatch-stop : (day : Day) (input : List ℕ) (old new : Option (List ℕ)) → ReadsBatch (Answered day) input
+    → Appends old new (flat_map answer_line day.answers.items) → WroteForMemory (input_listing input) (message_lines input) old new
+ReadsBatch-stop day input old new read stop =
+    rw read.1 (AnswersLines-stop (batch_tape read.0) (message_lines input) day.is_stopped day.tape day.answers.items old new read.2 stop)

@@ -1,0 +1,41 @@
+-- The ends of a batch: what was written, and when each comes.
+use Rattle.std.specs.Prelude.{◌≡◌, ◌≤◌, ◌<◌, ◌⊎◌, ℕ, List, length, Option, Result, IsOk, IsErr, Ok, Err}
+use Rattle.std.specs.Io.KnownBytes.{Appends, Keeps}
+use Rattle.tape_types.specs.Names.{Names}
+use Rattle.batch.specs.Batch.{INPUT_MOST, IsStopText, StopsForMemory, batch_text, body_text, batch_tape, fault_line, input_listing, message_lines}
+use Rattle.row_reads.specs.Writing.{WritesFront}
+use Rattle.batch.specs.declared.batch_end.BatchEnd.{BatchEnd}
+use Rattle.batch.specs.declared.batch_end.BatchEnd.TheVariants.{Done, BadHeader, TooLarge, ReadFault, WriteFault, OutOfMemory}
+use Rattle.batch.specs.declared.header_fault.HeaderFault.{HeaderFault}
+
+-- what was written under a header where memory ran out
+abbrev pub WroteForMemory : Result Names HeaderFault → List (List ℕ) → Option (List ℕ) → Option (List ℕ) → Type 0
+WroteForMemory (Ok names) lines old new = StopsForMemory (batch_tape names) lines old new
+WroteForMemory (Err fault) lines old new = Keeps old new
+
+-- a text that is written under a header where no write fails: the batch's, or the answers up to a refusal out of memory
+abbrev pub IsTextUnder : Result Names HeaderFault → List (List ℕ) → List ℕ → Type 0
+IsTextUnder (Ok names) lines text = (text ≡ body_text names lines) ⊎ IsStopText (batch_tape names) lines text
+IsTextUnder (Err fault) lines text = text ≡ fault_line fault
+
+-- what was written where a write failed: a front of such a text, and nothing else
+abbrev pub WroteToFault : List ℕ → Option (List ℕ) → Option (List ℕ) → Type 0
+WroteToFault input old new = (text : List ℕ) × IsTextUnder (input_listing input) (message_lines input) text × WritesFront text old new
+
+-- what was written at this end
+abbrev pub Wrote : BatchEnd → List ℕ → Option (List ℕ) → Option (List ℕ) → Type 0
+Wrote Done input old new = Appends old new (batch_text input)
+Wrote BadHeader input old new = Appends old new (batch_text input)
+Wrote TooLarge input old new = Keeps old new
+Wrote ReadFault input old new = Keeps old new
+Wrote WriteFault input old new = WroteToFault input old new
+Wrote OutOfMemory input old new = WroteForMemory (input_listing input) (message_lines input) old new
+
+-- the inputs at which this end comes
+abbrev pub EndsAt : BatchEnd → List ℕ → Type 0
+EndsAt Done input = (length input ≤ INPUT_MOST) × IsOk (input_listing input)
+EndsAt BadHeader input = (length input ≤ INPUT_MOST) × IsErr (input_listing input)
+EndsAt TooLarge input = INPUT_MOST < length input
+EndsAt ReadFault input = Unit {0}
+EndsAt WriteFault input = length input ≤ INPUT_MOST
+EndsAt OutOfMemory input = Unit {0}

@@ -1,0 +1,37 @@
+-- The answers that a day holds until its input was read whole.
+use Rattle.std.specs.Prelude.{◌≡◌, ℕ, Bool, true, false, List, [], ◌∷◌, ◌++◌, Option, Result, Err, IsOk}
+use Rattle.tape_core.specs.Tape.{TapeState}
+use Rattle.tape_core.specs.declared.refusal.Refusal.TheVariants.{OutOfMemory}
+use Rattle.batch.specs.Batch.{line_answer, line_answers, tape_after_lines}
+use Rattle.batch.specs.Input.{TakesLines}
+use Rattle.batch.specs.declared.day.Day.{Day}
+use Rattle.batch.specs.declared.batch_refusal.BatchRefusal.{BatchRefusal}
+use Rattle.batch.specs.declared.batch_refusal.BatchRefusal.TheVariants.{Refused}
+
+-- the answers to the first lines, and then a refusal out of memory: the next line has an acceptable message
+pub record RunsOut (t : TapeState) (lines : List (List ℕ)) (answers : List (Result ℕ BatchRefusal)) : Type 0 where
+  pub answered : List (List ℕ)
+  pub refused : List ℕ
+  pub left : List (List ℕ)
+  pub split : lines ≡ answered ++ refused ∷ left
+  pub acceptable : IsOk (line_answer (tape_after_lines t answered) refused)
+  pub answers_are : answers ≡ line_answers t answered ++ Err (Refused OutOfMemory) ∷ []
+
+-- a tape and answers after lines: all are answered, or memory ran out at one of them
+abbrev pub AnswersLines : TapeState → List (List ℕ) → Bool → TapeState → List (Result ℕ BatchRefusal) → Type 0
+AnswersLines t lines false now answers = (now ≡ tape_after_lines t lines) × (answers ≡ line_answers t lines)
+AnswersLines t lines true now answers = RunsOut t lines answers
+
+-- a day began with this tape, and has answered these lines
+abbrev pub HasAnswered : TapeState → List (List ℕ) → Day → Type 0
+HasAnswered t lines day = AnswersLines t lines day.is_stopped day.tape day.answers.items
+
+-- a day answered these lines more
+abbrev pub AnswersMore : Day → Day → List (List ℕ) → Type 0
+AnswersMore old new lines = (t : TapeState) (before : List (List ℕ)) → HasAnswered t before old → HasAnswered t (before ++ lines) new
+
+-- a day answered some lines more, which were taken from the front of an input
+pub record AnswersTaken (old new : Day) (bytes left : Option (List ℕ)) (taken taken_now : ℕ) : Type 0 where
+  pub lines : List (List ℕ)
+  pub answered : AnswersMore old new lines
+  pub took : TakesLines bytes left taken taken_now lines

@@ -1,0 +1,44 @@
+-- What is written of what was read, and how that ends.
+use Rattle.std.specs.Prelude.{◌≡◌, ℕ, Bool, true, false, List, [], ◌++◌, Option}
+use Rattle.std.specs.Io.KnownBytes.{Appends}
+use Rattle.std.specs.List.{flat_map}
+use Rattle.tape_core.specs.Tape.{TapeState}
+use Rattle.batch.specs.Batch.{answer_line, fault_line, tape_report}
+use Rattle.row_reads.specs.Writing.{WritesFront}
+use Rattle.batch.specs.declared.batch_end.BatchEnd.{BatchEnd}
+use Rattle.batch.specs.declared.batch_end.BatchEnd.TheVariants.{Done, BadHeader, TooLarge, ReadFault, WriteFault, OutOfMemory}
+use Rattle.batch.specs.declared.day.Day.{Day}
+use Rattle.batch.specs.declared.reading.Batch.{Batch}
+use Rattle.batch.specs.declared.reading.Batch.TheVariants.{Answered, Refused}
+
+-- the report of a tape, or nothing where memory ran out at a line
+abbrev pub report_unless : Bool → TapeState → List ℕ
+report_unless false t = tape_report t
+report_unless true t = []
+
+-- the text of a day: its answers, and the report of its tape unless memory ran out at a line
+abbrev pub day_text : Day → List ℕ
+day_text day = flat_map answer_line day.answers.items ++ report_unless day.is_stopped day.tape
+
+-- what was written of a day at this end; a day at one of whose lines memory ran out is never done
+abbrev pub FinishesDay : Day → BatchEnd → Option (List ℕ) → Option (List ℕ) → Type 0
+FinishesDay day Done old new = (day.is_stopped ≡ false) × Appends old new (day_text day)
+FinishesDay day OutOfMemory old new = Appends old new (flat_map answer_line day.answers.items)
+FinishesDay day WriteFault old new = WritesFront (day_text day) old new
+FinishesDay day BadHeader old new = ⊥
+FinishesDay day TooLarge old new = ⊥
+FinishesDay day ReadFault old new = ⊥
+
+-- what was written of a text at this end, where nothing takes memory
+abbrev pub FinishesRefusal : List ℕ → BatchEnd → Option (List ℕ) → Option (List ℕ) → Type 0
+FinishesRefusal text BadHeader old new = Appends old new text
+FinishesRefusal text WriteFault old new = WritesFront text old new
+FinishesRefusal text Done old new = ⊥
+FinishesRefusal text OutOfMemory old new = ⊥
+FinishesRefusal text TooLarge old new = ⊥
+FinishesRefusal text ReadFault old new = ⊥
+
+-- what was written of what was read, and the ends at which it was
+abbrev pub Finishes : Batch → BatchEnd → Option (List ℕ) → Option (List ℕ) → Type 0
+Finishes (Answered day) end old new = FinishesDay day end old new
+Finishes (Refused fault) end old new = FinishesRefusal (fault_line fault) end old new

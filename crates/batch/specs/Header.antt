@@ -1,0 +1,67 @@
+-- The header of a batch: the symbols on its first line, and the participants on its second.
+use Rattle.std.specs.Prelude.{ℕ, ◌-◌, ◌==◌, ◌&&◌, nat_le, nat_lt, List, [], ◌∷◌, ◌++◌, length, codes, Option, Some, None, Result, Ok, Err, option_and_then}
+use Rattle.std.specs.Prelude.{replicate, if◌then◌else◌}
+use Rattle.std.specs.List.{list_all, slice_split}
+use Rattle.std.specs.Option.{option_map}
+use Rattle.tape_types.specs.ListingFaults.{listing_fault_code, listing_fault_name}
+use Rattle.tape_types.specs.Names.{Names, names_fault}
+use Rattle.tape_types.specs.Ranges.{is_name_byte}
+use Rattle.tape_types.specs.declared.listing_fault.ListingFault.{ListingFault}
+use Rattle.batch.specs.MessageLine.{is_capital}
+use Rattle.batch.specs.declared.header_fault.HeaderFault.{HeaderFault}
+use Rattle.batch.specs.declared.header_fault.HeaderFault.TheVariants.{BadHeader, BadListing}
+
+-- the number of a fault
+abbrev pub header_fault_code : HeaderFault → ℕ
+header_fault_code BadHeader = 9
+header_fault_code (BadListing fault) = listing_fault_code fault
+
+-- the name of a fault, as it is printed
+abbrev pub header_fault_name : HeaderFault → List ℕ
+header_fault_name BadHeader = codes "BadHeader"
+header_fault_name (BadListing fault) = listing_fault_name fault
+
+-- the pieces of a text between single spaces
+abbrev pub pieces_of : List ℕ → List (List ℕ)
+pieces_of text = slice_split (λ b. b == 32) text
+
+-- the names of a line, between single spaces; a line of no bytes has none
+abbrev pub name_texts : List ℕ → List (List ℕ)
+name_texts [] = []
+name_texts (byte ∷ bytes) = pieces_of (byte ∷ bytes)
+
+-- a symbol by its name: one to eight bytes that may stand in one, with spaces to the end
+abbrev pub symbol_named : List ℕ → Option (List ℕ)
+symbol_named name =
+    if nat_lt 0 (length name) && (nat_le (length name) 8 && list_all is_name_byte name)
+    then Some (name ++ replicate (8 - length name) 32)
+    else None
+
+-- a participant by its name: one capital letter
+abbrev pub participant_named : List ℕ → Option ℕ
+participant_named [] = None
+participant_named (letter ∷ []) = if is_capital letter then Some letter else None
+participant_named (letter ∷ next ∷ rest) = None
+
+-- all that the texts name, or none where one names nothing
+abbrev pub all_named : {A : Type 0} → (List ℕ → Option A) → List (List ℕ) → Option (List A)
+all_named named [] = Some []
+all_named named (text ∷ texts) =
+    option_and_then (λ name. option_map (λ names. name ∷ names) (all_named named texts)) (named text)
+
+-- the listing, where it has no fault
+abbrev pub listing_by_fault : Option ListingFault → Names → Result Names HeaderFault
+listing_by_fault None names = Ok names
+listing_by_fault (Some fault) names = Err (BadListing fault)
+
+-- the listing of two lists of names
+abbrev pub listing_of : Option (List (List ℕ)) → Option (List ℕ) → Result Names HeaderFault
+listing_of None participants = Err BadHeader
+listing_of (Some symbols) None = Err BadHeader
+listing_of (Some symbols) (Some participants) =
+    listing_by_fault (names_fault symbols participants) (record { symbols = symbols; participants = participants })
+
+-- the listing of the two lines of a header, or the first thing wrong with them
+unfoldable pub header_listing : List ℕ → List ℕ → Result Names HeaderFault
+header_listing first second =
+    listing_of (all_named symbol_named (name_texts first)) (all_named participant_named (name_texts second))

@@ -1,0 +1,13 @@
+pub mod Lines
+pub mod Input
+pub mod BatchRefusals
+pub mod MessageLine
+pub mod Gathered
+pub mod Header
+pub mod Pieces
+pub mod Batch
+pub mod BatchEnds
+pub mod Day
+pub mod Reading
+pub mod Finish
+pub mod Ends

@@ -1,0 +1,14 @@
+-- What an iterator over pieces has left.
+use Rattle.std.specs.Prelude.{ℕ, List, [], Option, Some, None}
+use Rattle.batch.specs.Header.{pieces_of}
+use Rattle.batch.specs.declared.pieces.Pieces.{Pieces}
+use denote.Ref.{Bor}
+
+-- the pieces of what is left of the text, if any is
+abbrev pub pieces_of_rest : Option (Bor (List ℕ)) → List (List ℕ)
+pieces_of_rest None = []
+pieces_of_rest (Some rest) = pieces_of rest.now
+
+-- the pieces that are left
+abbrev pub pieces_left : Pieces → List (List ℕ)
+pieces_left p = pieces_of_rest p.rest

@@ -1,0 +1,28 @@
+-- What reading a whole input gives, or ends with before that.
+use Rattle.std.specs.Prelude.{◌≡◌, ◌≤◌, ◌<◌, ◌+◌, ℕ, List, length, Option, IfSome, Ok, Err}
+use Rattle.tape_types.specs.Names.{Names}
+use Rattle.batch.specs.Batch.{INPUT_MOST, batch_tape, input_listing, message_lines}
+use Rattle.batch.specs.Day.{HasAnswered}
+use Rattle.batch.specs.declared.read_end.ReadEnd.{ReadEnd}
+use Rattle.batch.specs.declared.read_end.ReadEnd.TheVariants.{TooLarge, ReadFault, OutOfMemory}
+use Rattle.batch.specs.declared.reading.Batch.{Batch}
+use Rattle.batch.specs.declared.reading.Batch.TheVariants.{Answered, Refused}
+
+-- what was read of a whole input: the day that its lines left, or what is wrong with its header
+abbrev pub ReadsBatch : Batch → List ℕ → Type 0
+ReadsBatch (Answered day) input = (names : Names) × (input_listing input ≡ Ok names) × HasAnswered (batch_tape names) (message_lines input) day
+ReadsBatch (Refused fault) input = input_listing input ≡ Err fault
+
+-- the lengths of input at which reading ends so
+abbrev pub IsReadEnd : ReadEnd → ℕ → Type 0
+IsReadEnd TooLarge len = INPUT_MOST < len
+IsReadEnd ReadFault len = Unit {0}
+IsReadEnd OutOfMemory len = Unit {0}
+
+-- the end of reading comes of an input of which so much was taken, and this is left
+abbrev pub EndsReading : Option (List ℕ) → ℕ → ReadEnd → Type 0
+EndsReading left taken end = IfSome left (λ bytes. IsReadEnd end (taken + length bytes))
+
+-- an input of which so much was taken, and this is left, is within the limit
+abbrev pub Fits : Option (List ℕ) → ℕ → Type 0
+Fits left taken = IfSome left (λ bytes. taken + length bytes ≤ INPUT_MOST)

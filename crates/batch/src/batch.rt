@@ -1,0 +1,227 @@
+//! A batch: a whole input answered line by line, and the report of the tape that it leaves.
+ghost use Rattle.std.specs.Prelude.{◌≡◌, ◌+◌, ◌++◌, ◌⊎◌, IfErr, IfOk, IfSome, OnOk, OnErr, Ok, Err, [], false};
+ghost use Rattle.std.specs.Io.KnownBytes.{Appends, Keeps};
+ghost use Rattle.std.specs.List.{flat_map};
+ghost use Rattle.std.specs.Io.Take.{take_inner, take_limit};
+ghost use Rattle.day_report.specs.Rows.{report_rows};
+ghost use Rattle.day_report.specs.declared.report_fault.ReportFault.TheVariants.{OutOfMemory as RowsOutOfMemory};
+ghost use Rattle.batch.specs.Batch.{INPUT_MOST, answer_line, tape_report};
+ghost use Rattle.batch.specs.BatchEnds.{EndsAt, Wrote};
+ghost use Rattle.batch.specs.Finish.{Finishes, day_text};
+ghost use Rattle.row_reads.specs.Writing.{WritesFront};
+ghost use Rattle.batch.specs.declared.batch_end.BatchEnd.TheVariants.{ReadFault, TooLarge, WriteFault as EndWriteFault};
+ghost use Rattle.batch.specs.declared.stop.Stop.TheVariants.{OutOfMemory, WriteFault as StopWriteFault};
+
+use crate::BatchEnd;
+use crate::day::{Answer, Day};
+use crate::day_tape::DayTape;
+use crate::gathered::Gathered;
+use crate::input::{INPUT_MOST, Input};
+use crate::reading::{Batch, read_batch};
+use crate::stop::Stop;
+use day_report::{ReportFault, Row, rows, write_report};
+use row_reads::{WriteFault, write_text};
+use std::alloc::{AllocError, Global};
+use std::io::{BufReader, Read, Take, Write};
+use std::mem;
+use std::thread::Threads;
+use tape_types::NoGate;
+
+/// How many bytes are read at once.
+const READ_PIECE: usize = 65_536;
+
+/// The end, once what was written is flushed.
+fn flushed<W: Write>(writer: &mut W, end: BatchEnd) -> BatchEnd
+    ensures end { (result ≡ end) ⊎ (result ≡ EndWriteFault) }
+    ensures kept { Keeps (W.contents writer.old) (W.contents writer.new) }
+{
+    match writer.flush() {
+        Ok(()) => end,
+        Err(_) => BatchEnd::WriteFault,
+    }
+}
+
+/// Writes answers, each on its line.
+fn write_answers<W: Write>(
+    answers: &[Answer],
+    gathered: &mut Gathered,
+    writer: &mut W,
+) -> Result<(), WriteFault>
+    requires { gathered.old ≡ [] }
+    ensures written { OnOk result (Appends (W.contents writer.old) (W.contents writer.new) (flat_map answer_line answers.now)) }
+    ensures front { OnErr result (WritesFront (flat_map answer_line answers.now) (W.contents writer.old) (W.contents writer.new)) }
+{
+    for answer in answers {
+        gathered.push_answer(answer);
+        gathered.write_piece(writer)?;
+    }
+    gathered.write_to(writer)
+}
+
+/// The rows of a tape, made by one worker: it starts no thread, and can lack nothing but memory.
+fn rows_by_one<T: Threads + Sync>(
+    rt: &T,
+    alloc: Global,
+    tape: &DayTape,
+) -> Result<Vec<Row>, ReportFault>
+    ensures rows { IfOk result (λ rows. rows.items ≡ report_rows tape.now) }
+    ensures fault { IfErr result (λ fault. fault ≡ RowsOutOfMemory) }
+{
+    rows(rt, alloc, tape, 1, &NoGate)
+}
+
+/// The text of the report of a tape.
+fn report<T: Threads + Sync>(rt: &T, alloc: Global, tape: &DayTape) -> Result<Vec<u8>, AllocError>
+    ensures { IfOk result (λ text. text.items ≡ tape_report tape.now) }
+{
+    let Ok(rows) = rows_by_one(rt, alloc, tape) else {
+        return Err(AllocError);
+    };
+    let mut text = Vec::new(alloc);
+    match write_report(alloc, &rows, &mut text) {
+        Ok(()) => Ok(text),
+        Err(_) => Err(AllocError),
+    }
+}
+
+/// Writes a day: its answers, and, unless memory ran out at one of them, the report of its tape.
+fn write_day<T: Threads + Sync, W: Write>(
+    rt: &T,
+    alloc: Global,
+    day: &Day,
+    gathered: &mut Gathered,
+    writer: &mut W,
+) -> Result<(), Stop>
+    requires { gathered.old ≡ [] }
+    ensures goes_on { OnOk result (day.now.is_stopped ≡ false) }
+    ensures written { OnOk result (Appends (W.contents writer.old) (W.contents writer.new) (day_text day.now)) }
+    ensures memory { result ≡ Err OutOfMemory
+        → Appends (W.contents writer.old) (W.contents writer.new) (flat_map answer_line day.now.answers.items) }
+    ensures fault { result ≡ Err StopWriteFault → WritesFront (day_text day.now) (W.contents writer.old) (W.contents writer.new) }
+{
+    write_answers(&day.answers, gathered, writer)?;
+    if day.is_stopped {
+        return Err(Stop::OutOfMemory);
+    }
+    let text = report(rt, alloc, &day.tape)?;
+    write_text(writer, &text)?;
+    Ok(())
+}
+
+/// Writes what was read of a batch: a day, or the line of a refused header, for which there is room already.
+fn write_batch<T: Threads + Sync, W: Write>(
+    rt: &T,
+    alloc: Global,
+    read: &Batch,
+    gathered: &mut Gathered,
+    writer: &mut W,
+) -> BatchEnd
+    requires { gathered.old ≡ [] }
+    ensures finishes { Finishes read.now result (W.contents writer.old) (W.contents writer.new) }
+{
+    match read {
+        Batch::Answered(day) => match write_day(rt, alloc, day, gathered, writer) {
+            Ok(()) => BatchEnd::Done,
+            Err(Stop::WriteFault) => BatchEnd::WriteFault,
+            Err(Stop::OutOfMemory) => BatchEnd::OutOfMemory,
+        },
+        Batch::Refused(fault) => {
+            gathered.push_fault(*fault);
+            match gathered.write_to(writer) {
+                Ok(()) => BatchEnd::BadHeader,
+                Err(WriteFault) => BatchEnd::WriteFault,
+            }
+        }
+    }
+}
+
+/// Writes what was read of a batch, flushed at the end.
+fn finish_batch<T: Threads + Sync, W: Write>(
+    rt: &T,
+    alloc: Global,
+    read: &Batch,
+    gathered: &mut Gathered,
+    writer: &mut W,
+) -> BatchEnd
+    requires { gathered.old ≡ [] }
+    // A day at whose last answer memory ran out is not done: that answer's line stands written, unless a write fails.
+    ensures finishes { Finishes read.now result (W.contents writer.old) (W.contents writer.new) }
+{
+    match write_batch(rt, alloc, read, gathered, writer) {
+        BatchEnd::WriteFault => BatchEnd::WriteFault,
+        end => flushed(writer, end),
+    }
+}
+
+/// The reader as far as one byte beyond the longest input, which is enough to tell that an input is too large.
+fn limited<R: Read>(reader: &mut R) -> Take<&mut R>
+    ensures limit { take_limit result ≡ INPUT_MOST + 1 }
+    ensures inner { take_inner result ≡ reader.entry }
+{
+    reader.take(INPUT_MOST + 1)
+}
+
+/// Reads a batch whole and writes it, as `batch_over` does, and gives what was read back beside the end.
+fn batch_kept<T: Threads + Sync, R: Read, W: Write>(
+    rt: &T,
+    alloc: Global,
+    reader: &mut R,
+    writer: &mut W,
+) -> (BatchEnd, Option<Batch>)
+    ensures wrote { IfSome (R.remaining reader.old) (λ input. Wrote result.0 input (W.contents writer.old) (W.contents writer.new)) }
+    ensures ends { IfSome (R.remaining reader.old) (EndsAt result.0) }
+    ensures silent { (result.0 ≡ TooLarge) ⊎ (result.0 ≡ ReadFault) → writer.new ≡ writer.old }
+{
+    let Ok(left) = BufReader::with_capacity(alloc, READ_PIECE, limited(reader)) else {
+        return (BatchEnd::OutOfMemory, None);
+    };
+    // Room to write comes first, so that it takes none to tell a refusal out of memory.
+    let Ok(mut gathered) = Gathered::new(alloc) else {
+        return (BatchEnd::OutOfMemory, None);
+    };
+    match read_batch(alloc, &mut Input::new(left)) {
+        Ok(read) => (
+            finish_batch(rt, alloc, &read, &mut gathered, writer),
+            Some(read),
+        ),
+        Err(end) => (BatchEnd::from(end), None),
+    }
+}
+
+/// Reads a batch whole, and writes its answers and its report, in large pieces that are flushed once at the end. `BatchEnd`
+/// says how it ended and what was written.
+pub fn batch_over<T: Threads + Sync, R: Read, W: Write>(
+    rt: &T,
+    alloc: Global,
+    reader: &mut R,
+    writer: &mut W,
+) -> BatchEnd
+    // What was written is the text of the whole input and nothing else, or what the end says.
+    ensures wrote { IfSome (R.remaining reader.old) (λ input. Wrote result input (W.contents writer.old) (W.contents writer.new)) }
+
+    // Which end it is.
+    ensures ends { IfSome (R.remaining reader.old) (EndsAt result) }
+
+    // These ends leave the writer alone, whatever the reader.
+    ensures silent { (result ≡ TooLarge) ⊎ (result ≡ ReadFault) → writer.new ≡ writer.old }
+{
+    let (end, _) = batch_kept(rt, alloc, reader, writer);
+    end
+}
+
+/// Does what `batch_over` does, for a program that ends then: what was read is left to the process's end, which gives its
+/// memory back at once and not piece by piece.
+pub fn last_batch<T: Threads + Sync, R: Read, W: Write>(
+    rt: &T,
+    alloc: Global,
+    reader: &mut R,
+    writer: &mut W,
+) -> BatchEnd
+    ensures wrote { IfSome (R.remaining reader.old) (λ input. Wrote result input (W.contents writer.old) (W.contents writer.new)) }
+    ensures ends { IfSome (R.remaining reader.old) (EndsAt result) }
+    ensures silent { (result ≡ TooLarge) ⊎ (result ≡ ReadFault) → writer.new ≡ writer.old }
+{
+    let (end, read) = batch_kept(rt, alloc, reader, writer);
+    mem::forget(read);
+    end
+}

@@ -1,0 +1,47 @@
+//! Why a line was refused.
+ghost use Rattle.std.specs.Prelude.{◌≡◌};
+ghost use Rattle.batch.specs.BatchRefusals.{batch_refusal_code, batch_refusal_name};
+
+use reports::MessageFault;
+use tape_core::Refusal;
+use thiserror::Error;
+
+/// Why a line of a batch was refused, the first that applies.
+#[derive(Clone, Copy, Debug, PartialEq, Eq, Error)]
+#[error("{}", self.name())]
+pub enum BatchRefusal {
+    /// The line is not one capital letter, one space and an even number of hexadecimal digits.
+    BadLine,
+    /// No message stands at the front of the line's bytes.
+    BadMessage(MessageFault),
+    /// Bytes are left after the message.
+    ExtraBytes,
+    /// The line's letter is not the message's participant, or the tape refused the message.
+    Refused(Refusal),
+}
+
+impl BatchRefusal {
+    /// The number of the refusal.
+    pub fn code(self) -> u8
+        ensures number { result ≡ batch_refusal_code self }
+    {
+        match self {
+            BatchRefusal::BadLine => 22,
+            BatchRefusal::BadMessage(fault) => fault.code(),
+            BatchRefusal::ExtraBytes => 23,
+            BatchRefusal::Refused(refusal) => refusal.code(),
+        }
+    }
+
+    /// The name of the refusal, as it is printed.
+    pub fn name(self) -> &'static str
+        ensures text { result.now ≡ batch_refusal_name self }
+    {
+        match self {
+            BatchRefusal::BadLine => "BadLine",
+            BatchRefusal::BadMessage(fault) => fault.name(),
+            BatchRefusal::ExtraBytes => "ExtraBytes",
+            BatchRefusal::Refused(refusal) => refusal.name(),
+        }
+    }
+}

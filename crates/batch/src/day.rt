@@ -1,0 +1,149 @@
+//! A day: its tape, and the answers that it holds until its input was read whole.
+ghost use Rattle.std.specs.Prelude.{◌≡◌, ◌≢◌, ◌≤◌, ◌+◌, ◌↔◌, [], ◌∷◌, false, length, Err, IsOk, IsTrue, IfOk, IfErr, IfSome, OnOk, OnErr};
+ghost use Rattle.tape_core.specs.declared.refusal.Refusal.TheVariants.{OutOfMemory};
+ghost use Rattle.batch.specs.Batch.{line_answer, tape_after_line};
+ghost use Rattle.batch.specs.Reading.{EndsReading, Fits};
+ghost use Rattle.batch.specs.Day.{AnswersMore, AnswersTaken};
+ghost use Rattle.batch.specs.Lines.{lines_of};
+ghost use Rattle.batch.specs.declared.batch_refusal.BatchRefusal.TheVariants.{Refused};
+
+use crate::BatchRefusal;
+use crate::day_tape::DayTape;
+use crate::input::{Input, failed_read};
+use crate::known_digits::KnownDigits;
+use crate::lines::{Lines, whole_lines};
+use crate::message_line::read_message;
+use crate::read_end::ReadEnd;
+use std::alloc::{AllocError, Global};
+use std::io::{BufRead, ErrorKind};
+use tape_core::Refusal;
+use tape_types::TapeNumber;
+
+/// The answer to a line: its message's tape number, or why it was refused.
+pub type Answer = Result<TapeNumber, BatchRefusal>;
+
+// A day holds an answer to each of its lines.
+const _: () = prove!(size_of::<Answer>() == 5);
+
+/// Answers a line: admits its message and gives its tape number, or says why not, which leaves the tape as it was.
+#[tactic(auto, unfolding(crate::specs::Batch::line_answer, crate::specs::Batch::tape_after_line))]
+fn answer(tape: &mut DayTape, known: &mut KnownDigits, line: &[u8]) -> Answer
+    ensures answer { (result ≢ Err (Refused OutOfMemory)) → result ≡ line_answer tape.old line.now }
+    ensures tape { (result ≢ Err (Refused OutOfMemory)) → tape.new ≡ tape_after_line tape.old line.now }
+    ensures refused { OnErr result (tape.new ≡ tape.old) }
+    ensures memory { result ≡ Err (Refused OutOfMemory) → IsOk (line_answer tape.old line.now) }
+{
+    let message = match read_message(known, line) {
+        Ok(message) => message,
+        Err(refusal) => return Err(refusal),
+    };
+    match tape.admit(message) {
+        Ok(entry) => Ok(entry.number),
+        Err(refusal) => Err(BatchRefusal::Refused(refusal)),
+    }
+}
+
+/// Whether memory ran out while the message was admitted.
+fn is_out_of_memory(answer: &Answer) -> bool
+    ensures { IsTrue result ↔ (answer.now ≡ Err (Refused OutOfMemory)) }
+{
+    matches!(answer, Err(BatchRefusal::Refused(Refusal::OutOfMemory)))
+}
+
+/// A day: its tape, and the answers that it holds until its input was read whole.
+#[derive(Drop)]
+pub struct Day {
+    /// The tape.
+    pub tape: DayTape,
+    /// The answers to the lines so far.
+    pub answers: Vec<Answer>,
+    /// Whether memory ran out at a line. Its refusal is the last answer.
+    pub is_stopped: bool,
+    /// Digits of earlier lines, with their bytes.
+    known: KnownDigits,
+}
+
+impl Day {
+    /// A day without answers.
+    pub fn new(alloc: Global, tape: DayTape) -> Self
+        ensures tape { result.tape ≡ tape }
+        ensures answers { result.answers.items ≡ [] }
+        ensures goes_on { result.is_stopped ≡ false }
+    {
+        Day {
+            tape,
+            answers: Vec::new(alloc),
+            is_stopped: false,
+            known: KnownDigits::new(),
+        }
+    }
+
+    /// Answers a line, unless memory ran out at an earlier one.
+    fn answer_line(&mut self, line: &[u8]) -> Result<(), AllocError>
+        ensures { OnOk result (AnswersMore self.old self.new (line.now ∷ [])) }
+    {
+        if self.is_stopped {
+            return Ok(());
+        }
+        // Room for the answer comes first, so that it takes none to hold a refusal out of memory.
+        self.answers.reserve(1)?;
+        let answer = answer(&mut self.tape, &mut self.known, line);
+        self.is_stopped = is_out_of_memory(&answer);
+        self.answers.push(answer).unwrap();
+        Ok(())
+    }
+
+    /// Answers lines one after another.
+    fn answer_lines(&mut self, lines: Lines<'_>) -> Result<(), AllocError>
+        ensures { OnOk result (AnswersMore self.old self.new (lines_of lines.entry.rest.now)) }
+    {
+        for line in lines {
+            self.answer_line(line)?;
+        }
+        Ok(())
+    }
+
+    /// Answers the lines that stand whole in the input's next piece.
+    fn answer_piece<B: BufRead>(&mut self, input: &mut Input<B>) -> Result<(), ReadEnd>
+        ensures answered { OnOk result (AnswersTaken self.old self.new
+            (B.remaining input.old.left) (B.remaining input.new.left) input.old.taken input.new.taken) }
+        ensures grows { OnOk result (input.old.taken ≤ input.new.taken) }
+        ensures err { IfErr result (EndsReading (B.remaining input.old.left) input.old.taken) }
+    {
+        let piece = match input.left.fill_buf() {
+            Ok(piece) => piece,
+            // Whatever reads next reads again.
+            Err(error) if error.kind() == ErrorKind::Interrupted => return Ok(()),
+            Err(error) => return Err(failed_read(&error)),
+        };
+        let whole = whole_lines(piece);
+        let answered = self.answer_lines(Lines::new(&piece[..whole]));
+        input.left.consume(whole);
+        input.count(whole)?;
+        answered?;
+        Ok(())
+    }
+
+    /// Answers all lines of an input: those that stand whole in a piece, then the one between two pieces, and so on. Where
+    /// memory runs out at a line, the rest is taken without memory, so that the input is known to fit. An error is that of
+    /// a failed read, of an input beyond the limit, or of running out of memory for an answer or a line between two pieces.
+    pub fn answer_all<B: BufRead>(
+        &mut self,
+        input: &mut Input<B>,
+        line: &mut Vec<u8>,
+    ) -> Result<(), ReadEnd>
+        ensures answered { OnOk result (IfSome (B.remaining input.old.left) (λ bytes. AnswersMore self.old self.new (lines_of bytes))) }
+        ensures fits { OnOk result (Fits (B.remaining input.old.left) input.old.taken) }
+        ensures err { IfErr result (EndsReading (B.remaining input.old.left) input.old.taken) }
+    {
+        self.answer_piece(input)?;
+        while !self.is_stopped {
+            if !input.next_line(line)? {
+                return Ok(());
+            }
+            self.answer_line(line)?;
+            self.answer_piece(input)?;
+        }
+        input.skip_lines()
+    }
+}

@@ -1,0 +1,115 @@
+//! Output that waits to be written in large pieces.
+ghost use Rattle.std.specs.Prelude.{◌≡◌, ◌≤◌, ◌+◌, ◌++◌, ◌∷◌, [], length, IfOk, OnOk, OnErr};
+ghost use Rattle.std.specs.Io.KnownBytes.{Appends};
+ghost use Rattle.batch.specs.Batch.{answer_line, fault_line, refusal_text};
+ghost use Rattle.batch.specs.Gathered.{PIECE, ROOM};
+ghost use Rattle.row_reads.specs.Writing.{WritesFront, WritesUpTo};
+
+use crate::HeaderFault;
+use crate::day::Answer;
+use itoa::Buffer;
+use row_reads::{WriteFault, write_text};
+use std::alloc::{AllocError, Global};
+use std::io::Write;
+use std::marker::Model;
+
+/// How many bytes are gathered before they are written.
+const PIECE: usize = 8_192;
+
+/// Room for one answer line more.
+const LONGEST_LINE: usize = 128;
+
+/// Answer lines that wait to be written in large pieces. All its memory is taken at first, so a line more takes none.
+#[derive(Drop)]
+pub struct Gathered {
+    bytes: Vec<u8>,
+}
+
+impl Model for Gathered {
+    ghost use Rattle.std.specs.Prelude.{List, ℕ, ◌≤◌};
+    ghost use Rattle.std.specs.Vec.{vec_capacity};
+    ghost use Rattle.batch.specs.Gathered.{ROOM};
+
+    ghost Value = { List ℕ };
+
+    ghost view = { λ g. g.bytes.items };
+
+    ghost invariant = { λ g. ROOM ≤ vec_capacity g.bytes };
+}
+
+impl Gathered {
+    /// Empty, with room for a piece and one more line.
+    pub fn new(alloc: Global) -> Result<Self, AllocError>
+        ensures { IfOk result (λ g. g ≡ []) }
+    {
+        let bytes = Vec::with_capacity(alloc, PIECE + LONGEST_LINE)?;
+        Ok(Gathered { bytes })
+    }
+
+    /// Adds a text within the room.
+    fn push(&mut self, text: &[u8])
+        requires { length self.old + length text.now ≤ ROOM }
+        ensures { self.new ≡ self.old ++ text.now }
+    {
+        self.bytes.extend_from_slice(text).unwrap();
+    }
+
+    /// Adds the line of a refusal, by its number and its name.
+    fn push_refusal(&mut self, code: u8, name: &str)
+        requires { length self.old + length name.now ≤ PIECE + 64 }
+        ensures { self.new ≡ self.old ++ (refusal_text code name.now ++ 10 ∷ []) }
+    {
+        let mut digits = Buffer::new();
+        self.push(b"refused ");
+        self.push(digits.format(code).as_bytes());
+        self.push(b" ");
+        self.push(name.as_bytes());
+        self.push(b"\n");
+    }
+
+    /// Adds the line of an answer.
+    pub fn push_answer(&mut self, answer: &Answer)
+        requires { length self.old ≤ PIECE }
+        ensures { self.new ≡ self.old ++ answer_line answer.now }
+    {
+        match answer {
+            Ok(number) => {
+                let mut digits = Buffer::new();
+                self.push(digits.format(number.value()).as_bytes());
+                self.push(b"\n");
+            }
+            Err(refusal) => self.push_refusal(refusal.code(), refusal.name()),
+        }
+    }
+
+    /// Adds the line of a refused header.
+    pub fn push_fault(&mut self, fault: HeaderFault)
+        requires { length self.old ≤ PIECE }
+        ensures { self.new ≡ self.old ++ fault_line fault }
+    {
+        self.push_refusal(fault.code(), fault.name());
+    }
+
+    /// Writes all that is gathered.
+    pub fn write_to<W: Write>(&mut self, writer: &mut W) -> Result<(), WriteFault>
+        ensures empty { OnOk result (self.new ≡ []) }
+        ensures written { OnOk result (Appends (W.contents writer.old) (W.contents writer.new) self.old) }
+        ensures front { OnErr result (WritesFront self.old (W.contents writer.old) (W.contents writer.new)) }
+    {
+        write_text(writer, &self.bytes)?;
+        self.bytes.clear();
+        Ok(())
+    }
+
+    /// Writes what is gathered, where it is a piece.
+    pub fn write_piece<W: Write>(&mut self, writer: &mut W) -> Result<(), WriteFault>
+        ensures room { OnOk result (length self.new ≤ PIECE) }
+        ensures written { OnOk result (WritesUpTo self.old self.new (W.contents writer.old) (W.contents writer.new)) }
+        ensures front { OnErr result (WritesFront self.old (W.contents writer.old) (W.contents writer.new)) }
+    {
+        if self.bytes.len() < PIECE {
+            return Ok(());
+        }
+        self.write_to(writer)
+    }
+}

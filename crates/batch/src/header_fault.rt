@@ -1,0 +1,38 @@
+//! Why a header was refused.
+ghost use Rattle.std.specs.Prelude.{◌≡◌};
+ghost use Rattle.batch.specs.Header.{header_fault_code, header_fault_name};
+
+use tape_types::ListingFault;
+use thiserror::Error;
+
+/// Why the header of a batch was refused, the first that applies.
+#[derive(Clone, Copy, Debug, PartialEq, Eq, Error)]
+#[error("{}", self.name())]
+pub enum HeaderFault {
+    /// A line is not names between single spaces.
+    BadHeader,
+    /// The names make no listing, or memory ran out.
+    BadListing(ListingFault),
+}
+
+impl HeaderFault {
+    /// The number of the fault.
+    pub fn code(self) -> u8
+        ensures number { result ≡ header_fault_code self }
+    {
+        match self {
+            HeaderFault::BadHeader => 9,
+            HeaderFault::BadListing(fault) => fault.code(),
+        }
+    }
+
+    /// The name of the fault, as it is printed.
+    pub fn name(self) -> &'static str
+        ensures text { result.now ≡ header_fault_name self }
+    {
+        match self {
+            HeaderFault::BadHeader => "BadHeader",
+            HeaderFault::BadListing(fault) => fault.name(),
+        }
+    }
+}

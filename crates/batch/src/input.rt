@@ -1,0 +1,116 @@
+//! The input of a batch, read in pieces.
+ghost use Rattle.std.specs.Prelude.{◌≡◌, ◌≢◌, ◌≤◌, ◌<◌, ◌+◌, ◌⊎◌, true, false, ℕ, List, [], ◌∷◌, IfOk, IfErr, IfSome, OnOk, Ok, length, if◌then◌else◌};
+ghost use Rattle.std.specs.Io.BufRead.{strip_last};
+ghost use Rattle.std.specs.Io.KnownBytes.{IsAtEnd};
+ghost use Rattle.std.specs.IoError.{error_kind};
+ghost use Rattle.batch.specs.Batch.{INPUT_MOST};
+ghost use Rattle.batch.specs.Reading.{EndsReading, Fits};
+ghost use Rattle.batch.specs.Input.{TakesLines};
+ghost use Rattle.batch.specs.declared.read_end.ReadEnd.TheVariants.{OutOfMemory, ReadFault, TooLarge};
+
+use crate::read_end::ReadEnd;
+use std::io::{BufRead, Error, ErrorKind};
+
+/// The longest input, in bytes.
+pub const INPUT_MOST: u64 = 16_777_216;
+
+/// The end that a failed read brings.
+pub fn failed_read(error: &Error) -> ReadEnd
+    ensures one { (result ≡ OutOfMemory) ⊎ (result ≡ ReadFault) }
+    ensures memory { error_kind error.now ≡ ErrorKind.OutOfMemory → result ≡ OutOfMemory }
+    ensures fault { error_kind error.now ≢ ErrorKind.OutOfMemory → result ≡ ReadFault }
+{
+    match error.kind() {
+        ErrorKind::OutOfMemory => ReadEnd::OutOfMemory,
+        _ => ReadEnd::ReadFault,
+    }
+}
+
+/// Takes the line feed off a line's end, if there is one.
+fn drop_line_feed(line: &mut Vec<u8>)
+    ensures { line.new.items ≡ strip_last 10 line.old.items }
+{
+    if line.last() == Some(&b'\n') {
+        line.pop();
+    }
+}
+
+/// What is left of an input, and how many of its bytes were taken.
+#[derive(Drop)]
+pub struct Input<B> {
+    /// What is left.
+    pub left: B,
+    /// How many bytes were taken.
+    pub taken: u64,
+}
+
+impl<B: BufRead> Input<B> {
+    /// An input of which nothing was taken.
+    pub fn new(left: B) -> Self
+        ensures left { result.left ≡ left }
+        ensures taken { result.taken ≡ 0 }
+    {
+        Input { left, taken: 0 }
+    }
+
+    /// Counts bytes as taken. Where they are more than an input may have, they are counted, and the answer is `TooLarge`.
+    pub fn count(&mut self, len: usize) -> Result<(), ReadEnd>
+        ensures left { self.new.left ≡ self.old.left }
+        ensures taken { OnOk result (self.new.taken ≡ self.old.taken + len) }
+        ensures fits { OnOk result (self.new.taken ≤ INPUT_MOST) }
+        ensures err { IfErr result (λ end. (end ≡ TooLarge) × (INPUT_MOST < self.old.taken + len)) }
+    {
+        self.taken = self.taken.saturating_add(len as u64);
+        if self.taken > INPUT_MOST {
+            return Err(ReadEnd::TooLarge);
+        }
+        Ok(())
+    }
+
+    /// Takes the next line, without its line feed: whether there was one. A failed read and running out of memory for the line are
+    /// told as such, and an input beyond the limit as `TooLarge`; what was taken then is not told.
+    pub fn next_line(&mut self, line: &mut Vec<u8>) -> Result<bool, ReadEnd>
+        ensures took { IfOk result (λ some. TakesLines (B.remaining self.old.left) (B.remaining self.new.left) self.old.taken self.new.taken
+            (if some then line.new.items ∷ [] else [])) }
+        ensures end { result ≡ Ok false → IsAtEnd (B.remaining self.old.left) × (line.new.items ≡ []) }
+        ensures grows { result ≡ Ok true → self.old.taken < self.new.taken }
+        ensures fits { OnOk result (self.new.taken ≤ INPUT_MOST) }
+        ensures err { IfErr result (EndsReading (B.remaining self.old.left) self.old.taken) }
+    {
+        line.clear();
+        let len = match self.left.read_until(b'\n', line) {
+            Ok(len) => len,
+            Err(error) => return Err(failed_read(&error)),
+        };
+        self.count(len)?;
+        drop_line_feed(line);
+        Ok(len > 0)
+    }
+
+    /// Takes the next line without keeping it, which takes no memory: whether there was one. The errors are those of
+    /// `next_line`, running out of memory where the reader itself tells it.
+    fn skip_line(&mut self) -> Result<bool, ReadEnd>
+        ensures took { OnOk result ((lines : List (List ℕ))
+            × TakesLines (B.remaining self.old.left) (B.remaining self.new.left) self.old.taken self.new.taken lines) }
+        ensures end { result ≡ Ok false → IsAtEnd (B.remaining self.old.left) × (self.new.taken ≡ self.old.taken) }
+        ensures grows { result ≡ Ok true → self.old.taken < self.new.taken }
+        ensures fits { OnOk result (self.new.taken ≤ INPUT_MOST) }
+        ensures err { IfErr result (EndsReading (B.remaining self.old.left) self.old.taken) }
+    {
+        let len = match self.left.skip_until(b'\n') {
+            Ok(len) => len,
+            Err(error) => return Err(failed_read(&error)),
+        };
+        self.count(len)?;
+        Ok(len > 0)
+    }
+
+    /// Takes all that is left without keeping it, which takes no memory. The errors are those of `skip_line`.
+    pub fn skip_lines(&mut self) -> Result<(), ReadEnd>
+        ensures fits { OnOk result (Fits (B.remaining self.old.left) self.old.taken) }
+        ensures err { IfErr result (EndsReading (B.remaining self.old.left) self.old.taken) }
+    {
+        while self.skip_line()? {}
+        Ok(())
+    }
+}

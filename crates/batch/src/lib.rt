@@ -1,0 +1,27 @@
+//! A batch: message lines in, their answers and the report of the tape that they leave out.
+#![tactic(auto)]
+
+mod batch;
+mod batch_end;
+mod batch_refusal;
+mod day;
+mod day_tape;
+mod gathered;
+mod header;
+mod header_fault;
+mod input;
+mod known_digits;
+mod lines;
+mod message_line;
+mod named;
+mod names;
+mod pieces;
+mod read_end;
+mod reading;
+mod stop;
+
+pub use batch::{batch_over, last_batch};
+pub use batch_end::BatchEnd;
+pub use batch_refusal::BatchRefusal;
+pub use header_fault::HeaderFault;
+pub use named::Named;

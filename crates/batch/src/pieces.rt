@@ -1,0 +1,44 @@
+//! The pieces of a text between single spaces.
+ghost use Rattle.std.specs.Prelude.{◌≡◌, List, ℕ, [], Option, Some, None};
+ghost use Rattle.std.specs.Iterator.{YieldsFirstRef, item_count};
+ghost use Rattle.batch.specs.Pieces.{pieces_left};
+ghost use Rattle.batch.specs.Header.{pieces_of};
+
+use memchr::memchr;
+
+/// The pieces of a text that are left: one more than it has spaces.
+#[derive(Drop)]
+pub struct Pieces<'a> {
+    rest: Option<&'a [u8]>,
+}
+
+impl<'a> Pieces<'a> {
+    /// All pieces of the text.
+    pub fn new(text: &'a [u8]) -> Pieces<'a>
+        ensures { pieces_left result ≡ pieces_of text.now }
+    {
+        Pieces { rest: Some(text) }
+    }
+}
+
+impl<'a> Iterator for Pieces<'a> {
+    type Item = &'a [u8];
+
+    ghost next_gives = { YieldsFirstRef pieces_left };
+
+    ghost remaining = { item_count pieces_left };
+
+    fn next(&mut self) -> Option<&'a [u8]> {
+        let rest = self.rest?;
+        match memchr(b' ', rest) {
+            None => {
+                self.rest = None;
+                Some(rest)
+            }
+            Some(end) => {
+                self.rest = Some(&rest[end + 1..]);
+                Some(&rest[..end])
+            }
+        }
+    }
+}
