@@ -4,8 +4,8 @@ use Rattle.std.proofs.Common.{refl, sym, ap, append_assoc, append-nil}
 use Rattle.std.specs.Io.KnownBytes.{Consumes, Keeps}
 use Rattle.tape_core.specs.Tape.{TapeState}
 use Rattle.tape_core.specs.declared.refusal.Refusal.TheVariants.{OutOfMemory}
-use Rattle.batch.specs.Batch.{line_answer, line_answers, tape_after_lines, tape_after_line}
-use Rattle.batch.specs.Day.{AnswersLines, AnswersMore, AnswersTaken, HasAnswered, RunsOut}
+use Rattle.batch.specs.Batch.{RunsOut, line_answer, line_answers, tape_after_lines, tape_after_line}
+use Rattle.batch.specs.Day.{AnswersLines, AnswersMore, AnswersTaken, HasAnswered}
 use Rattle.batch.specs.Input.{TakesLines}
 use Rattle.batch.specs.Lines.{ends_a_line, lines_of}
 use Rattle.batch.specs.declared.day.Day.{Day}

@@ -118,15 +118,17 @@ hex_bytes-rest_None front rest even even_rest no_digit =
     none-joined None = refl
     none-joined (Some x) = refl
 
--- the front spells bytes, and the rest others
+-- digits that spell bytes, before others that do, spell both
+pub hex_bytes-both : (front rest x y : List ℕ) → length front % 2 ≡ 0 → hex_bytes front ≡ Some x → hex_bytes rest ≡ Some y
+    → hex_bytes (front ++ rest) ≡ Some (x ++ y)
+hex_bytes-both front rest x y even first second = hex_bytes-append front rest even ∙ rw (first, second) refl
+
+-- the front spells bytes, and the rest, which is digits alone, others
 pub hex_bytes-Some : (front rest bytes : List ℕ) → length front % 2 ≡ 0 → length rest % 2 ≡ 0 → Some bytes ≡ hex_bytes front → list_all is_hex_digit rest ≡ true
     → (others : List ℕ) × (hex_bytes rest ≡ Some others) × (hex_bytes (front ++ rest) ≡ Some (bytes ++ others))
 hex_bytes-Some front rest bytes even even_rest spelled digits =
     let others = some-from_is_some (hex_bytes rest) (is_some-hex_bytes rest even_rest ∙ digits) in
-    (others.0, others.1, hex_bytes-append front rest even ∙ both (hex_bytes front) (hex_bytes rest) bytes others.0 (sym spelled) others.1)
-  where
-    both : (a b : Option (List ℕ)) (x y : List ℕ) → a ≡ Some x → b ≡ Some y → joined a b ≡ Some (x ++ y)
-    both a b x y first second = rw (first, second) refl
+    (others.0, others.1, hex_bytes-both front rest bytes others.0 even (sym spelled) others.1)
 
 -- ## What decoding into a row answers
 

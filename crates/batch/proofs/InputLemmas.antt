@@ -12,7 +12,7 @@ use Rattle.batch.specs.Lines.{ends_a_line, lines_of}
 use Rattle.batch.specs.Reading.{IsReadEnd}
 use Rattle.batch.specs.declared.read_end.ReadEnd.{ReadEnd}
 use Rattle.batch.specs.declared.read_end.ReadEnd.TheVariants.{TooLarge}
-use Rattle.batch.proofs.LineLemmas.{lines_of-whole}
+use Rattle.batch.proofs.LineLemmas.{lines_of-cons, lines_of-whole}
 
 -- lines taken in two steps
 pub TakesLines-both : (a b c : Option (List ℕ)) (t t1 t2 : ℕ) (l1 l2 : List (List ℕ)) → TakesLines a b t t1 l1 → TakesLines b c t1 t2 l2
@@ -51,7 +51,7 @@ lines_of-through byte [] = elim (cases_Bool (byte == 10)) [ inl is ↦ rw is (rw
 lines_of-through byte (next ∷ bytes) =
     let rest = lines_of-through next bytes in
     let cut = strip_last-cons byte (take_through 10 (next ∷ bytes)) (take_through-some next bytes) in
-    elim (cases_Bool (byte == 10)) [
+    lines_of-cons byte (next ∷ bytes) ∙ elim (cases_Bool (byte == 10)) [
       | inl is ↦ rw is (rw is refl)
       | inr is ↦ rw is (ap (onto_first byte) rest ∙ ap (λ (l : List ℕ). l ∷ lines_of (drop_through 10 (next ∷ bytes))) (sym cut))
     ]

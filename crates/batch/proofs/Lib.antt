@@ -8,6 +8,7 @@ mod HexLemmas
 mod InputLemmas
 mod LineLemmas
 mod NameLemmas
+mod PartLemmas
 mod PieceLemmas
 mod RefusalLemmas
 mod SpelledEights

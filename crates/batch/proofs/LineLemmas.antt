@@ -1,50 +1,44 @@
 -- The first line of a text, and its whole lines.
-use Rattle.std.proofs.Common.{◌≡◌, ◌<◌, ◌+◌, ◌-◌, ◌==◌, ◌∷◌, ◌++◌, [], ℕ, zero, suc, List, Bool, true, false, Some, None, refl, arith, length, get_or, take}
+use Rattle.std.proofs.Common.{◌≡◌, ◌<◌, ◌+◌, ◌==◌, ◌∷◌, ◌++◌, ◌∙◌, [], ℕ, zero, suc, List, Bool, true, false, Some, None, refl, sym, ap, arith, length, get_or, take}
 use Rattle.std.proofs.Common.{drop, add-one, if◌then◌else◌}
-use Rattle.std.proofs.lemmas.Grind.{common_steps}
-use Rattle.std.specs.List.{onto_first}
+use Rattle.std.proofs.lemmas.Bool.{ne_eqb}
+use Rattle.std.specs.List.{onto_first, slice_split}
 use Rattle.memchr.specs.Find.{IsFirstByte, IsLastByte, is_byte}
-use Rattle.batch.specs.Lines.{ends_a_line, lines_of}
+use Rattle.batch.proofs.PartLemmas.{first_part, one_part, some_part}
+use Rattle.batch.specs.Lines.{ends_a_line, lines_of, without_empty_last}
 
--- the first line ends at the first line feed
-ends_at : (end : ℕ) (text : List ℕ) → end < length text → (get_or text end 0 == 10) ≡ true → ((k : ℕ) → k < end → (get_or text k 0 == 10) ≡ false)
-    → lines_of text ≡ take end text ∷ lines_of (drop (suc end) text)
-ends_at end [] lt here before = absurd (omega arith)
-ends_at zero (byte ∷ bytes) lt here before = rw here refl
-ends_at (suc end) (byte ∷ bytes) lt here before =
-    rw (before 0 (omega arith), ends_at end bytes (omega arith) here (λ k h. before (suc k) (omega arith))) refl
-
--- a text without a line feed is one line
-no_end : (byte : ℕ) (bytes : List ℕ) → ((k : ℕ) → k < suc (length bytes) → (get_or (byte ∷ bytes) k 0 == 10) ≡ false)
-    → lines_of (byte ∷ bytes) ≡ (byte ∷ bytes) ∷ []
-no_end byte [] none = rw (none 0 (omega arith)) refl
-no_end byte (next ∷ bytes) none = rw (none 0 (omega arith), no_end next bytes (λ k h. none (suc k) (omega arith))) refl
-
--- a test that is not true is false
-pub false-from_not : (b : Bool) → ¬ (b ≡ true) → b ≡ false
-false-from_not true h = absurd (h refl)
-false-from_not false h = refl
+-- a part with others behind it stays
+without_empty_last-cons : (part : List ℕ) (parts : List (List ℕ)) → 0 < length parts → without_empty_last (part ∷ parts) ≡ part ∷ without_empty_last parts
+without_empty_last-cons part [] some = absurd (omega arith)
+without_empty_last-cons part (next ∷ parts) some = refl
 
 -- the first line ends at the first line feed
 pub lines_of-first : (text : List ℕ) (end : ℕ) → IsFirstByte (is_byte 10) text (Some end) → lines_of text ≡ take end text ∷ lines_of (drop (end + 1) text)
 lines_of-first text end found =
-    rw add-one (ends_at end text found.0.high found.1 (λ k lt. false-from_not _ (found.0.before k (omega arith) lt)))
+    ap without_empty_last (first_part (is_byte 10) text end found) ∙ without_empty_last-cons (take end text) _ (some_part (is_byte 10) (drop (end + 1) text))
 
 -- a text without a line feed is one line, unless it is empty
 pub lines_of-last : (text : List ℕ) → 0 < length text → IsFirstByte (is_byte 10) text None → lines_of text ≡ text ∷ []
 lines_of-last [] some none = absurd (omega arith)
-lines_of-last (byte ∷ bytes) some none = no_end byte bytes (λ k lt. false-from_not _ (none k (omega arith) lt))
-
--- there are fewer lines behind the first line feed
-pub lines_of-fewer : (text : List ℕ) (end : ℕ) → IsFirstByte (is_byte 10) text (Some end)
-    → length (lines_of (take (length text - (end + 1)) (drop (end + 1) text))) < length (lines_of text)
-lines_of-fewer text end found =
-    let whole : take (length text - (end + 1)) (drop (end + 1) text) ≡ drop (end + 1) text = grind (arith, common_steps) in
-    rw (whole, lines_of-first text end found) (omega arith)
+lines_of-last (byte ∷ bytes) some none =
+    ap without_empty_last (one_part (is_byte 10) (byte ∷ bytes) none) ∙ rw (ne_eqb (suc (length bytes)) 0 (omega arith)) refl
 
 -- a text without a line feed has a line, unless it is empty
 pub lines_of-some : (text : List ℕ) → 0 < length text → IsFirstByte (is_byte 10) text None → 0 < length (lines_of text)
 lines_of-some text some none = rw (lines_of-last text some none) (omega arith)
+
+-- a byte in front of a text: a line feed is a line of no bytes, and any other stands in front of the first line
+pub lines_of-cons : (byte : ℕ) (bytes : List ℕ) → lines_of (byte ∷ bytes) ≡ (if byte == 10 then [] ∷ lines_of bytes else onto_first byte (lines_of bytes))
+lines_of-cons byte bytes = cases (byte == 10) (slice_split (is_byte 10) bytes) (some_part (is_byte 10) bytes)
+  where
+    cases : (feed : Bool) (parts : List (List ℕ)) → 0 < length parts
+        → without_empty_last (if feed then [] ∷ parts else onto_first byte parts)
+        ≡ (if feed then [] ∷ without_empty_last parts else onto_first byte (without_empty_last parts))
+    cases feed [] some = absurd (omega arith)
+    cases true (part ∷ parts) some = refl
+    cases false ([] ∷ []) some = refl
+    cases false ((next ∷ bytes) ∷ []) some = rw (ne_eqb (suc (length bytes)) 0 (omega arith), ne_eqb (suc (suc (length bytes))) 0 (omega arith)) refl
+    cases false (part ∷ next ∷ parts) some = refl
 
 -- ## Whole lines
 
@@ -66,7 +60,7 @@ onto_first-more byte (line ∷ lines) more some = refl
 
 -- a text that is not empty has lines
 pub some_line : (byte : ℕ) (bytes : List ℕ) → 0 < length (lines_of (byte ∷ bytes))
-some_line byte bytes = at (byte == 10) (lines_of bytes)
+some_line byte bytes = rw (lines_of-cons byte bytes) (at (byte == 10) (lines_of bytes))
   where
     at : (ends : Bool) (lines : List (List ℕ)) → 0 < length (if ends then [] ∷ lines else onto_first byte lines)
     at true lines = omega arith
@@ -76,10 +70,15 @@ some_line byte bytes = at (byte == 10) (lines_of bytes)
 -- the lines of whole lines and of what stands after them
 pub lines_of-whole : (text rest : List ℕ) → ends_a_line text ≡ true → lines_of (text ++ rest) ≡ lines_of text ++ lines_of rest
 lines_of-whole [] rest ends = refl
-lines_of-whole (byte ∷ []) rest ends = rw ends refl
-lines_of-whole (byte ∷ next ∷ bytes) rest ends = rw (lines_of-whole (next ∷ bytes) rest ends) (joined (byte == 10))
+lines_of-whole (byte ∷ []) rest ends = lines_of-cons byte rest ∙ rw ends refl
+lines_of-whole (byte ∷ next ∷ bytes) rest ends =
+    lines_of-cons byte ((next ∷ bytes) ++ rest)
+    ∙ ap (λ (l : List (List ℕ)). if byte == 10 then [] ∷ l else onto_first byte l) (lines_of-whole (next ∷ bytes) rest ends)
+    ∙ joined (byte == 10) (lines_of (next ∷ bytes)) (some_line next bytes)
+    ∙ ap (λ (l : List (List ℕ)). l ++ lines_of rest) (sym (lines_of-cons byte (next ∷ bytes)))
   where
-    joined : (feed : Bool) → (if feed then [] ∷ (lines_of (next ∷ bytes) ++ lines_of rest) else onto_first byte (lines_of (next ∷ bytes) ++ lines_of rest))
-        ≡ (if feed then [] ∷ lines_of (next ∷ bytes) else onto_first byte (lines_of (next ∷ bytes))) ++ lines_of rest
-    joined true = refl
-    joined false = onto_first-more byte (lines_of (next ∷ bytes)) (lines_of rest) (some_line next bytes)
+    joined : (feed : Bool) (lines : List (List ℕ)) → 0 < length lines
+        → (if feed then [] ∷ (lines ++ lines_of rest) else onto_first byte (lines ++ lines_of rest))
+        ≡ (if feed then [] ∷ lines else onto_first byte lines) ++ lines_of rest
+    joined true lines some = refl
+    joined false lines some = onto_first-more byte lines (lines_of rest) some

@@ -3,12 +3,7 @@ use Rattle.std.proofs.Common.{◌≡◌, ◌≤◌, ◌+◌, ◌*◌, ◌%◌, �
 use Rattle.std.proofs.Math.Seq.{take-add}
 use Rattle.std.proofs.lemmas.List.{take-append-drop}
 use Rattle.batch.specs.MessageLine.{hex_bytes}
-use Rattle.batch.proofs.HexLemmas.{hex_bytes-append, hex_bytes-front_None}
-
--- digits that spell bytes, before others that do, spell both
-hex_bytes-both : (front rest x y : List ℕ) → length front % 2 ≡ 0 → hex_bytes front ≡ Some x → hex_bytes rest ≡ Some y
-    → hex_bytes (front ++ rest) ≡ Some (x ++ y)
-hex_bytes-both front rest x y even first second = hex_bytes-append front rest even ∙ rw (first, second) refl
+use Rattle.batch.proofs.HexLemmas.{hex_bytes-append, hex_bytes-both, hex_bytes-front_None}
 
 module _ (digits row rest : List ℕ) (at : ℕ) (rest_is : rest ≡ drop (2 * at) digits) (within : 2 * at ≤ length digits)
     (spelled : hex_bytes (take (2 * at) digits) ≡ Some (take at row))

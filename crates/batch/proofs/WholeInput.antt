@@ -7,6 +7,7 @@ use Rattle.batch.specs.Batch.{INPUT_MOST}
 use Rattle.batch.specs.BatchEnds.{EndsAt}
 use Rattle.batch.specs.Ends.{end_of_reading}
 use Rattle.batch.specs.Reading.{IsReadEnd, ReadsBatch}
+use Rattle.batch.specs.declared.batch.TheConstants.{READ_PIECE}
 use Rattle.batch.specs.declared.read_end.ReadEnd.{ReadEnd}
 use Rattle.batch.specs.declared.read_end.ReadEnd.TheVariants.{TooLarge, ReadFault, OutOfMemory}
 use Rattle.batch.specs.declared.reading.Batch.{Batch}
@@ -18,7 +19,7 @@ whole most x beyond fits =
     take_all most x short
 
 -- what a buffered and limited reader has left before its first read
-pub left_known : (most : ℕ) (known inner : Option (List ℕ)) (buffer : List ℕ) (capacity limit : ℕ) → capacity ≡ 65536 → buffer ≡ [] → limit ≡ most
+pub left_known : (most : ℕ) (known inner : Option (List ℕ)) (buffer : List ℕ) (capacity limit : ℕ) → capacity ≡ READ_PIECE → buffer ≡ [] → limit ≡ most
     → inner ≡ known → (if capacity == 0 then None else prepend_known buffer (option_map (take limit) inner)) ≡ option_map (take most) known
 left_known most known inner buffer capacity limit room none is same = rw (room, none, is, same) (at known)
   where

@@ -1,20 +1,17 @@
 -- A day's answers and its report, as they are written.
-use Rattle.std.proofs.Common.{◌≡◌, ◌∷◌, ◌++◌, ◌∙◌, [], inl, inr, ℕ, List, Bool, true, false, Option, Result, Ok, Err, refl, ap, append-nil}
+use Rattle.std.proofs.Common.{◌≡◌, ◌++◌, inl, inr, ℕ, List, Bool, true, false, Option, Result, Ok, refl, ap, append-nil}
 use Rattle.std.specs.Io.KnownBytes.{Appends}
 use Rattle.std.specs.List.{flat_map}
-use Rattle.std.proofs.lemmas.Grind.{flat_map-append}
 use Rattle.tape_types.specs.Names.{Names}
 use Rattle.tape_core.specs.Tape.{TapeState}
-use Rattle.tape_core.specs.declared.refusal.Refusal.TheVariants.{OutOfMemory}
-use Rattle.batch.specs.Batch.{IsStopText, StopsForMemory, answer_line, answer_lines, batch_text, batch_tape, input_listing, line_answers, message_lines}
+use Rattle.batch.specs.Batch.{StopsForMemory, answer_line, answer_lines, batch_text, batch_tape, input_listing, message_lines}
 use Rattle.batch.specs.Batch.{tape_after_lines, tape_report}
 use Rattle.batch.specs.BatchEnds.{IsTextUnder, WroteForMemory}
-use Rattle.batch.specs.Day.{AnswersLines, RunsOut}
+use Rattle.batch.specs.Day.{AnswersLines}
 use Rattle.batch.specs.Finish.{day_text, report_unless}
 use Rattle.batch.specs.Reading.{ReadsBatch}
 use Rattle.batch.specs.declared.day.Day.{Day}
 use Rattle.batch.specs.declared.batch_refusal.BatchRefusal.{BatchRefusal}
-use Rattle.batch.specs.declared.batch_refusal.BatchRefusal.TheVariants.{Refused}
 use Rattle.batch.specs.declared.reading.Batch.TheVariants.{Answered}
 use Rattle.batch.proofs.BatchLemmas.{Appends-same}
 
@@ -24,20 +21,6 @@ AnswersLines-text : (t : TapeState) (lines : List (List ℕ)) (now : TapeState) 
 unfolding answer_lines
 AnswersLines-text t lines now answers h = rw (h.0, h.1) refl
 
--- the text of answers of which the last is a refusal out of memory
-stop_text : (t : TapeState) (lines : List (List ℕ)) (answers : List (Result ℕ BatchRefusal)) → RunsOut t lines answers
-    → IsStopText t lines (flat_map answer_line answers)
-unfolding answer_lines
-stop_text t lines answers out = record {
-  answered = out.answered;
-  refused = out.refused;
-  left = out.left;
-  split = out.split;
-  acceptable = out.acceptable;
-  text_is = ap (flat_map answer_line) out.answers_are ∙ flat_map-append answer_line (line_answers t out.answered) (Err (Refused OutOfMemory) ∷ [])
-      ∙ ap (λ (l : List ℕ). flat_map answer_line (line_answers t out.answered) ++ l) (append-nil (answer_line (Err (Refused OutOfMemory))));
-}
-
 -- a day of which all answers were written stops out of memory
 AnswersLines-stop : (t : TapeState) (lines : List (List ℕ)) (stopped : Bool) (now : TapeState) (answers : List (Result ℕ BatchRefusal))
     (old new : Option (List ℕ))
@@ -45,14 +28,14 @@ AnswersLines-stop : (t : TapeState) (lines : List (List ℕ)) (stopped : Bool) (
     → Appends old new (flat_map answer_line answers) → StopsForMemory t lines old new
 unfolding answer_lines
 AnswersLines-stop t lines false now answers old new h written = inr (inr (Appends-same old new _ _ (ap (flat_map answer_line) h.1) written))
-AnswersLines-stop t lines true now answers old new h written = inr (inl (flat_map answer_line answers, stop_text t lines answers h, written))
+AnswersLines-stop t lines true now answers old new h written = inr (inl (flat_map answer_line answers, (answers, h, refl), written))
 
 -- the text of a day is one that may be written for its lines
 AnswersLines-may : (names : Names) (lines : List (List ℕ)) (stopped : Bool) (now : TapeState) (answers : List (Result ℕ BatchRefusal))
     → AnswersLines (batch_tape names) lines stopped now answers
     → IsTextUnder (Ok names) lines (flat_map answer_line answers ++ report_unless stopped now)
 AnswersLines-may names lines false now answers h = inl (AnswersLines-text (batch_tape names) lines now answers h)
-AnswersLines-may names lines true now answers h = inr (rw (append-nil (flat_map answer_line answers)) (stop_text (batch_tape names) lines answers h))
+AnswersLines-may names lines true now answers h = inr (answers, h, append-nil (flat_map answer_line answers))
 
 -- the text of a batch of which a day was read that goes on
 pub ReadsBatch-text : (day : Day) (input : List ℕ) → day.is_stopped ≡ false → ReadsBatch (Answered day) input → day_text day ≡ batch_text input

@@ -123,15 +123,19 @@ batch_text input = text_under (input_listing input) (message_lines input)
 
 -- ## Out of memory
 
--- the text of the answers to the first lines and then of a refusal out of memory: the next line has an acceptable
--- message, and nothing follows the refusal
-pub record IsStopText (t : TapeState) (lines : List (List ℕ)) (text : List ℕ) : Type 0 where
+-- the answers to the first lines, and then a refusal out of memory: the next line has an acceptable message, and nothing
+-- follows the refusal
+pub record RunsOut (t : TapeState) (lines : List (List ℕ)) (answers : List (Result ℕ BatchRefusal)) : Type 0 where
   pub answered : List (List ℕ)
   pub refused : List ℕ
   pub left : List (List ℕ)
   pub split : lines ≡ answered ++ refused ∷ left
   pub acceptable : IsOk (line_answer (tape_after_lines t answered) refused)
-  pub text_is : text ≡ answer_lines t answered ++ answer_line (Err (Refused OutOfMemory))
+  pub answers_are : answers ≡ line_answers t answered ++ Err (Refused OutOfMemory) ∷ []
+
+-- the text of answers of which the last is a refusal out of memory
+abbrev pub IsStopText : TapeState → List (List ℕ) → List ℕ → Type 0
+IsStopText t lines text = (answers : List (Result ℕ BatchRefusal)) × RunsOut t lines answers × (text ≡ flat_map answer_line answers)
 
 -- the answers up to a refusal out of memory were written
 abbrev pub StopsAtLine : TapeState → List (List ℕ) → Option (List ℕ) → Option (List ℕ) → Type 0

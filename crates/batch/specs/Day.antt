@@ -1,21 +1,10 @@
 -- The answers that a day holds until its input was read whole.
-use Rattle.std.specs.Prelude.{◌≡◌, ℕ, Bool, true, false, List, [], ◌∷◌, ◌++◌, Option, Result, Err, IsOk}
+use Rattle.std.specs.Prelude.{◌≡◌, ℕ, Bool, true, false, List, ◌++◌, Option, Result}
 use Rattle.tape_core.specs.Tape.{TapeState}
-use Rattle.tape_core.specs.declared.refusal.Refusal.TheVariants.{OutOfMemory}
-use Rattle.batch.specs.Batch.{line_answer, line_answers, tape_after_lines}
+use Rattle.batch.specs.Batch.{RunsOut, line_answers, tape_after_lines}
 use Rattle.batch.specs.Input.{TakesLines}
 use Rattle.batch.specs.declared.day.Day.{Day}
 use Rattle.batch.specs.declared.batch_refusal.BatchRefusal.{BatchRefusal}
-use Rattle.batch.specs.declared.batch_refusal.BatchRefusal.TheVariants.{Refused}
-
--- the answers to the first lines, and then a refusal out of memory: the next line has an acceptable message
-pub record RunsOut (t : TapeState) (lines : List (List ℕ)) (answers : List (Result ℕ BatchRefusal)) : Type 0 where
-  pub answered : List (List ℕ)
-  pub refused : List ℕ
-  pub left : List (List ℕ)
-  pub split : lines ≡ answered ++ refused ∷ left
-  pub acceptable : IsOk (line_answer (tape_after_lines t answered) refused)
-  pub answers_are : answers ≡ line_answers t answered ++ Err (Refused OutOfMemory) ∷ []
 
 -- a tape and answers after lines: all are answered, or memory ran out at one of them
 abbrev pub AnswersLines : TapeState → List (List ℕ) → Bool → TapeState → List (Result ℕ BatchRefusal) → Type 0

@@ -1,8 +1,9 @@
 -- The header of a batch: the symbols on its first line, and the participants on its second.
-use Rattle.std.specs.Prelude.{ℕ, ◌-◌, ◌==◌, ◌&&◌, nat_le, nat_lt, List, [], ◌∷◌, ◌++◌, length, codes, Option, Some, None, Result, Ok, Err, option_and_then}
+use Rattle.std.specs.Prelude.{ℕ, ◌-◌, ◌&&◌, nat_le, nat_lt, List, [], ◌∷◌, ◌++◌, length, codes, Option, Some, None, Result, Ok, Err, option_and_then}
 use Rattle.std.specs.Prelude.{replicate, if◌then◌else◌}
 use Rattle.std.specs.List.{list_all, slice_split}
 use Rattle.std.specs.Option.{option_map}
+use Rattle.memchr.specs.Find.{is_byte}
 use Rattle.tape_types.specs.ListingFaults.{listing_fault_code, listing_fault_name}
 use Rattle.tape_types.specs.Names.{Names, names_fault}
 use Rattle.tape_types.specs.Ranges.{is_name_byte}
@@ -23,7 +24,7 @@ header_fault_name (BadListing fault) = listing_fault_name fault
 
 -- the pieces of a text between single spaces
 abbrev pub pieces_of : List ℕ → List (List ℕ)
-pieces_of text = slice_split (λ b. b == 32) text
+pieces_of text = slice_split (is_byte 32) text
 
 -- the names of a line, between single spaces; a line of no bytes has none
 abbrev pub name_texts : List ℕ → List (List ℕ)

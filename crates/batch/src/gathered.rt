@@ -2,7 +2,8 @@
 ghost use Rattle.std.specs.Prelude.{◌≡◌, ◌≤◌, ◌+◌, ◌++◌, ◌∷◌, [], length, IfOk, OnOk, OnErr};
 ghost use Rattle.std.specs.Io.KnownBytes.{Appends};
 ghost use Rattle.batch.specs.Batch.{answer_line, fault_line, refusal_text};
-ghost use Rattle.batch.specs.Gathered.{PIECE, ROOM};
+ghost use Rattle.batch.specs.Gathered.{ROOM};
+ghost use Rattle.batch.specs.declared.gathered.TheConstants.{LONGEST_NAME, PIECE};
 ghost use Rattle.row_reads.specs.Writing.{WritesFront, WritesUpTo};
 
 use crate::HeaderFault;
@@ -16,8 +17,11 @@ use std::marker::Model;
 /// How many bytes are gathered before they are written.
 const PIECE: usize = 8_192;
 
-/// Room for one answer line more.
-const LONGEST_LINE: usize = 128;
+/// Room for the name of a refusal.
+const LONGEST_NAME: usize = 64;
+
+/// Room for one answer line more: a refusal's name, and the word and the number before it.
+const LONGEST_LINE: usize = LONGEST_NAME + 64;
 
 /// Answer lines that wait to be written in large pieces. All its memory is taken at first, so a line more takes none.
 #[derive(Drop)]
@@ -56,7 +60,7 @@ impl Gathered {
 
     /// Adds the line of a refusal, by its number and its name.
     fn push_refusal(&mut self, code: u8, name: &str)
-        requires { length self.old + length name.now ≤ PIECE + 64 }
+        requires { length self.old + length name.now ≤ PIECE + LONGEST_NAME }
         ensures { self.new ≡ self.old ++ (refusal_text code name.now ++ 10 ∷ []) }
     {
         let mut digits = Buffer::new();

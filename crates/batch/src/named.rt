@@ -1,9 +1,9 @@
-//! What a piece of a header's line names.
+//! What a name in a header, or among the program's words, names.
 ghost use Rattle.std.specs.Prelude.{◌≡◌, List, ℕ, Option};
 
 use tape_types::{Participant, Symbol};
 
-/// What a piece of a header's line can name.
+/// What a name can name.
 pub trait Named: Copy {
     /// What a text names, if anything.
     ghost named: { List ℕ → Option Self };

@@ -1,7 +1,7 @@
 use Rattle.std.proofs.Common.{◌≤◌, length, take}
 use Rattle.std.specs.List.{flat_map}
 use Rattle.batch.specs.Batch.{answer_line}
-use Rattle.batch.specs.Gathered.{PIECE}
+use Rattle.batch.specs.declared.gathered.TheConstants.{PIECE}
 use Rattle.row_reads.specs.Writing.{WritesUpTo}
 use Rattle.batch.proofs.batch.write_answers.Given as goal
 

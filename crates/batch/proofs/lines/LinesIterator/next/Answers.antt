@@ -1,6 +1,8 @@
 use Rattle.std.proofs.Common.{arith}
 use Rattle.std.proofs.lemmas.Grind.{common_steps}
-use Rattle.batch.proofs.LineLemmas.{lines_of-first, lines_of-fewer, lines_of-last, lines_of-some}
+use Rattle.batch.specs.Lines.{lines_of}
+use Rattle.batch.proofs.LineLemmas.{lines_of-first, lines_of-last, lines_of-some}
+use Rattle.batch.proofs.PartLemmas.{fewer_parts, take-behind}
 use Rattle.batch.proofs.lines.LinesIterator.next.Goals as goal
 
 pub returns-in-None-clause-steps : goal.returns-in-None-clause-steps
@@ -14,11 +16,17 @@ returns-in-None-clause-goes c = record {
 }
 
 pub returns-in-Some-clause-steps : goal.returns-in-Some-clause-steps
-returns-in-Some-clause-steps c = grind (arith, common_steps, lines_of-first c.args.self.now.rest.now c.in-Some.end c.in-Some.ensures)
+returns-in-Some-clause-steps c =
+    let text = c.args.self.now.rest.now in
+    let end = c.in-Some.end in
+    rw (take-behind text end) (lines_of-first text end c.in-Some.ensures)
 
 pub returns-in-Some-clause-goes : goal.returns-in-Some-clause-goes
-returns-in-Some-clause-goes c = record {
-  on = λ _. (tt, tt, lines_of-fewer c.args.self.now.rest.now c.in-Some.end c.in-Some.ensures);
-  keeps = tt;
-  rests = λ _. tt;
-}
+returns-in-Some-clause-goes c =
+    let text = c.args.self.now.rest.now in
+    let end = c.in-Some.end in
+    record {
+      on = λ _. (tt, tt, fewer_parts lines_of text end (lines_of-first text end c.in-Some.ensures));
+      keeps = tt;
+      rests = λ _. tt;
+    }
