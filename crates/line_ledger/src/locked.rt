@@ -1,15 +1,18 @@
 //! What lies behind the lock, and the seats. A seat's share and what it was told grow only here, in `Locked::admit`.
-ghost use Rattle.std.specs.Prelude.{◌≡◌, ◌↔◌, ◌+◌, ◌<◌, ◌≤◌, true, length, map, IfOk, IfErr, Err, OnOk, MatchResult, Some, IsTrue};
+ghost use Rattle.std.specs.Prelude.{◌≡◌, ◌↔◌, ◌+◌, ◌<◌, ◌≤◌, ◌++◌, ◌∷◌, [], true, length, map, IfOk, IfErr, IfNone, IfSome, Err, None, OnErr, OnOk};
+ghost use Rattle.std.specs.Prelude.{MatchResult, Some, IsTrue, unwrap_or};
+ghost use Rattle.reports.specs.Messages.{header_of};
 ghost use Rattle.tape_core.specs.Standing.{reported_size};
-ghost use Rattle.tape_core.specs.Tape.{lists_participant};
+ghost use Rattle.tape_core.specs.Tape.{lists_participant, refusal, with_message};
+ghost use Rattle.tape_core.specs.declared.refusal.Refusal.TheVariants.{OutOfMemory as TapeOutOfMemory};
 ghost use Rattle.line_ledger.specs.declared.open_fault.OpenFault.TheVariants.{OutOfMemory};
 ghost use Rattle.line_ledger.specs.declared.publish_fault.PublishFault.TheVariants.{Unpublished, OutOfMemory as NoMemory};
-ghost use Rattle.line_ledger.specs.Admissions.{Admits, Refuses};
+ghost use Rattle.line_ledger.specs.Admissions.{Admits, Refuses, line_refusal};
 ghost use Rattle.line_ledger.specs.Cells.{TokenAt};
 ghost use Rattle.line_ledger.specs.Days.{IsDay, has_figures};
 ghost use Rattle.line_ledger.specs.Ends.{IsOneEach, FirstTold, DisagreesAt, told_in_all};
 ghost use Rattle.line_ledger.specs.Publishing.{Publishes, Stops};
-ghost use Rattle.line_ledger.specs.Seats.{untold, sizes_told, last_told};
+ghost use Rattle.line_ledger.specs.Seats.{agrees, untold, sizes_told, last_told};
 ghost use Rattle.line_ledger.specs.Views.{Shows, view_fault};
 ghost use Rattle.tape_types.specs.Ranges.{SIZE_MOST};
 
@@ -207,6 +210,33 @@ fn reported(message: &Message) -> u64
     }
 }
 
+/// Admits a message to the tape and tells it to a line: the tape number that it got. Refused as the tape refuses it, 40 out of
+/// memory last; then the tape and what was told are unchanged.
+#[inline(always)]
+fn admit_and_tell(
+    tape: &mut Tape<IndexStore>,
+    told: &mut Vec<Told>,
+    message: Message,
+) -> Result<TapeNumber, Refusal>
+    ensures may { OnOk result (refusal tape.old message ≡ None) }
+    ensures number { IfOk result (λ number. number ≡ length tape.old.entries + 1) }
+    ensures tape { OnOk result (tape.new ≡ with_message tape.old message) }
+    ensures told { IfOk result (λ number. told.new.items ≡ told.old.items ++ record { number = number; message = message } ∷ []) }
+    ensures why { IfErr result (λ why. why ≡ unwrap_or (refusal tape.old message) TapeOutOfMemory) }
+    ensures same_tape { OnErr result (tape.new ≡ tape.old) }
+    ensures same_told { OnErr result (told.new.items ≡ told.old.items) }
+{
+    if told.reserve(1).is_err() {
+        return Err(tape.refusal(&message).unwrap_or(Refusal::OutOfMemory));
+    }
+    let number = match tape.admit(message) {
+        Ok(entry) => entry.number,
+        Err(refusal) => return Err(refusal),
+    };
+    told.push_reserved(Told { number, message });
+    Ok(number)
+}
+
 impl<D: DayName> Locked<D> {
     /// Opens the ledger: the value to lock, the cells to stand beside the lock, and a seat for each participant, in listing
     /// order and told nothing. What was prepared is spent; where memory runs out it is 8 OutOfMemory. `D` is to name what was
@@ -257,6 +287,26 @@ impl<D: DayName> Locked<D> {
         Ok((locked, row, seats))
     }
 
+    /// Why a seat's message does not come to the tape: 33 WrongLine where it is another participant's, then 94 Behind where the
+    /// tape's count, sizes or last number of the participant is not the seat's.
+    #[inline(always)]
+    fn refusal_at_seat(&self, seat: &LineSeat<D>, message: &Message) -> Option<LineRefusal>
+        ensures day { IsDay D.listing self.now.tape }
+        ensures listed { lists_participant D.listing seat.now.who ≡ true }
+        ensures some { IfSome result (λ why. line_refusal self.now.tape seat.now message.now ≡ Some why) }
+        ensures own { IfNone result ((header_of message.now).participant ≡ seat.now.who) }
+        ensures agrees { IfNone result (agrees self.now.tape seat.now ≡ true) }
+    {
+        let _ = &self.tape;
+        if message.header().participant != seat.who {
+            return Some(LineRefusal::Refused(Refusal::WrongLine));
+        }
+        if !has_figures(&self.tape, seat.who, seat.told.len(), seat.sizes, seat.last) {
+            return Some(LineRefusal::Behind);
+        }
+        None
+    }
+
     /// Admits a message of the seat's participant: the tape has it, the seat is told so, and share, count, sizes and last
     /// number rise with it. Refused, the first that applies: 33 WrongLine where it is another participant's message, 94 Behind
     /// where the tape's count, sizes or last number of the participant is not the seat's, and then as the tape refuses it, 40
@@ -273,35 +323,20 @@ impl<D: DayName> Locked<D> {
         ensures err { IfErr result (λ why. Refuses self.old.tape seat.old message why self.new.tape seat.new) }
         ensures set { self.new.set ≡ self.old.set }
     {
-        let _ = &self.tape;
-        let header = message.header();
-        if header.participant != seat.who {
-            return Err(LineRefusal::Refused(Refusal::WrongLine));
+        if let Some(refusal) = self.refusal_at_seat(seat, &message) {
+            return Err(refusal);
         }
-        if !has_figures(&self.tape, seat.who, seat.told.len(), seat.sizes, seat.last) {
-            return Err(LineRefusal::Behind);
-        }
-        if seat.told.reserve(1).is_err() {
-            let refusal = self.tape.refusal(&message);
-            return Err(LineRefusal::Refused(refusal.unwrap_or(Refusal::OutOfMemory)));
-        }
-        let entry = match self.tape.admit(message) {
-            Ok(entry) => entry,
+        let number = match admit_and_tell(&mut self.tape, &mut seat.told, message) {
+            Ok(number) => number,
             Err(refusal) => return Err(LineRefusal::Refused(refusal)),
         };
         self.book.add(&mut seat.share, 1);
         self.book.audit(&mut seat.share);
         let _ = self.tape.entries();
         let _ = self.tape.limit();
-        seat.told.push_reserved(Told {
-            number: entry.number,
-            message,
-        });
         seat.sizes += reported(&message);
-        seat.last = header.number.value();
-        Ok(Receipt {
-            number: entry.number,
-        })
+        seat.last = message.header().number.value();
+        Ok(Receipt { number })
     }
 
     /// Shows the seat's holder a symbol's consolidated summary and how long the tape is: at least as long as the seat was told.
