@@ -2,6 +2,7 @@
 ghost use Rattle.std.specs.Prelude.{◌≡◌, ◌↔◌, ◌+◌, ◌<◌, ◌≤◌, ◌++◌, ◌∷◌, [], true, length, map, IfOk, IfErr, IfNone, IfSome, Err, None, OnErr, OnOk};
 ghost use Rattle.std.specs.Prelude.{MatchResult, Some, IsTrue, unwrap_or};
 ghost use Rattle.reports.specs.Messages.{header_of};
+ghost use Rattle.std.specs.Vec.{vec_capacity};
 ghost use Rattle.tape_core.specs.Standing.{reported_size};
 ghost use Rattle.tape_core.specs.Tape.{lists_participant, refusal, with_message};
 ghost use Rattle.tape_core.specs.declared.refusal.Refusal.TheVariants.{OutOfMemory as TapeOutOfMemory};
@@ -237,6 +238,56 @@ fn admit_and_tell(
     Ok(number)
 }
 
+/// A seat for each of the day's participants, in their order and told nothing, each with a part of what is left of the ledger.
+/// They are put into a vector with room for them.
+fn untold_seats<D: DayName>(
+    alloc: Global,
+    participants: &[Participant],
+    rest: &mut Share<D>,
+    seats: Vec<LineSeat<D>>,
+) -> Vec<LineSeat<D>>
+    requires listed { participants.now ≡ D.listing.participants }
+    requires parts { rest.old.parts ≡ length participants.now }
+    requires amount { rest.old.amount ≡ 0 }
+    requires room { length participants.now ≤ vec_capacity seats }
+    requires empty { seats.items ≡ [] }
+    ensures seats { result.items ≡ map untold participants.now }
+    ensures parts { rest.new.parts ≡ 0 }
+    ensures amount { rest.new.amount ≡ 0 }
+{
+    let mut seats = seats;
+    for i in 0..participants.len() {
+        let share = rest.split_off(1, 0);
+        seats.push_reserved(LineSeat {
+            who: participants[i],
+            share,
+            told: Vec::new(alloc),
+            sizes: 0,
+            last: 0,
+        });
+    }
+    seats
+}
+
+/// Spends seats: their shares go to what is left of the ledger.
+fn take_shares<D: DayName>(rest: &mut Share<D>, seats: Vec<LineSeat<D>>)
+    ensures parts { rest.new.parts ≡ rest.old.parts + length seats.items }
+    ensures amount { rest.new.amount ≡ rest.old.amount + told_in_all seats.items }
+{
+    let mut left = seats.into_iter();
+    while let Some(seat) = left.next() {
+        let LineSeat {
+            who: _,
+            share,
+            told: _,
+            sizes: _,
+            last: _,
+        } = seat;
+        rest.merge(share);
+    }
+    left.destroy_empty();
+}
+
 impl<D: DayName> Locked<D> {
     /// Opens the ledger: the value to lock, the cells to stand beside the lock, and a seat for each participant, in listing
     /// order and told nothing. What was prepared is spent; where memory runs out it is 8 OutOfMemory. `D` is to name what was
@@ -251,31 +302,23 @@ impl<D: DayName> Locked<D> {
         ensures each { IfOk result (λ r. IsOneEach D.listing.participants r.2.items) }
         ensures memory { IfErr result (λ fault. fault ≡ OutOfMemory) }
     {
+        let alloc = prepared.alloc;
+        let _ = prepared.tape.entries();
+        let _ = prepared.tape.limit();
+        let many = prepared.tape.listing().participants().as_slice().len();
+        let Ok(empty) = Vec::with_capacity(alloc, many) else {
+            return Err(OpenFault::OutOfMemory);
+        };
         let Prepared {
-            alloc,
+            alloc: _,
             tape,
             blank,
             row,
             room,
         } = prepared;
-        let _ = tape.entries();
-        let _ = tape.limit();
-        let many = tape.listing().participants().as_slice().len();
-        let Ok(mut seats) = Vec::with_capacity(alloc, many) else {
-            return Err(OpenFault::OutOfMemory);
-        };
         let (book, mut rest) = blank.open::<D>();
-        for i in 0..many {
-            let who = tape.listing().participants().as_slice()[i];
-            let share = rest.split_off(1, 0);
-            seats.push_reserved(LineSeat {
-                who,
-                share,
-                told: Vec::new(alloc),
-                sizes: 0,
-                last: 0,
-            });
-        }
+        let participants = tape.listing().participants().as_slice();
+        let seats = untold_seats(alloc, participants, &mut rest, empty);
         let locked = Locked {
             alloc,
             tape,
@@ -443,18 +486,7 @@ impl<D: DayName> Locked<D> {
             room,
         } = self;
         let found = find_disagreement(&tape, seats.as_slice());
-        let mut left = seats.into_iter();
-        while let Some(seat) = left.next() {
-            let LineSeat {
-                who: _,
-                share,
-                told: _,
-                sizes: _,
-                last: _,
-            } = seat;
-            rest.merge(share);
-        }
-        left.destroy_empty();
+        take_shares(&mut rest, seats);
         book.audit(&mut rest);
         tape.close();
         match found {

@@ -1,5 +1,4 @@
-use Rattle.std.proofs.Common.{rules, ◌≡◌, ◌≤◌, None, ap, ◌∙◌, length, map, subst}
-use Rattle.std.proofs.Math.Seq.{take_all}
+use Rattle.std.proofs.Common.{rules, ◌≡◌, None, map, subst}
 use Rattle.tape_types.specs.Names.{names_fault}
 use Rattle.line_ledger.specs.Ends.{IsOneEach}
 use Rattle.line_ledger.specs.Seats.{untold}
@@ -10,8 +9,7 @@ use Rattle.line_ledger.proofs.locked.Locked.start.Goals as goal
 pub returns-clause-each : goal.returns-clause-each
 returns-clause-each g c =
     let names = c.args.prepared.tape.listing in
+    let seats = c.untold_seats-seats.result.items in
     let distinct : names_fault names.symbols names.participants ≡ None = search rules in
-    let all : length names.participants ≤ c.loop-i.i = search rules in
-    subst (λ l. IsOneEach l.participants c.loop-i.seats.items) c.requires.listing
-    (opened_each names.symbols names.participants c.loop-i.seats.items distinct
-    (c.loop-i.invariant.2 ∙ ap (map untold) (take_all c.loop-i.i names.participants all)))
+    let told : seats ≡ map untold names.participants = search rules in
+    subst (λ l. IsOneEach l.participants seats) c.requires.listing (opened_each names.symbols names.participants seats distinct told)
