@@ -1,6 +1,6 @@
 -- The first line of a text, and its whole lines.
-use Rattle.std.proofs.Common.{◌≡◌, ◌<◌, ◌+◌, ◌==◌, ◌∷◌, ◌++◌, ◌∙◌, [], ℕ, zero, suc, List, Bool, true, false, Some, None, refl, sym, ap, arith, length, get_or, take}
-use Rattle.std.proofs.Common.{drop, add-one, if◌then◌else◌}
+use Rattle.std.proofs.Common.{◌≡◌, ◌<◌, ◌+◌, ◌==◌, ◌∷◌, ◌++◌, ◌∙◌, [], ℕ, zero, suc, List, Bool, true, false, Some, None, refl, sym, ap, arith, length}
+use Rattle.std.proofs.Common.{drop, take, get_or, add-one, if◌then◌else◌}
 use Rattle.std.proofs.lemmas.Bool.{ne_eqb}
 use Rattle.std.specs.List.{onto_first, slice_split}
 use Rattle.memchr.specs.Find.{IsFirstByte, IsLastByte, is_byte}

@@ -1,5 +1,5 @@
 -- A text that is split at each byte of one value.
-use Rattle.std.proofs.Common.{◌≡◌, ◌<◌, ◌+◌, ◌-◌, ◌∷◌, [], ℕ, zero, suc, List, Bool, true, false, Some, None, refl, arith, length, get_or, take, drop, add-one}
+use Rattle.std.proofs.Common.{◌≡◌, All, ◌<◌, ◌+◌, ◌-◌, ◌∷◌, [], ℕ, zero, suc, List, Bool, true, false, Some, None, refl, arith, length, get_or, take, drop, add-one}
 use Rattle.std.proofs.lemmas.Grind.{common_steps}
 use Rattle.std.proofs.lemmas.List.Splits.{length-slice_split, slice_split_none}
 use Rattle.std.specs.List.{slice_split}
@@ -30,7 +30,12 @@ module _ (p : ℕ → Bool) where
 
   -- a text in which no byte passes is one part
   pub one_part : (text : List ℕ) → IsFirstByte p text None → slice_split p text ≡ text ∷ []
-  one_part text none = slice_split_none p text (λ k d lt. let same : get_or text k d ≡ get_or text k 0 = grind (arith, common_steps) in rw same (false-from_not _ (none k (omega arith) lt)))
+  one_part text none = slice_split_none p text none_passes
+    where
+      none_passes : All (λ byte. p byte ≡ false) text
+      none_passes = λ k d lt.
+          let same : get_or text k d ≡ get_or text k 0 = grind (arith, common_steps) in
+          rw same (false-from_not _ (none k (omega arith) lt))
 
   -- a text has a part
   pub some_part : (text : List ℕ) → 0 < length (slice_split p text)
