@@ -12,7 +12,7 @@ use thiserror::Error;
 pub enum ReportFault {
     /// There is no worker, or there are more than 64.
     BadWorkers = 95,
-    /// No worker could be started.
+    /// No thread could be started for the workers.
     Unstarted = 96,
     /// Memory ran out.
     OutOfMemory = 97,

@@ -143,7 +143,8 @@ fn text_of(alloc: Global, rows: &[Row]) -> Result<Vec<u8>, AllocError>
     into_text(writer)
 }
 
-/// Writes the text of these rows and nothing else, by one write: the names of the columns, and a line for each row.
+/// Writes the text of these rows and nothing else, with a single call of `write_all`: the names of the columns, and a line for each
+/// row.
 ///
 /// Refused: `OutOfMemory` before anything is written, and then the writer is as it was; `WriteFault` where the writer fails,
 /// and then a part of the text may have been written. The writer is not flushed.

@@ -133,7 +133,7 @@ impl<K: NumberKey, V: Copy> RisingMap<K, V> {
         Some(value)
     }
 
-    /// A map of the entries from an index on, which stay here too. It fails only out of memory.
+    /// A copy of the entries from an index on, as a map of their own. It fails only where memory runs out.
     pub fn copy_from(&self, alloc: Global, index: usize) -> Result<Self, AllocError>
         requires { index ≤ map.len self.now }
         ensures entries { IfOk result (λ m. map.entries m ≡ drop index (map.entries self.now)) }
@@ -142,7 +142,7 @@ impl<K: NumberKey, V: Copy> RisingMap<K, V> {
         Ok(RisingMap { entries })
     }
 
-    /// Takes the entries from an index on out. It takes no memory.
+    /// Removes all entries from an index on. It takes no memory.
     pub fn truncate(&mut self, index: usize)
         ensures entries { map.entries self.new ≡ take index (map.entries self.old) }
     {
