@@ -8,6 +8,7 @@ mod prices;
 mod printing;
 mod report;
 mod steps;
+mod stores;
 mod tape;
 mod targets;
 mod values;

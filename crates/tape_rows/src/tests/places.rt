@@ -119,13 +119,21 @@ fn places_between_others_keep_their_order(rt: HostRuntime) {
     assert_eq!(rt; taken(&mut index), STEPS.len());
 }
 
+/// The values of place 301, where 7 was written over the first one, and of place 303.
+fn rewritten(index: &mut PlaceIndex<u32>) -> Option<(u32, u32)> {
+    if !fills(index, 1, 599) || !rewrites(index, TapeNumber::try_new(301), 7) {
+        return None;
+    }
+    Some((
+        value(index, TapeNumber::try_new(301))?,
+        value(index, TapeNumber::try_new(303))?,
+    ))
+}
+
 #[test]
 fn another_value_takes_the_place_of_the_first(rt: HostRuntime) {
     let mut index = PlaceIndex::new(rt.alloc());
-    assert!(rt; fills(&mut index, 1, 599));
-    assert!(rt; rewrites(&mut index, TapeNumber::try_new(301), 7));
-    assert_eq!(rt; value(&index, TapeNumber::try_new(301)), Some(7));
-    assert_eq!(rt; value(&index, TapeNumber::try_new(303)), Some(303));
+    assert_eq!(rt; rewritten(&mut index), Some((7, 303)));
 }
 
 /// Puts the places into a set, and tells whether it could.
@@ -138,13 +146,20 @@ fn inserts_all(set: &mut PlaceIndex<()>) -> bool {
     true
 }
 
+/// The ends of a set of the places, with the last of them and without it.
+fn ends_of_set(set: &mut PlaceIndex<()>) -> Option<[(u32, u32, u64); 2]> {
+    if !inserts_all(set) {
+        return None;
+    }
+    let before = ends(set);
+    takes(set, TapeNumber::try_new(9))?;
+    Some([before, ends(set)])
+}
+
 #[test]
 fn a_set_of_places_has_two_ends(rt: HostRuntime) {
     let mut set = PlaceIndex::new(rt.alloc());
-    assert!(rt; inserts_all(&mut set));
-    assert_eq!(rt; ends(&set), (2, 9, 2));
-    assert!(rt; takes(&mut set, TapeNumber::try_new(9)).is_some());
-    assert_eq!(rt; ends(&set), (2, 5, 2));
+    assert_eq!(rt; ends_of_set(&mut set), Some([(2, 9, 2), (2, 5, 2)]));
 }
 
 /// A participant and its place.

@@ -74,7 +74,7 @@ fn point_of(mark: Mark) -> Point {
     Point(mark.price.value(), mark.place.value(), mark.who.value())
 }
 
-fn figures_of(summary: Summary) -> Figures {
+pub(super) fn figures_of(summary: Summary) -> Figures {
     Figures {
         opening: summary.opening.map(point_of),
         high: summary.high.map(point_of),

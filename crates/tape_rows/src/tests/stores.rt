@@ -1,0 +1,162 @@
+//! What stores answer through the trait, beside worked summaries and beside each other.
+ghost use Rattle.std.specs.Prelude.{◌≡◌, None};
+ghost use Rattle.std.specs.FinMap as map;
+
+use price_index::Searches;
+use sale_matrix::LastRule;
+use scratch_fold::{Effect, Summary};
+use std::alloc::Global;
+use std::marker::Model;
+use summaries::Store;
+use tape_types::{Participant, Price, Size, TapeNumber};
+
+mod agreement;
+mod front;
+mod rows;
+
+/// An effect of a hundred shares that counts for the high, the low and the volume.
+fn effect(who: u8, last: LastRule, price: u64) -> Option<Effect> {
+    Some(Effect {
+        price: Price::try_new(price)?,
+        size: Size::try_new(100)?,
+        who: Participant::try_new(who)?,
+        high_low: true,
+        last,
+        volume: true,
+    })
+}
+
+/// Whether a call made as few searches as it is promised.
+fn is_few(searches: &Searches) -> bool {
+    searches.made() <= 24
+}
+
+/// What is done at a place.
+#[derive(Clone, Copy)]
+enum Kind {
+    /// An effect is put where there is none.
+    Put,
+    /// The effect is replaced.
+    Swap,
+    /// The same in two steps.
+    Commit,
+    /// Another effect is staged and given up.
+    Abort,
+    /// The effect is taken.
+    Take,
+}
+
+/// A store with nothing staged. Each change is told to be well where the place was as it has to be, there was room and each call
+/// made at most 24 searches.
+#[derive(Drop)]
+struct Settled<S: Store> {
+    store: S,
+}
+
+impl<S: Store> Model for Settled<S> {
+    ghost Value = { S };
+
+    ghost view = { λ a. a.store };
+
+    ghost invariant = { λ a. S.staged_change a.store ≡ None };
+}
+
+impl<S: Store> Settled<S> {
+    fn empty(alloc: Global) -> Self {
+        Settled {
+            store: S::empty(alloc),
+        }
+    }
+
+    fn get(&self, place: TapeNumber) -> Option<Effect>
+        ensures { result ≡ map.get (S.effects self.now) place }
+    {
+        self.store.get(place, &mut Searches::new())
+    }
+
+    /// Whether a look at a place takes few searches.
+    fn is_found_soon(&self, place: TapeNumber) -> bool {
+        let mut searches = Searches::new();
+        let _effect = self.store.get(place, &mut searches);
+        is_few(&searches)
+    }
+
+    fn summary(&self) -> Summary {
+        self.store.summary(&mut Searches::new())
+    }
+
+    /// Whether a summary takes few searches.
+    fn is_summed_soon(&self) -> bool {
+        let mut searches = Searches::new();
+        let _summary = self.store.summary(&mut searches);
+        is_few(&searches)
+    }
+
+    fn put(&mut self, place: TapeNumber, effect: Effect) -> bool {
+        if self.get(place).is_some() {
+            return false;
+        }
+        let mut searches = Searches::new();
+        let is_put = self.store.put(place, effect, &mut searches).is_ok();
+        is_put && is_few(&searches)
+    }
+
+    fn swap(&mut self, place: TapeNumber, effect: Effect) -> bool {
+        if self.get(place).is_none() {
+            return false;
+        }
+        let mut searches = Searches::new();
+        let is_swapped = self.store.swap(place, effect, &mut searches).is_ok();
+        is_swapped && is_few(&searches)
+    }
+
+    /// Stages a change, which does not show in the map, and makes it.
+    fn commit(&mut self, place: TapeNumber, effect: Effect) -> bool {
+        let old = self.get(place);
+        if old.is_none() {
+            return false;
+        }
+        let mut staging = Searches::new();
+        if self.store.stage(place, effect, &mut staging).is_err() {
+            return false;
+        }
+        let is_hidden = self.store.get(place, &mut Searches::new()) == old;
+        let mut making = Searches::new();
+        self.store.commit(&mut making);
+        is_hidden && is_few(&staging) && is_few(&making)
+    }
+
+    /// Stages a change and gives it up.
+    fn abort(&mut self, place: TapeNumber, effect: Effect) -> bool {
+        if self.get(place).is_none() {
+            return false;
+        }
+        let mut staging = Searches::new();
+        if self.store.stage(place, effect, &mut staging).is_err() {
+            return false;
+        }
+        let mut giving_up = Searches::new();
+        self.store.abort(&mut giving_up);
+        is_few(&staging) && is_few(&giving_up)
+    }
+
+    fn take(&mut self, place: TapeNumber) -> bool {
+        let old = self.get(place);
+        if old.is_none() {
+            return false;
+        }
+        let mut searches = Searches::new();
+        let taken = self.store.take(place, &mut searches);
+        old == Some(taken) && is_few(&searches)
+    }
+
+    fn change(&mut self, kind: Kind, place: TapeNumber, effect: &Effect) -> bool {
+        match kind {
+            Kind::Put => self.put(place, *effect),
+            Kind::Swap => self.swap(place, *effect),
+            Kind::Commit => self.commit(place, *effect),
+            Kind::Abort => self.abort(place, *effect),
+            Kind::Take => self.take(place),
+        }
+    }
+}

@@ -1,0 +1,208 @@
+//! Both stores are told the same, and come to the same summary after each change.
+ghost use Rattle.std.specs.Prelude.{◌<◌};
+
+use super::{Kind, Settled, effect};
+use sale_matrix::LastRule;
+use scratch_fold::{Effect, Summary};
+use std::alloc::Global;
+use summaries::{IndexStore, ScratchStore};
+use tape_types::{Size, TapeNumber};
+
+/// The plain store and the one over indexes.
+#[derive(Drop)]
+struct Both {
+    plain: Settled<ScratchStore>,
+    indexed: Settled<IndexStore>,
+}
+
+impl Both {
+    fn empty(alloc: Global) -> Self {
+        Both {
+            plain: Settled::empty(alloc),
+            indexed: Settled::empty(alloc),
+        }
+    }
+
+    /// Whether both have the same effect at a place and the same summary.
+    fn agree(&self, place: TapeNumber) -> bool {
+        self.plain.get(place) == self.indexed.get(place)
+            && self.plain.summary() == self.indexed.summary()
+    }
+
+    /// Whether both find the effect at a place, and the summary, by few searches.
+    fn are_soon(&self, place: TapeNumber) -> bool {
+        self.plain.is_found_soon(place)
+            && self.indexed.is_found_soon(place)
+            && self.plain.is_summed_soon()
+            && self.indexed.is_summed_soon()
+    }
+
+    /// Changes both, and tells whether all is well and they agree.
+    fn change(&mut self, kind: Kind, place: TapeNumber, effect: &Effect) -> bool {
+        self.plain.change(kind, place, effect)
+            && self.indexed.change(kind, place, effect)
+            && self.agree(place)
+            && self.are_soon(place)
+    }
+
+    /// Puts the n-th of the 508 effects at its place.
+    fn put_the(&mut self, n: u32) -> Option<bool>
+        requires { n < 509 }
+    {
+        let place = TapeNumber::try_new(7 * n % 509)?;
+        Some(self.change(Kind::Put, place, &effect_of(n)?))
+    }
+
+    /// Puts the 508 effects, each at a place of its own, and tells how many went well.
+    fn put_the_508(&mut self) -> u32 {
+        let mut count = 0_u32;
+        for n in 1..=508_u32 {
+            if self.put_the(n) == Some(true) {
+                count = count.saturating_add(1);
+            }
+        }
+        count
+    }
+
+    /// Takes the effect from a place that has one.
+    fn take(&mut self, number: u32) -> Option<bool> {
+        let place = TapeNumber::try_new(number)?;
+        let effect = self.plain.get(place)?;
+        Some(self.change(Kind::Take, place, &effect))
+    }
+
+    /// Takes the effects at every third place, and tells how many went well.
+    fn take_each_third(&mut self) -> u32 {
+        let mut count = 0_u32;
+        for third in 1..=169_u32 {
+            if self.take(3 * third) == Some(true) {
+                count = count.saturating_add(1);
+            }
+        }
+        count
+    }
+
+    /// Makes a change at a place up to `last`.
+    fn roll(&mut self, dice: &mut Dice, last: u32) -> Option<bool>
+        requires { 0 < last }
+    {
+        let place = TapeNumber::try_new(dice.roll(last).saturating_add(1))?;
+        let effect = dice.effect()?;
+        let kind = dice.kind(self.plain.get(place).is_some());
+        Some(self.change(kind, place, &effect))
+    }
+
+    /// Makes `count` changes at places up to `last`, and tells how many went well.
+    fn follow_dice(&mut self, count: u32, last: u32) -> u32
+        requires { 0 < last }
+    {
+        let mut dice = Dice { state: 7 };
+        let mut well = 0_u32;
+        for _ in 0..count {
+            if self.roll(&mut dice, last) == Some(true) {
+                well = well.saturating_add(1);
+            }
+        }
+        well
+    }
+
+    /// Takes the effects of the first places, up to `last`, one after another, and tells whether the summary is then of nothing.
+    fn empty_to(&mut self, last: u32) -> bool {
+        for number in 1..=last {
+            if self.take(number) == Some(false) {
+                return false;
+            }
+        }
+        self.indexed.summary() == Summary::empty()
+    }
+}
+
+/// The letter of the n-th of three participants.
+fn letter(n: u32) -> u8 {
+    match n % 3 {
+        0 => b'N',
+        1 => b'P',
+        _ => b'Q',
+    }
+}
+
+/// The n-th of the four rules.
+fn rule(n: u32) -> LastRule {
+    match n % 4 {
+        0 => LastRule::Always,
+        1 => LastRule::SameMarket,
+        2 => LastRule::FirstOnly,
+        _ => LastRule::Never,
+    }
+}
+
+/// The n-th effect of 508.
+fn effect_of(n: u32) -> Option<Effect>
+    requires { n < 509 }
+{
+    effect(letter(n), rule(n), 100_000 + u64::from(n * n % 97))
+}
+
+#[test]
+fn both_stores_agree_while_508_effects_come_and_each_third_goes(rt: HostRuntime) {
+    let mut both = Both::empty(rt.alloc());
+    assert_eq!(rt; both.put_the_508(), 508);
+    assert_eq!(rt; both.take_each_third(), 169);
+    assert_eq!(rt; both.indexed.summary().trades, 339);
+}
+
+/// Numbers that look random, and come in the same order in each run.
+#[derive(Drop)]
+struct Dice {
+    state: u32,
+}
+
+impl Dice {
+    /// A number below `sides`.
+    fn roll(&mut self, sides: u32) -> u32
+        requires { 0 < sides }
+        ensures { result < sides }
+    {
+        self.state = self
+            .state
+            .wrapping_mul(1_664_525)
+            .wrapping_add(1_013_904_223);
+        (self.state >> 8) % sides
+    }
+
+    /// An effect whose size is not yet the one that it is to have.
+    fn part(&mut self) -> Option<Effect> {
+        let who = letter(self.roll(3));
+        let last = rule(self.roll(4));
+        effect(who, last, 100_000 + u64::from(self.roll(50)))
+    }
+
+    fn effect(&mut self) -> Option<Effect> {
+        let mut effect = self.part()?;
+        effect.size = Size::try_new(1 + self.roll(900))?;
+        effect.high_low = self.roll(4) > 0;
+        effect.volume = self.roll(4) > 0;
+        Some(effect)
+    }
+
+    /// What is done at a place, one of the changes that can be made there.
+    fn kind(&mut self, stands: bool) -> Kind {
+        if !stands {
+            return Kind::Put;
+        }
+        match self.roll(4) {
+            0 => Kind::Swap,
+            1 => Kind::Commit,
+            2 => Kind::Abort,
+            _ => Kind::Take,
+        }
+    }
+}
+
+#[test]
+fn both_stores_agree_over_ten_thousand_changes_whose_blocks_split_and_empty(rt: HostRuntime) {
+    let mut both = Both::empty(rt.alloc());
+    assert_eq!(rt; both.follow_dice(10_000, 3_000), 10_000);
+    assert!(rt; both.plain.summary().trades > 2_000);
+    assert!(rt; both.empty_to(3_000));
+}
