@@ -14,7 +14,7 @@ use Rattle.batch.specs.declared.header_fault.HeaderFault.{HeaderFault}
 use Rattle.batch.specs.declared.read_end.ReadEnd.{ReadEnd}
 use Rattle.batch.specs.declared.read_end.ReadEnd.TheVariants.{TooLarge as ReadTooLarge, ReadFault as ReadFailed, OutOfMemory as ReadOutOfMemory}
 use Rattle.batch.specs.declared.reading.Batch.{Batch}
-use Rattle.batch.specs.declared.reading.Batch.TheVariants.{Answered, Refused}
+use Rattle.batch.specs.declared.reading.Batch.TheVariants.{Answered, HeaderRefused}
 use Rattle.batch.proofs.BatchLemmas.{Appends-kept, Appends-same}
 use Rattle.row_reads.proofs.WriteLemmas.{WritesFront-kept, WritesFront-longer, WritesFront-whole}
 use Rattle.batch.proofs.WrittenDay.{ReadsBatch-may, ReadsBatch-stop, ReadsBatch-text}
@@ -28,12 +28,12 @@ Finishes-wrote (Answered day) WriteFault input old new read h = (_, ReadsBatch-m
 Finishes-wrote (Answered day) BadHeader input old new read h = absurd h
 Finishes-wrote (Answered day) TooLarge input old new read h = absurd h
 Finishes-wrote (Answered day) ReadFault input old new read h = absurd h
-Finishes-wrote (Refused fault) BadHeader input old new read h = rw read h
-Finishes-wrote (Refused fault) WriteFault input old new read h = (fault_line fault, rw read refl, h)
-Finishes-wrote (Refused fault) Done input old new read h = absurd h
-Finishes-wrote (Refused fault) OutOfMemory input old new read h = absurd h
-Finishes-wrote (Refused fault) TooLarge input old new read h = absurd h
-Finishes-wrote (Refused fault) ReadFault input old new read h = absurd h
+Finishes-wrote (HeaderRefused fault) BadHeader input old new read h = rw read h
+Finishes-wrote (HeaderRefused fault) WriteFault input old new read h = (fault_line fault, rw read refl, h)
+Finishes-wrote (HeaderRefused fault) Done input old new read h = absurd h
+Finishes-wrote (HeaderRefused fault) OutOfMemory input old new read h = absurd h
+Finishes-wrote (HeaderRefused fault) TooLarge input old new read h = absurd h
+Finishes-wrote (HeaderRefused fault) ReadFault input old new read h = absurd h
 
 -- the end comes at that input
 pub Finishes-ends : (read : Batch) (end : BatchEnd) (input : List ℕ) (old new : Option (List ℕ)) → ReadsBatch read input
@@ -44,19 +44,19 @@ Finishes-ends (Answered day) WriteFault input old new read h fits = fits
 Finishes-ends (Answered day) BadHeader input old new read h fits = absurd h
 Finishes-ends (Answered day) TooLarge input old new read h fits = absurd h
 Finishes-ends (Answered day) ReadFault input old new read h fits = absurd h
-Finishes-ends (Refused fault) BadHeader input old new read h fits = (fits, rw read refl)
-Finishes-ends (Refused fault) WriteFault input old new read h fits = fits
-Finishes-ends (Refused fault) Done input old new read h fits = absurd h
-Finishes-ends (Refused fault) OutOfMemory input old new read h fits = absurd h
-Finishes-ends (Refused fault) TooLarge input old new read h fits = absurd h
-Finishes-ends (Refused fault) ReadFault input old new read h fits = absurd h
+Finishes-ends (HeaderRefused fault) BadHeader input old new read h fits = (fits, rw read refl)
+Finishes-ends (HeaderRefused fault) WriteFault input old new read h fits = fits
+Finishes-ends (HeaderRefused fault) Done input old new read h fits = absurd h
+Finishes-ends (HeaderRefused fault) OutOfMemory input old new read h fits = absurd h
+Finishes-ends (HeaderRefused fault) TooLarge input old new read h fits = absurd h
+Finishes-ends (HeaderRefused fault) ReadFault input old new read h fits = absurd h
 
 -- what was read is not written at an end of reading
 pub Finishes-silent : (read : Batch) (end : BatchEnd) (old new : Option (List ℕ)) → Finishes read end old new → (end ≡ TooLarge) ⊎ (end ≡ ReadFault) → ⊥
 Finishes-silent (Answered day) end old new h (inl is) = rw is at h
 Finishes-silent (Answered day) end old new h (inr is) = rw is at h
-Finishes-silent (Refused fault) end old new h (inl is) = rw is at h
-Finishes-silent (Refused fault) end old new h (inr is) = rw is at h
+Finishes-silent (HeaderRefused fault) end old new h (inl is) = rw is at h
+Finishes-silent (HeaderRefused fault) end old new h (inr is) = rw is at h
 
 -- what was written stays so when it is flushed
 pub Finishes-kept : (read : Batch) (end : BatchEnd) (old now new : Option (List ℕ)) → Finishes read end old now → Keeps now new → Finishes read end old new
@@ -66,12 +66,12 @@ Finishes-kept (Answered day) WriteFault old now new h kept = WritesFront-kept _ 
 Finishes-kept (Answered day) BadHeader old now new h kept = absurd h
 Finishes-kept (Answered day) TooLarge old now new h kept = absurd h
 Finishes-kept (Answered day) ReadFault old now new h kept = absurd h
-Finishes-kept (Refused fault) BadHeader old now new h kept = Appends-kept old now new _ h kept
-Finishes-kept (Refused fault) WriteFault old now new h kept = WritesFront-kept _ old now new h kept
-Finishes-kept (Refused fault) Done old now new h kept = absurd h
-Finishes-kept (Refused fault) OutOfMemory old now new h kept = absurd h
-Finishes-kept (Refused fault) TooLarge old now new h kept = absurd h
-Finishes-kept (Refused fault) ReadFault old now new h kept = absurd h
+Finishes-kept (HeaderRefused fault) BadHeader old now new h kept = Appends-kept old now new _ h kept
+Finishes-kept (HeaderRefused fault) WriteFault old now new h kept = WritesFront-kept _ old now new h kept
+Finishes-kept (HeaderRefused fault) Done old now new h kept = absurd h
+Finishes-kept (HeaderRefused fault) OutOfMemory old now new h kept = absurd h
+Finishes-kept (HeaderRefused fault) TooLarge old now new h kept = absurd h
+Finishes-kept (HeaderRefused fault) ReadFault old now new h kept = absurd h
 
 -- whatever was written is a front of the text where the flush fails
 pub Finishes-fault : (read : Batch) (end : BatchEnd) (old new : Option (List ℕ)) → Finishes read end old new → Finishes read WriteFault old new
@@ -82,12 +82,12 @@ Finishes-fault (Answered day) WriteFault old new h = h
 Finishes-fault (Answered day) BadHeader old new h = absurd h
 Finishes-fault (Answered day) TooLarge old new h = absurd h
 Finishes-fault (Answered day) ReadFault old new h = absurd h
-Finishes-fault (Refused fault) BadHeader old new h = WritesFront-whole _ old new h
-Finishes-fault (Refused fault) WriteFault old new h = h
-Finishes-fault (Refused fault) Done old new h = absurd h
-Finishes-fault (Refused fault) OutOfMemory old new h = absurd h
-Finishes-fault (Refused fault) TooLarge old new h = absurd h
-Finishes-fault (Refused fault) ReadFault old new h = absurd h
+Finishes-fault (HeaderRefused fault) BadHeader old new h = WritesFront-whole _ old new h
+Finishes-fault (HeaderRefused fault) WriteFault old new h = h
+Finishes-fault (HeaderRefused fault) Done old new h = absurd h
+Finishes-fault (HeaderRefused fault) OutOfMemory old new h = absurd h
+Finishes-fault (HeaderRefused fault) TooLarge old new h = absurd h
+Finishes-fault (HeaderRefused fault) ReadFault old new h = absurd h
 
 -- the end once it is flushed
 pub Finishes-flushed : (read : Batch) (end ended : BatchEnd) (old now new : Option (List ℕ)) → Finishes read end old now → Keeps now new

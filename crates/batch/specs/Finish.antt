@@ -9,7 +9,7 @@ use Rattle.batch.specs.declared.batch_end.BatchEnd.{BatchEnd}
 use Rattle.batch.specs.declared.batch_end.BatchEnd.TheVariants.{Done, BadHeader, TooLarge, ReadFault, WriteFault, OutOfMemory}
 use Rattle.batch.specs.declared.day.Day.{Day}
 use Rattle.batch.specs.declared.reading.Batch.{Batch}
-use Rattle.batch.specs.declared.reading.Batch.TheVariants.{Answered, Refused}
+use Rattle.batch.specs.declared.reading.Batch.TheVariants.{Answered, HeaderRefused}
 
 -- the report of a tape, or nothing where memory ran out at a line
 abbrev pub report_unless : Bool → TapeState → List ℕ
@@ -41,4 +41,4 @@ FinishesRefusal text ReadFault old new = ⊥
 -- what was written of what was read, and the ends at which it was
 abbrev pub Finishes : Batch → BatchEnd → Option (List ℕ) → Option (List ℕ) → Type 0
 Finishes (Answered day) end old new = FinishesDay day end old new
-Finishes (Refused fault) end old new = FinishesRefusal (fault_line fault) end old new
+Finishes (HeaderRefused fault) end old new = FinishesRefusal (fault_line fault) end old new

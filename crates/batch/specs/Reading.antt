@@ -6,12 +6,12 @@ use Rattle.batch.specs.Day.{HasAnswered}
 use Rattle.batch.specs.declared.read_end.ReadEnd.{ReadEnd}
 use Rattle.batch.specs.declared.read_end.ReadEnd.TheVariants.{TooLarge, ReadFault, OutOfMemory}
 use Rattle.batch.specs.declared.reading.Batch.{Batch}
-use Rattle.batch.specs.declared.reading.Batch.TheVariants.{Answered, Refused}
+use Rattle.batch.specs.declared.reading.Batch.TheVariants.{Answered, HeaderRefused}
 
 -- what was read of a whole input: the day that its lines left, or what is wrong with its header
 abbrev pub ReadsBatch : Batch → List ℕ → Type 0
 ReadsBatch (Answered day) input = (names : Names) × (input_listing input ≡ Ok names) × HasAnswered (batch_tape names) (message_lines input) day
-ReadsBatch (Refused fault) input = input_listing input ≡ Err fault
+ReadsBatch (HeaderRefused fault) input = input_listing input ≡ Err fault
 
 -- the lengths of input at which reading ends so
 abbrev pub IsReadEnd : ReadEnd → ℕ → Type 0

@@ -125,7 +125,7 @@ fn write_batch<T: Threads + Sync, W: Write>(
             Err(Stop::WriteFault) => BatchEnd::WriteFault,
             Err(Stop::OutOfMemory) => BatchEnd::OutOfMemory,
         },
-        Batch::Refused(fault) => {
+        Batch::HeaderRefused(fault) => {
             gathered.push_fault(*fault);
             match gathered.write_to(writer) {
                 Ok(()) => BatchEnd::BadHeader,

@@ -24,7 +24,7 @@ pub enum Batch {
     /// The day that its lines left.
     Answered(Day),
     /// What is wrong with its header. Its other lines were passed over.
-    Refused(HeaderFault),
+    HeaderRefused(HeaderFault),
 }
 
 /// Answers the lines of an input that are left after its header: the day that they leave.
@@ -65,7 +65,7 @@ pub fn read_batch<B: BufRead>(alloc: Global, input: &mut Input<B>) -> Result<Bat
         Err(HeaderFault::BadListing(ListingFault::OutOfMemory)) => Err(ReadEnd::OutOfMemory),
         Err(fault) => {
             input.skip_lines()?;
-            Ok(Batch::Refused(fault))
+            Ok(Batch::HeaderRefused(fault))
         }
     }
 }

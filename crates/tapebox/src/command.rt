@@ -3,7 +3,7 @@ ghost use Rattle.std.specs.Prelude.{◌≡◌, ◌⊎◌, IfOk, Ok, Err, length,
 ghost use Rattle.std.specs.Iterator.{at_most};
 ghost use Rattle.tapebox.specs.Program.{AsksFor, asks_follow, asks_live, batch_words};
 ghost use Rattle.tapebox.specs.declared.command.Command.TheVariants.{Batch};
-ghost use Rattle.tapebox.specs.declared.command.Refused.TheVariants.{OutOfMemory};
+ghost use Rattle.tapebox.specs.declared.command.CommandFault.TheVariants.{OutOfMemory};
 
 use batch::Named;
 use std::alloc::Global;
@@ -35,7 +35,7 @@ pub enum Command {
 
 /// Why the words ask for nothing.
 #[derive(Clone, Copy, Debug, PartialEq, Eq)]
-pub enum Refused {
+pub enum CommandFault {
     /// They are not those of a command.
     BadArguments,
     /// Memory ran out for the names.
@@ -72,34 +72,34 @@ fn decimal(word: &[u8]) -> Option<u64> {
 
 impl<'a> Words<'a> {
     /// The next word.
-    fn word(&mut self) -> Result<&'a [u8], Refused> {
-        self.next().ok_or(Refused::BadArguments)
+    fn word(&mut self) -> Result<&'a [u8], CommandFault> {
+        self.next().ok_or(CommandFault::BadArguments)
     }
 
     /// The next word as a number up to 18,446,744,073,709,551,615.
-    fn number(&mut self) -> Result<u64, Refused> {
-        decimal(self.word()?).ok_or(Refused::BadArguments)
+    fn number(&mut self) -> Result<u64, CommandFault> {
+        decimal(self.word()?).ok_or(CommandFault::BadArguments)
     }
 
     /// The next word as a number up to 65,535.
-    fn short(&mut self) -> Result<u16, Refused> {
-        u16::try_from(self.number()?).map_err(|_| Refused::BadArguments)
+    fn short(&mut self) -> Result<u16, CommandFault> {
+        u16::try_from(self.number()?).map_err(|_| CommandFault::BadArguments)
     }
 
     /// The next word as a port, 1 to 65,535.
-    fn port(&mut self) -> Result<u16, Refused> {
+    fn port(&mut self) -> Result<u16, CommandFault> {
         match self.short()? {
-            0 => Err(Refused::BadArguments),
+            0 => Err(CommandFault::BadArguments),
             port => Ok(port),
         }
     }
 
     /// Refused where a word is left.
-    fn end(&self) -> Result<(), Refused> {
+    fn end(&self) -> Result<(), CommandFault> {
         if self.rest.is_empty() {
             Ok(())
         } else {
-            Err(Refused::BadArguments)
+            Err(CommandFault::BadArguments)
         }
     }
 }
@@ -143,18 +143,18 @@ fn listing(
     symbols: &[u8],
     participants: &[u8],
     most: usize,
-) -> Result<Listing, Refused> {
+) -> Result<Listing, CommandFault> {
     if !are_names::<Symbol>(symbols, SYMBOLS_MOST)
         || !are_names::<Participant>(participants, most)
     {
-        return Err(Refused::BadArguments);
+        return Err(CommandFault::BadArguments);
     }
     match listed(alloc, symbols, participants) {
         Ok(listing) => Ok(listing),
         Err(ListingFault::OutOfMemory) if !has_repeat(symbols) && !has_repeat(participants) => {
-            Err(Refused::OutOfMemory)
+            Err(CommandFault::OutOfMemory)
         }
-        Err(_) => Err(Refused::BadArguments),
+        Err(_) => Err(CommandFault::BadArguments),
     }
 }
 
@@ -178,7 +178,7 @@ pub struct LiveWords {
 impl LiveWords {
     /// Reads the words behind `live`. Memory is taken for the names, once all else is right: the last participant's line has
     /// a port, too.
-    fn read(alloc: Global, words: &[u8]) -> Result<LiveWords, Refused> {
+    fn read(alloc: Global, words: &[u8]) -> Result<LiveWords, CommandFault> {
         let mut words = Words { rest: words };
         let (symbols, participants) = (words.word()?, words.word()?);
         let first_port = words.port()?;
@@ -215,7 +215,7 @@ pub struct FollowWords {
 
 impl FollowWords {
     /// Reads the words behind `follow`. Memory is taken for the names, once all else is right.
-    fn read(alloc: Global, words: &[u8]) -> Result<FollowWords, Refused> {
+    fn read(alloc: Global, words: &[u8]) -> Result<FollowWords, CommandFault> {
         let mut words = Words { rest: words };
         let (symbols, participants) = (words.word()?, words.word()?);
         let ports = [words.port()?, words.port()?];
@@ -233,7 +233,7 @@ impl FollowWords {
 }
 
 /// What words ask for, each ended by a zero byte, or why they ask for nothing.
-pub fn read_command(alloc: Global, words: &[u8]) -> Result<Command, Refused>
+pub fn read_command(alloc: Global, words: &[u8]) -> Result<Command, CommandFault>
     ensures batch { words.now ≡ batch_words → result ≡ Ok Batch }
     ensures asked { IfOk result (λ command. AsksFor command words.now) }
     ensures memory { result ≡ Err OutOfMemory → (asks_live words.now ≡ true) ⊎ (asks_follow words.now ≡ true) }
@@ -245,6 +245,6 @@ pub fn read_command(alloc: Global, words: &[u8]) -> Result<Command, Refused>
     } else if words.starts_with(FOLLOW) {
         Ok(Command::Follow(FollowWords::read(alloc, &words[FOLLOW.len()..])?))
     } else {
-        Err(Refused::BadArguments)
+        Err(CommandFault::BadArguments)
     }
 }
