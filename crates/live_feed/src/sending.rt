@@ -2,6 +2,7 @@
 ghost use Rattle.std.specs.Prelude.{◌≡◌, ◌↔◌, ◌%◌, ℕ, true};
 ghost use Rattle.line_ledger.specs.declared.publish_fault.PublishFault.TheVariants.{OutOfMemory, Unpublished};
 ghost use Rattle.live_feed.specs.declared.fault.Fault.TheVariants.{Memory, Disagrees};
+ghost use Rattle.live_feed.specs.declared.sending.TheConstants.{PACKETS_BEFORE_REST};
 
 use crate::bell::Bell;
 use crate::feed::Feed;
@@ -72,7 +73,7 @@ fn send_data<L: Loss>(feed: &Feed<'_, L>, first: u32, bytes: &[u8]) {
 
 /// Whether the sender rests after so many packets.
 fn is_rest(packets: u32) -> bool
-    ensures rest { (result ≡ true) ↔ (packets % 16 ≡ 0) }
+    ensures rest { (result ≡ true) ↔ (packets % PACKETS_BEFORE_REST ≡ 0) }
 {
     packets % PACKETS_BEFORE_REST == 0
 }
