@@ -24,14 +24,11 @@ fn address_of(socket: &UdpSocket) -> Result<SocketAddr, Fault> {
     }
 }
 
-/// Reads both lines until all is held: the subscriber that holds it. The connection is closed then. Where no thread can be
-/// started, nothing is read.
-fn follow_to_end<R: Threads + Wait + Net<Listener = TcpListener, Stream = TcpStream> + Sync>(
+/// The two lines, each with where the other is read. There are none where no thread can be started.
+fn followed_lines<'a, R: Threads>(
     rt: &R,
-    sockets: &FollowSockets,
-    follower: Follower,
-) -> Result<Subscriber, Fault> {
-    let follower = Mutex::new(follower);
+    sockets: &'a FollowSockets,
+) -> Result<(FollowedLine<'a>, FollowedLine<'a>), Fault> {
     let a = FollowedLine {
         line: Line::A,
         socket: &sockets.a,
@@ -42,9 +39,28 @@ fn follow_to_end<R: Threads + Wait + Net<Listener = TcpListener, Stream = TcpStr
         socket: &sockets.b,
         other: address_of(&sockets.a)?,
     };
-    if !can_start(rt) {
-        return Err(Fault::Worker);
+    if can_start(rt) {
+        Ok((a, b))
+    } else {
+        Err(Fault::Worker)
     }
+}
+
+/// Reads both lines until all is held: the subscriber that holds it. The connection is closed then. Where no thread can be
+/// started, nothing is read.
+fn follow_to_end<R: Threads + Wait + Net<Listener = TcpListener, Stream = TcpStream> + Sync>(
+    rt: &R,
+    sockets: &FollowSockets,
+    follower: Follower,
+) -> Result<Subscriber, Fault> {
+    let (a, b) = match followed_lines(rt, sockets) {
+        Ok(lines) => lines,
+        Err(fault) => {
+            drop(follower);
+            return Err(fault);
+        }
+    };
+    let follower = Mutex::new(follower);
     follow_lines(rt, &follower, &a, &b);
     follower.into_inner().into_subscriber()
 }

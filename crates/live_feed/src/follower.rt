@@ -128,6 +128,14 @@ impl Follower {
         }
     }
 
+    /// Takes packets that were asked for.
+    fn take_all(&mut self, packets: &[Vec<u8>]) -> Result<(), Fault> {
+        for packet in packets {
+            self.take(Line::R, packet)?;
+        }
+        Ok(())
+    }
+
     /// Asks for what is missing, and takes the answer. It is to bring the first number that was asked for, so that each
     /// question brings the follower on.
     fn ask_for(&mut self, request: &Request) -> Result<(), Fault> {
@@ -137,17 +145,14 @@ impl Follower {
             &mut &self.connection,
             &mut &self.connection,
         );
-        let packets = match asked {
-            Ok(packets) => packets,
-            Err(fault) => return Err(fault_of_ask(fault)),
+        let taken = match asked {
+            Ok(packets) => self.take_all(&packets),
+            Err(fault) => Err(fault_of_ask(fault)),
         };
-        for packet in &packets {
-            self.take(Line::R, packet)?;
-        }
-        if self.subscriber.held().len() < request.from as usize {
+        if taken.is_ok() && self.subscriber.held().len() < request.from as usize {
             return Err(Fault::Disagrees);
         }
-        Ok(())
+        taken
     }
 
     /// Takes what came by a line, and asks while something is missing.

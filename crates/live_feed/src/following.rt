@@ -22,6 +22,22 @@ pub(crate) struct FollowedLine<'a> {
     pub(crate) other: SocketAddr,
 }
 
+/// Reads a datagram of a line, and has the follower take it: whether the run is over then. A read that fails ends it.
+fn follow_on<R: Net<Listener = TcpListener, Stream = TcpStream> + Wait>(
+    rt: &R,
+    follower: &Mutex<Follower>,
+    followed: &FollowedLine<'_>,
+    room: &mut [u8],
+) -> bool {
+    match followed.socket.recv_from(room) {
+        Ok((len, _)) => follower.lock(rt).step(rt, followed.line, &room[..len]),
+        Err(_) => {
+            follower.lock(rt).fail(Fault::Read);
+            true
+        }
+    }
+}
+
 /// Reads a line until the run is over, and then lets the other line's read return: an empty datagram is no packet.
 fn follow_line<R: Net<Listener = TcpListener, Stream = TcpStream> + Wait>(
     rt: &R,
@@ -30,17 +46,8 @@ fn follow_line<R: Net<Listener = TcpListener, Stream = TcpStream> + Wait>(
 ) {
     let mut room = [0u8; ROOM];
     for _ in rt.forever() {
-        match followed.socket.recv_from(&mut room) {
-            Ok((len, _)) => {
-                let is_over = follower.lock(rt).step(rt, followed.line, &room[..len]);
-                if is_over {
-                    break;
-                }
-            }
-            Err(_) => {
-                follower.lock(rt).fail(Fault::Read);
-                break;
-            }
+        if follow_on(rt, follower, followed, &mut room) {
+            break;
         }
     }
     let _ = followed.socket.send_to(&[], followed.other);
