@@ -3,7 +3,7 @@
 use anyhow::Context;
 use bstr::ByteSlice;
 use reports::{LONGEST_MESSAGE, Message, decode};
-use std::alloc::Global;
+use std::alloc::{AllocError, Global};
 use subscriber::Subscriber;
 use summaries::IndexStore;
 use tape_core::Tape;
@@ -27,20 +27,34 @@ fn participant_named(name: &[u8]) -> Option<Participant> {
     }
 }
 
+/// Appends the symbol of a name.
+fn push_symbol(symbols: &mut Vec<Symbol>, name: &[u8]) -> anyhow::Result<()> {
+    let symbol = symbol_named(name).context("a name is no symbol")?;
+    symbols.push(symbol)?;
+    Ok(())
+}
+
 /// The symbols of a line of names.
 fn read_symbols(alloc: Global, line: &[u8]) -> anyhow::Result<Vec<Symbol>> {
     let mut symbols = Vec::new(alloc);
     for name in line.split_str(b" ") {
-        symbols.push(symbol_named(name).context("a name is no symbol")?)?;
+        push_symbol(&mut symbols, name)?;
     }
     Ok(symbols)
+}
+
+/// Appends the participant of a name.
+fn push_participant(participants: &mut Vec<Participant>, name: &[u8]) -> anyhow::Result<()> {
+    let participant = participant_named(name).context("a name is no participant")?;
+    participants.push(participant)?;
+    Ok(())
 }
 
 /// The participants of a line of letters.
 fn read_participants(alloc: Global, line: &[u8]) -> anyhow::Result<Vec<Participant>> {
     let mut participants = Vec::new(alloc);
     for name in line.split_str(b" ") {
-        participants.push(participant_named(name).context("a name is no participant")?)?;
+        push_participant(&mut participants, name)?;
     }
     Ok(participants)
 }
@@ -79,15 +93,22 @@ pub fn read_tape(alloc: Global, input: &[u8]) -> anyhow::Result<Tape<IndexStore>
     Ok(tape)
 }
 
-/// The messages of a day's listed participants, in order. A line that is no message is passed over.
+/// The messages of a day's listed participants, in order. A line that is no message is passed over. The listing is lent, and
+/// dropped by name: each way out on which it would be dropped is a long proof.
 pub fn read_messages(alloc: Global, input: &[u8]) -> anyhow::Result<Vec<Message>> {
     let listing = read_listing(alloc, input)?;
+    let messages = messages_of(alloc, &listing, input);
+    drop(listing);
+    Ok(messages?)
+}
+
+/// The same of the participants of a listing.
+fn messages_of(alloc: Global, listing: &Listing, input: &[u8]) -> Result<Vec<Message>, AllocError> {
     let mut messages = Vec::new(alloc);
     for line in input.lines().skip(2) {
-        if let Some(message) = read_message(line) {
-            if listing.has(message.header().participant) {
-                messages.push(message)?;
-            }
+        match read_message(line) {
+            Some(message) if listing.has(message.header().participant) => messages.push(message)?,
+            _ => {}
         }
     }
     Ok(messages)

@@ -30,19 +30,39 @@ pub fn send_all(
     let packets = published.div_ceil(PACKET_ENTRIES);
     let mut text = Vec::new(alloc);
     for place in 0..packets {
-        text.clear();
-        write_packet(
-            &cut(SESSION, PACKET_ENTRIES * place + 1, &source),
-            &mut text,
-        )?;
-        deliver(subscriber, place + 1, &text)?;
-        catch_up(alloc, tape, subscriber)?;
+        let packet = cut(SESSION, PACKET_ENTRIES * place + 1, &source);
+        send_packet(alloc, tape, subscriber, place + 1, &packet, &mut text)?;
     }
-    text.clear();
-    write_packet(&end_after(published)?, &mut text)?;
-    deliver_by(subscriber, Line::A, &text)?;
-    catch_up(alloc, tape, subscriber)?;
+    send_end(alloc, tape, subscriber, &mut text)?;
     Ok(packets)
+}
+
+/// Sends the packet of entries of this number. The text is only room.
+fn send_packet(
+    alloc: Global,
+    tape: &Tape<IndexStore>,
+    subscriber: &mut Subscriber,
+    number: u32,
+    packet: &Packet,
+    text: &mut Vec<u8>,
+) -> anyhow::Result<()> {
+    text.clear();
+    write_packet(packet, text)?;
+    deliver(subscriber, number, text)?;
+    catch_up(alloc, tape, subscriber)
+}
+
+/// Sends the end of a tape. The text is only room.
+fn send_end(
+    alloc: Global,
+    tape: &Tape<IndexStore>,
+    subscriber: &mut Subscriber,
+    text: &mut Vec<u8>,
+) -> anyhow::Result<()> {
+    text.clear();
+    write_packet(&end_after(SliceSource::of(tape).published())?, text)?;
+    deliver_by(subscriber, Line::A, text)?;
+    catch_up(alloc, tape, subscriber)
 }
 
 /// The end of a tape of this many entries.

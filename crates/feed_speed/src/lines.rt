@@ -99,7 +99,9 @@ pub fn inputs_of_day(
     messages: &[Message],
 ) -> anyhow::Result<Vec<Vec<u8>>> {
     let listing = day::read_listing(alloc, input)?;
-    Ok(inputs_of(alloc, listing.participants().as_slice(), messages)?)
+    let inputs = inputs_of(alloc, listing.participants().as_slice(), messages);
+    drop(listing);
+    Ok(inputs?)
 }
 
 /// How long a tape takes to admit the messages.

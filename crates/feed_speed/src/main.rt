@@ -18,12 +18,34 @@ mod times;
 use mode::{Mode, given_mode};
 use std::io::Read;
 use std::process::ExitCode;
+use std::rt::Clock;
+use std::sync::Wait;
+use std::thread::Threads;
 
 /// The status of bad arguments.
 const BAD_ARGUMENTS: u8 = 2;
 
-/// Reads a day from standard input, measures what the words ask for, and prints the figures, one a line. Without an input
-/// there is nothing to measure, and the first figure stands alone. For words that ask for nothing, nothing is read.
+/// Measures what is asked for of a day, and prints the figures, one a line. Without an input there is nothing to measure, and the
+/// first figure stands alone.
+fn print_figures<R: AllocGlobal + Clock + Print + Threads + Wait + Sync>(
+    rt: &R,
+    mode: Mode,
+    input: &[u8],
+) -> anyhow::Result<()> {
+    if input.is_empty() {
+        println!(rt; "entries 0")?;
+        return Ok(());
+    }
+    match mode {
+        Mode::Feed => sending::measure(rt, input)?.print(rt)?,
+        Mode::Rows => report::measure(rt, input)?.print(rt)?,
+        Mode::Lines => lines::measure(rt, input)?.print(rt)?,
+        Mode::Looks => looks::measure(rt, input)?.print(rt)?,
+    }
+    Ok(())
+}
+
+/// Reads a day from standard input, and measures what the words ask for. For words that ask for nothing, nothing is read.
 fn main(rt: HostRuntime) -> anyhow::Result<ExitCode> {
     let Some(mode) = given_mode(&rt)? else {
         let _ = eprintln!(rt; "feed_speed: bad arguments");
@@ -31,15 +53,8 @@ fn main(rt: HostRuntime) -> anyhow::Result<ExitCode> {
     };
     let mut input = Vec::new(rt.alloc());
     rt.stdin().read_to_end(&mut input)?;
-    if input.is_empty() {
-        println!(rt; "entries 0")?;
-        return Ok(ExitCode::SUCCESS);
-    }
-    match mode {
-        Mode::Feed => sending::measure(&rt, &input)?.print(&rt)?,
-        Mode::Rows => report::measure(&rt, &input)?.print(&rt)?,
-        Mode::Lines => lines::measure(&rt, &input)?.print(&rt)?,
-        Mode::Looks => looks::measure(&rt, &input)?.print(&rt)?,
-    }
+    let printed = print_figures(&rt, mode, &input);
+    drop(input);
+    printed?;
     Ok(ExitCode::SUCCESS)
 }
