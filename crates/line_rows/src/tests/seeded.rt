@@ -329,9 +329,8 @@ fn lines_of_prepared<T: Threads + Wait + Abort + Sync>(
 
 /// What eight lines at once came to, and the day that they made.
 fn day_of_eight<T: Threads + Wait + Abort + Sync>(rt: &T, alloc: Global) -> Option<DayOfLines> {
-    let prepared = empty_day(alloc)?;
     let inputs = inputs(alloc)?;
-    lines_of_prepared(rt, alloc, prepared, &inputs)
+    lines_of_prepared(rt, alloc, empty_day(alloc)?, &inputs)
 }
 
 /// Whether two tapes have the same entries and summaries.

@@ -132,5 +132,8 @@ pub(super) fn ended_len<D: DayName, A: Abort>(
     shared: SharedTape<D>,
     seats: Vec<LineSeat<D>>,
 ) -> Option<usize> {
-    Some(ended_day(rt, shared, seats)?.tape().entries().len())
+    let day = ended_day(rt, shared, seats)?;
+    let many = day.tape().entries().len();
+    drop(day);
+    Some(many)
 }

@@ -77,8 +77,13 @@ fn lists_first_differ_where_one_has_another_or_none(rt: HostRuntime) {
 
 /// What is answered to a tape's limit.
 fn limited(alloc: Global, limit: u32) -> Option<Result<(), TapeFault>> {
-    let tape = Tape::<IndexStore>::new(alloc, listing(alloc)?, limit);
-    Some(tape.map(|_| ()))
+    match Tape::<IndexStore>::new(alloc, listing(alloc)?, limit) {
+        Ok(tape) => {
+            drop(tape);
+            Some(Ok(()))
+        }
+        Err(fault) => Some(Err(fault)),
+    }
 }
 
 #[test]
