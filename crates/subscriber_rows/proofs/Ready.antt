@@ -1,9 +1,7 @@
 -- How many entries are ready, told by the drains that take them.
-use Rattle.std.proofs.Common.{◌≡◌, ℕ, zero, suc, ◌+◌, List, [], ◌∷◌, ◌++◌, length, drop, Option, None, Some, refl, sym, ap, subst, ◌∙◌, arith}
-use Rattle.std.specs.Prelude.{slice_get}
-use Rattle.std.proofs.lemmas.Option.{none-some}
-use Rattle.tape_core.specs.declared.entry.Entry.{Entry}
-use Rattle.arbitration.specs.Windows.{flat, next_of, ready_entries}
+use Rattle.std.proofs.Common.{◌≡◌, ℕ, zero, suc, ◌+◌, length, None, sym, ap, subst, ◌∙◌, arith}
+use Rattle.arbitration.proofs.Gaps.{none_ready, ready-past}
+use Rattle.arbitration.specs.Windows.{next_of, ready_entries}
 use Rattle.subscriber.specs.Subscribers.{SubscriberState, with_entry, subscriber_after_entry, subscriber_after}
 use Rattle.subscriber.specs.declared.drain_fault.DrainFault.{DrainFault}
 use Rattle.subscriber.specs.Drains.{DrainsAll, DrainStops}
@@ -14,29 +12,10 @@ use Rattle.subscriber.proofs.Turns.{after_entry-keeps, length-with_entry}
 abbrev pub ready_count : SubscriberState → ℕ
 ready_count s = length (ready_entries s.window.slots)
 
--- nothing is ready where the first slot is empty
-none_ready : (slots : List (Option Entry)) → flat (slice_get slots 0) ≡ None → length (ready_entries slots) ≡ 0
-none_ready [] h = refl
-none_ready (None ∷ slots) h = refl
-none_ready (Some e ∷ slots) h = absurd (none-some e (sym h))
-
--- an empty slot at the end makes nothing ready
-ready-push : (slots : List (Option Entry)) → length (ready_entries (slots ++ None ∷ [])) ≡ length (ready_entries slots)
-ready-push [] = refl
-ready-push (None ∷ slots) = refl
-ready-push (Some e ∷ slots) = ap suc (ready-push slots)
-
--- one less is ready once the first was taken out
-one_less : (slots : List (Option Entry)) (e : Entry) → flat (slice_get slots 0) ≡ Some e
-    → length (ready_entries slots) ≡ length (ready_entries (drop 1 slots ++ None ∷ [])) + 1
-one_less [] e h = absurd (none-some e h)
-one_less (None ∷ slots) e h = absurd (none-some e h)
-one_less (Some x ∷ slots) e h = omega (arith, ready-push slots)
-
 -- where n turns hold n entries more and leave nothing ready, n were ready
 pub ready_told : (n : ℕ) (s : SubscriberState) → length (subscriber_after n s).tape.entries ≡ length s.tape.entries + n
     → next_of (subscriber_after n s).window ≡ None → ready_count s ≡ n
-ready_told zero s held empty = none_ready s.window.slots empty
+ready_told zero s held empty = (none_ready s.window.slots).1 empty
 ready_told (suc n) s held empty = turn (ready_told n) held empty
   where
     Told : SubscriberState → Type 0
@@ -51,7 +30,7 @@ ready_told (suc n) s held empty = turn (ready_told n) held empty
         (λ stays none. absurd (omega (arith, at_most n s)))
         (λ e is running free went none.
         let before : ready_count (with_entry e s) ≡ n = later (with_entry e s) (omega (arith, length-with_entry s e)) none in
-        omega (arith, one_less s.window.slots e is))
+        omega (arith, ap length (ready-past s.window.slots e is)))
 
 -- turns after turns
 after_both : (n m : ℕ) (s : SubscriberState) → subscriber_after m (subscriber_after n s) ≡ subscriber_after (n + m) s

@@ -1,8 +1,8 @@
 //! Readers and writers that fail, are slow, are interrupted or take nothing, and sources that grow or fail.
 ghost use Rattle.std.specs.Prelude.{take};
 
-use super::feed::SESSION;
-use super::requests::{ANSWER, REQUEST, end, requests, served, source_of, tape_of, told};
+use super::feed::{SESSION, equal_reports};
+use super::requests::{ANSWER, REQUEST, end, requests, served, source_of, told};
 use retransmit::{AskFault, Ended, Refusal, ServeEnd, serve};
 use std::alloc::{AllocError, Global};
 use std::io;
@@ -249,7 +249,7 @@ fn serve_growing(
 
 /// The same over three entries.
 fn end_of_growing(alloc: Global, input: &[u8], output: &mut Vec<u8>) -> Option<ServeEnd> {
-    let tape = tape_of(alloc, 3)?;
+    let tape = equal_reports(alloc, 3)?;
     Some(serve_growing(alloc, &source_of(&tape), input, output))
 }
 
@@ -257,6 +257,11 @@ fn end_of_growing(alloc: Global, input: &[u8], output: &mut Vec<u8>) -> Option<S
 fn told_by<R: Read>(alloc: Global, reader: &mut R) -> Option<Result<usize, AskFault>> {
     let mut sent = Vec::new(alloc);
     told(alloc, reader, &mut sent)
+}
+
+/// Whether just this is told by the reader.
+fn is_told_by<R: Read>(alloc: Global, reader: &mut R, wanted: Result<usize, AskFault>) -> bool {
+    told_by(alloc, reader) == Some(wanted)
 }
 
 /// Whether the answers begin and end with a refusal, and have this many bytes.
@@ -291,12 +296,16 @@ fn a_slow_reader_is_read_to_its_end(rt: HostRuntime) {
     assert_eq!(rt; end_of_reads(rt.alloc(), 29), (end(2, Ended::Clean), 2));
 }
 
+/// Whether so many requests are answered by a writer that fails once it was called so often, and it took so many bytes.
+fn ends_so(alloc: Global, calls: u32, served: u32, taken: u32) -> bool {
+    end_of_writes(alloc, calls) == (end(served, Ended::WriteFault), taken, served)
+}
+
 #[test]
 fn a_writer_that_fails_ends_the_serving_there(rt: HostRuntime) {
     // One write and one flush for each answer of one byte.
     for (calls, served, taken) in [(0, 0, 0), (1, 0, 1), (2, 1, 1), (3, 1, 2)] {
-        let wanted = (end(served, Ended::WriteFault), taken, served);
-        assert_eq!(rt; end_of_writes(rt.alloc(), calls), wanted);
+        assert!(rt; ends_so(rt.alloc(), calls, served, taken), "{calls} calls");
     }
 }
 
@@ -323,21 +332,21 @@ fn an_answer_is_one_write_and_one_flush(rt: HostRuntime) {
 fn a_reader_that_fails_within_an_answer_is_a_read_fault(rt: HostRuntime) {
     for given in 0..6 {
         let mut reader = slow(&[0x00, 0x01, 0x00, 0x02, 0x05, 0x06], given);
-        assert_eq!(rt;
-            told_by(rt.alloc(), &mut reader),
-            Some(Err(AskFault::ReadFault))
-        );
+        let is_fault = is_told_by(rt.alloc(), &mut reader, Err(AskFault::ReadFault));
+        assert!(rt; is_fault, "{given} bytes");
     }
+}
+
+/// Whether the reader tells of one packet, and then of another session.
+fn is_told_in_turn<R: Read>(alloc: Global, reader: &mut R) -> bool {
+    let other_session = Err(AskFault::Refused(Refusal::OtherSession));
+    is_told_by(alloc, reader, Ok(1)) && is_told_by(alloc, reader, other_session)
 }
 
 #[test]
 fn an_answer_is_read_to_its_end_and_no_further(rt: HostRuntime) {
     let mut reader = slow(&[0x00, 0x01, 0x00, 0x02, 0x05, 0x06, 0x47, 0x00], 7);
-    assert_eq!(rt; told_by(rt.alloc(), &mut reader), Some(Ok(1)));
-    assert_eq!(rt;
-        told_by(rt.alloc(), &mut reader),
-        Some(Err(AskFault::Refused(Refusal::OtherSession)))
-    );
+    assert!(rt; is_told_in_turn(rt.alloc(), &mut reader));
     assert_eq!(rt; reader.left.len(), 1);
 }
 
@@ -350,11 +359,16 @@ fn told_of_writes(alloc: Global, calls: u32) -> (Option<Result<usize, AskFault>>
     (told, writer.taken, reader.len())
 }
 
+/// Whether that is a write fault, a byte was taken at each call, and nothing was read.
+fn is_not_written(alloc: Global, calls: u32) -> bool {
+    let wanted = (Some(Err(AskFault::WriteFault)), calls.min(14), 14);
+    told_of_writes(alloc, calls) == wanted
+}
+
 #[test]
 fn a_request_that_is_not_written_is_a_write_fault(rt: HostRuntime) {
     for calls in 0..15 {
-        let wanted = (Some(Err(AskFault::WriteFault)), calls.min(14), 14);
-        assert_eq!(rt; told_of_writes(rt.alloc(), calls), wanted);
+        assert!(rt; is_not_written(rt.alloc(), calls), "{calls} calls");
     }
 }
 
@@ -367,7 +381,7 @@ fn serve_exhausted(alloc: Global, entries: &SliceSource<'_>, output: &mut Vec<u8
 
 /// The same over three entries.
 fn end_of_exhausted(alloc: Global, output: &mut Vec<u8>) -> Option<ServeEnd> {
-    let tape = tape_of(alloc, 3)?;
+    let tape = equal_reports(alloc, 3)?;
     Some(serve_exhausted(alloc, &source_of(&tape), output))
 }
 

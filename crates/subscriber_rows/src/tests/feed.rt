@@ -80,26 +80,34 @@ pub(super) fn admits(tape: &mut Feed, message: Option<Message>) -> bool {
     }
 }
 
-/// Admits reports up to a number, each at a hundredth of a cent more than the one before.
-fn admits_reports(tape: &mut Feed, count: u32, price: u64) -> bool {
+/// Admits reports up to a number, each at so many hundredths of a cent more than the one before.
+fn admits_reports(tape: &mut Feed, count: u32, price: u64, rise: u64) -> bool {
     for number in 1..=count {
-        if !admits(tape, report(number, price.wrapping_add(u64::from(number)))) {
+        let price = price.wrapping_add(rise.wrapping_mul(u64::from(number)));
+        if !admits(tape, report(number, price)) {
             return false;
         }
     }
     true
 }
 
-/// A tape of this many reports.
+/// A tape of this many reports, whose prices rise by a hundredth of a cent from one to the next.
 pub(super) fn reports(alloc: Global, count: u32, price: u64) -> Option<Feed> {
     let mut tape = feed(alloc, 2_000)?;
-    admits_reports(&mut tape, count, price).then_some(tape)
+    admits_reports(&mut tape, count, price, 1).then_some(tape)
+}
+
+/// A tape of this many reports at $10.0000.
+pub(super) fn equal_reports(alloc: Global, count: u32) -> Option<Feed> {
+    let mut tape = feed(alloc, 100)?;
+    admits_reports(&mut tape, count, 100_000, 0).then_some(tape)
 }
 
 /// This many reports, and the cancel of the first.
 pub(super) fn cancelled(alloc: Global, count: u32) -> Option<Feed> {
+    let cancel = cancel(count.checked_add(1)?, 1);
     let mut tape = reports(alloc, count, 100_000)?;
-    admits(&mut tape, cancel(count.checked_add(1)?, 1)).then_some(tape)
+    admits(&mut tape, cancel).then_some(tape)
 }
 
 fn admits_a_correction(tape: &mut Feed) -> bool {

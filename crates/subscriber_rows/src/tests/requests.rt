@@ -2,15 +2,12 @@
 ghost use Rattle.std.specs.Prelude.{◌≡◌};
 ghost use Rattle.tape_frames.specs.Sources.{IsPublished};
 
-use super::feed::{self, SESSION};
+use super::feed::{Feed, SESSION, equal_reports};
 use super::printing::prints;
 use retransmit::{Answer, AskFault, Ended, Refusal, ServeEnd, answer, ask, serve};
-use scratch_fold::{Mark, Summary};
 use std::alloc::{AllocError, Global};
 use std::io;
 use std::io::{Read, Write};
-use summaries::ScratchStore;
-use tape_core::Tape;
 use tape_frames::{Packet, Request, SliceSource, Span, decode_packet};
 
 /// A request of session 7 for 64 entries from 3.
@@ -40,40 +37,8 @@ pub(super) const ANSWER: [u8; 107] = [
 /// Requests that are refused over four entries, each by its session, its first entry and its count.
 const REFUSED: [(u64, u32, u16); 5] = [(7, 5, 1), (7, 0, 1), (8, 3, 1), (7, 3, 0), (8, 0, 65)];
 
-/// The highest trade of a summary, where there is one.
-fn high_of(summary: Option<Summary>) -> Option<Mark> {
-    summary?.high
-}
-
-/// Whether the tape takes N's report of this number, at $10.0000, and its entry carries no summary.
-fn admits(tape: &mut Tape<ScratchStore>, number: u32) -> Option<bool> {
-    let entry = tape.admit(feed::report(number, 100_000)?).ok()?;
-    Some(high_of(entry.after).is_none())
-}
-
-/// Whether the tape takes this many reports.
-fn admits_reports(tape: &mut Tape<ScratchStore>, count: u32) -> bool {
-    for number in 1..=count {
-        if admits(tape, number) != Some(true) {
-            return false;
-        }
-    }
-    true
-}
-
-/// A tape without an entry.
-fn empty_tape(alloc: Global) -> Option<Tape<ScratchStore>> {
-    Tape::new(alloc, feed::listing(alloc)?, 100).ok()
-}
-
-/// A tape of this many reports.
-pub(super) fn tape_of(alloc: Global, count: u32) -> Option<Tape<ScratchStore>> {
-    let mut tape = empty_tape(alloc)?;
-    admits_reports(&mut tape, count).then_some(tape)
-}
-
 /// The entries of a tape, to be sent.
-pub(super) fn source_of(tape: &Tape<ScratchStore>) -> SliceSource<'_> {
+pub(super) fn source_of(tape: &Feed) -> SliceSource<'_> {
     SliceSource::new(tape.entries())
 }
 
@@ -121,7 +86,7 @@ pub(super) fn served<R: Read, W: Write>(
     reader: &mut R,
     writer: &mut W,
 ) -> Option<ServeEnd> {
-    let tape = tape_of(alloc, count)?;
+    let tape = equal_reports(alloc, count)?;
     let mut source = source_of(&tape);
     Some(serve(alloc, &mut source, SESSION, reader, writer))
 }
@@ -147,14 +112,14 @@ fn is_answered(
 }
 
 /// What is answered to a request over a tape.
-fn answer_over(tape: &Tape<ScratchStore>, session: u64, asked: &Request) -> Answer {
+fn answer_over(tape: &Feed, session: u64, asked: &Request) -> Answer {
     answer(&source_of(tape), session, asked)
 }
 
 /// What is answered to a request of these fields over four entries.
 fn answer_to(alloc: Global, session: u64, from: u32, count: u16) -> Option<Answer> {
     let asked = request(from, count)?;
-    let tape = tape_of(alloc, 4)?;
+    let tape = equal_reports(alloc, 4)?;
     Some(answer_over(&tape, session, &asked))
 }
 
@@ -180,6 +145,11 @@ fn told_of(alloc: Global, bytes: &[u8]) -> Option<Result<usize, AskFault>> {
     } else {
         None
     }
+}
+
+/// Whether just this is told then.
+fn is_told(alloc: Global, bytes: &[u8], wanted: Result<usize, AskFault>) -> bool {
+    told_of(alloc, bytes) == Some(wanted)
 }
 
 /// The packets that these bytes bring to a request. What is sent is appended.
@@ -346,7 +316,10 @@ fn bytes_that_are_no_answer_are_told(rt: HostRuntime) {
         &[0x00, 0x01, 0x03, 0x98],
     ];
     for bytes in cases {
-        assert_eq!(rt; told_of(rt.alloc(), bytes), Some(Err(AskFault::BadAnswer)));
+        assert!(rt;
+            is_told(rt.alloc(), bytes, Err(AskFault::BadAnswer)),
+            "{bytes:?}"
+        );
     }
 }
 
@@ -354,7 +327,10 @@ fn bytes_that_are_no_answer_are_told(rt: HostRuntime) {
 fn an_answer_that_ends_too_early_is_a_read_fault(rt: HostRuntime) {
     let cases: [&[u8]; 3] = [&[], &[0x00], &[0x00, 0x01, 0x00, 0x67]];
     for bytes in cases {
-        assert_eq!(rt; told_of(rt.alloc(), bytes), Some(Err(AskFault::ReadFault)));
+        assert!(rt;
+            is_told(rt.alloc(), bytes, Err(AskFault::ReadFault)),
+            "{bytes:?}"
+        );
     }
 }
 
@@ -365,9 +341,9 @@ fn a_refusal_is_told(rt: HostRuntime) {
         (0x48, Refusal::Beyond),
         (0x49, Refusal::BadSpan),
     ] {
-        assert_eq!(rt;
-            told_of(rt.alloc(), &[byte]),
-            Some(Err(AskFault::Refused(refusal)))
+        assert!(rt;
+            is_told(rt.alloc(), &[byte], Err(AskFault::Refused(refusal))),
+            "{byte}"
         );
     }
 }

@@ -119,8 +119,9 @@ fn reports(alloc: Global, from: u32, to: u32, price: u64, session: u64) -> Optio
 
 /// The packet of the cancel of entry 1, after this many reports.
 fn cancelling(alloc: Global, count: u32) -> Option<Vec<u8>> {
+    let number = count.checked_add(1)?;
     let tape = feed::cancelled(alloc, count)?;
-    feed::packet(alloc, &tape, SESSION, count.checked_add(1)?)
+    feed::packet(alloc, &tape, SESSION, number)
 }
 
 /// The bytes of what a line brings.
