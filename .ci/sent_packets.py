@@ -18,7 +18,7 @@ from peers import HOST, LIMIT, connect, free_ports, report
 
 SESSION = 4_294_967_303
 REPORTS = 800
-MOST_ENTRIES = 8
+ENTRIES_MOST = 8
 PACKETS_BEFORE_REST = 16
 # Seconds: a little less than the program rests, since a clock may be set back meanwhile.
 REST = 0.0009
@@ -69,13 +69,13 @@ def look_at_data(taken):
     counts = set()
     for at, (time, packet) in enumerate(taken):
         version, kind, session, first, count = HEADER.unpack_from(packet)
-        if (version, kind, session, first) != (1, b"D", SESSION, last + 1) or not 1 <= count <= MOST_ENTRIES:
+        if (version, kind, session, first) != (1, b"D", SESSION, last + 1) or not 1 <= count <= ENTRIES_MOST:
             sys.exit(f"packet {at + 1} is {packet[:HEADER.size].hex()} after entry {last}")
         if at and at % PACKETS_BEFORE_REST == 0 and time - taken[at - 1][0] < REST:
             sys.exit(f"no rest after {at} packets")
         last += count
         counts.add(count)
-    if last != REPORTS or MOST_ENTRIES not in counts:
+    if last != REPORTS or ENTRIES_MOST not in counts:
         sys.exit(f"{last} entries came in packets of {sorted(counts)}")
 
 

@@ -10,7 +10,7 @@ const TAPE_MOST: u32 = 1_048_576;
 /// How many entries a packet has at most.
 pub const ENTRIES_MOST: usize = 8;
 /// The longest packet: its header and eight corrections.
-pub const PACKET_LONGEST: usize = 15 + ENTRIES_MOST * 113;
+pub const LONGEST_PACKET: usize = 15 + ENTRIES_MOST * 113;
 /// The greatest count of a request.
 const COUNT_MOST: u16 = 64;
 

@@ -1,8 +1,8 @@
 //! The two header lines: the day's symbols and participants.
 
 /// The greatest numbers of symbols and of participants.
-const MAX_SYMBOLS: usize = 4_096;
-const MAX_PARTICIPANTS: usize = 26;
+const SYMBOLS_MOST: usize = 4_096;
+const PARTICIPANTS_MOST: usize = 26;
 
 /// The names of a day, each list in its order.
 pub struct Names {
@@ -18,7 +18,7 @@ pub fn read(symbols: &[u8], participants: &[u8]) -> Result<Names, &'static str> 
     if symbols.is_empty() || participants.is_empty() {
         return Err("1 Empty");
     }
-    if symbols.len() > MAX_SYMBOLS || participants.len() > MAX_PARTICIPANTS {
+    if symbols.len() > SYMBOLS_MOST || participants.len() > PARTICIPANTS_MOST {
         return Err("2 TooMany");
     }
     if repeats(&symbols) || repeats(&participants) {

@@ -30,4 +30,4 @@ pub use program::run;
 pub use summary::{Mark, Summary};
 
 /// The greatest number of bytes of an input.
-pub const MAX_INPUT: usize = 16_777_216;
+pub const INPUT_MOST: usize = 16_777_216;

@@ -1,6 +1,6 @@
 //! A program's words, input, output and statuses: those of `tapebox batch`.
 
-use crate::{BadHeader, Keep, MAX_INPUT, batch};
+use crate::{BadHeader, INPUT_MOST, Keep, batch};
 use std::fs::File;
 use std::hint::black_box;
 use std::io::{self, Read, Write};
@@ -16,7 +16,7 @@ pub fn run<K: Keep>() -> ExitCode {
     let Ok(input) = read_input() else {
         return fault(3, "read fault");
     };
-    if input.len() > MAX_INPUT {
+    if input.len() > INPUT_MOST {
         return fault(2, "input too large");
     }
     let mut text = Vec::new();
@@ -35,7 +35,7 @@ pub fn run<K: Keep>() -> ExitCode {
 /// Standard input whole, or one byte more than an input may have. A file's room is reserved at once.
 fn read_input() -> io::Result<Vec<u8>> {
     let file = File::from(io::stdin().as_fd().try_clone_to_owned()?);
-    let most = MAX_INPUT as u64 + 1;
+    let most = INPUT_MOST as u64 + 1;
     let size = file.metadata()?.len().min(most);
     let mut input = Vec::with_capacity(size as usize + 1);
     file.take(most).read_to_end(&mut input)?;

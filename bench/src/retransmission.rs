@@ -1,6 +1,6 @@
 //! Requests for what was lost, and their answers.
 
-use crate::frames::{ENTRIES_MOST, PACKET_LONGEST, Request, write_data};
+use crate::frames::{ENTRIES_MOST, LONGEST_PACKET, Request, write_data};
 use crate::keep::Entry;
 use std::io::{self, ErrorKind, Read, Write};
 
@@ -73,7 +73,7 @@ pub fn ask(
     let mut packets = Vec::with_capacity(usize::from(count));
     for _ in 0..count {
         let length = usize::from(u16::from_be_bytes(read_bytes(reader)?));
-        if !(1..=PACKET_LONGEST).contains(&length) {
+        if !(1..=LONGEST_PACKET).contains(&length) {
             return Err("76 BadAnswer");
         }
         let mut packet = vec![0; length];

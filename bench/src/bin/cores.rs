@@ -34,7 +34,9 @@ fn seconds(threads: usize) -> f64 {
 
 fn main() {
     for (name, threads) in [("one_thread", 1), ("two_threads", 2), ("four_threads", 4)] {
-        let least = (0..TURNS).map(|_| seconds(threads)).fold(f64::INFINITY, f64::min);
+        let least = (0..TURNS)
+            .map(|_| seconds(threads))
+            .fold(f64::INFINITY, f64::min);
         println!("seconds_{name} {least:.6}");
     }
 }

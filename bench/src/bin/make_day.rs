@@ -14,7 +14,7 @@ use std::io::{self, Write};
 use std::process::ExitCode;
 
 /// The greatest number of bytes of an input.
-const MAX_INPUT: usize = 16_777_216;
+const INPUT_MOST: usize = 16_777_216;
 
 fn main() -> ExitCode {
     let words: Vec<String> = std::env::args().skip(1).collect();
@@ -22,7 +22,7 @@ fn main() -> ExitCode {
         Some(word) => word.parse().ok(),
         None => Some(default),
     };
-    let (Some(seed), Some(bytes)) = (number(1, 1), number(2, MAX_INPUT as u64)) else {
+    let (Some(seed), Some(bytes)) = (number(1, 1), number(2, INPUT_MOST as u64)) else {
         return usage();
     };
     let mut maker = Maker::new(seed, bytes as usize);

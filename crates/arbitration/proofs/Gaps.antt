@@ -5,7 +5,7 @@ use Rattle.std.proofs.lemmas.Bool.{cases_lt, cond-false, le-ltb, false≢true}
 use Rattle.std.proofs.lemmas.Option.{none-some, same_Some}
 use Rattle.std.specs.Prelude.{slice_get, is_some, nat_lt, ◌↔◌}
 use Rattle.tape_core.specs.declared.entry.Entry.{Entry}
-use Rattle.arbitration.specs.Gaps.{MOST_ASKED, IsMissing, IsGap, waiting_entry}
+use Rattle.arbitration.specs.Gaps.{ASKED_MOST, IsMissing, IsGap, waiting_entry}
 use Rattle.arbitration.specs.Windows.{WindowState, ready_entries, flat}
 
 -- no more entries are ready than there are slots
@@ -58,7 +58,7 @@ missing_from w n missing = elim (cases_lt n (w.base + 1 + length (ready_entries 
 
 -- the empty slots after the ready ones are the gap, as far as it was announced
 pub the_gap : (w : WindowState) (full most count : ℕ) → full ≡ length (ready_entries w.slots) → w.base + 1 + full ≤ w.announced
-    → most ≡ min (w.announced - (w.base + 1 + full) + 1) MOST_ASKED → count ≤ most
+    → most ≡ min (w.announced - (w.base + 1 + full) + 1) ASKED_MOST → count ≤ most
     → ((k : ℕ) → k < count → flat (slice_get w.slots (full + k)) ≡ None)
     → (count < most → is_some (flat (slice_get w.slots (full + count))) ≡ true)
     → IsGap w (w.base + 1 + full) count
@@ -74,7 +74,7 @@ the_gap w full most count at_first announced the_most within empty ends = record
         absurd (false≢true (sym (ap is_some (ap (λ i. flat (slice_get w.slots i)) zero' ∙ ready_empty w.slots)) ∙ ends (omega arith)))
   ];
   few = omega arith;
-  ends = λ (short : count < MOST_ASKED) (missing : IsMissing w (w.base + 1 + full + count)).
+  ends = λ (short : count < ASKED_MOST) (missing : IsMissing w (w.base + 1 + full + count)).
       let reached : w.base + 1 + full + count ≤ w.announced = missing.1 in
       let place : w.base + 1 + full + count ≡ (w.base + 1) + (full + count) = omega arith in
       false≢true (sym (ap is_some (sym (waiting_at (w.base + 1) w.slots _ _ place) ∙ missing.2)) ∙ ends (omega arith));

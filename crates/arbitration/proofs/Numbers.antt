@@ -15,7 +15,7 @@ use Rattle.tape_frames.specs.declared.packet.Packet.TheVariants.{Data, Beat, End
 use Rattle.arbitration.proofs.Slots.{other_number}
 use Rattle.arbitration.specs.Deliveries.{entry_numbered}
 use Rattle.tape_types.specs.Ranges.{TAPE_MOST}
-use Rattle.tape_frames.specs.Limits.{MOST_ENTRIES}
+use Rattle.tape_frames.specs.Limits.{ENTRIES_MOST}
 
 -- the entry of a number in consecutive entries is the one at its place
 pub numbered_at : (first : ℕ) (es : List Entry) (m : ℕ) → IsNumberedFrom first es → entry_numbered (first + m) es ≡ slice_get es m
@@ -63,7 +63,7 @@ number_is_new first es k d h within =
     ap (λ n. entry_numbered n (take k es)) number ∙ numbered_at first (take k es) k front ∙ slice_get_past (take k es) k (omega (arith, length-take k es))
 
 -- the entries of a packet are consecutive and few, and their numbers positive
-pub row_numbers : (es : List Entry) → IsEmptyOrRow es → IsNumberedFrom (first_number es) es × (length es ≤ MOST_ENTRIES) × All (λ e. 1 ≤ e.number) es
+pub row_numbers : (es : List Entry) → IsEmptyOrRow es → IsNumberedFrom (first_number es) es × (length es ≤ ENTRIES_MOST) × All (λ e. 1 ≤ e.number) es
 row_numbers [] h = (tt, omega arith, All-nil _)
 row_numbers (e ∷ es) h = (
   h.consecutive,

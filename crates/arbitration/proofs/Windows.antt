@@ -14,7 +14,7 @@ use Rattle.arbitration.proofs.Counts.{count_push_no, count_full, count_none, bro
 use Rattle.arbitration.proofs.Numbers.{packet_numbers, packet_within, packet_end}
 use Rattle.arbitration.proofs.Slots.{length-slots_after}
 use Rattle.arbitration.specs.Counts.{taken_of}
-use Rattle.arbitration.specs.Gaps.{MOST_ASKED}
+use Rattle.arbitration.specs.Gaps.{ASKED_MOST}
 use Rattle.arbitration.specs.Deliveries.{entry_numbered, slots_after, is_beyond, is_other_end, is_past_end, window_after}
 use Rattle.arbitration.specs.Windows.{WindowState, IsWindow, flat, ArePlaced, window_past, next_of, empty_window, reach}
 use Rattle.arbitration.specs.declared.line.Line.{Line}
@@ -30,7 +30,7 @@ unfolding reach
 reach-some = omega arith
 
 -- a request asks for no more numbers than a window reaches
-pub reach-asked : MOST_ASKED ≤ reach
+pub reach-asked : ASKED_MOST ≤ reach
 unfolding reach
 reach-asked = omega arith
 

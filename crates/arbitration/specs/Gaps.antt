@@ -5,8 +5,8 @@ use Rattle.tape_frames.specs.Limits.{LONGEST_SPAN}
 use Rattle.arbitration.specs.Windows.{WindowState, flat}
 
 -- the most numbers that one request asks for
-abbrev pub MOST_ASKED : ℕ
-MOST_ASKED = LONGEST_SPAN
+abbrev pub ASKED_MOST : ℕ
+ASKED_MOST = LONGEST_SPAN
 
 -- the entry that waits under a number, where the first slot is of the number next
 abbrev pub waiting_entry : ℕ → List (Option Entry) → ℕ → Option Entry
@@ -21,5 +21,5 @@ pub record IsGap (w : WindowState) (from count : ℕ) : Type 0 where
   pub least : (n : ℕ) → IsMissing w n → from ≤ n
   pub all : (n : ℕ) → from ≤ n → n < from + count → IsMissing w n
   pub some : 1 ≤ count
-  pub few : count ≤ MOST_ASKED
-  pub ends : count < MOST_ASKED → ¬ (IsMissing w (from + count))
+  pub few : count ≤ ASKED_MOST
+  pub ends : count < ASKED_MOST → ¬ (IsMissing w (from + count))

@@ -8,7 +8,7 @@ use tape_core::Entry;
 use tape_frames::{LONGEST_SPAN, Span};
 
 /// The most numbers that one request asks for.
-pub const MOST_ASKED: u32 = LONGEST_SPAN as u32;
+pub const ASKED_MOST: u32 = LONGEST_SPAN as u32;
 
 /// How many slots are full before the first empty one.
 pub(crate) fn full_run(slots: &VecDeque<Option<Entry>>) -> u32

@@ -6,7 +6,7 @@ ghost use Rattle.arbitration.specs.Counts.{brought_by, taken_of};
 ghost use Rattle.arbitration.specs.Deliveries.{Accepts, Refuses, window_after};
 ghost use Rattle.arbitration.specs.Gaps.{IsGap, IsMissing};
 
-use crate::gap::{MOST_ASKED, empty_run, full_run, span};
+use crate::gap::{ASKED_MOST, empty_run, full_run, span};
 use crate::placing::settle;
 use crate::refusal::{find_conflict, is_past_end};
 use crate::{Brought, DeliverFault, Line, Taken};
@@ -112,7 +112,7 @@ impl Window {
     }
 
     /// What to ask for: the first numbers that were announced and neither were taken out nor wait. They go on to before the
-    /// next entry that waits or to the last number announced, and are at most `MOST_ASKED`. `None` where no number is missing.
+    /// next entry that waits or to the last number announced, and are at most `ASKED_MOST`. `None` where no number is missing.
     pub fn missing(&self) -> Option<Request>
         ensures gap { MatchOption result
             ((n : ℕ) → ¬ (IsMissing self.now n))
@@ -123,7 +123,7 @@ impl Window {
         if from > self.announced {
             return None;
         }
-        let most = (self.announced - from + 1).min(MOST_ASKED);
+        let most = (self.announced - from + 1).min(ASKED_MOST);
         let count = empty_run(&self.slots, full, most);
         Some(Request {
             session: self.session,

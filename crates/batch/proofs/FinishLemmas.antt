@@ -16,7 +16,7 @@ use Rattle.batch.specs.declared.read_end.ReadEnd.TheVariants.{TooLarge as ReadTo
 use Rattle.batch.specs.declared.reading.Batch.{Batch}
 use Rattle.batch.specs.declared.reading.Batch.TheVariants.{Answered, HeaderRefused}
 use Rattle.batch.proofs.BatchLemmas.{Appends-kept, Appends-same}
-use Rattle.row_reads.proofs.WriteLemmas.{WritesFront-kept, WritesFront-longer, WritesFront-whole}
+use Rattle.row_reads.proofs.WriteLemmas.{WritesPrefix-kept, WritesPrefix-longer, WritesPrefix-whole}
 use Rattle.batch.proofs.WrittenDay.{ReadsBatch-may, ReadsBatch-stop, ReadsBatch-text}
 
 -- what was written is what the end says
@@ -62,27 +62,27 @@ Finishes-silent (HeaderRefused fault) end old new h (inr is) = rw is at h
 pub Finishes-kept : (read : Batch) (end : BatchEnd) (old now new : Option (List ℕ)) → Finishes read end old now → Keeps now new → Finishes read end old new
 Finishes-kept (Answered day) Done old now new h kept = (h.0, Appends-kept old now new _ h.1 kept)
 Finishes-kept (Answered day) OutOfMemory old now new h kept = Appends-kept old now new _ h kept
-Finishes-kept (Answered day) WriteFault old now new h kept = WritesFront-kept _ old now new h kept
+Finishes-kept (Answered day) WriteFault old now new h kept = WritesPrefix-kept _ old now new h kept
 Finishes-kept (Answered day) BadHeader old now new h kept = absurd h
 Finishes-kept (Answered day) TooLarge old now new h kept = absurd h
 Finishes-kept (Answered day) ReadFault old now new h kept = absurd h
 Finishes-kept (HeaderRefused fault) BadHeader old now new h kept = Appends-kept old now new _ h kept
-Finishes-kept (HeaderRefused fault) WriteFault old now new h kept = WritesFront-kept _ old now new h kept
+Finishes-kept (HeaderRefused fault) WriteFault old now new h kept = WritesPrefix-kept _ old now new h kept
 Finishes-kept (HeaderRefused fault) Done old now new h kept = absurd h
 Finishes-kept (HeaderRefused fault) OutOfMemory old now new h kept = absurd h
 Finishes-kept (HeaderRefused fault) TooLarge old now new h kept = absurd h
 Finishes-kept (HeaderRefused fault) ReadFault old now new h kept = absurd h
 
--- whatever was written is a front of the text where the flush fails
+-- whatever was written is a prefix of the text where the flush fails
 pub Finishes-fault : (read : Batch) (end : BatchEnd) (old new : Option (List ℕ)) → Finishes read end old new → Finishes read WriteFault old new
-Finishes-fault (Answered day) Done old new h = WritesFront-whole _ old new h.1
+Finishes-fault (Answered day) Done old new h = WritesPrefix-whole _ old new h.1
 Finishes-fault (Answered day) OutOfMemory old new h =
-    WritesFront-longer (flat_map answer_line day.answers.items) (report_unless day.is_stopped day.tape) old new (WritesFront-whole _ old new h)
+    WritesPrefix-longer (flat_map answer_line day.answers.items) (report_unless day.is_stopped day.tape) old new (WritesPrefix-whole _ old new h)
 Finishes-fault (Answered day) WriteFault old new h = h
 Finishes-fault (Answered day) BadHeader old new h = absurd h
 Finishes-fault (Answered day) TooLarge old new h = absurd h
 Finishes-fault (Answered day) ReadFault old new h = absurd h
-Finishes-fault (HeaderRefused fault) BadHeader old new h = WritesFront-whole _ old new h
+Finishes-fault (HeaderRefused fault) BadHeader old new h = WritesPrefix-whole _ old new h
 Finishes-fault (HeaderRefused fault) WriteFault old new h = h
 Finishes-fault (HeaderRefused fault) Done old new h = absurd h
 Finishes-fault (HeaderRefused fault) OutOfMemory old new h = absurd h

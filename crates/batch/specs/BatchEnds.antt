@@ -3,7 +3,7 @@ use Rattle.std.specs.Prelude.{◌≡◌, ◌≤◌, ◌<◌, ◌⊎◌, ℕ, Lis
 use Rattle.std.specs.Io.KnownBytes.{Appends, Keeps}
 use Rattle.tape_types.specs.Names.{Names}
 use Rattle.batch.specs.Batch.{INPUT_MOST, IsStopText, StopsForMemory, batch_text, body_text, batch_tape, fault_line, input_listing, message_lines}
-use Rattle.row_reads.specs.Writing.{WritesFront}
+use Rattle.row_reads.specs.Writing.{WritesPrefix}
 use Rattle.batch.specs.declared.batch_end.BatchEnd.{BatchEnd}
 use Rattle.batch.specs.declared.batch_end.BatchEnd.TheVariants.{Done, BadHeader, TooLarge, ReadFault, WriteFault, OutOfMemory}
 use Rattle.batch.specs.declared.header_fault.HeaderFault.{HeaderFault}
@@ -18,9 +18,9 @@ abbrev pub IsTextUnder : Result Names HeaderFault → List (List ℕ) → List �
 IsTextUnder (Ok names) lines text = (text ≡ body_text names lines) ⊎ IsStopText (batch_tape names) lines text
 IsTextUnder (Err fault) lines text = text ≡ fault_line fault
 
--- what was written where a write failed: a front of such a text, and nothing else
+-- what was written where a write failed: a prefix of such a text, and nothing else
 abbrev pub WroteToFault : List ℕ → Option (List ℕ) → Option (List ℕ) → Type 0
-WroteToFault input old new = (text : List ℕ) × IsTextUnder (input_listing input) (message_lines input) text × WritesFront text old new
+WroteToFault input old new = (text : List ℕ) × IsTextUnder (input_listing input) (message_lines input) text × WritesPrefix text old new
 
 -- what was written at this end
 abbrev pub Wrote : BatchEnd → List ℕ → Option (List ℕ) → Option (List ℕ) → Type 0

@@ -4,7 +4,7 @@ use Rattle.std.specs.Io.KnownBytes.{Appends}
 use Rattle.std.specs.List.{flat_map}
 use Rattle.tape_core.specs.Tape.{TapeState}
 use Rattle.batch.specs.Batch.{answer_line, fault_line, tape_report}
-use Rattle.row_reads.specs.Writing.{WritesFront}
+use Rattle.row_reads.specs.Writing.{WritesPrefix}
 use Rattle.batch.specs.declared.batch_end.BatchEnd.{BatchEnd}
 use Rattle.batch.specs.declared.batch_end.BatchEnd.TheVariants.{Done, BadHeader, TooLarge, ReadFault, WriteFault, OutOfMemory}
 use Rattle.batch.specs.declared.day.Day.{Day}
@@ -24,7 +24,7 @@ day_text day = flat_map answer_line day.answers.items ++ report_unless day.is_st
 abbrev pub FinishesDay : Day → BatchEnd → Option (List ℕ) → Option (List ℕ) → Type 0
 FinishesDay day Done old new = (day.is_stopped ≡ false) × Appends old new (day_text day)
 FinishesDay day OutOfMemory old new = Appends old new (flat_map answer_line day.answers.items)
-FinishesDay day WriteFault old new = WritesFront (day_text day) old new
+FinishesDay day WriteFault old new = WritesPrefix (day_text day) old new
 FinishesDay day BadHeader old new = ⊥
 FinishesDay day TooLarge old new = ⊥
 FinishesDay day ReadFault old new = ⊥
@@ -32,7 +32,7 @@ FinishesDay day ReadFault old new = ⊥
 -- what was written of a text at this end, where nothing takes memory
 abbrev pub FinishesRefusal : List ℕ → BatchEnd → Option (List ℕ) → Option (List ℕ) → Type 0
 FinishesRefusal text BadHeader old new = Appends old new text
-FinishesRefusal text WriteFault old new = WritesFront text old new
+FinishesRefusal text WriteFault old new = WritesPrefix text old new
 FinishesRefusal text Done old new = ⊥
 FinishesRefusal text OutOfMemory old new = ⊥
 FinishesRefusal text TooLarge old new = ⊥

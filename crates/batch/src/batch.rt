@@ -8,7 +8,7 @@ ghost use Rattle.day_report.specs.declared.report_fault.ReportFault.TheVariants.
 ghost use Rattle.batch.specs.Batch.{INPUT_MOST, answer_line, tape_report};
 ghost use Rattle.batch.specs.BatchEnds.{EndsAt, Wrote};
 ghost use Rattle.batch.specs.Finish.{Finishes, day_text};
-ghost use Rattle.row_reads.specs.Writing.{WritesFront};
+ghost use Rattle.row_reads.specs.Writing.{WritesPrefix};
 ghost use Rattle.batch.specs.declared.batch_end.BatchEnd.TheVariants.{ReadFault, TooLarge, WriteFault as EndWriteFault};
 ghost use Rattle.batch.specs.declared.stop.Stop.TheVariants.{OutOfMemory, WriteFault as StopWriteFault};
 
@@ -49,7 +49,7 @@ fn write_answers<W: Write>(
 ) -> Result<(), WriteFault>
     requires { gathered.old ≡ [] }
     ensures written { OnOk result (Appends (W.contents writer.old) (W.contents writer.new) (flat_map answer_line answers.now)) }
-    ensures front { OnErr result (WritesFront (flat_map answer_line answers.now) (W.contents writer.old) (W.contents writer.new)) }
+    ensures front { OnErr result (WritesPrefix (flat_map answer_line answers.now) (W.contents writer.old) (W.contents writer.new)) }
 {
     for answer in answers {
         gathered.push_answer(answer);
@@ -97,7 +97,7 @@ fn write_day<T: Threads + Sync, W: Write>(
     ensures written { OnOk result (Appends (W.contents writer.old) (W.contents writer.new) (day_text day.now)) }
     ensures memory { result ≡ Err OutOfMemory
         → Appends (W.contents writer.old) (W.contents writer.new) (flat_map answer_line day.now.answers.items) }
-    ensures fault { result ≡ Err StopWriteFault → WritesFront (day_text day.now) (W.contents writer.old) (W.contents writer.new) }
+    ensures fault { result ≡ Err StopWriteFault → WritesPrefix (day_text day.now) (W.contents writer.old) (W.contents writer.new) }
 {
     write_answers(&day.answers, gathered, writer)?;
     if day.is_stopped {

@@ -6,7 +6,7 @@ mod report_fault;
 mod row;
 mod text;
 
-pub use pieces::{MAX_WORKERS, rows};
+pub use pieces::{WORKERS_MOST, rows};
 pub use report_fault::ReportFault;
 pub use row::Row;
 pub use text::write_report;

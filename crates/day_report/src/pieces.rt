@@ -1,7 +1,7 @@
 //! The rows of a report, made by pieces of the listing.
 ghost use Rattle.std.specs.Prelude.{◌≡◌, ◌≢◌, ◌++◌, ◌+◌, ◌*◌, ◌^◌, ◌<◌, ◌≤◌, List, Err, Some, None, IfErr, IfOk, IfSome, OnOk, length, slice_get, take, drop};
 ghost use Rattle.std.specs.List.{flat_map};
-ghost use Rattle.day_report.specs.Pieces.{IsPieceAt, AreMade, AreFrom, MAX_WORKERS};
+ghost use Rattle.day_report.specs.Pieces.{IsPieceAt, AreMade, AreFrom, WORKERS_MOST};
 ghost use denote.Param.Send.{IsSync};
 ghost use Rattle.day_report.specs.Rows.{report_rows, symbol_rows};
 ghost use Rattle.day_report.specs.declared.report_fault.ReportFault.TheVariants.{BadWorkers, Unstarted, WriteFault};
@@ -17,7 +17,7 @@ use tape_core::Tape;
 use tape_types::{Gate, SYMBOLS_MOST, Symbol};
 
 /// The greatest number of workers of a report.
-pub const MAX_WORKERS: usize = 64;
+pub const WORKERS_MOST: usize = 64;
 
 /// How many pieces of the listing there are for each worker, at most: the workers take them one after another, so that one
 /// that is held up, or whose symbols take long, leaves more of them to the others.
@@ -225,12 +225,12 @@ pub fn rows<S: Store + Sync, G: Gate + Sync, R: Threads + Sync>(
     gate: &G,
 ) -> Result<Vec<Row>, ReportFault>
     ensures rows { IfOk result (λ rows. rows.items ≡ report_rows tape.now) }
-    ensures bad { result ≡ Err BadWorkers → ¬ ((1 ≤ workers) × (workers ≤ MAX_WORKERS)) }
-    ensures within { ¬ ((1 ≤ workers) × (workers ≤ MAX_WORKERS)) → result ≡ Err BadWorkers }
+    ensures bad { result ≡ Err BadWorkers → ¬ ((1 ≤ workers) × (workers ≤ WORKERS_MOST)) }
+    ensures within { ¬ ((1 ≤ workers) × (workers ≤ WORKERS_MOST)) → result ≡ Err BadWorkers }
     ensures unstarted { result ≡ Err Unstarted → 2 ≤ workers }
     ensures written { result ≢ Err WriteFault }
 {
-    if workers == 0 || workers > MAX_WORKERS {
+    if workers == 0 || workers > WORKERS_MOST {
         return Err(ReportFault::BadWorkers);
     }
     let symbols = tape.listing().symbols().as_slice();

@@ -11,12 +11,12 @@ use subscriber::{DeliveryFault, Subscriber};
 use summaries::IndexStore;
 use tape_core::Tape;
 use tape_frames::{
-    EntryCount, MOST_ENTRIES, Packet, Request, SliceSource, Source, cut, write_packet,
+    ENTRIES_MOST, EntryCount, Packet, Request, SliceSource, Source, cut, write_packet,
     write_request,
 };
 
 /// How many entries a packet has at most.
-const PACKET_ENTRIES: u32 = MOST_ENTRIES as u32;
+const PACKET_ENTRIES: u32 = ENTRIES_MOST as u32;
 
 /// Sends a tape whole and then its end, and answers how many packets of entries it took. Whenever the subscriber tells
 /// a gap, what is missing is asked for before the next packet.

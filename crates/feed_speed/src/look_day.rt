@@ -21,7 +21,7 @@ const READERS: usize = 4;
 const LOOKS_ALONE: u64 = 1_048_576;
 
 /// How many entries are published at once, at most.
-const MOST_PUBLISHED: u32 = 64;
+const PUBLISHED_MOST: u32 = 64;
 
 /// How many milliseconds the publisher waits where it found fewer.
 const PAUSE_MILLIS: u64 = 1;
@@ -94,8 +94,8 @@ fn look_at_once<D: DayName + Send + Sync, R: Threads + Sync>(
 fn publish_on<D: DayName, R: Clock + Wait>(rt: &R, shared: &SharedTape<D>, over: &AtomicBool) {
     for _ in rt.forever() {
         let is_over = over.load(Ordering::SeqCst);
-        match shared.publish(rt, MOST_PUBLISHED) {
-            Ok(MOST_PUBLISHED) => {}
+        match shared.publish(rt, PUBLISHED_MOST) {
+            Ok(PUBLISHED_MOST) => {}
             Ok(_) if !is_over => thread::sleep(rt, Duration::from_millis(PAUSE_MILLIS)),
             Ok(_) | Err(_) => break,
         }

@@ -14,10 +14,10 @@ use std::rt::Clock;
 use std::sync::Wait;
 use std::thread;
 use std::time::Duration;
-use tape_frames::{EntryCount, LONGEST_PACKET, MOST_ENTRIES, Packet, Source, cut, write_packet};
+use tape_frames::{ENTRIES_MOST, EntryCount, LONGEST_PACKET, Packet, Source, cut, write_packet};
 
 /// How many entries are published at once: as many as one packet takes.
-const PUBLISHED_AT_ONCE: u32 = MOST_ENTRIES as u32;
+const PUBLISHED_AT_ONCE: u32 = ENTRIES_MOST as u32;
 
 /// After how many packets the sender rests, so that a reader's buffer does not run over.
 const PACKETS_BEFORE_REST: u32 = 16;

@@ -17,7 +17,7 @@ use Rattle.tape_core.specs.declared.refusal.Refusal.{Refusal}
 use Rattle.tape_core.specs.declared.refusal.Refusal.TheVariants as tape
 use Rattle.tape_types.specs.Names.{Names}
 use Rattle.participant_lines.specs.Frames.{EndsInput, IsFrame}
-use Rattle.participant_lines.specs.Runs.{AreDone, Does, EndsAfter, IsAnswered, IsDone, Runs, StopsAt, Takes, effect_of, MOST_FRAMES, refusal_effect}
+use Rattle.participant_lines.specs.Runs.{AreDone, Does, EndsAfter, IsAnswered, IsDone, Runs, StopsAt, Takes, effect_of, FRAMES_MOST, refusal_effect}
 use Rattle.participant_lines.specs.declared.line_end.Ended.{Ended}
 use Rattle.participant_lines.specs.declared.line_end.Ended.TheVariants.{Clean, Truncated, Oversize, ReadFault, TooMany, OutOfMemory, Behind}
 
@@ -186,7 +186,7 @@ refusal_few ended listing s m stop is = subst (λ (e : Ended). StopsAt e listing
 
 -- a line that ended before it did as many frames as ever are
 pub runs_ended : (listing : Names) (s s' s'' : SeatState) (had left rest : Option (List ℕ)) (many refused : ℕ) (ended : Ended)
-    → Does listing s had left many refused s' → s'' ≡ s' → EndsAfter ended listing s' left rest → ended ≢ TooMany → many < MOST_FRAMES
+    → Does listing s had left many refused s' → s'' ≡ s' → EndsAfter ended listing s' left rest → ended ≢ TooMany → many < FRAMES_MOST
     → Runs listing s had rest refused ended s''
 runs_ended listing s s' s'' had left rest many refused ended does same after goes_on fewer =
     subst (Runs listing s had rest refused ended) (sym same) (record {
@@ -200,7 +200,7 @@ runs_ended listing s s' s'' had left rest many refused ended does same after goe
 
 -- a line that did as many frames as ever are
 pub runs_most : (listing : Names) (s s' : SeatState) (had rest : Option (List ℕ)) (many refused : ℕ)
-    → Does listing s had rest many refused s' → many ≡ MOST_FRAMES → Runs listing s had rest refused TooMany s'
+    → Does listing s had rest many refused s' → many ≡ FRAMES_MOST → Runs listing s had rest refused TooMany s'
 runs_most listing s s' had rest many refused does all = record {
   many = many;
   left = rest;

@@ -18,8 +18,8 @@ use Rattle.participant_lines.specs.declared.line_end.Ended.{Ended}
 use Rattle.participant_lines.specs.declared.line_end.Ended.TheVariants.{Clean, Truncated, Oversize, ReadFault, TooMany, OutOfMemory, Behind}
 
 -- how many frames a line does at most
-abbrev pub MOST_FRAMES : ℕ
-MOST_FRAMES = 2097152
+abbrev pub FRAMES_MOST : ℕ
+FRAMES_MOST = 2097152
 
 -- what a tape's refusal is to its line: 40 ends it, and each other one is counted
 abbrev pub refusal_effect : Refusal → Result ℕ Ended
@@ -105,5 +105,5 @@ pub record Runs (listing : Names) (s : SeatState) (had rest : Option (List ℕ))
   pub left : Option (List ℕ)
   pub does : Does listing s had left many refused s'
   pub after : EndsAfter ended listing s' left rest
-  pub most : ended ≡ TooMany → many ≡ MOST_FRAMES
-  pub fewer : ended ≢ TooMany → many < MOST_FRAMES
+  pub most : ended ≡ TooMany → many ≡ FRAMES_MOST
+  pub fewer : ended ≢ TooMany → many < FRAMES_MOST

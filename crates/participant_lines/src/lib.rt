@@ -9,5 +9,5 @@ mod unstarted;
 
 pub use line_end::{Ended, LineEnd};
 pub use lines::run_lines;
-pub use running::{MOST_FRAMES, run_line};
+pub use running::{FRAMES_MOST, run_line};
 pub use unstarted::{Lack, Unstarted};

@@ -13,7 +13,7 @@ use tape_core::Refusal;
 use tape_types::Gate;
 
 /// How many frames a line does at most.
-pub const MOST_FRAMES: u32 = 2_097_152;
+pub const FRAMES_MOST: u32 = 2_097_152;
 
 /// What a run came to, beside its seat.
 #[derive(Clone, Copy, Debug, PartialEq, Eq)]
@@ -90,7 +90,7 @@ pub(crate) fn run_frames<D: DayName, R: BufRead, G: Gate, W: Wait>(
 {
     let mut row = [0; LONGEST_FRAME];
     let mut refused = 0;
-    for done in 0..MOST_FRAMES {
+    for done in 0..FRAMES_MOST {
         match do_frame(rt, shared, seat, reader, &mut row) {
             Ok(more) => refused += more,
             Err(ended) => return Outcome { refused, ended },

@@ -13,7 +13,7 @@ use Rattle.std.proofs.lemmas.List.Edits.{insert_end, length-remove}
 use Rattle.tape_types.specs.RisingEntries.{HasRisingKeys, IsPosition, StandsIn, keyed, AllBelow}
 use Rattle.tape_types.proofs.RisingEntries.{entries-inserted, entries-removed, entries-replaced, find-absent, find-at, itself-seen, keyed-itself}
 use Rattle.tape_types.proofs.RisingEntries.{position-above, position-exists, removed-absent, stands-exists, vacant-above}
-use Rattle.place_index.specs.Blocks.{EndsAt, IsBlockFor, IsBlockList, StandsAt, StartsAt, joined, MAX_BLOCK_LEN, values_in, values_of}
+use Rattle.place_index.specs.Blocks.{EndsAt, IsBlockFor, IsBlockList, StandsAt, StartsAt, joined, BLOCK_MOST, values_in, values_of}
 use Rattle.place_index.specs.Places.{IsFirstPlace, IsLastPlace}
 use Rattle.place_index.proofs.BlockOrder.{absent-behind, absent-in, block-rising, blocks-insert, found-in, in-either, inside, set-back, stands-remove}
 use Rattle.place_index.proofs.BlockOrder.{stands-set, under-top, Under}
@@ -197,7 +197,7 @@ module _ {V : Type 0} where
     vacant-in_block vacant = ap (λ x. map.get (values_in x) k) is ∙ sym (found-in_block k bs valid b at lt) ∙ vacant
 
     -- a value is put in at a vacant place of a block with room, or nothing changes
-    pub insert-in_block : {E : Type 0} (r : Result (Unit {0}) E) (v : V) → map.get (values_of bs) k ≡ None → length (get_or bs b []) < MAX_BLOCK_LEN
+    pub insert-in_block : {E : Type 0} (r : Result (Unit {0}) E) (v : V) → map.get (values_of bs) k ≡ None → length (get_or bs b []) < BLOCK_MOST
         → ((i : ℕ) → IsPosition k y i → OnOk r (y2 ≡ insert y i (k, v))) → OnErr r (y2 ≡ y)
         → IsBlockList (set bs b y2) × OnOk r (values_of (set bs b y2) ≡ map.insert (values_of bs) k v)
     insert-in_block r v vacant room placed same =

@@ -11,7 +11,7 @@ use Rattle.std.proofs.lemmas.Bool.Decides.{nat_tests}
 use Rattle.std.proofs.lemmas.List.{append-nil, length-take-le, length-drop}
 use Rattle.tape_types.specs.RisingEntries.{AllBelow}
 use Rattle.place_index.specs.Places.{IsVacant, IsFirstPlace, IsLastPlace}
-use Rattle.place_index.specs.Blocks.{joined, MAX_BLOCK_LEN, top, values_of, values_in, all_values, begins_by, AllAbove, IsBlockList, IsBlockFor}
+use Rattle.place_index.specs.Blocks.{joined, BLOCK_MOST, top, values_of, values_in, all_values, begins_by, AllAbove, IsBlockList, IsBlockFor}
 use Rattle.place_index.specs.Blocks.{HasLastBlock}
 use Rattle.place_index.proofs.BlockLists.{append-assoc, joined-append, sized-push}
 use Rattle.place_index.proofs.BlockOrder.{take_drop, Under, sorted-left, sorted-right, under-top}
@@ -323,7 +323,7 @@ module _ {V : Type 0} where
     below-second k all q some = all q (some-second _ _ _ both-of q some)
 
     -- a value put into the last block
-    pub last-insert : (k : ℕ) (v : V) (es2 : List (ℕ × V)) → AllBelow (values_of bs) k → T (is_sorted nat_cmp es2) → length es2 ≤ MAX_BLOCK_LEN
+    pub last-insert : (k : ℕ) (v : V) (es2 : List (ℕ × V)) → AllBelow (values_of bs) k → T (is_sorted nat_cmp es2) → length es2 ≤ BLOCK_MOST
         → values_in es2 ≡ map.insert (values_in es) k v → HasLastBlock bs es2 × (all_values bs es2 ≡ map.insert (all_values bs es) k v)
     last-insert k v es2 below h short is = (
       record {

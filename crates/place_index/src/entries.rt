@@ -2,13 +2,13 @@
 //! place above all others and are found there at once.
 ghost use Rattle.std.specs.Prelude.{◌≡◌, ◌<◌, ◌≤◌, ◌++◌, ◌∷◌, [], ℕ, length, take, drop, OnOk, OnErr, MatchOption, Some, None, IsSome};
 ghost use Rattle.std.specs.FinMap as map;
-ghost use Rattle.place_index.specs.Blocks.{all_values, MAX_BLOCK_LEN, GoesLast, HasLastBlock};
+ghost use Rattle.place_index.specs.Blocks.{all_values, BLOCK_MOST, GoesLast, HasLastBlock};
 ghost use Rattle.place_index.specs.Places.{IsVacant, IsFirstPlace, IsLastPlace};
 ghost use Rattle.tape_types.specs.RisingEntries.{AllBelow};
 
 use crate::block::Block;
 use crate::block_list;
-use crate::block_list::MAX_BLOCK_LEN;
+use crate::block_list::BLOCK_MOST;
 use std::alloc::{AllocError, Global};
 use std::mem;
 use tape_types::TapeNumber;
@@ -46,7 +46,7 @@ pub fn insert<V: Copy>(
     if !goes_last(blocks, last, place) {
         return block_list::insert(alloc, blocks, place, value);
     }
-    make_room(alloc, blocks, last, MAX_BLOCK_LEN / 2)?;
+    make_room(alloc, blocks, last, BLOCK_MOST / 2)?;
     // Where the block was cut, the place may belong below the cut, so it is asked again.
     if goes_last(blocks, last, place) {
         last.insert(place, value)
@@ -69,7 +69,7 @@ fn push<V: Copy>(
     ensures ok { OnOk result (all_values blocks.new.items last.new ≡ map.insert (all_values blocks.old.items last.old) place value) }
     ensures err { OnErr result (all_values blocks.new.items last.new ≡ all_values blocks.old.items last.old) }
 {
-    make_room(alloc, blocks, last, MAX_BLOCK_LEN)?;
+    make_room(alloc, blocks, last, BLOCK_MOST)?;
     last.push(place, value)
 }
 
@@ -94,12 +94,12 @@ fn make_room<V: Copy>(
     index: usize,
 ) -> Result<(), AllocError>
     requires valid { HasLastBlock blocks.old.items last.old }
-    requires index { (0 < index) × (index ≤ MAX_BLOCK_LEN) }
+    requires index { (0 < index) × (index ≤ BLOCK_MOST) }
     ensures valid { HasLastBlock blocks.new.items last.new }
     ensures values { all_values blocks.new.items last.new ≡ all_values blocks.old.items last.old }
-    ensures room { OnOk result (length last.new < MAX_BLOCK_LEN) }
+    ensures room { OnOk result (length last.new < BLOCK_MOST) }
 {
-    if last.len() < MAX_BLOCK_LEN {
+    if last.len() < BLOCK_MOST {
         return Ok(());
     }
     cut(alloc, blocks, last, index)

@@ -12,11 +12,11 @@ use Rattle.tape_core.specs.declared.entry.Entry.{Entry}
 use Rattle.tape_frames.specs.declared.request.Request.{Request}
 use Rattle.tape_frames.specs.declared.request_fault.RequestFault.{RequestFault}
 use Rattle.tape_frames.specs.declared.request_fault.RequestFault.TheVariants as request
-use Rattle.tape_frames.specs.Limits.{IsSpan, LONGEST_SPAN, MOST_ENTRIES}
+use Rattle.tape_frames.specs.Limits.{IsSpan, LONGEST_SPAN, ENTRIES_MOST}
 use Rattle.tape_frames.specs.Requests.{request_at, request_of}
 use Rattle.tape_frames.specs.Spelling.{IsEntry}
 use Rattle.retransmit.specs.Answers.{IsAnswer, answer_of, framed, given_text, packet_count, range_packets, range_text}
-use Rattle.retransmit.specs.Asking.{answer_at, answered_at, MOST_PACKETS}
+use Rattle.retransmit.specs.Asking.{answer_at, answered_at, PACKETS_MOST}
 use Rattle.retransmit.specs.Faults.{refusal_code}
 use Rattle.retransmit.specs.Laws.{ArePackets, EachAnswerIsRead}
 use Rattle.retransmit.specs.Replies.{IsReadAgain, given_packets}
@@ -61,7 +61,7 @@ range_is_read : (es : List Entry) (session from to : ℕ) → from ≤ to → to
 range_is_read es session from to order few short rest =
     let texts = range_packets es session from to in
     let count : length texts ≡ packet_count from to = length-packet_texts (packet_count from to) session (take to es) from in
-    let below : packet_count from to ≤ MOST_PACKETS = omega (arith, few) in
+    let below : packet_count from to ≤ PACKETS_MOST = omega (arith, few) in
     let read = answers_are_read texts rest (omega (arith, count)) (omega (arith, count, below)) short in
     ap (λ (n : ℕ). answer_at (0 ∷ n ∷ (flat_map framed texts ++ rest))) (sym count) ∙ read
 
@@ -116,9 +116,9 @@ answer_short : (es : List Entry) (session : ℕ) (a : Answer) → All IsEntry es
 answer_short es session (Refused refusal) all = tt
 answer_short es session (Range from to) all =
     ArePackets-short (packet_count from to) session (take to es) from
-    (λ k lt. length-data_text session (take MOST_ENTRIES (drop ((from + MOST_ENTRIES * k) - 1) (take to es)))
-    (All-take IsEntry MOST_ENTRIES _ (All-drop IsEntry ((from + MOST_ENTRIES * k) - 1) (take to es) (All-take IsEntry to es all)))
-    (omega (arith, length-take MOST_ENTRIES (drop ((from + MOST_ENTRIES * k) - 1) (take to es)))))
+    (λ k lt. length-data_text session (take ENTRIES_MOST (drop ((from + ENTRIES_MOST * k) - 1) (take to es)))
+    (All-take IsEntry ENTRIES_MOST _ (All-drop IsEntry ((from + ENTRIES_MOST * k) - 1) (take to es) (All-take IsEntry to es all)))
+    (omega (arith, length-take ENTRIES_MOST (drop ((from + ENTRIES_MOST * k) - 1) (take to es)))))
 
 -- whatever was read of a request, the answer is read again
 read_cases : (es : List Entry) (session : ℕ) (bytes : List ℕ) (read : Result Request RequestFault) → request_of bytes ≡ read → All IsEntry es

@@ -3,7 +3,7 @@ use Rattle.std.proofs.Common.{◌≡◌, ◌++◌, ◌∙◌, [], ℕ, List, Opt
 use Rattle.std.specs.Io.KnownBytes.{Appends, Keeps}
 use Rattle.std.proofs.KnownBytes.{Appends-kept, Appends-nil, Appends-trans}
 use Rattle.std.proofs.lemmas.List.{take-append-drop}
-use Rattle.row_reads.specs.Writing.{WritesFront, WritesUpTo}
+use Rattle.row_reads.specs.Writing.{WritesPrefix, WritesUpTo}
 
 -- nothing is written of a text
 pub WritesUpTo-none : (text : List ℕ) (known : Option (List ℕ)) → WritesUpTo text text known known
@@ -43,21 +43,21 @@ WritesUpTo-longer text rest more old new so_far = record {
   written = so_far.written;
 }
 
--- a front of a text is one of a longer text
-pub WritesFront-longer : (text more : List ℕ) (old new : Option (List ℕ)) → WritesFront text old new → WritesFront (text ++ more) old new
-WritesFront-longer text more old new front = (front.0 ++ more, WritesUpTo-longer text front.0 more old new front.1)
+-- a prefix of a text is one of a longer text
+pub WritesPrefix-longer : (text more : List ℕ) (old new : Option (List ℕ)) → WritesPrefix text old new → WritesPrefix (text ++ more) old new
+WritesPrefix-longer text more old new front = (front.0 ++ more, WritesUpTo-longer text front.0 more old new front.1)
 
--- a text is written up to a rest, and then a front of that
-pub WritesFront-after : (text mid : List ℕ) (old now new : Option (List ℕ)) → WritesUpTo text mid old now → WritesFront mid now new → WritesFront text old new
-WritesFront-after text mid old now new one front = (front.0, WritesUpTo-both text mid front.0 old now new one front.1)
+-- a text is written up to a rest, and then a prefix of that
+pub WritesPrefix-after : (text mid : List ℕ) (old now new : Option (List ℕ)) → WritesUpTo text mid old now → WritesPrefix mid now new → WritesPrefix text old new
+WritesPrefix-after text mid old now new one front = (front.0, WritesUpTo-both text mid front.0 old now new one front.1)
 
--- a whole text is a front of itself
-pub WritesFront-whole : (text : List ℕ) (old new : Option (List ℕ)) → Appends old new text → WritesFront text old new
-WritesFront-whole text old new written = ([], WritesUpTo-whole text old new written)
+-- a whole text is a prefix of itself
+pub WritesPrefix-whole : (text : List ℕ) (old new : Option (List ℕ)) → Appends old new text → WritesPrefix text old new
+WritesPrefix-whole text old new written = ([], WritesUpTo-whole text old new written)
 
--- a front stays written where known bytes stay
-pub WritesFront-kept : (text : List ℕ) (old now new : Option (List ℕ)) → WritesFront text old now → Keeps now new → WritesFront text old new
-WritesFront-kept text old now new front kept = WritesFront-after text front.0 old now new front.1 (front.0, WritesUpTo-kept front.0 now new kept)
+-- a prefix stays written where known bytes stay
+pub WritesPrefix-kept : (text : List ℕ) (old now new : Option (List ℕ)) → WritesPrefix text old now → Keeps now new → WritesPrefix text old new
+WritesPrefix-kept text old now new front kept = WritesPrefix-after text front.0 old now new front.1 (front.0, WritesUpTo-kept front.0 now new kept)
 
 -- more is gathered after what is left of a text, and some of it is written
 pub WritesUpTo-gathered : (text rest pushed left more : List ℕ) (old now new : Option (List ℕ)) → pushed ≡ rest ++ more
@@ -65,13 +65,13 @@ pub WritesUpTo-gathered : (text rest pushed left more : List ℕ) (old now new :
 WritesUpTo-gathered text rest pushed left more old now new is one two =
     WritesUpTo-both (text ++ more) pushed left old now new (rw is (WritesUpTo-longer text rest more old now one)) two
 
--- more is gathered after what is left of a text, and a front of it is written
-pub WritesFront-gathered : (text rest pushed more : List ℕ) (old now new : Option (List ℕ)) → pushed ≡ rest ++ more
-    → WritesUpTo text rest old now → WritesFront pushed now new → WritesFront (text ++ more) old new
-WritesFront-gathered text rest pushed more old now new is one front = (front.0, WritesUpTo-gathered text rest pushed front.0 more old now new is one front.1)
+-- more is gathered after what is left of a text, and a prefix of it is written
+pub WritesPrefix-gathered : (text rest pushed more : List ℕ) (old now new : Option (List ℕ)) → pushed ≡ rest ++ more
+    → WritesUpTo text rest old now → WritesPrefix pushed now new → WritesPrefix (text ++ more) old new
+WritesPrefix-gathered text rest pushed more old now new is one front = (front.0, WritesUpTo-gathered text rest pushed front.0 more old now new is one front.1)
 
--- a text is written, and then a front of another
-pub WritesFront-then : (first second : List ℕ) (old now new : Option (List ℕ)) → Appends old now first → WritesFront second now new
-    → WritesFront (first ++ second) old new
-WritesFront-then first second old now new written front =
-    WritesFront-gathered first [] second second old now new refl (WritesUpTo-whole first old now written) front
+-- a text is written, and then a prefix of another
+pub WritesPrefix-then : (first second : List ℕ) (old now new : Option (List ℕ)) → Appends old now first → WritesPrefix second now new
+    → WritesPrefix (first ++ second) old new
+WritesPrefix-then first second old now new written front =
+    WritesPrefix-gathered first [] second second old now new refl (WritesUpTo-whole first old now written) front

@@ -8,6 +8,6 @@ pub record WritesUpTo (text rest : List ℕ) (old new : Option (List ℕ)) : Typ
   pub split : text ≡ front ++ rest
   pub written : Appends old new front
 
--- known bytes grow by a front of the text and nothing else
-abbrev pub WritesFront : List ℕ → Option (List ℕ) → Option (List ℕ) → Type 0
-WritesFront text old new = (rest : List ℕ) × WritesUpTo text rest old new
+-- known bytes grow by a prefix of the text and nothing else
+abbrev pub WritesPrefix : List ℕ → Option (List ℕ) → Option (List ℕ) → Type 0
+WritesPrefix text old new = (rest : List ℕ) × WritesUpTo text rest old new

@@ -1,7 +1,7 @@
 //! Texts written whole to a writer.
 ghost use Rattle.std.specs.Prelude.{OnOk};
 ghost use Rattle.std.specs.Io.KnownBytes.{Appends};
-ghost use Rattle.row_reads.specs.Writing.{WritesFront};
+ghost use Rattle.row_reads.specs.Writing.{WritesPrefix};
 
 use std::io::{ErrorKind, Write};
 
@@ -9,11 +9,11 @@ use std::io::{ErrorKind, Write};
 #[derive(Clone, Copy, Debug, PartialEq, Eq)]
 pub struct WriteFault;
 
-/// Writes all of a text. After a write that failed, a front of the text and nothing else stands written. An interrupted
+/// Writes all of a text. After a write that failed, a prefix of the text and nothing else stands written. An interrupted
 /// write is made again.
 pub fn write_text<W: Write>(writer: &mut W, text: &[u8]) -> Result<(), WriteFault>
     ensures written { OnOk result (Appends (W.contents writer.old) (W.contents writer.new) text.now) }
-    ensures front { WritesFront text.now (W.contents writer.old) (W.contents writer.new) }
+    ensures front { WritesPrefix text.now (W.contents writer.old) (W.contents writer.new) }
 {
     let mut rest = text;
     // `write_all` would not tell what was written before a write that fails.

@@ -9,7 +9,7 @@ use Rattle.reports.proofs.Messages.{length-content, length-header}
 use Rattle.scratch_fold.specs.declared.summary.Summary.{Summary}
 use Rattle.tape_core.specs.declared.entry.Entry.{Entry}
 use Rattle.tape_frames.specs.declared.packet.Packet.TheVariants.{Data, Beat, End}
-use Rattle.tape_frames.specs.Limits.{MOST_ENTRIES, SUMMARY_LENGTH, LONGEST_ENTRY, LONGEST_PACKET}
+use Rattle.tape_frames.specs.Limits.{ENTRIES_MOST, SUMMARY_LENGTH, LONGEST_ENTRY, LONGEST_PACKET}
 use Rattle.tape_frames.specs.Lengths.{EntryLengths, PacketLengths, RequestLengths, entry_length}
 use Rattle.tape_frames.specs.EntryRows.{CarriesFor, first_number}
 use Rattle.tape_frames.specs.Spelling as frames
@@ -86,7 +86,7 @@ length-entries (e ∷ es) all =
     )
 
 -- a data packet of no more entries than a packet has is no longer than the longest packet
-pub length-data_text : (session : ℕ) (es : List Entry) → All IsEntry es → length es ≤ MOST_ENTRIES
+pub length-data_text : (session : ℕ) (es : List Entry) → All IsEntry es → length es ≤ ENTRIES_MOST
     → length (packet_text (Data session es)) ≤ LONGEST_PACKET
 length-data_text session es all few =
     omega (arith, length-append (frames.header_text 68 session (first_number es) (length es)) (flat_map entry_text es), length-entries es all, few)

@@ -6,7 +6,7 @@ use reports::LONGEST_MESSAGE;
 pub const VERSION: u8 = 1;
 
 /// How many entries a packet has at most.
-pub const MOST_ENTRIES: usize = 8;
+pub const ENTRIES_MOST: usize = 8;
 
 /// How many entries a request asks for at most.
 pub const LONGEST_SPAN: u16 = 64;
@@ -27,7 +27,7 @@ pub const SUMMARY_LENGTH: usize = 1 + 4 * MARK_LENGTH + 12;
 pub const LONGEST_ENTRY: usize = 4 + LONGEST_MESSAGE + SUMMARY_LENGTH;
 
 /// How many bytes a packet has at most: 919.
-pub const LONGEST_PACKET: usize = HEADER_LENGTH + MOST_ENTRIES * LONGEST_ENTRY;
+pub const LONGEST_PACKET: usize = HEADER_LENGTH + ENTRIES_MOST * LONGEST_ENTRY;
 
 /// How many bytes a request has: session 8, from 4, count 2.
 pub const REQUEST_LENGTH: usize = 14;

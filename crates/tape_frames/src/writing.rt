@@ -2,7 +2,7 @@
 ghost use Rattle.std.specs.Prelude.{◌≡◌, ◌+◌, ◌*◌, ◌≤◌, ◌++◌, ◌∷◌, [], All, length, take, drop, OnOk, OnErr, IfSome, List, flat_map, is_some};
 ghost use Rattle.std.specs.Int.{w8, w16, w32, w64, to_be_bytes};
 ghost use Rattle.reports.specs.ByteRows.{Puts};
-ghost use Rattle.tape_frames.specs.Limits.{MOST_ENTRIES, HEADER_LENGTH, MARK_LENGTH, SUMMARY_LENGTH, LONGEST_ENTRY, LONGEST_PACKET, ALL_MARKS};
+ghost use Rattle.tape_frames.specs.Limits.{ENTRIES_MOST, HEADER_LENGTH, MARK_LENGTH, SUMMARY_LENGTH, LONGEST_ENTRY, LONGEST_PACKET, ALL_MARKS};
 ghost use Rattle.tape_frames.specs.EntryRows.{Carries, IsRow, first_number};
 ghost use Rattle.tape_frames.specs.Spelling.{IsEntry, IsFigure, IsMark, IsPacket, IsSummary, bit, carried_text, entry_text};
 ghost use Rattle.tape_frames.specs.Spelling.{figure_text, header_text, mark_text, packet_text, presence, summary_text};
@@ -61,9 +61,9 @@ fn put_header(row: &mut [u8], kind: u8, session: u64, number: u32, count: u8) ->
 
 /// The entries, one after the other.
 fn put_entries(row: &mut [u8], at: usize, entries: &[Entry]) -> usize
-    requires few { length entries.now ≤ MOST_ENTRIES }
+    requires few { length entries.now ≤ ENTRIES_MOST }
     requires carry { All Carries entries.now }
-    requires room { at + MOST_ENTRIES * LONGEST_ENTRY ≤ length row.old }
+    requires room { at + ENTRIES_MOST * LONGEST_ENTRY ≤ length row.old }
     ensures puts { Puts at (flat_map entry_text entries.now) row.old row.new result }
     ensures valid { All IsEntry entries.now }
 {

@@ -33,7 +33,7 @@ module _ {A : Type 0} (eq : A → A → Bool) where
       ∙ ap (λ b. (list_any (λ z. eq z x) xs || (eq y x || false)) || b) (has_repeat-push xs y)
       ∙ or_four (list_any (λ z. eq z x) xs) (eq y x) (has_repeat eq xs) (list_any (eq y) xs)
 
-  -- a list repeats what its front repeats
+  -- a list repeats what its prefix repeats
   pub has_repeat-front : (xs ys : List A) → has_repeat eq (xs ++ ys) ≡ false → has_repeat eq xs ≡ false
   has_repeat-front [] ys h = refl
   has_repeat-front (x ∷ xs) ys h =

@@ -442,7 +442,7 @@ module _ {K X : Type 0} (number : K → ℕ) where
   keyed-drop (suc i) [] = refl
   keyed-drop (suc i) (e ∷ es) = keyed-drop i es
 
-  -- a front of the entries, keyed by number, is a front of all of them so keyed
+  -- a prefix of the entries, keyed by number, is a prefix of all of them so keyed
   pub keyed-take : (i : ℕ) (es : List (K × X)) → keyed number (take i es) ≡ take i (keyed number es)
   keyed-take zero es = refl
   keyed-take (suc i) [] = refl
@@ -455,13 +455,13 @@ module _ {X : Type 0} where
   rising-drop (suc i) [] h = h
   rising-drop (suc i) (e ∷ es) h = rising-drop i es (and_rest _ _ h)
 
-  -- what is below all entries is below those of a front
+  -- what is below all entries is below those of a prefix
   below-take : (x i : ℕ) (es : List (ℕ × X)) → T (below_all nat_cmp x es) → T (below_all nat_cmp x (take i es))
   below-take x zero es h = tt
   below-take x (suc i) [] h = tt
   below-take x (suc i) (e ∷ es) h = and_both _ _ (and_left _ _ h) (below-take x i es (and_rest _ _ h))
 
-  -- a front of entries that rise rises
+  -- a prefix of entries that rise rises
   pub rising-take : (i : ℕ) (es : List (ℕ × X)) → T (is_sorted nat_cmp es) → T (is_sorted nat_cmp (take i es))
   rising-take zero es h = tt
   rising-take (suc i) [] h = tt

@@ -2,7 +2,7 @@
 ghost use Rattle.std.specs.Prelude.{◌≡◌, []};
 ghost use Rattle.live_feed.specs.Reports.{WritesOneReport};
 ghost use Rattle.tapebox.specs.Program.{IsFeedStatus, RunsFeed, feed_text};
-ghost use Rattle.row_reads.specs.Writing.{WritesFront};
+ghost use Rattle.row_reads.specs.Writing.{WritesPrefix};
 
 use crate::command::{FollowWords, LiveWords};
 use crate::writing::say;
@@ -87,7 +87,7 @@ fn text_of(status: u8) -> &'static str
 fn report_status<E: Write>(errors: &mut E, status: u8) -> u8
     ensures status { result ≡ status }
     ensures quiet { feed_text status ≡ [] → errors.new ≡ errors.old }
-    ensures said { WritesFront (feed_text status) (E.contents errors.old) (E.contents errors.new) }
+    ensures said { WritesPrefix (feed_text status) (E.contents errors.old) (E.contents errors.new) }
 {
     say(errors, text_of(status));
     status

@@ -26,7 +26,7 @@ const LIMIT: u32 = 1_048_576;
 const SESSION: u64 = 7;
 
 /// How many turns of a hundredth of a second the day may take.
-const MOST_TURNS: u32 = 1_000;
+const TURNS_MOST: u32 = 1_000;
 
 /// A report of 100 shares of AB at 10.00.
 const REPORT: [u8; 40] = [
@@ -92,7 +92,7 @@ fn send_line<R: Net<Listener = TcpListener, Stream = TcpStream>>(
 
 /// Ends the test as failed where the day has not ended after its turns.
 fn watch<R: Abort + Clock>(rt: &R, ended: &AtomicBool) {
-    for _ in 0..MOST_TURNS {
+    for _ in 0..TURNS_MOST {
         if ended.load(Ordering::SeqCst) {
             return;
         }

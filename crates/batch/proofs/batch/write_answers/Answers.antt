@@ -4,9 +4,9 @@ use Rattle.std.specs.List.{flat_map}
 use Rattle.std.proofs.lemmas.Grind.{flat_map-append}
 use Rattle.std.proofs.lemmas.List.{take-append-drop, take_more}
 use Rattle.batch.specs.Batch.{answer_line}
-use Rattle.row_reads.specs.Writing.{WritesFront, WritesUpTo}
+use Rattle.row_reads.specs.Writing.{WritesPrefix, WritesUpTo}
 use Rattle.batch.specs.declared.batch_refusal.BatchRefusal.{BatchRefusal}
-use Rattle.row_reads.proofs.WriteLemmas.{WritesFront-after, WritesFront-gathered, WritesFront-longer, WritesUpTo-gathered}
+use Rattle.row_reads.proofs.WriteLemmas.{WritesPrefix-after, WritesPrefix-gathered, WritesPrefix-longer, WritesUpTo-gathered}
 use Rattle.batch.proofs.batch.write_answers.Goals as goal
 
 -- what holds anyway holds at an error
@@ -27,12 +27,12 @@ one_more answers i answer lt is = sym
     ∙ flat_map-append answer_line (take i answers) (answer ∷ [])
     ∙ ap (λ (l : List ℕ). flat_map answer_line (take i answers) ++ l) (append-nil (answer_line answer)))
 
--- a front of the text of the first answers is one of the text of all
-first_answers : (answers : List (Result ℕ BatchRefusal)) (n : ℕ) (old new : Option (List ℕ)) → WritesFront (flat_map answer_line (take n answers)) old new
-    → WritesFront (flat_map answer_line answers) old new
-first_answers answers n old new front = subst (λ (l : List ℕ). WritesFront l old new)
+-- a prefix of the text of the first answers is one of the text of all
+first_answers : (answers : List (Result ℕ BatchRefusal)) (n : ℕ) (old new : Option (List ℕ)) → WritesPrefix (flat_map answer_line (take n answers)) old new
+    → WritesPrefix (flat_map answer_line answers) old new
+first_answers answers n old new front = subst (λ (l : List ℕ). WritesPrefix l old new)
     (sym (flat_map-append answer_line (take n answers) (drop n answers)) ∙ ap (flat_map answer_line) (take-append-drop n answers))
-    (WritesFront-longer (flat_map answer_line (take n answers)) (flat_map answer_line (drop n answers)) old new front)
+    (WritesPrefix-longer (flat_map answer_line (take n answers)) (flat_map answer_line (drop n answers)) old new front)
 
 pub loop-answer-preserved : goal.loop-answer-preserved
 loop-answer-preserved g c = record {
@@ -51,11 +51,11 @@ returns-in_err-write_piece-clause-front g c =
     let new = g.W.Write.contents c.write_piece.new.writer in
     let answers = c.args.answers.now in
     let i = c.loop-answer.answer-index in
-    let front = WritesFront-gathered (flat_map answer_line (take i answers)) c.loop-answer.gathered c.push_answer.new.self
+    let front = WritesPrefix-gathered (flat_map answer_line (take i answers)) c.loop-answer.gathered c.push_answer.new.self
     (answer_line c.answer-item.result) old now new
     c.push_answer.ensures c.loop-answer.invariant.so_far c.in_err-write_piece.ensures.front in
     OnErr-any c.from_residual.result _ (first_answers answers (i + 1) old new
-    (subst (λ (l : List ℕ). WritesFront l old new) (one_more answers i c.answer-item.result c.loop-answer-test.true c.answer-item.is) front))
+    (subst (λ (l : List ℕ). WritesPrefix l old new) (one_more answers i c.answer-item.result c.loop-answer-test.true c.answer-item.is) front))
 
 pub returns-clause-front : goal.returns-clause-front
 returns-clause-front g c =
@@ -66,5 +66,5 @@ returns-clause-front g c =
     let i = c.loop-answer.answer-index in
     OnErr-map c.write_to.result _ _
     (λ front. first_answers answers i old new
-    (WritesFront-after (flat_map answer_line (take i answers)) c.loop-answer.gathered old now new c.loop-answer.invariant.so_far front))
+    (WritesPrefix-after (flat_map answer_line (take i answers)) c.loop-answer.gathered old now new c.loop-answer.invariant.so_far front))
     c.write_to.ensures.front

@@ -9,7 +9,7 @@ returns-then-value-top-clause-valid g c =
     let b = c.args.at in
     let lt = c.requires.within in
     let is = block-is bs b c.index.result.now c.index.ensures lt in
-    let long : 1 < length (get_or bs b []) = omega (arith, ap length is, c.len.ensures, c.if-len-lt-MAX_BLOCK_LEN.false) in
+    let long : 1 < length (get_or bs b []) = omega (arith, ap length is, c.len.ensures, c.if-len-lt-BLOCK_MOST.false) in
     let most = (c.requires.valid.sized b [] lt).1 in
     subst IsBlockList (sym c.in_ok-split.ensures.ok) (blocks-split bs b lt long most c.requires.valid).0
 
@@ -19,7 +19,7 @@ returns-then-value-top-clause-values g c =
     let b = c.args.at in
     let lt = c.requires.within in
     let is = block-is bs b c.index.result.now c.index.ensures lt in
-    let long : 1 < length (get_or bs b []) = omega (arith, ap length is, c.len.ensures, c.if-len-lt-MAX_BLOCK_LEN.false) in
+    let long : 1 < length (get_or bs b []) = omega (arith, ap length is, c.len.ensures, c.if-len-lt-BLOCK_MOST.false) in
     let most = (c.requires.valid.sized b [] lt).1 in
     ap values_of c.in_ok-split.ensures.ok ∙ (blocks-split bs b lt long most c.requires.valid).1
 
@@ -29,7 +29,7 @@ returns-then-value-top-clause-room g c =
     let b = c.args.at in
     let lt = c.requires.within in
     let is = block-is bs b c.index.result.now c.index.ensures lt in
-    let long : 1 < length (get_or bs b []) = omega (arith, ap length is, c.len.ensures, c.if-len-lt-MAX_BLOCK_LEN.false) in
+    let long : 1 < length (get_or bs b []) = omega (arith, ap length is, c.len.ensures, c.if-len-lt-BLOCK_MOST.false) in
     let most = (c.requires.valid.sized b [] lt).1 in
     let read = lower-read bs b lt long most c.split.new.blocks.items c.index-2.result.now c.index-2.ensures c.in_ok-split.ensures.ok in
     subst (λ l. HasRoomAt c.args.place l b) (sym c.in_ok-split.ensures.ok)
@@ -41,7 +41,7 @@ returns-else-value-top-clause-valid g c =
     let b = c.args.at in
     let lt = c.requires.within in
     let is = block-is bs b c.index.result.now c.index.ensures lt in
-    let long : 1 < length (get_or bs b []) = omega (arith, ap length is, c.len.ensures, c.if-len-lt-MAX_BLOCK_LEN.false) in
+    let long : 1 < length (get_or bs b []) = omega (arith, ap length is, c.len.ensures, c.if-len-lt-BLOCK_MOST.false) in
     let most = (c.requires.valid.sized b [] lt).1 in
     subst IsBlockList (sym c.in_ok-split.ensures.ok) (blocks-split bs b lt long most c.requires.valid).0
 
@@ -51,7 +51,7 @@ returns-else-value-top-clause-values g c =
     let b = c.args.at in
     let lt = c.requires.within in
     let is = block-is bs b c.index.result.now c.index.ensures lt in
-    let long : 1 < length (get_or bs b []) = omega (arith, ap length is, c.len.ensures, c.if-len-lt-MAX_BLOCK_LEN.false) in
+    let long : 1 < length (get_or bs b []) = omega (arith, ap length is, c.len.ensures, c.if-len-lt-BLOCK_MOST.false) in
     let most = (c.requires.valid.sized b [] lt).1 in
     ap values_of c.in_ok-split.ensures.ok ∙ (blocks-split bs b lt long most c.requires.valid).1
 
@@ -61,7 +61,7 @@ returns-else-value-top-clause-room g c =
     let b = c.args.at in
     let lt = c.requires.within in
     let is = block-is bs b c.index.result.now c.index.ensures lt in
-    let long : 1 < length (get_or bs b []) = omega (arith, ap length is, c.len.ensures, c.if-len-lt-MAX_BLOCK_LEN.false) in
+    let long : 1 < length (get_or bs b []) = omega (arith, ap length is, c.len.ensures, c.if-len-lt-BLOCK_MOST.false) in
     let most = (c.requires.valid.sized b [] lt).1 in
     let read = lower-read bs b lt long most c.split.new.blocks.items c.index-2.result.now c.index-2.ensures c.in_ok-split.ensures.ok in
     subst (λ l. HasRoomAt c.args.place l (b + 1)) (sym c.in_ok-split.ensures.ok)

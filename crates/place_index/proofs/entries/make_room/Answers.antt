@@ -10,7 +10,7 @@ returns-clause-valid g c =
     let bs = c.args.blocks.now.items in
     let es = c.args.last.now in
     let done = last-cut bs es c.requires.valid c.args.index c.requires.index.0
-    (omega (arith, c.requires.index.1, c.len.ensures, c.if-len-lt-MAX_BLOCK_LEN.false)) in
+    (omega (arith, c.requires.index.1, c.len.ensures, c.if-len-lt-BLOCK_MOST.false)) in
     in-either c.cut.result
     (on_ok_weaker c.cut.result (λ new. subst (λ l. HasLastBlock l c.cut.new.last) (sym new.0) (subst (HasLastBlock _) (sym new.1) done.0)) c.cut.ensures.ok)
     (on_err_weaker c.cut.result
@@ -21,7 +21,7 @@ returns-clause-values g c =
     let bs = c.args.blocks.now.items in
     let es = c.args.last.now in
     let done = last-cut bs es c.requires.valid c.args.index c.requires.index.0
-    (omega (arith, c.requires.index.1, c.len.ensures, c.if-len-lt-MAX_BLOCK_LEN.false)) in
+    (omega (arith, c.requires.index.1, c.len.ensures, c.if-len-lt-BLOCK_MOST.false)) in
     in-either c.cut.result
     (on_ok_weaker c.cut.result (λ new. ap (λ l. all_values l c.cut.new.last) new.0 ∙ ap (all_values (bs ++ take c.args.index es ∷ [])) new.1
     ∙ done.1) c.cut.ensures.ok)
