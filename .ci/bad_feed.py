@@ -1,8 +1,9 @@
 #!/usr/bin/env python3
 """A follower whose answers are none: bad_feed.py TAPEBOX
 
-A beat announces four entries that never came, so the follower asks for them. Where it is refused, or answered by bytes that are
-no answer, its tape disagrees with what it was told (status 7); where the connection ends instead, a read has failed (status 3).
+A beat announces four entries that never came, so the follower asks for them. Where it is refused, answered by bytes that are no
+answer, or by an answer without the first entry asked for, its tape disagrees with what it was told (status 7); where the connection
+ends instead, a read has failed (status 3).
 """
 
 import socket
@@ -15,10 +16,16 @@ from peers import HOST, LIMIT, free_ports
 
 BEAT = bytes.fromhex("0148 0000000000000007 00000004 00")
 REQUEST = bytes.fromhex("0000000000000007 00000001 0004")
+# One packet of 59 bytes, which has entry 2 alone.
+SECOND = bytes.fromhex(
+    "01 003b 0144 0000000000000007 00000002 01 00000002"
+    "0026 52 4e 00000001 0000000000000000 4142202020202020 00000000000186a0 00000064 40205a20"
+)
 # What the follower is answered, and its status and text then.
 CASES = [
     (bytes([72]), 7, "tapebox: tape disagrees\n"),
     (bytes([5]), 7, "tapebox: tape disagrees\n"),
+    (SECOND, 7, "tapebox: tape disagrees\n"),
     (b"", 3, "tapebox: read fault\n"),
 ]
 

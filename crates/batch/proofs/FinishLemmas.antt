@@ -1,6 +1,7 @@
 -- What was written of what was read is right for the input, and stays so when it is flushed.
 use Rattle.std.proofs.Common.{◌≡◌, ◌⊎◌, ◌≤◌, ℕ, List, Option, Some, None, IfSome, Result, Ok, Err, inl, inr, length, refl}
 use Rattle.std.specs.Io.KnownBytes.{Keeps}
+use Rattle.std.proofs.KnownBytes.{Appends-kept, Keeps-refl}
 use Rattle.std.specs.List.{flat_map}
 use Rattle.tape_types.specs.Names.{Names}
 use Rattle.batch.specs.Batch.{INPUT_MOST, answer_line, fault_line, input_listing, message_lines}
@@ -15,7 +16,7 @@ use Rattle.batch.specs.declared.read_end.ReadEnd.{ReadEnd}
 use Rattle.batch.specs.declared.read_end.ReadEnd.TheVariants.{TooLarge as ReadTooLarge, ReadFault as ReadFailed, OutOfMemory as ReadOutOfMemory}
 use Rattle.batch.specs.declared.reading.Batch.{Batch}
 use Rattle.batch.specs.declared.reading.Batch.TheVariants.{Answered, HeaderRefused}
-use Rattle.batch.proofs.BatchLemmas.{Appends-kept, Appends-same}
+use Rattle.batch.proofs.BatchLemmas.{Appends-same}
 use Rattle.row_reads.proofs.WriteLemmas.{WritesPrefix-kept, WritesPrefix-longer, WritesPrefix-whole}
 use Rattle.batch.proofs.WrittenDay.{ReadsBatch-may, ReadsBatch-stop, ReadsBatch-text}
 
@@ -95,18 +96,13 @@ pub Finishes-flushed : (read : Batch) (end ended : BatchEnd) (old now new : Opti
 Finishes-flushed read end ended old now new h kept (inl is) = rw is (Finishes-kept read end old now new h kept)
 Finishes-flushed read end ended old now new h kept (inr is) = rw is (Finishes-fault read end old new (Finishes-kept read end old now new h kept))
 
--- known bytes stay as they are
-kept : (known : Option (List ℕ)) → Keeps known known
-kept None = tt
-kept (Some xs) = refl
-
 -- where reading stopped, nothing was written
 pub reading-wrote : (known : Option (List ℕ)) (end : ReadEnd) (held : Option (List ℕ)) → IfSome known (λ input. Wrote (end_of_reading end) input held held)
 reading-wrote None end held = tt
-reading-wrote (Some input) ReadTooLarge held = kept held
-reading-wrote (Some input) ReadFailed held = kept held
+reading-wrote (Some input) ReadTooLarge held = Keeps-refl held
+reading-wrote (Some input) ReadFailed held = Keeps-refl held
 reading-wrote (Some input) ReadOutOfMemory held = without (input_listing input)
   where
     without : (listing : Result Names HeaderFault) → WroteForMemory listing (message_lines input) held held
-    without (Ok names) = inl (kept held)
-    without (Err fault) = kept held
+    without (Ok names) = inl (Keeps-refl held)
+    without (Err fault) = Keeps-refl held

@@ -1,5 +1,6 @@
 -- A text that is split at each byte of one value.
-use Rattle.std.proofs.Common.{◌≡◌, All, ◌<◌, ◌+◌, ◌-◌, ◌∷◌, [], ℕ, zero, suc, List, Bool, true, false, Some, None, refl, arith, length, get_or, take, drop, add-one}
+use Rattle.std.proofs.Common.{◌≡◌, All, ◌<◌, ◌+◌, ◌-◌, ◌∷◌, [], ℕ, zero, suc, List, Bool, true, false, Some, None, refl, arith, length}
+use Rattle.std.proofs.Common.{get_or, take, drop, add-one}
 use Rattle.std.proofs.lemmas.Grind.{common_steps}
 use Rattle.std.proofs.lemmas.List.Splits.{length-slice_split, slice_split_none}
 use Rattle.std.specs.List.{slice_split}

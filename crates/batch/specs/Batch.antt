@@ -1,4 +1,4 @@
--- What a batch writes for a whole input, and how it ends.
+-- What a batch writes for a whole input, and where memory runs out.
 use Rattle.std.specs.Prelude.{◌≡◌, ◌⊎◌, ◌+◌, ℕ, List, [], ◌∷◌, ◌++◌, length, drop, fold, slice_index_or, Option, Some, None, Result, Ok, Err, IsOk}
 use Rattle.std.specs.Prelude.{decimal, codes}
 use Rattle.std.specs.Io.KnownBytes.{Appends, Keeps}

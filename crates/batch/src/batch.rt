@@ -49,7 +49,7 @@ fn write_answers<W: Write>(
 ) -> Result<(), WriteFault>
     requires { gathered.old ≡ [] }
     ensures written { OnOk result (Appends (W.contents writer.old) (W.contents writer.new) (flat_map answer_line answers.now)) }
-    ensures front { OnErr result (WritesPrefix (flat_map answer_line answers.now) (W.contents writer.old) (W.contents writer.new)) }
+    ensures prefix { OnErr result (WritesPrefix (flat_map answer_line answers.now) (W.contents writer.old) (W.contents writer.new)) }
 {
     for answer in answers {
         gathered.push_answer(answer);

@@ -98,7 +98,7 @@ impl Gathered {
     pub fn write_to<W: Write>(&mut self, writer: &mut W) -> Result<(), WriteFault>
         ensures empty { OnOk result (self.new ≡ []) }
         ensures written { OnOk result (Appends (W.contents writer.old) (W.contents writer.new) self.old) }
-        ensures front { OnErr result (WritesPrefix self.old (W.contents writer.old) (W.contents writer.new)) }
+        ensures prefix { OnErr result (WritesPrefix self.old (W.contents writer.old) (W.contents writer.new)) }
     {
         write_text(writer, &self.bytes)?;
         self.bytes.clear();
@@ -109,7 +109,7 @@ impl Gathered {
     pub fn write_piece<W: Write>(&mut self, writer: &mut W) -> Result<(), WriteFault>
         ensures room { OnOk result (length self.new ≤ PIECE) }
         ensures written { OnOk result (WritesUpTo self.old self.new (W.contents writer.old) (W.contents writer.new)) }
-        ensures front { OnErr result (WritesPrefix self.old (W.contents writer.old) (W.contents writer.new)) }
+        ensures prefix { OnErr result (WritesPrefix self.old (W.contents writer.old) (W.contents writer.new)) }
     {
         if self.bytes.len() < PIECE {
             return Ok(());

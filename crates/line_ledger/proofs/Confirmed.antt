@@ -21,9 +21,9 @@ begins (t ∷ ts) (e ∷ es) each =
     (rest.0, ap (λ x. x ∷ es) here ∙ ap (λ xs. t.entry ∷ xs) rest.1)
 
 -- confirmed tokens of the first cells show the first entries
-pub front : (names : List ℕ) (tokens : List TokenState) (entries : List Entry) → FirstTokens names tokens → HaveAll entries tokens
+pub prefix : (names : List ℕ) (tokens : List TokenState) (entries : List Entry) → FirstTokens names tokens → HaveAll entries tokens
     → BeginsWith (shown tokens) entries
-front names tokens entries first all = begins tokens entries (λ i d low.
+prefix names tokens entries first all = begins tokens entries (λ i d low.
     let number : (slice_index_or tokens i d).number ≡ i + 1 = (first i d low).1 in
     let place : (slice_index_or tokens i d).number - 1 ≡ i = omega (arith, number) in
     subst (λ n. slice_get entries n ≡ Some (slice_index_or tokens i d).entry) place (all i d low))
@@ -31,13 +31,13 @@ front names tokens entries first all = begins tokens entries (λ i d low.
 -- what is cut of the entries that are shown is a part of the tape
 pub data_cut : (names : List ℕ) (tokens : List TokenState) (t : TapeState) (from : ℕ) → FirstTokens names tokens → HaveAll t.entries tokens
     → IsPartOf (cut_of (shown tokens) from) t.entries
-data_cut names tokens t from first all = cut_is_part (shown tokens) t.entries from (front names tokens t.entries first all)
+data_cut names tokens t from first all = cut_is_part (shown tokens) t.entries from (prefix names tokens t.entries first all)
 
 -- there are no more tokens than entries
 pub as_many : (names : List ℕ) (tokens : List TokenState) (t : TapeState) (last : ℕ) → FirstTokens names tokens → HaveAll t.entries tokens
     → last ≤ length tokens → last ≤ length t.entries
 as_many names tokens t last first all low =
-    let begin = front names tokens t.entries first all in
+    let begin = prefix names tokens t.entries first all in
     let whole : length t.entries ≡ length (shown tokens) + length begin.0 = ap length begin.1 ∙ length-append (shown tokens) begin.0 in
     let shorter : length (shown tokens) ≡ length tokens = length-map tokens (λ (t : TokenState). t.entry) in
     omega (arith, low, whole, shorter)

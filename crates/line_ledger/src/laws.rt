@@ -65,7 +65,7 @@ pub fn disagreement()
 /// Where each token is confirmed, tokens of the first cells show the first entries of the tape. So each packet that is cut of
 /// what they show was cut of the tape, whenever that was, and the tape may be the closed one of a day that has ended.
 pub fn confirmed()
-    ensures front { (names : List ℕ) (tokens : List TokenState) (entries : List Entry)
+    ensures prefix { (names : List ℕ) (tokens : List TokenState) (entries : List Entry)
         → FirstTokens names tokens → HaveAll entries tokens → BeginsWith (shown tokens) entries }
     ensures data { (names : List ℕ) (tokens : List TokenState) (t : TapeState) (session from : ℕ)
         → FirstTokens names tokens → HaveAll t.entries tokens → IsCutOf session t (Data session (cut_of (shown tokens) from)) }

@@ -1,3 +1,2 @@
-pub mod Days
 pub mod Faults
 pub mod Reports

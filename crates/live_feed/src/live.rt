@@ -1,9 +1,8 @@
 //! A live day: it accepts the participants' lines, sends the tape that they make, and reports it.
 ghost use Rattle.std.specs.Prelude.{◌≡◌, ◌⊎◌, ◌≤◌, IfErr, IfOk, None, OnOk, Some, length, true, vec_len};
 ghost use Rattle.tape_core.specs.Tape.{IsLegal};
-ghost use Rattle.line_ledger.specs.Cells.{FirstTokens};
+ghost use Rattle.line_ledger.specs.Cells.{FirstTokens, HaveAll};
 ghost use Rattle.line_ledger.specs.Ends.{IsOneEach};
-ghost use Rattle.live_feed.specs.Days.{HasAll};
 ghost use Rattle.live_feed.specs.Faults.{NoneBefore};
 ghost use Rattle.live_feed.specs.Reports.{WritesItsReport, WritesOneReport};
 ghost use Rattle.live_feed.specs.declared.fault.Fault.TheVariants.{Disagrees};
@@ -72,7 +71,7 @@ fn end_day<D: DayName>(shared: SharedTape<D>, seats: Vec<LineSeat<D>>) -> Result
 /// Whether the day has what each token shows.
 fn confirms_all(day: &Day, tokens: &[Token]) -> bool
     requires { FirstTokens day.now.names tokens.now }
-    ensures { result ≡ true → HasAll day.now.tape tokens.now }
+    ensures { result ≡ true → HaveAll day.now.tape.entries tokens.now }
 {
     for token in tokens {
         if day.confirm(token).is_err() {
@@ -87,7 +86,7 @@ fn confirms_all(day: &Day, tokens: &[Token]) -> bool
 fn is_as_sent(day: &Day, tokens: &[Token], number: u32) -> bool
     requires { FirstTokens day.now.names tokens.now }
     ensures number { result ≡ true → (length tokens.now ≡ number) × (length day.now.tape.entries ≡ number) }
-    ensures tokens { result ≡ true → HasAll day.now.tape tokens.now }
+    ensures tokens { result ≡ true → HaveAll day.now.tape.entries tokens.now }
 {
     tokens.len() == number as usize
         && day.tape().entries().len() == number as usize
@@ -254,7 +253,7 @@ fn live<R: Threads + Wait + Clock + Sync, L: Loss + Sync, W: Write>(
 ///
 /// The status is 0 exactly where the report was written whole and flushed. A connection whose peer misbehaves ends
 /// alone, and a packet that cannot be sent is lost. What else goes wrong is answered by the least status of all, and then
-/// there is no report, or a prefix of it after a write that failed: 3 where a connection is not accepted, or there is not one
+/// there is no report, or some of it after a write that failed: 3 where a connection is not accepted, or there is not one
 /// listener for each participant; 4 for a failed write of the report; 5 where memory runs out; 6 where no thread can be
 /// started; 7 where the tape disagrees with what was told, sent or served of it, and for a limit outside 1 to 1,048,576.
 pub fn live_over<R: Threads + Wait + Clock + Sync, L: Loss + Sync, W: Write>(

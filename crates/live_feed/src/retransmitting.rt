@@ -1,9 +1,24 @@
 //! The retransmission: subscribers are served one after the other.
+ghost use Rattle.std.specs.Prelude.{◌≡◌, ◌≢◌, None, Some};
+ghost use Rattle.live_feed.specs.declared.fault.Fault.TheVariants.{Memory};
+ghost use Rattle.retransmit.specs.declared.serve_end.Ended.TheVariants.{OutOfMemory};
 
 use crate::Fault;
 use crate::feed::Feed;
 use line_ledger::{DayName, Published, SharedTape};
 use retransmit::{Ended, serve};
+
+/// What the end of a connection is to the day. A peer that misbehaves ends its own connection alone.
+fn fault_of_serving(ended: Ended) -> Option<Fault>
+    ensures memory { ended ≡ OutOfMemory → result ≡ Some Memory }
+    ensures other { ended ≢ OutOfMemory → result ≡ None }
+{
+    match ended {
+        Ended::OutOfMemory => Some(Fault::Memory),
+        Ended::Clean | Ended::Truncated | Ended::ReadFault | Ended::WriteFault | Ended::TooMany =>
+            None,
+    }
+}
 
 /// Waits for the next connection, and answers what it asks for until it ends. However its peer behaves, that ends the
 /// connection alone.
@@ -21,11 +36,7 @@ fn serve_next<D: DayName, L>(feed: &Feed<'_, L>, shared: &SharedTape<D>) -> Opti
         &mut &stream,
         &mut &stream,
     );
-    match end.ended {
-        Ended::OutOfMemory => Some(Fault::Memory),
-        Ended::Clean | Ended::Truncated | Ended::ReadFault | Ended::WriteFault | Ended::TooMany =>
-            None,
-    }
+    fault_of_serving(end.ended)
 }
 
 /// Serves as many connections as are awaited, one after the other, and answers the fault of the least status. After a fault

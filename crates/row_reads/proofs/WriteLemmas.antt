@@ -7,49 +7,50 @@ use Rattle.row_reads.specs.Writing.{WritesPrefix, WritesUpTo}
 
 -- nothing is written of a text
 pub WritesUpTo-none : (text : List ℕ) (known : Option (List ℕ)) → WritesUpTo text text known known
-WritesUpTo-none text known = record { front = []; split = refl; written = Appends-nil known }
+WritesUpTo-none text known = record { prefix = []; split = refl; written = Appends-nil known }
 
 -- a whole text is written
 pub WritesUpTo-whole : (text : List ℕ) (old new : Option (List ℕ)) → Appends old new text → WritesUpTo text [] old new
-WritesUpTo-whole text old new written = record { front = text; split = sym (append-nil text); written = written }
+WritesUpTo-whole text old new written = record { prefix = text; split = sym (append-nil text); written = written }
 
 -- where nothing is left, the whole text is written
 pub WritesUpTo-all : (text : List ℕ) (old new : Option (List ℕ)) → WritesUpTo text [] old new → Appends old new text
-WritesUpTo-all text old new all = subst (λ (l : List ℕ). Appends old new l) (sym (all.split ∙ append-nil all.front)) all.written
+WritesUpTo-all text old new all = subst (λ (l : List ℕ). Appends old new l) (sym (all.split ∙ append-nil all.prefix)) all.written
 
 -- a text is written up to a rest, and that up to another
 pub WritesUpTo-both : (text mid rest : List ℕ) (old now new : Option (List ℕ)) → WritesUpTo text mid old now → WritesUpTo mid rest now new
     → WritesUpTo text rest old new
 WritesUpTo-both text mid rest old now new one two = record {
-  front = one.front ++ two.front;
-  split = one.split ∙ ap (λ (l : List ℕ). one.front ++ l) two.split ∙ sym (append_assoc one.front two.front rest);
-  written = Appends-trans old now new one.front two.front one.written two.written;
+  prefix = one.prefix ++ two.prefix;
+  split = one.split ∙ ap (λ (l : List ℕ). one.prefix ++ l) two.split ∙ sym (append_assoc one.prefix two.prefix rest);
+  written = Appends-trans old now new one.prefix two.prefix one.written two.written;
 }
 
 -- so many bytes of a text are written
 pub WritesUpTo-count : (text left : List ℕ) (old new : Option (List ℕ)) (n : ℕ) → Appends old new (take n text) → left ≡ drop n text
     → WritesUpTo text left old new
-WritesUpTo-count text left old new n written is = record { front = take n text; split = rw is (sym (take-append-drop n text)); written = written }
+WritesUpTo-count text left old new n written is = record { prefix = take n text; split = rw is (sym (take-append-drop n text)); written = written }
 
 -- no byte of a text is written
 pub WritesUpTo-kept : (text : List ℕ) (old new : Option (List ℕ)) → Keeps old new → WritesUpTo text text old new
-WritesUpTo-kept text old new kept = record { front = []; split = refl; written = Appends-kept old old new [] (Appends-nil old) kept }
+WritesUpTo-kept text old new kept = record { prefix = []; split = refl; written = Appends-kept old old new [] (Appends-nil old) kept }
 
 -- a text grows by more, and so does what is left of it
 pub WritesUpTo-longer : (text rest more : List ℕ) (old new : Option (List ℕ)) → WritesUpTo text rest old new → WritesUpTo (text ++ more) (rest ++ more) old new
 WritesUpTo-longer text rest more old new so_far = record {
-  front = so_far.front;
-  split = ap (λ (l : List ℕ). l ++ more) so_far.split ∙ append_assoc so_far.front rest more;
+  prefix = so_far.prefix;
+  split = ap (λ (l : List ℕ). l ++ more) so_far.split ∙ append_assoc so_far.prefix rest more;
   written = so_far.written;
 }
 
 -- a prefix of a text is one of a longer text
 pub WritesPrefix-longer : (text more : List ℕ) (old new : Option (List ℕ)) → WritesPrefix text old new → WritesPrefix (text ++ more) old new
-WritesPrefix-longer text more old new front = (front.0 ++ more, WritesUpTo-longer text front.0 more old new front.1)
+WritesPrefix-longer text more old new prefix = (prefix.0 ++ more, WritesUpTo-longer text prefix.0 more old new prefix.1)
 
 -- a text is written up to a rest, and then a prefix of that
-pub WritesPrefix-after : (text mid : List ℕ) (old now new : Option (List ℕ)) → WritesUpTo text mid old now → WritesPrefix mid now new → WritesPrefix text old new
-WritesPrefix-after text mid old now new one front = (front.0, WritesUpTo-both text mid front.0 old now new one front.1)
+pub WritesPrefix-after : (text mid : List ℕ) (old now new : Option (List ℕ)) → WritesUpTo text mid old now → WritesPrefix mid now new
+    → WritesPrefix text old new
+WritesPrefix-after text mid old now new one prefix = (prefix.0, WritesUpTo-both text mid prefix.0 old now new one prefix.1)
 
 -- a whole text is a prefix of itself
 pub WritesPrefix-whole : (text : List ℕ) (old new : Option (List ℕ)) → Appends old new text → WritesPrefix text old new
@@ -57,7 +58,7 @@ WritesPrefix-whole text old new written = ([], WritesUpTo-whole text old new wri
 
 -- a prefix stays written where known bytes stay
 pub WritesPrefix-kept : (text : List ℕ) (old now new : Option (List ℕ)) → WritesPrefix text old now → Keeps now new → WritesPrefix text old new
-WritesPrefix-kept text old now new front kept = WritesPrefix-after text front.0 old now new front.1 (front.0, WritesUpTo-kept front.0 now new kept)
+WritesPrefix-kept text old now new prefix kept = WritesPrefix-after text prefix.0 old now new prefix.1 (prefix.0, WritesUpTo-kept prefix.0 now new kept)
 
 -- more is gathered after what is left of a text, and some of it is written
 pub WritesUpTo-gathered : (text rest pushed left more : List ℕ) (old now new : Option (List ℕ)) → pushed ≡ rest ++ more
@@ -68,10 +69,10 @@ WritesUpTo-gathered text rest pushed left more old now new is one two =
 -- more is gathered after what is left of a text, and a prefix of it is written
 pub WritesPrefix-gathered : (text rest pushed more : List ℕ) (old now new : Option (List ℕ)) → pushed ≡ rest ++ more
     → WritesUpTo text rest old now → WritesPrefix pushed now new → WritesPrefix (text ++ more) old new
-WritesPrefix-gathered text rest pushed more old now new is one front = (front.0, WritesUpTo-gathered text rest pushed front.0 more old now new is one front.1)
+WritesPrefix-gathered text rest pushed more old now new is one prefix = (prefix.0, WritesUpTo-gathered text rest pushed prefix.0 more old now new is one prefix.1)
 
 -- a text is written, and then a prefix of another
 pub WritesPrefix-then : (first second : List ℕ) (old now new : Option (List ℕ)) → Appends old now first → WritesPrefix second now new
     → WritesPrefix (first ++ second) old new
-WritesPrefix-then first second old now new written front =
-    WritesPrefix-gathered first [] second second old now new refl (WritesUpTo-whole first old now written) front
+WritesPrefix-then first second old now new written prefix =
+    WritesPrefix-gathered first [] second second old now new refl (WritesUpTo-whole first old now written) prefix

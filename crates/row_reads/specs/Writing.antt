@@ -4,9 +4,9 @@ use Rattle.std.specs.Io.KnownBytes.{Appends}
 
 -- known bytes grow by the text up to this rest of it, which is not written
 pub record WritesUpTo (text rest : List ℕ) (old new : Option (List ℕ)) : Type 0 where
-  pub front : List ℕ
-  pub split : text ≡ front ++ rest
-  pub written : Appends old new front
+  pub prefix : List ℕ
+  pub split : text ≡ prefix ++ rest
+  pub written : Appends old new prefix
 
 -- known bytes grow by a prefix of the text and nothing else
 abbrev pub WritesPrefix : List ℕ → Option (List ℕ) → Option (List ℕ) → Type 0

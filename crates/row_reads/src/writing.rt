@@ -13,7 +13,7 @@ pub struct WriteFault;
 /// write is made again.
 pub fn write_text<W: Write>(writer: &mut W, text: &[u8]) -> Result<(), WriteFault>
     ensures written { OnOk result (Appends (W.contents writer.old) (W.contents writer.new) text.now) }
-    ensures front { WritesPrefix text.now (W.contents writer.old) (W.contents writer.new) }
+    ensures prefix { WritesPrefix text.now (W.contents writer.old) (W.contents writer.new) }
 {
     let mut rest = text;
     // `write_all` would not tell what was written before a write that fails.

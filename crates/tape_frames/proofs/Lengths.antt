@@ -4,11 +4,13 @@ use Rattle.std.specs.Prelude.{All, flat_map}
 use Rattle.std.proofs.lemmas.List.Elements.{All-head, All-tail}
 use Rattle.reports.specs.declared.message.Message.{Message}
 use Rattle.reports.specs.declared.message.Message.TheVariants.{Report, Cancel, Correct}
+use Rattle.reports.specs.Kinds.{REPORT_LENGTH, CANCEL_LENGTH, CORRECTION_LENGTH}
 use Rattle.reports.specs.Spelling.{IsMessage, content_text, header_text, spelling, target_text}
 use Rattle.reports.proofs.Messages.{length-content, length-header}
 use Rattle.scratch_fold.specs.declared.summary.Summary.{Summary}
 use Rattle.tape_core.specs.declared.entry.Entry.{Entry}
 use Rattle.tape_frames.specs.declared.packet.Packet.TheVariants.{Data, Beat, End}
+use Rattle.tape_frames.specs.Kinds.{DATA}
 use Rattle.tape_frames.specs.Limits.{ENTRIES_MOST, SUMMARY_LENGTH, LONGEST_ENTRY, LONGEST_PACKET}
 use Rattle.tape_frames.specs.Lengths.{EntryLengths, PacketLengths, RequestLengths, entry_length}
 use Rattle.tape_frames.specs.EntryRows.{CarriesFor, first_number}
@@ -36,9 +38,9 @@ length-carried_text (Correct h n c) (Some z) carries = length-summary_text z
 
 -- the length of a message by its kind
 abbrev message_length : Message → ℕ
-message_length (Report header content) = 40
-message_length (Cancel header target) = 28
-message_length (Correct header target content) = 44
+message_length (Report header content) = 2 + REPORT_LENGTH
+message_length (Cancel header target) = 2 + CANCEL_LENGTH
+message_length (Correct header target content) = 2 + CORRECTION_LENGTH
 
 -- a message has as many bytes as its kind asks for
 length-spelling : (m : Message) → IsMessage m → length (spelling m) ≡ message_length m
@@ -89,7 +91,7 @@ length-entries (e ∷ es) all =
 pub length-data_text : (session : ℕ) (es : List Entry) → All IsEntry es → length es ≤ ENTRIES_MOST
     → length (packet_text (Data session es)) ≤ LONGEST_PACKET
 length-data_text session es all few =
-    omega (arith, length-append (frames.header_text 68 session (first_number es) (length es)) (flat_map entry_text es), length-entries es all, few)
+    omega (arith, length-append (frames.header_text DATA session (first_number es) (length es)) (flat_map entry_text es), length-entries es all, few)
 
 -- each packet has a header at least, and no packet is longer than the longest
 pub packet_lengths : PacketLengths

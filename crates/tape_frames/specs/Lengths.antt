@@ -1,18 +1,19 @@
 -- How long the spellings are.
-use Rattle.std.specs.Prelude.{◌≡◌, ◌≤◌, ℕ, length}
+use Rattle.std.specs.Prelude.{◌≡◌, ◌≤◌, ◌+◌, ℕ, length}
+use Rattle.reports.specs.Kinds.{REPORT_LENGTH, CANCEL_LENGTH}
 use Rattle.reports.specs.declared.message.Message.{Message}
 use Rattle.reports.specs.declared.message.Message.TheVariants.{Report, Cancel, Correct}
 use Rattle.tape_core.specs.declared.entry.Entry.{Entry}
 use Rattle.tape_frames.specs.declared.packet.Packet.{Packet}
 use Rattle.tape_frames.specs.declared.request.Request.{Request}
-use Rattle.tape_frames.specs.Limits.{HEADER_LENGTH, LONGEST_PACKET, LONGEST_ENTRY, REQUEST_LENGTH}
+use Rattle.tape_frames.specs.Limits.{HEADER_LENGTH, LONGEST_PACKET, LONGEST_ENTRY, REQUEST_LENGTH, SUMMARY_LENGTH}
 use Rattle.tape_frames.specs.Requests.{request_text}
 use Rattle.tape_frames.specs.Spelling.{IsEntry, IsPacket, entry_text, packet_text}
 
--- how many bytes an entry of this message has
+-- how many bytes an entry of this message has: its number, the message with its length, and the summary that a cancel or a correction carries
 abbrev pub entry_length : Message → ℕ
-entry_length (Report header content) = 44
-entry_length (Cancel header target) = 97
+entry_length (Report header content) = 4 + (2 + REPORT_LENGTH)
+entry_length (Cancel header target) = 4 + (2 + CANCEL_LENGTH) + SUMMARY_LENGTH
 entry_length (Correct header target content) = LONGEST_ENTRY
 
 -- each entry has as many bytes as its kind asks for

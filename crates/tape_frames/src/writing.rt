@@ -7,6 +7,7 @@ ghost use Rattle.tape_frames.specs.EntryRows.{Carries, IsRow, first_number};
 ghost use Rattle.tape_frames.specs.Spelling.{IsEntry, IsFigure, IsMark, IsPacket, IsSummary, bit, carried_text, entry_text};
 ghost use Rattle.tape_frames.specs.Spelling.{figure_text, header_text, mark_text, packet_text, presence, summary_text};
 
+use crate::kinds::{BEAT, DATA, END};
 use crate::limits::{LONGEST_PACKET, MARK_LENGTH, VERSION};
 use crate::{EntryCount, EntryRow, Packet};
 use reports::{LONGEST_MESSAGE, encode_into, put};
@@ -40,11 +41,11 @@ fn put_packet(row: &mut [u8], packet: &Packet) -> usize
         Packet::Data { session, entries } => {
             let entries = entries.entries();
             let first = entries[0].number.value();
-            let at = put_header(row, b'D', *session, first, entries.len() as u8);
+            let at = put_header(row, DATA, *session, first, entries.len() as u8);
             put_entries(row, at, entries)
         }
-        Packet::Beat { session, last } => put_header(row, b'H', *session, last.value(), 0),
-        Packet::End { session, count } => put_header(row, b'E', *session, count.value(), 0),
+        Packet::Beat { session, last } => put_header(row, BEAT, *session, last.value(), 0),
+        Packet::End { session, count } => put_header(row, END, *session, count.value(), 0),
     }
 }
 

@@ -94,6 +94,23 @@ impl<'a> Words<'a> {
         }
     }
 
+    /// The next two words, of symbols and of participants.
+    fn names(&mut self) -> Result<(&'a [u8], &'a [u8]), CommandFault> {
+        Ok((self.word()?, self.word()?))
+    }
+
+    /// The next three words as the ports of both lines and of the retransmission.
+    fn feed_ports(&mut self) -> Result<([u16; 2], u16), CommandFault> {
+        Ok(([self.port()?, self.port()?], self.port()?))
+    }
+
+    /// The last word as a session. Refused where a word is left behind it.
+    fn session(&mut self) -> Result<u64, CommandFault> {
+        let session = self.number()?;
+        self.end()?;
+        Ok(session)
+    }
+
     /// Refused where a word is left.
     fn end(&self) -> Result<(), CommandFault> {
         if self.rest.is_empty() {
@@ -180,13 +197,11 @@ impl LiveWords {
     /// a port, too.
     fn read(alloc: Global, words: &[u8]) -> Result<LiveWords, CommandFault> {
         let mut words = Words { rest: words };
-        let (symbols, participants) = (words.word()?, words.word()?);
+        let (symbols, participants) = words.names()?;
         let first_port = words.port()?;
-        let ports = [words.port()?, words.port()?];
-        let retransmission = words.port()?;
+        let (ports, retransmission) = words.feed_ports()?;
         let serves = words.short()?;
-        let session = words.number()?;
-        words.end()?;
+        let session = words.session()?;
         let most = (PORTS - usize::from(first_port)).min(PARTICIPANTS_MOST);
         let listing = listing(alloc, symbols, participants, most)?;
         Ok(LiveWords {
@@ -217,11 +232,9 @@ impl FollowWords {
     /// Reads the words behind `follow`. Memory is taken for the names, once all else is right.
     fn read(alloc: Global, words: &[u8]) -> Result<FollowWords, CommandFault> {
         let mut words = Words { rest: words };
-        let (symbols, participants) = (words.word()?, words.word()?);
-        let ports = [words.port()?, words.port()?];
-        let retransmission = words.port()?;
-        let session = words.number()?;
-        words.end()?;
+        let (symbols, participants) = words.names()?;
+        let (ports, retransmission) = words.feed_ports()?;
+        let session = words.session()?;
         let listing = listing(alloc, symbols, participants, PARTICIPANTS_MOST)?;
         Ok(FollowWords {
             listing,

@@ -44,8 +44,8 @@ loop-answer-preserved g c = record {
       c.push_answer.ensures c.loop-answer.invariant.so_far c.in_ok-write_piece.ensures.written);
 }
 
-pub returns-in_err-write_piece-clause-front : goal.returns-in_err-write_piece-clause-front
-returns-in_err-write_piece-clause-front g c =
+pub returns-in_err-write_piece-clause-prefix : goal.returns-in_err-write_piece-clause-prefix
+returns-in_err-write_piece-clause-prefix g c =
     let old = g.W.Write.contents c.args.writer.now in
     let now = g.W.Write.contents c.loop-answer.writer in
     let new = g.W.Write.contents c.write_piece.new.writer in
@@ -53,12 +53,12 @@ returns-in_err-write_piece-clause-front g c =
     let i = c.loop-answer.answer-index in
     let front = WritesPrefix-gathered (flat_map answer_line (take i answers)) c.loop-answer.gathered c.push_answer.new.self
     (answer_line c.answer-item.result) old now new
-    c.push_answer.ensures c.loop-answer.invariant.so_far c.in_err-write_piece.ensures.front in
+    c.push_answer.ensures c.loop-answer.invariant.so_far c.in_err-write_piece.ensures.prefix in
     OnErr-any c.from_residual.result _ (first_answers answers (i + 1) old new
     (subst (λ (l : List ℕ). WritesPrefix l old new) (one_more answers i c.answer-item.result c.loop-answer-test.true c.answer-item.is) front))
 
-pub returns-clause-front : goal.returns-clause-front
-returns-clause-front g c =
+pub returns-clause-prefix : goal.returns-clause-prefix
+returns-clause-prefix g c =
     let old = g.W.Write.contents c.args.writer.now in
     let now = g.W.Write.contents c.loop-answer.writer in
     let new = g.W.Write.contents c.write_to.new.writer in
@@ -67,4 +67,4 @@ returns-clause-front g c =
     OnErr-map c.write_to.result _ _
     (λ front. first_answers answers i old new
     (WritesPrefix-after (flat_map answer_line (take i answers)) c.loop-answer.gathered old now new c.loop-answer.invariant.so_far front))
-    c.write_to.ensures.front
+    c.write_to.ensures.prefix

@@ -1,9 +1,9 @@
 use Rattle.std.proofs.Common.{refl}
-use Rattle.line_ledger.proofs.Confirmed.{front, data_cut, as_many}
+use Rattle.line_ledger.proofs.Confirmed.{prefix, data_cut, as_many}
 use Rattle.line_ledger.proofs.laws.confirmed.Goals as goal
 
-pub returns-clause-front : goal.returns-clause-front
-returns-clause-front c = front
+pub returns-clause-prefix : goal.returns-clause-prefix
+returns-clause-prefix c = prefix
 
 pub returns-clause-data : goal.returns-clause-data
 returns-clause-data c = λ names tokens t session from first all. (refl, data_cut names tokens t from first all)

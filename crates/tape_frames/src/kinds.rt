@@ -1,0 +1,10 @@
+//! The kinds of packets, each by the byte that stands behind the version.
+
+/// The kind of a packet with entries.
+pub(crate) const DATA: u8 = b'D';
+
+/// The kind of a beat.
+pub(crate) const BEAT: u8 = b'H';
+
+/// The kind of an end.
+pub(crate) const END: u8 = b'E';
