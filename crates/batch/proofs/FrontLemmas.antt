@@ -8,16 +8,10 @@ use Rattle.std.proofs.lemmas.List.{take-append-le}
 use lib.Seq.{drop-append-le}
 use Rattle.hex.specs.Hex.{is_hex_digit}
 use Rattle.reports.specs.Reading.{announced_length, message_at, LONGEST_BODY, LONGEST_FRAME}
+use Rattle.reports.proofs.Messages.{announced_length-append}
 use Rattle.batch.specs.declared.batch_refusal.BatchRefusal.TheVariants.{BadLine}
 use Rattle.batch.specs.MessageLine.{from_bytes, hex_bytes, spelled_message}
 use Rattle.batch.proofs.HexLemmas.{hex_bytes-front_None, hex_bytes-rest_None, hex_bytes-Some}
-
--- the length in front is read from the front
-announced_length-front : (front others : List ℕ) → length front ≡ LONGEST_FRAME → announced_length (front ++ others) ≡ announced_length front
-unfolding announced_length
-announced_length-front front others long =
-    let first : take 2 (front ++ others) ≡ take 2 front = take-append-le 2 front others (omega arith) in
-    rw first refl
 
 -- a body is read from the front
 body-front : (front others : List ℕ) (len : ℕ) → length front ≡ LONGEST_FRAME → len ≤ LONGEST_BODY
@@ -32,7 +26,7 @@ unfolding message_at
 message_at-front front others long =
     let len = announced_length front in
     let total : LONGEST_FRAME ≤ length (front ++ others) = omega (arith, length-append front others) in
-    rw (announced_length-front front others long, le-ltb (length (front ++ others)) 2 (omega arith), le-ltb (length front) 2 (omega arith))
+    rw (announced_length-append front others (omega (arith, long)), le-ltb (length (front ++ others)) 2 (omega arith), le-ltb (length front) 2 (omega arith))
     (elim (cases_Bool ((len == 0) || nat_lt LONGEST_BODY len)) [
       | inl oversize ↦ rw oversize refl
       | inr fits ↦

@@ -25,13 +25,13 @@ first_fault-other x [] all = λ e. cc
 first_fault-other x ((true, f) ∷ cases) all = λ e. all.0 cc
 first_fault-other x ((false, f) ∷ cases) all = first_fault-other x cases all.1
 
--- no fault of a target is lack of memory
+-- no fault of a target is out of memory
 target_faults-other : (tape : List NumberedMessage) (symbol : List ℕ) (named : Option NumberedMessage)
     → AllByRecursion (λ c. c.1 ≢ OutOfMemory) (target_faults tape symbol named)
 target_faults-other tape symbol None = (λ e. cc, tt)
 target_faults-other tape symbol (Some report) = (λ e. cc, (λ e. cc, tt))
 
--- no fault of what a message names is lack of memory
+-- no fault of what a message names is out of memory
 message_faults-other : (tape : List NumberedMessage) (m : Message) → AllByRecursion (λ c. c.1 ≢ OutOfMemory) (message_faults tape m)
 message_faults-other tape (Report header content) = tt
 message_faults-other tape (Cancel header target) = target_faults-other tape header.symbol (named_report tape header.participant target)
@@ -42,7 +42,7 @@ first-other : {F : Type 0} (x f : F) (test : Bool) (rest : Option F) → f ≢ x
 first-other x f true rest here later = λ e. here cc
 first-other x f false rest here later = later
 
--- a tape refuses no message for lack of memory
+-- a tape itself refuses no message as out of memory
 refusal-other : (t : TapeState) (m : Message) → refusal t m ≢ Some OutOfMemory
 refusal-other t m =
     let targets = first_fault-other OutOfMemory (message_faults (messages_of t.entries) m) (message_faults-other (messages_of t.entries) m) in
@@ -50,7 +50,7 @@ refusal-other t m =
     (first-other _ Full _ _ (λ e. cc)
     (first-other _ UnknownParticipant _ _ (λ e. cc) (first-other _ Stale _ _ (λ e. cc) (first-other _ UnknownSymbol _ _ (λ e. cc) targets))))
 
--- a message that is read from bytes is not refused for lack of memory
+-- a message that is read from bytes is not refused as out of memory
 whole_message-other : (letter len : ℕ) (read : Result (Message × ℕ) MessageFault) → whole_message letter len (from_bytes read) ≢ Err (Refused OutOfMemory)
 whole_message-other letter len (Err fault) = λ e. cc
 whole_message-other letter len (Ok (m, taken)) = elim (cases_Bool (taken == len)) [
@@ -100,7 +100,7 @@ pub refused_tape : (t new : TapeState) (line : List ℕ) (m : Message) (r : Refu
 unfolding tape_after_line
 refused_tape t new line m r brings is other same = rw (← brings, refusal_is (refusal t m) r is other) same
 
--- a message that met a lack of memory was acceptable
+-- a message that was refused as out of memory was acceptable
 pub acceptable : (t : TapeState) (line : List ℕ) (m : Message) (r : Refusal) → Ok m ≡ line_message line → r ≡ unwrap_or (refusal t m) OutOfMemory
     → r ≡ OutOfMemory → IsOk (line_answer t line)
 unfolding line_answer

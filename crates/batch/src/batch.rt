@@ -144,7 +144,7 @@ fn finish_batch<T: Threads + Sync, W: Write>(
     writer: &mut W,
 ) -> BatchEnd
     requires { gathered.old ≡ [] }
-    // A day at whose last answer memory ran out is not done: that answer's line stands written, unless a write fails.
+    // A day at whose last answer memory ran out is not done: that answer's line is written, unless a write fails.
     ensures finishes { Finishes read.now result (W.contents writer.old) (W.contents writer.new) }
 {
     match write_batch(rt, alloc, read, gathered, writer) {

@@ -13,7 +13,7 @@ pub enum BatchEnd {
     TooLarge,
     /// A read failed, and nothing was written.
     ReadFault,
-    /// A write or the flush failed. A prefix of what was to be written stands written.
+    /// A write or the flush failed. The writer has a prefix of what was to be written.
     WriteFault,
     /// Memory ran out: nothing was written, or the answers up to a refusal for it, or all answers and no report.
     OutOfMemory,

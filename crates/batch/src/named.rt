@@ -10,7 +10,7 @@ pub trait Named: Copy {
 
     /// What a text names, or `None` where it is no such name.
     fn of_name(name: &[u8]) -> Option<Self>
-        ensures { result ≡ named name.now };
+        ensures names { result ≡ named name.now };
 }
 
 /// A symbol stands without the spaces that it has at its end.

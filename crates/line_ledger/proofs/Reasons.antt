@@ -118,7 +118,7 @@ module _ (t : TapeState) (m : Message) where
       ) in
       first-says cases r all is
 
-  -- the answer of the tape, lack of memory included
+  -- the answer of the tape, out of memory included
   answer-says : (o : Option Refusal) → refusal t m ≡ o → Says t m (unwrap_or o OutOfMemory)
   answer-says None is = other-says OutOfMemory (omega arith)
   answer-says (Some r) is = refusal-says r is
@@ -133,7 +133,7 @@ pub record IsWhy (t : TapeState) (s : SeatState) (m : Message) (why : LineRefusa
   pub behind : (header_of m).participant ≡ s.who → agrees t s ≡ false → why ≡ Behind
   pub tape : (header_of m).participant ≡ s.who → agrees t s ≡ true → why ≡ Refused (unwrap_or (refusal t m) OutOfMemory)
 
--- a line refuses as the tape does, and for lack of memory where the tape has no reason
+-- a line refuses as the tape does, and as out of memory where the tape has no reason
 unwrap-map : (o : Option Refusal) → unwrap_or (option_map Refused o) (Refused OutOfMemory) ≡ Refused (unwrap_or o OutOfMemory)
 unwrap-map None = refl
 unwrap-map (Some r) = refl
@@ -151,7 +151,7 @@ refuses_as_tape : (t : TapeState) (s : SeatState) (m : Message) → (header_of m
     → line_refusal t s m ≡ option_map Refused (refusal t m)
 refuses_as_tape t s m own same = grind (arith, nat_tests, own, same)
 
--- the reason of a line, or the lack of memory, is the one that applies
+-- the reason of a line, or out of memory, is the one that applies
 is_why : (t : TapeState) (s : SeatState) (m : Message) (why : LineRefusal) → why ≡ unwrap_or (line_refusal t s m) (Refused OutOfMemory) → IsWhy t s m why
 is_why t s m why is = record {
   wrong_line = λ other. is ∙ ap (λ o. unwrap_or o (Refused OutOfMemory)) (refuses_other t s m other);

@@ -10,7 +10,7 @@ use Rattle.line_ledger.specs.declared.line_refusal.LineRefusal.{LineRefusal}
 use Rattle.line_ledger.specs.declared.line_refusal.LineRefusal.TheVariants.{Behind, Refused}
 use Rattle.line_ledger.specs.Seats.{SeatState, agrees, last_told, with_told}
 
--- why a message is not admitted by this seat, lack of memory aside: the first case that holds, or none
+-- why a message is not admitted by this seat, apart from running out of memory: the first case that holds, or none
 abbrev pub line_refusal : TapeState → SeatState → Message → Option LineRefusal
 line_refusal t s m =
     if not ((header_of m).participant == s.who) then Some (Refused WrongLine)
@@ -24,7 +24,7 @@ pub record Admits (t : TapeState) (s : SeatState) (m : Message) (number : ℕ) (
   pub tape : t' ≡ with_message t m
   pub told : s' ≡ with_told s number m
 
--- tape and seat are unchanged, and the answer is the first refusal, or lack of memory where there is none
+-- tape and seat are unchanged, and the answer is the first refusal, or out of memory where there is none
 pub record Refuses (t : TapeState) (s : SeatState) (m : Message) (why : LineRefusal) (t' : TapeState) (s' : SeatState) : Type 0 where
   pub why_is : why ≡ unwrap_or (line_refusal t s m) (Refused OutOfMemory)
   pub tape : t' ≡ t

@@ -1,11 +1,11 @@
 -- The front of a frame, as it is read.
 use Rattle.std.proofs.Common.{◌≡◌, ℕ, ◌+◌, ◌<◌, ◌≤◌, ◌⊎◌, List, ◌++◌, Option, length, length-append, length-take-le, take, take-take, take_all, ap, arith}
 use Rattle.std.proofs.Common.{subst, sym, inr, ◌∙◌}
-use Rattle.std.proofs.lemmas.List.{take-append-le}
 use Rattle.std.specs.Int.{w16, from_be_bytes}
 use Rattle.std.specs.Io.KnownBytes.{Consumes, IsAtEnd}
 use Rattle.std.proofs.KnownBytes.{Consumes-trans}
 use Rattle.reports.specs.Reading.{announced_length, LONGEST_BODY}
+use Rattle.reports.proofs.Messages.{announced_length-append}
 use Rattle.participant_lines.specs.Frames.{IsFrame, IsLength, IsPart}
 
 -- bytes that have what they announce begin with a frame
@@ -18,11 +18,6 @@ front_frame bytes len is within fits =
       len = subst IsLength (sym announced) within;
       whole = omega (arith, length-take-le (2 + len) bytes fits, announced);
     }
-
--- what two bytes announce is what is announced, whatever follows them
-pub announced-front : (head rest : List ℕ) → length head ≡ 2 → announced_length (head ++ rest) ≡ announced_length head
-unfolding announced_length
-announced-front head rest two = ap (from_be_bytes w16) (take-append-le 2 head rest (omega (arith, two)))
 
 -- the two bytes of a length, as they stand in a row
 pub head_read : (had left : Option (List ℕ)) (old row : List ℕ) (n : ℕ) → n ≡ 2
@@ -51,7 +46,7 @@ module _ (had mid left : Option (List ℕ)) (head piece : List ℕ) (len : ℕ) 
     (within : IsLength len) (first : Consumes had mid head) (second : Consumes mid left piece) where
   -- a frame announces the length that its head does
   is_len : announced_length (head ++ piece) ≡ len
-  is_len = announced-front head piece two ∙ announced
+  is_len = announced_length-append head piece (omega (arith, two)) ∙ announced
 
   -- a frame is two bytes longer than its body
   size : length (head ++ piece) ≡ 2 + length piece

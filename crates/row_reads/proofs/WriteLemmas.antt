@@ -69,7 +69,8 @@ WritesUpTo-gathered text rest pushed left more old now new is one two =
 -- more is gathered after what is left of a text, and a prefix of it is written
 pub WritesPrefix-gathered : (text rest pushed more : List ℕ) (old now new : Option (List ℕ)) → pushed ≡ rest ++ more
     → WritesUpTo text rest old now → WritesPrefix pushed now new → WritesPrefix (text ++ more) old new
-WritesPrefix-gathered text rest pushed more old now new is one prefix = (prefix.0, WritesUpTo-gathered text rest pushed prefix.0 more old now new is one prefix.1)
+WritesPrefix-gathered text rest pushed more old now new is one prefix =
+    (prefix.0, WritesUpTo-gathered text rest pushed prefix.0 more old now new is one prefix.1)
 
 -- a text is written, and then a prefix of another
 pub WritesPrefix-then : (first second : List ℕ) (old now new : Option (List ℕ)) → Appends old now first → WritesPrefix second now new

@@ -9,8 +9,8 @@ use std::io::{ErrorKind, Write};
 #[derive(Clone, Copy, Debug, PartialEq, Eq)]
 pub struct WriteFault;
 
-/// Writes all of a text. After a write that failed, a prefix of the text and nothing else stands written. An interrupted
-/// write is made again.
+/// Writes all of a text. After a write that failed, the writer has a prefix of the text and nothing else. An interrupted write
+/// is made again.
 pub fn write_text<W: Write>(writer: &mut W, text: &[u8]) -> Result<(), WriteFault>
     ensures written { OnOk result (Appends (W.contents writer.old) (W.contents writer.new) text.now) }
     ensures prefix { WritesPrefix text.now (W.contents writer.old) (W.contents writer.new) }

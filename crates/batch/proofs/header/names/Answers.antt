@@ -24,11 +24,11 @@ loop-piece-preserved g c =
     record {
       can = tt;
       finite = tt;
-      left = sym (is_some-more named c.in-Some.piece.now left (ap is_some (sym c.in-Some-of_name.ensures)))
+      left = sym (is_some-more named c.in-Some.piece.now left (ap is_some (sym c.in-Some-of_name.ensures.names)))
           ∙ ap (λ (ts : List (List ℕ)). is_some (all_named named ts)) (sym c.in-Some.ensures.steps) ∙ c.loop-piece.invariant.left;
       names = λ fits.
           let ok : is_ok c.push.result ≡ true = c.is_err-is_short.ensures.negation ∙ ap not fits in
-          names_with-more named c.loop-piece.names.items c.push.new.self.items c.in-Some.piece.now left c.in-Some-of_name.name c.in-Some-of_name.ensures
+          names_with-more named c.loop-piece.names.items c.push.new.self.items c.in-Some.piece.now left c.in-Some-of_name.name c.in-Some-of_name.ensures.names
           (rw (c.push.ensures.items, ok) refl)
           ∙ ap (names_with named c.loop-piece.names.items) (sym c.in-Some.ensures.steps) ∙ c.loop-piece.invariant.names c.if-is_short.false;
     }
