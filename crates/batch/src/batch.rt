@@ -58,7 +58,7 @@ fn write_answers<W: Write>(
     gathered.write_to(writer)
 }
 
-/// The rows of a tape, made by one worker: it starts no thread, and can lack nothing but memory.
+/// The rows of a tape, made by one worker: it starts no thread, and can fail only by running out of memory.
 fn rows_by_one<T: Threads + Sync>(
     rt: &T,
     alloc: Global,

@@ -101,7 +101,7 @@ impl CellRow {
         }))
     }
 
-    /// What shows that the cell at this place, from 0, holds the entry at this place. `None` where it was not seen to.
+    /// What shows that the cell at this position, from 0, holds the entry at this position. `None` where it was not seen to.
     fn seen_at(&self, at: usize, entries: &[Entry]) -> Option<Seen<Entry>>
         ensures { IfSome result (SeenAt self.now entries.now at) }
     {

@@ -8,7 +8,7 @@ use crate::feed::Feed;
 use line_ledger::{DayName, Published, SharedTape};
 use retransmit::{Ended, serve};
 
-/// What the end of a connection is to the day. A peer that misbehaves ends its own connection alone.
+/// The day's fault for the end of a connection. A peer that misbehaves ends its own connection alone.
 fn fault_of_serving(ended: Ended) -> Option<Fault>
     ensures memory { ended ≡ OutOfMemory → result ≡ Some Memory }
     ensures other { ended ≢ OutOfMemory → result ≡ None }

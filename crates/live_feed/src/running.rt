@@ -14,16 +14,16 @@ use std::rt::Clock;
 use std::sync::Wait;
 use std::thread::{Threads, join, join_mut};
 
-/// What the sender and the retransmission came to.
+/// The outcome of the sender and of the retransmission.
 #[derive(Clone, Copy)]
 pub(crate) struct Sides {
     /// The retransmission's fault.
     pub(crate) served: Option<Fault>,
-    /// What the sender came to.
+    /// The outcome of the sender.
     pub(crate) sent: Sent,
 }
 
-/// What all of a day came to. Its seats must be spent.
+/// The outcome of all of a day. Its seats must be spent.
 pub(crate) struct Joined<D: DayName> {
     /// The lines.
     pub(crate) ran: Ran<D>,

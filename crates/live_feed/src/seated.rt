@@ -66,7 +66,7 @@ pub(crate) fn lines_of<D: DayName>(
     lines
 }
 
-/// What the end of a line is to the day. A peer that misbehaves ends its own line alone.
+/// The day's fault for the end of a line. A peer that misbehaves ends its own line alone.
 fn fault_of_end(ended: Ended) -> Option<Fault>
     ensures memory { ended ≡ OutOfMemory → result ≡ Some Memory }
     ensures behind { ended ≡ Behind → result ≡ Some Disagrees }
@@ -79,7 +79,7 @@ fn fault_of_end(ended: Ended) -> Option<Fault>
     }
 }
 
-/// What too little of something is to the day.
+/// The day's fault where memory or a worker is lacking.
 fn fault_of_lack(lack: Lack) -> Fault
     ensures memory { lack ≡ LackOfMemory → result ≡ Memory }
     ensures worker { lack ≡ LackOfWorker → result ≡ Worker }

@@ -28,7 +28,7 @@ const REST: u64 = 1;
 /// How long the sender waits before each end, in milliseconds: a reader whose buffer is full empties it meanwhile.
 const PAUSES_BEFORE_ENDS: [u64; 3] = [0, 50, 200];
 
-/// What the sender came to.
+/// The outcome of the sender.
 #[derive(Clone, Copy)]
 pub(crate) struct Sent {
     /// The number of the last entry that was sent, which the end tells.

@@ -26,7 +26,7 @@ pub(crate) fn can_start<R: Threads>(rt: &R) -> bool {
     }
 }
 
-/// What a tape that is not made is to the day.
+/// The day's fault for a tape that is not made.
 pub(crate) fn fault_of_tape(fault: TapeFault) -> Fault
     ensures limit { fault ≡ BadLimit → result ≡ Disagrees }
     ensures memory { fault ≡ TapeOutOfMemory → result ≡ Memory }

@@ -18,7 +18,7 @@ use tape_types::NoGate;
 /// How many workers make the rows of a report.
 const WORKERS: usize = 4;
 
-/// What a report that is not written is to the day.
+/// The day's fault for a report that is not written.
 fn fault_of_report(fault: ReportFault) -> Fault
     ensures worker { (fault ≡ BadWorkers) ⊎ (fault ≡ Unstarted) → result ≡ Worker }
     ensures memory { fault ≡ ReportOutOfMemory → result ≡ Memory }

@@ -12,8 +12,8 @@ use std::io::{BufRead, ErrorKind, Read};
 /// How many bytes a frame's length has.
 const LENGTH_BYTES: usize = 2;
 
-/// Reads on from one place of the row until another or until the input ends: up to which place, or `None` where a read
-/// failed.
+/// Reads on from one position of the row until another or until the input ends: up to which position, or `None` where a
+/// read failed.
 #[inline(always)]
 fn read_on<R: Read>(
     reader: &mut R,

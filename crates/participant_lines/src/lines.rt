@@ -136,9 +136,9 @@ fn can_start<T: Threads>(rt: &T) -> bool {
     }
 }
 
-/// Runs all lines at once, each in a worker as `run_line` runs it, with its place from 0 as its number, and waits for their
-/// ends, which come in the order of the lines. The workers are started by halves. A line's reader is dropped when that line
-/// has ended, while others may still run.
+/// Runs all lines at once, each in a worker as `run_line` runs it, with its position from 0 as its number, and waits for
+/// their ends, which come in the order of the lines. The workers are started by halves. A line's reader is dropped when
+/// that line has ended, while others may still run.
 ///
 /// Nothing is started, and all lines come back with their seats, where memory runs out (`Lack::Memory`) or, with two lines or
 /// more, no thread can be started (`Lack::Worker`). Where a thread is refused later, its half of the lines is run by the
@@ -156,7 +156,7 @@ pub fn run_lines<
     gate: &G,
 ) -> Result<Vec<LineEnd<D>>, Unstarted<D, R>>
     ensures len { IfOk result (λ ends. length ends.items ≡ length lines.items) }
-    // Each end is that of the line in its place.
+    // Each end is that of the line at its position.
     ensures each { IfOk result (λ ends. (i : ℕ) (l : _) (e : _) → i < length lines.items
         → HasRun D.listing (slice_index_or lines.items i l).0 (R.remaining (slice_index_or lines.items i l).1)
         (slice_index_or ends.items i e).refused (slice_index_or ends.items i e).ended (slice_index_or ends.items i e).seat) }

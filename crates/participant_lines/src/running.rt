@@ -24,8 +24,8 @@ pub(crate) struct Outcome {
     pub ended: Ended,
 }
 
-/// What an answer is to its line: how many refusals it makes, 0 or 1, or the end that it brings. Nothing else decides which
-/// refusals end a line.
+/// What an answer does to its line: how many refusals it makes, 0 or 1, or the end that it brings. Nothing else decides
+/// which refusals end a line.
 #[inline(always)]
 fn effect_of(answer: Result<Receipt, LineRefusal>) -> Result<u32, Ended>
     ensures { result ≡ effect_of answer }
