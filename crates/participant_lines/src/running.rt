@@ -15,7 +15,7 @@ use tape_types::Gate;
 /// How many frames a line does at most.
 pub const FRAMES_MOST: u32 = 2_097_152;
 
-/// What a run came to, beside its seat.
+/// The outcome of a run, beside its seat.
 #[derive(Clone, Copy, Debug, PartialEq, Eq)]
 pub(crate) struct Outcome {
     /// How many frames were refused.
