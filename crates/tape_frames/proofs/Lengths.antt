@@ -4,6 +4,7 @@ use Rattle.std.specs.Prelude.{All, flat_map}
 use Rattle.std.proofs.lemmas.List.Elements.{All-head, All-tail}
 use Rattle.reports.specs.declared.message.Message.{Message}
 use Rattle.reports.specs.declared.message.Message.TheVariants.{Report, Cancel, Correct}
+use Rattle.reports.specs.Messages.{named_target}
 use Rattle.reports.specs.Kinds.{REPORT_LENGTH, CANCEL_LENGTH, CORRECTION_LENGTH}
 use Rattle.reports.specs.Spelling.{IsMessage, content_text, header_text, spelling, target_text}
 use Rattle.reports.proofs.Messages.{length-content, length-header}
@@ -21,20 +22,17 @@ use Rattle.tape_frames.proofs.Packets.{length-packet_text}
 
 -- ---- entries
 
--- what a cancel or a correction carries is a summary
-abbrev carried_length : Message → ℕ
-carried_length (Report header content) = 0
-carried_length (Cancel header target) = SUMMARY_LENGTH
-carried_length (Correct header target content) = SUMMARY_LENGTH
+-- what is carried where a target is named is a summary
+abbrev carried_length : Option ℕ → ℕ
+carried_length None = 0
+carried_length (Some target) = SUMMARY_LENGTH
 
 -- what is carried is as long as the kind asks for
-length-carried_text : (m : Message) (after : Option Summary) → CarriesFor m after → length (carried_text after) ≡ carried_length m
-length-carried_text (Report h c) None carries = refl
-length-carried_text (Report h c) (Some z) carries = absurd (cc carries)
-length-carried_text (Cancel h n) None carries = absurd (cc carries)
-length-carried_text (Cancel h n) (Some z) carries = length-summary_text z
-length-carried_text (Correct h n c) None carries = absurd (cc carries)
-length-carried_text (Correct h n c) (Some z) carries = length-summary_text z
+length-carried_text : (named : Option ℕ) (after : Option Summary) → CarriesFor named after → length (carried_text after) ≡ carried_length named
+length-carried_text None None carries = refl
+length-carried_text None (Some z) carries = absurd (cc carries)
+length-carried_text (Some n) None carries = absurd (cc carries)
+length-carried_text (Some n) (Some z) carries = length-summary_text z
 
 -- the length of a message by its kind
 abbrev message_length : Message → ℕ
@@ -51,7 +49,7 @@ length-spelling (Correct h n c) fits =
     omega (arith, length-append (header_text h) (target_text n ++ content_text c), length-header h fits.0, length-content c fits.1.1)
 
 -- the three parts of an entry together
-entry_sum : (m : Message) → 4 + (message_length m + carried_length m) ≡ entry_length m
+entry_sum : (m : Message) → 4 + (message_length m + carried_length (named_target m)) ≡ entry_length m
 entry_sum (Report h c) = refl
 entry_sum (Cancel h n) = refl
 entry_sum (Correct h n c) = refl
@@ -62,7 +60,7 @@ entry_lengths e is = omega (
   arith,
   length-append (spelling e.message) (carried_text e.after),
   length-spelling e.message is.message,
-  length-carried_text e.message e.after is.carries,
+  length-carried_text (named_target e.message) e.after is.carries,
   entry_sum e.message,
 )
 
