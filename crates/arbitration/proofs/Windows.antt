@@ -1,6 +1,6 @@
 -- What keeps the invariant of a window.
-use Rattle.std.proofs.Common.{◌≡◌, ℕ, zero, suc, ◌+◌, ◌≤◌, ◌==◌, true, false, List, [], ◌∷◌, ◌++◌, length, set}
-use Rattle.std.proofs.Common.{take, drop, Option, None, Some, refl, sym, ap, subst, ◌∙◌, arith, ◌||◌, max, not}
+use Rattle.std.proofs.Common.{◌≡◌, ℕ, zero, suc, ◌+◌, ◌^◌, ◌≤◌, ◌<◌, ◌==◌, true, false, List, [], ◌∷◌, ◌++◌, length, set}
+use Rattle.std.proofs.Common.{take, drop, Option, None, Some, refl, sym, ap, subst, ◌∙◌, arith, lit<, ◌||◌, max, not}
 use Rattle.std.proofs.lemmas.Bool.{false≢true, or_parts, ltb-false, not-false, eqb-true}
 use Rattle.std.proofs.lemmas.List.{length_push, length-replicate}
 use Rattle.std.proofs.lemmas.List.Sums.{count_by-le-length}
@@ -16,23 +16,23 @@ use Rattle.arbitration.proofs.Slots.{length-slots_after}
 use Rattle.arbitration.specs.Counts.{taken_of}
 use Rattle.arbitration.specs.Gaps.{ASKED_MOST}
 use Rattle.arbitration.specs.Deliveries.{entry_numbered, slots_after, is_beyond, is_other_end, is_past_end, window_after}
-use Rattle.arbitration.specs.Windows.{WindowState, IsWindow, flat, ArePlaced, window_past, next_of, empty_window, reach}
+use Rattle.arbitration.specs.Windows.{WindowState, IsWindow, flat, ArePlaced, window_past, next_of, empty_window, REACH}
 use Rattle.arbitration.specs.declared.line.Line.{Line}
 
--- how far a window reaches, for arithmetic that has to fit a word
-pub reach-is : reach ≡ 1024
-unfolding reach
-reach-is = refl
+-- a word has room for how far a window reaches
+pub REACH-fits : REACH < 2 ^ 16
+unfolding REACH
+REACH-fits = lit< tt
 
 -- a window reaches some number
-reach-some : 1 ≤ reach
-unfolding reach
-reach-some = omega arith
+REACH-some : 1 ≤ REACH
+unfolding REACH
+REACH-some = omega arith
 
 -- a request asks for no more numbers than a window reaches
-pub reach-asked : ASKED_MOST ≤ reach
-unfolding reach
-reach-asked = omega arith
+pub REACH-asked : ASKED_MOST ≤ REACH
+unfolding REACH
+REACH-asked = omega arith
 
 -- a slot that got the entry of its number is placed
 placed_found : (next more : ℕ) (o : Option Entry) (slots : List (Option Entry)) → ((e : Entry) → o ≡ Some e → (e.number ≡ next) × (next ≤ more))
@@ -75,12 +75,12 @@ end_after (Some known) (Some count) announced last ok h k =
 -- an empty window is one
 pub IsWindow-empty : (session : ℕ) → IsWindow (empty_window session)
 IsWindow-empty session = record {
-  size = length-replicate reach None;
-  placed = ArePlaced-empty reach 1 0;
+  size = length-replicate REACH None;
+  placed = ArePlaced-empty REACH 1 0;
   reached = omega arith;
   within = omega arith;
   end = tt;
-  counted = let none = count_none reach in omega arith;
+  counted = let none = count_none REACH in omega arith;
 }
 
 -- a window is one after a packet
@@ -128,18 +128,18 @@ IsWindow-window_past w h ready = go w.slots refl
         }
 
 -- the counts of a window fit a word
-pub brought_fits : (w : WindowState) → IsWindow w → w.brought.a + w.brought.b + w.brought.r ≤ TAPE_MOST + reach
+pub brought_fits : (w : WindowState) → IsWindow w → w.brought.a + w.brought.b + w.brought.r ≤ TAPE_MOST + REACH
 brought_fits w h =
     let counted = h.counted in
     let within = h.within in
     let reached = h.reached in
-    let size : length w.slots ≡ reach = h.size in
+    let size : length w.slots ≡ REACH = h.size in
     let count = count_by-le-length is_some w.slots in
     omega arith
 
 -- a window has a slot
 pub some_slots : (w : WindowState) → IsWindow w → 1 ≤ length w.slots
-some_slots w h = omega (arith, h.size, reach-some)
+some_slots w h = omega (arith, h.size, REACH-some)
 
 -- the slots with the first one emptied and put last
 pub rotated : (slots : List (Option Entry)) → 1 ≤ length slots → drop 1 (set slots 0 None) ++ take 1 (set slots 0 None) ≡ drop 1 slots ++ None ∷ []

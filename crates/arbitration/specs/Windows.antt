@@ -5,8 +5,8 @@ use Rattle.tape_types.specs.Ranges.{TAPE_MOST}
 use Rattle.arbitration.specs.declared.line.Brought.{Brought}
 
 -- how many numbers above its base a window reaches
-unfoldable pub reach : ℕ
-reach = 1024
+unfoldable pub REACH : ℕ
+REACH = 1024
 
 -- a window: how many entries were taken out, the slots of the numbers above, the greatest number that was announced,
 -- the end that was taken, and what each line brought. The first slot is of the number base + 1, and so on
@@ -23,12 +23,16 @@ abbrev pub flat : {A : Type 0} → Option (Option A) → Option A
 flat None = None
 flat (Some slot) = slot
 
+-- as many slots as a window has, all of them empty
+abbrev pub empty_slots : {A : Type 0} → List (Option A)
+empty_slots = replicate REACH None
+
 -- the window of a session to which nothing came
 abbrev pub empty_window : ℕ → WindowState
 empty_window session = record {
   session = session;
   base = 0;
-  slots = replicate reach None;
+  slots = empty_slots;
   announced = 0;
   ended = None;
   brought = record { a = 0; b = 0; r = 0 };
@@ -56,7 +60,7 @@ ArePlaced next announced (Some e ∷ slots) = (e.number ≡ next) × (next ≤ a
 
 -- what is true of each window. What the lines brought was taken out or waits
 pub record IsWindow (w : WindowState) : Type 0 where
-  pub size : length w.slots ≡ reach
+  pub size : length w.slots ≡ REACH
   pub placed : ArePlaced (w.base + 1) w.announced w.slots
   pub reached : w.base ≤ w.announced
   pub within : w.announced ≤ TAPE_MOST

@@ -1,7 +1,7 @@
 //! How the first gap of a window is found.
 ghost use Rattle.std.specs.Prelude.{ℕ, None, ◌≡◌, ◌+◌, ◌≤◌, ◌<◌, length, IsSome, slice_get};
 ghost use Rattle.tape_frames.specs.Limits.{IsSpan};
-ghost use Rattle.arbitration.specs.Windows.{flat, reach, ready_entries};
+ghost use Rattle.arbitration.specs.Windows.{REACH, flat, ready_entries};
 
 use std::collections::VecDeque;
 use tape_core::Entry;
@@ -12,7 +12,7 @@ pub const ASKED_MOST: u32 = LONGEST_SPAN as u32;
 
 /// How many slots are full before the first empty one.
 pub(crate) fn full_run(slots: &VecDeque<Option<Entry>>) -> u32
-    requires { length slots.now.items ≡ reach }
+    requires { length slots.now.items ≡ REACH }
     ensures { result ≡ length (ready_entries slots.now.items) }
 {
     let mut full = 0;
@@ -24,7 +24,7 @@ pub(crate) fn full_run(slots: &VecDeque<Option<Entry>>) -> u32
 
 /// How many slots are empty from one on, those past the last one counted as empty, and at most `most`.
 pub(crate) fn empty_run<T: Copy>(slots: &VecDeque<Option<T>>, from: u32, most: u32) -> u32
-    requires { from ≤ reach }
+    requires { from ≤ REACH }
     ensures within { result ≤ most }
     ensures empty { (k : ℕ) → k < result → flat (slice_get slots.now.items (from + k)) ≡ None }
     ensures ends { result < most → IsSome (flat (slice_get slots.now.items (from + result))) }

@@ -1,7 +1,7 @@
 //! The window that the lines fill.
-ghost use Rattle.std.specs.Prelude.{ℕ, None, ◌≡◌, ◌+◌, ◌≤◌, length, replicate, IsSome, IfOk, OnOk, OnErr, MatchResult, MatchOption};
+ghost use Rattle.std.specs.Prelude.{ℕ, ◌≡◌, ◌+◌, ◌≤◌, length, IsSome, IfOk, OnOk, OnErr, MatchResult, MatchOption};
 ghost use Rattle.tape_frames.specs.Packets.{entries_of};
-ghost use Rattle.arbitration.specs.Windows.{IsWindow, empty_window, next_of, reach, window_past};
+ghost use Rattle.arbitration.specs.Windows.{IsWindow, empty_slots, empty_window, next_of, window_past};
 ghost use Rattle.arbitration.specs.Counts.{brought_by, taken_of};
 ghost use Rattle.arbitration.specs.Deliveries.{Accepts, Refuses, window_after};
 ghost use Rattle.arbitration.specs.Gaps.{IsGap, IsMissing};
@@ -171,9 +171,9 @@ impl Window {
 }
 
 /// As many empty slots as a window has.
-#[tactic(auto, unfolding(crate::specs::Windows::reach))]
+#[tactic(auto, unfolding(crate::specs::Windows::REACH))]
 fn empty_slots<T: Copy>(alloc: Global) -> Result<VecDeque<Option<T>>, AllocError>
-    ensures { IfOk result (λ slots. slots.items ≡ replicate reach None) }
+    ensures { IfOk result (λ slots. slots.items ≡ empty_slots) }
 {
     let mut slots = VecDeque::with_capacity(alloc, REACH)?;
     for _turn in 0..REACH {

@@ -8,10 +8,10 @@ use Rattle.std.proofs.lemmas.Option.{same_Some, slice_get-get_or, slice_get_past
 use Rattle.tape_core.specs.declared.entry.Entry.{Entry}
 use Rattle.tape_frames.specs.Packets.{entries_of}
 use Rattle.tape_frames.proofs.Numbers.{slice_get-append-lt}
-use Rattle.arbitration.specs.Windows.{flat, next_of, reach}
+use Rattle.arbitration.specs.Windows.{flat, next_of, REACH}
 use Rattle.arbitration.specs.Deliveries.{entry_numbered, slots_after}
 use Rattle.arbitration.specs.Gaps.{waiting_entry, IsGap}
-use Rattle.arbitration.proofs.Windows.{reach-asked}
+use Rattle.arbitration.proofs.Windows.{REACH-asked}
 use Rattle.arbitration.proofs.Gaps.{waiting_at}
 use Rattle.subscriber.specs.Subscribers.{SubscriberState, with_entry, subscriber_after_entry, subscriber_after}
 use Rattle.subscriber.specs.Drains.{DrainsAll}
@@ -145,14 +145,14 @@ grows_step w (Drains count) stays = grows_drained count w.subscriber
 grows_step w Restarts stays = absurd (false≢true (sym stays))
 
 -- a number that is brought from the reach of the window is kept
-brought_step : (w : World) (event : Event) (n : ℕ) → IsSound w → n ≤ length w.subscriber.tape.entries + reach → brings n event ≡ true
+brought_step : (w : World) (event : Event) (n : ℕ) → IsSound w → n ≤ length w.subscriber.tape.entries + REACH → brings n event ≡ true
     → IsKept (world_after w event).subscriber n
 brought_step w (Admits message) n s near yes' = absurd (false≢true yes')
 brought_step w Closes n s near yes' = absurd (false≢true yes')
 brought_step w (Comes line packet) n s near yes' =
     let next = w.subscriber.window.base + 1 in
     let base : w.subscriber.window.base ≡ length w.subscriber.tape.entries = s.base in
-    let size : length w.subscriber.window.slots ≡ reach = s.size in
+    let size : length w.subscriber.window.slots ≡ REACH = s.size in
     elim (cases_lt n next) [
       | inl below ↦ inl (omega arith)
       | inr above ↦ inr (settled_waits next w.subscriber.window.slots (entries_of packet) n (n - next) (omega arith) (omega arith) (inr yes'))
@@ -173,7 +173,7 @@ grows_run (event ∷ events) w stays = let one = grows_step w event stays.0 in l
 
 -- a number that a schedule without a restart brings is kept after it
 brought_run : (events : List Event) (w : World) (n : ℕ) → IsSound w → IsSchedule w events → HasNoRestart events
-    → n ≤ length w.subscriber.tape.entries + reach → Brings n events → IsKept (run w events).subscriber n
+    → n ≤ length w.subscriber.tape.entries + REACH → Brings n events → IsKept (run w events).subscriber n
 brought_run [] w n s ok stays near brought = absurd brought
 brought_run (event ∷ events) w n s ok stays near (inl now) =
     kept_run events (world_after w event) n (keeps w event s ok.0) ok.1 stays.1 (brought_step w event n s near now)
@@ -211,7 +211,7 @@ gap_filled w from count more later last s empty gap ok stays brought all =
     let end = (run w more).subscriber in
     let n = length last.tape.entries + 1 in
     let first : from ≡ length w.subscriber.tape.entries + 1 = gap_next w from count s empty gap in
-    let few : count ≤ reach = omega (arith, gap.few, reach-asked) in
+    let few : count ≤ REACH = omega (arith, gap.few, REACH-asked) in
     let grown = grows_run more w stays in
     let drained : length last.tape.entries ≡ length end.tape.entries + later = all.held in
     let based = (keeps_all more w s ok).base in

@@ -23,7 +23,7 @@ use Rattle.tape_frames.proofs.Legal.{legal-IsPublished}
 use Rattle.tape_frames.proofs.Numbers.{slice_get-append-add, slice_get-append-lt}
 use Rattle.arbitration.specs.declared.line.Line.{Line}
 use Rattle.arbitration.specs.Deliveries.{entry_numbered}
-use Rattle.arbitration.specs.Windows.{next_of, flat, reach}
+use Rattle.arbitration.specs.Windows.{next_of, flat, REACH}
 use Rattle.arbitration.proofs.Numbers.{find_place}
 use Rattle.arbitration.proofs.Slots.{length-slots_after}
 use Rattle.subscriber.specs.Drains.{DrainsAll}
@@ -48,7 +48,7 @@ pub record IsSound (w : World) : Type 0 where
   pub announced : w.subscriber.window.announced ≡ length w.subscriber.tape.entries + length due
   pub slots : FromDue w.subscriber.window.slots due
   pub session : w.subscriber.window.session ≡ w.session
-  pub size : length w.subscriber.window.slots ≡ reach
+  pub size : length w.subscriber.window.slots ≡ REACH
   pub ended : IfSome w.subscriber.window.ended (λ count. (w.tape.closed ≡ true) × (count ≡ length w.tape.entries))
   pub running : w.subscriber.failed ≡ false
 
@@ -64,9 +64,9 @@ restart-sound w legal = record {
   unclosed = refl;
   base = refl;
   announced = refl;
-  slots = FromDue-replicate reach [];
+  slots = FromDue-replicate REACH [];
   session = refl;
-  size = length-replicate reach None;
+  size = length-replicate REACH None;
   ended = tt;
   running = refl;
 }

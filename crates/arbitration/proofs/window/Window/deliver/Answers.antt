@@ -8,7 +8,7 @@ use Rattle.arbitration.specs.Counts.{taken_of, brought_with}
 use Rattle.arbitration.specs.Deliveries.{slots_after, is_beyond, is_other_end}
 use Rattle.arbitration.specs.Inside.{state_of}
 use Rattle.std.proofs.Common.{max, ◌||◌}
-use Rattle.arbitration.proofs.Windows.{IsWindow-window_after, brought_fits, reach-is}
+use Rattle.arbitration.proofs.Windows.{IsWindow-window_after, brought_fits, REACH-fits}
 use Rattle.arbitration.proofs.Numbers.{row_numbers}
 use Rattle.arbitration.proofs.Counts.{few_taken}
 use Rattle.arbitration.proofs.window.Window.deliver.Goals as goal
@@ -19,7 +19,7 @@ add-requires c =
     let few = (few_taken (c.self.inside.base + 1) c.self.inside.slots.items c.entries-entries.result.now).0 in
     let short = (row_numbers c.entries-entries.result.now c.entries-entries.ensures.row).1 in
     let fresh = ap (λ (t : Taken). t.fresh) c.settle-taken.ensures.taken in
-    omega (arith, reach-is)
+    omega (arith, REACH-fits)
 
 pub invariant_of-self : goal.invariant_of-self
 invariant_of-self c =
