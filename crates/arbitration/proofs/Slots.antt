@@ -12,7 +12,7 @@ use Rattle.arbitration.specs.Counts.{placing_of, placing_in}
 use Rattle.arbitration.specs.Deliveries.{entry_numbered, slots_after}
 use Rattle.arbitration.specs.declared.taken.Placing.TheVariants.{Fresh, Repeated, Beyond}
 
--- None adds nothing
+-- an option is itself where the other choice is None
 or_none : (o : Option Entry) → option_or o None ≡ o
 or_none None = refl
 or_none (Some x) = refl

@@ -49,7 +49,7 @@ AnswersLines-line t lines line now next answers pushed answer true is stops answ
       ∙ ap (λ (l : List (Result ℕ BatchRefusal)). l ++ Err (Refused OutOfMemory) ∷ []) so_far.1;
 }
 
--- no line more
+-- a day that stays as it is has answered no line more
 pub AnswersMore-none : (day : Day) → AnswersMore day day []
 AnswersMore-none day = λ t before so_far. rw (append-nil before) so_far
 

@@ -96,7 +96,7 @@ TakesLines-whole (Some x) None front taken taken_now whole lost counted = absurd
 TakesLines-whole (Some x) (Some y) front taken taken_now whole lost counted =
     (ap lines_of lost ∙ lines_of-whole front y whole, omega (arith, counted, ap length lost, length-append front y))
 
--- nothing was taken
+-- where the bytes are kept, no line was taken and the count stays
 pub TakesLines-kept : (bytes left : Option (List ℕ)) (taken : ℕ) → Keeps bytes left → TakesLines bytes left taken taken []
 TakesLines-kept None left taken kept = tt
 TakesLines-kept (Some x) None taken kept = absurd kept

@@ -7,7 +7,7 @@ use Rattle.batch.specs.Header.{all_named, name_texts, pieces_of}
 abbrev pub names_with : {A : Type 0} → (List ℕ → Option A) → List A → List (List ℕ) → Option (List A)
 names_with named names texts = option_map (λ more. names ++ more) (all_named named texts)
 
--- at the start
+-- with no names so far, the names are those of the texts that are left
 pub names_with-nil : {A : Type 0} (named : List ℕ → Option A) (texts : List (List ℕ)) → names_with named [] texts ≡ all_named named texts
 names_with-nil named texts = same (all_named named texts)
   where

@@ -106,7 +106,7 @@ taken [] (suc n) i within = refl
 taken (x ∷ xs) (suc n) zero within = refl
 taken (x ∷ xs) (suc n) (suc i) within = taken xs n i (omega arith)
 
--- neither is less
+-- two numbers of which neither is less are equal
 pub same_from : {a b : ℕ} → (a < b → ⊥) → (b < a → ⊥) → a ≡ b
 same_from {a} {b} not_less not_more = elim (nat_lt a b) as (λ c. nat_lt a b ≡ c → a ≡ b) [
   | true ↦ λ less. absurd (not_less (grind (arith, nat_tests, less)))

@@ -77,7 +77,7 @@ goes_on_none ts = ([], sym (append-nil ts))
 pub goes_on_more : (ts ts' ts'' : List TokenState) → GoesOn ts ts' → GoesOn ts' ts'' → GoesOn ts ts''
 goes_on_more ts ts' ts'' first then = (first.0 ++ then.0, then.1 ∙ ap (λ (xs : List TokenState). xs ++ then.0) first.1 ∙ append_assoc ts first.0 then.0)
 
--- one token more
+-- a list goes on with one token more at its end
 pub goes_on_push : (ts ts' : List TokenState) (t : TokenState) → ts' ≡ ts ++ t ∷ [] → GoesOn ts ts'
 goes_on_push ts ts' t pushed = (t ∷ [], pushed)
 

@@ -97,7 +97,7 @@ pub stopped : (listing : Names) (s s' : SeatState) (m : Message) (answer : Resul
 stopped listing s s' m answer result tells is =
     subst (λ (r : Result ℕ Ended). IfErr r (λ ended. (s' ≡ s) × StopsAt ended listing s m)) (sym is) (effect-stops listing s s' m answer tells)
 
--- no frame yet
+-- where nothing was read, no frame is done and the seat is as it was
 pub does_none : (listing : Names) (s : SeatState) (had : Option (List ℕ)) → Does listing s had had 0 0 s
 unfolding AreDone
 does_none listing s had = record {
@@ -110,7 +110,7 @@ does_none listing s had = record {
   same = refl;
 }
 
--- one frame
+-- where one frame was read and done, one is done
 pub does_one : (listing : Names) (s s' : SeatState) (had rest : Option (List ℕ)) (frame : List ℕ) (refused : ℕ) → IsFrame frame
     → IsDone listing s frame refused s' → Consumes had rest frame → Does listing s had rest 1 refused s'
 unfolding AreDone
@@ -126,7 +126,7 @@ does_one listing s s' had rest frame refused is done read =
       same = many.2;
     }
 
--- frames after others
+-- two lists of frames that are done one after the other are done as one list
 done_both : (listing : Names) (s s' s'' : SeatState) (xs ys : List (List ℕ)) (n m : ℕ) → AreDone listing s xs n s' → AreDone listing s' ys m s''
     → AreDone listing s (xs ++ ys) (n + m) s''
 unfolding AreDone

@@ -59,7 +59,7 @@ number_whole w row size =
 ok_err : (x : ℕ × List ℕ) (fault : AskFault) → Ok x ≡ Err fault → ⊥
 ok_err x fault is = absurd cc
 
--- a number
+-- reading a number gives the one that its bytes say
 pub Follows-number : (w : Width) (x : ℕ) (row : List ℕ) (a b : Option (List ℕ)) → x ≡ from_be_bytes w row → length row ≡ byte_len w → Consumes a b row
     → Follows as_is (Ok x) a b (number_at ReadFault w)
 unfolding number_at

@@ -58,12 +58,12 @@ packets_at-add (suc n) m bytes =
     let is : suc n + m ≡ suc (n + m) = omega arith in
     ap (λ (k : ℕ). packets_at k bytes) is ∙ first_step n m (sized_packet_at bytes) (packets_at-add n m)
 
--- no packets yet
+-- reading no packets takes no bytes and gives none
 pub Follows-none : (a : Option (List ℕ)) → Follows {A = List (List ℕ)} as_is (Ok []) a a (packets_at 0)
 unfolding packets_at
 Follows-none a = Follows-here as_is [] a (packets_at 0) (λ bytes. refl)
 
--- one packet
+-- reading one packet gives the list of it alone
 one_packet : (packet : Vec ℕ) (b c : Option (List ℕ)) → Follows text_of (Ok packet) b c sized_packet_at
     → Follows {A = List (List ℕ)} as_is (Ok (packet.items ∷ [])) b c (packets_at 1)
 unfolding packets_at
@@ -71,7 +71,7 @@ one_packet packet b c first =
     Follows-then text_of as_is packet (Ok (packet.items ∷ [])) b c c sized_packet_at (first_at 0) first
     (Follows-here as_is (packet.items ∷ []) c (λ bytes. first_at 0 (packet.items, bytes)) (λ bytes. refl))
 
--- one packet more
+-- reading one packet more gives those before it, and then it
 pub Follows-push : (texts : List (List ℕ)) (packet : Vec ℕ) (place : ℕ) (a b c : Option (List ℕ)) → Follows as_is (Ok texts) a b (packets_at place)
     → Follows text_of (Ok packet) b c sized_packet_at
     → Follows as_is (Ok (texts ++ packet.items ∷ [])) a c (packets_at (place + 1))

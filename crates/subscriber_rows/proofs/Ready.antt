@@ -32,7 +32,7 @@ ready_told (suc n) s held empty = turn (ready_told n) held empty
         let before : ready_count (with_entry e s) ≡ n = later (with_entry e s) (omega (arith, length-with_entry s e)) none in
         omega (arith, ap length (ready-past s.window.slots e is)))
 
--- turns after turns
+-- n turns and then m more are n + m turns
 after_both : (n m : ℕ) (s : SubscriberState) → subscriber_after m (subscriber_after n s) ≡ subscriber_after (n + m) s
 after_both zero m s = let same : m ≡ zero + m = omega arith in ap (λ k. subscriber_after k s) same
 after_both (suc n) m s =
