@@ -127,7 +127,7 @@ impl View {
         self.symbol
     }
 
-    /// How many entries the tape had, from 0 to 1,048,576.
+    /// How many entries the tape had, from 0 to `TAPE_MOST`.
     pub fn count(&self) -> u32
         ensures count { result ≡ self.now.count }
     {
@@ -157,7 +157,7 @@ impl<D: DayName> LineSeat<D> {
         self.who
     }
 
-    /// How many admissions it was told of, from 0 to 1,048,576.
+    /// How many admissions it was told of, from 0 to `TAPE_MOST`.
     pub fn count(&self) -> u32
         ensures count { result ≡ length self.now.told }
     {

@@ -255,7 +255,7 @@ fn live<R: Threads + Wait + Clock + Sync, L: Loss + Sync, W: Write>(
 /// alone, and a packet that cannot be sent is lost. What else goes wrong is answered by the least status of all, and then
 /// there is no report, or some of it after a write that failed: 3 where a connection is not accepted, or there is not one
 /// listener for each participant; 4 for a failed write of the report; 5 where memory runs out; 6 where no thread can be
-/// started; 7 where the tape disagrees with what was told, sent or served of it, and for a limit outside 1 to 1,048,576.
+/// started; 7 where the tape disagrees with what was told, sent or served of it, and for a limit outside 1 to `TAPE_MOST`.
 pub fn live_over<R: Threads + Wait + Clock + Sync, L: Loss + Sync, W: Write>(
     rt: &R,
     alloc: Global,

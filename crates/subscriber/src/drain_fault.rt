@@ -24,7 +24,7 @@ pub enum Stop {
 #[derive(Clone, Copy, Debug, PartialEq, Eq, Error)]
 #[error("{}", self.why.name())]
 pub struct DrainFault {
-    /// How many entries this drain has put on the subscriber's own tape, from 0 to 1,048,576.
+    /// How many entries this drain has put on the subscriber's own tape, from 0 to `TAPE_MOST`.
     pub drained: u32,
     /// Why it stopped.
     pub why: Stop,
