@@ -33,7 +33,7 @@ use tape_core::{Entry, Refusal, Tape};
 use tape_types::{Participant, Symbol, TapeNumber};
 
 /// The value behind the lock: the open tape of the day, the book, which counts the tape's entries, and how many of the first
-/// cells were set to them. What the seats count is in their shares.
+/// cells were set to them. What the seats count is in their shares of the ledger.
 #[derive(Drop)]
 pub struct Locked<D: DayName> {
     alloc: Global,
@@ -165,7 +165,7 @@ impl<D: DayName> LineSeat<D> {
         told.len() as u32
     }
 
-    /// The shares of the reports that it was told of, added up, each as it was reported: cancels and corrections add none.
+    /// The sizes of the reports that it was told of, added up, each as it was reported: cancels and corrections add none.
     pub fn sizes(&self) -> u64
         ensures sizes { result ≡ sizes_told self.now.told }
     {
@@ -200,7 +200,7 @@ fn has_figures(
     tape.count_of(who) as usize == count && tape.sizes_of(who) == sizes && tape.last_of(who) == last
 }
 
-/// The shares of a report as it was reported, 0 for another message.
+/// The size of a report as it was reported, 0 for another message.
 fn reported(message: &Message) -> u64
     ensures size { result ≡ reported_size message.now }
     ensures bound { result ≤ SIZE_MOST }

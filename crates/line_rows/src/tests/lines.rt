@@ -17,7 +17,7 @@ use tape_types::Gate;
 type Line<'a, D> = (LineSeat<D>, &'a [u8]);
 
 /// What a line came to: how many frames were refused, why it ended, and how many messages its seat was told of, with their
-/// shares and the last number.
+/// sizes and the last number.
 #[derive(Clone, Copy, Debug, PartialEq, Eq)]
 pub(super) struct LineFigures {
     pub(super) refused: u32,

@@ -232,7 +232,7 @@ fn has_all_summaries(tape: &Tape<IndexStore>, other: &Tape<IndexStore>) -> bool 
 }
 
 /// Whether a line's figures are those of the tape: it ended with its input, each message was admitted or refused, and
-/// count, shares and last number are its participant's.
+/// count, sizes and last number are its participant's.
 fn is_line_of(tape: &Tape<IndexStore>, who: Participant, line: &LineFigures) -> bool {
     line.ended == Ended::Clean
         && u64::from(line.count) + u64::from(line.refused) == u64::from(MESSAGES)
