@@ -8,14 +8,10 @@ use Rattle.std.proofs.lemmas.Option.{same_Some, slice_get_past}
 use Rattle.std.specs.Option.{option_or}
 use Rattle.std.specs.Prelude.{slice_get, is_some, nat_lt}
 use Rattle.tape_core.specs.declared.entry.Entry.{Entry}
+use Rattle.summaries.proofs.LastLaw.{option_or-none}
 use Rattle.arbitration.specs.Counts.{placing_of, placing_in}
 use Rattle.arbitration.specs.Deliveries.{entry_numbered, slots_after}
 use Rattle.arbitration.specs.declared.taken.Placing.TheVariants.{Fresh, Repeated, Beyond}
-
--- an option is itself where the other choice is None
-or_none : (o : Option Entry) → option_or o None ≡ o
-or_none None = refl
-or_none (Some x) = refl
 
 -- the first of three that is there
 or_assoc : (o p q : Option Entry) → option_or (option_or o p) q ≡ option_or o (option_or p q)
@@ -33,7 +29,7 @@ slots_after-twice next (slot ∷ slots) xs ys =
 -- no entries change no slot
 pub slots_after-none : (next : ℕ) (slots : List (Option Entry)) → slots_after next slots [] ≡ slots
 slots_after-none next [] = refl
-slots_after-none next (slot ∷ slots) = ap₂ ◌∷◌ (or_none slot) (slots_after-none (next + 1) slots)
+slots_after-none next (slot ∷ slots) = ap₂ ◌∷◌ (option_or-none slot) (slots_after-none (next + 1) slots)
 
 -- the slots stay as many
 pub length-slots_after : (next : ℕ) (slots : List (Option Entry)) (es : List Entry) → length (slots_after next slots es) ≡ length slots
@@ -48,13 +44,13 @@ other_number next e other = cond-false (e.number == next) _ _ (ne_eqb _ _ other)
 pub slots_after-below : (next : ℕ) (slots : List (Option Entry)) (e : Entry) → e.number < next → slots_after next slots (e ∷ []) ≡ slots
 slots_after-below next [] e h = refl
 slots_after-below next (slot ∷ slots) e h =
-    ap₂ ◌∷◌ (ap (option_or slot) (other_number next e (λ p. omega arith)) ∙ or_none slot) (slots_after-below (next + 1) slots e (omega arith))
+    ap₂ ◌∷◌ (ap (option_or slot) (other_number next e (λ p. omega arith)) ∙ option_or-none slot) (slots_after-below (next + 1) slots e (omega arith))
 
 -- an entry past the last slot changes none
 pub slots_after-past : (next : ℕ) (slots : List (Option Entry)) (e : Entry) → next + length slots ≤ e.number → slots_after next slots (e ∷ []) ≡ slots
 slots_after-past next [] e h = refl
 slots_after-past next (slot ∷ slots) e h =
-    ap₂ ◌∷◌ (ap (option_or slot) (other_number next e (λ p. omega arith)) ∙ or_none slot) (slots_after-past (next + 1) slots e (omega arith))
+    ap₂ ◌∷◌ (ap (option_or slot) (other_number next e (λ p. omega arith)) ∙ option_or-none slot) (slots_after-past (next + 1) slots e (omega arith))
 
 -- an entry whose slot is full changes none
 pub slots_after-full : (next : ℕ) (slots : List (Option Entry)) (e x : Entry) (k : ℕ) → e.number ≡ next + k → slice_get slots k ≡ Some (Some x)
@@ -64,7 +60,7 @@ slots_after-full next (slot ∷ slots) e x zero h found =
     ap₂ ◌∷◌ (ap (λ o. option_or o (entry_numbered next (e ∷ []))) (same_Some slot (Some x) found) ∙ sym (same_Some slot (Some x) found))
     (slots_after-below (next + 1) slots e (omega arith))
 slots_after-full next (slot ∷ slots) e x (suc k) h found =
-    ap₂ ◌∷◌ (ap (option_or slot) (other_number next e (λ p. omega arith)) ∙ or_none slot) (slots_after-full (next + 1) slots e x k (omega arith) found)
+    ap₂ ◌∷◌ (ap (option_or slot) (other_number next e (λ p. omega arith)) ∙ option_or-none slot) (slots_after-full (next + 1) slots e x k (omega arith) found)
 
 -- an entry whose slot is empty fills it
 pub slots_after-empty : (next : ℕ) (slots : List (Option Entry)) (e : Entry) (k : ℕ) → e.number ≡ next + k → slice_get slots k ≡ Some None
@@ -74,7 +70,7 @@ slots_after-empty next (slot ∷ slots) e zero h found =
     ap₂ ◌∷◌ (ap (λ o. option_or o (entry_numbered next (e ∷ []))) (same_Some slot None found) ∙ cond-true (e.number == next) _ _ (eq-eqb _ _ (omega arith)))
     (slots_after-below (next + 1) slots e (omega arith))
 slots_after-empty next (slot ∷ slots) e (suc k) h found =
-    ap₂ ◌∷◌ (ap (option_or slot) (other_number next e (λ p. omega arith)) ∙ or_none slot) (slots_after-empty (next + 1) slots e k (omega arith) found)
+    ap₂ ◌∷◌ (ap (option_or slot) (other_number next e (λ p. omega arith)) ∙ option_or-none slot) (slots_after-empty (next + 1) slots e k (omega arith) found)
 
 -- what becomes of an entry, by its slot
 pub placing_at : (next : ℕ) (slots : List (Option Entry)) (e : Entry) (k : ℕ) → e.number ≡ next + k → placing_of next slots e ≡ placing_in (slice_get slots k)
@@ -116,7 +112,7 @@ placing-slots_after next slots es e new = elim (cases_lt e.number next) [
         ≡ slice_get slots k
     slot_at next [] k h = refl
     slot_at next (slot ∷ slots) zero h = ap Some
-        (ap (option_or slot) ((let p : next ≡ next + 0 = omega arith in ap (λ n. entry_numbered n es) p) ∙ h) ∙ or_none slot)
+        (ap (option_or slot) ((let p : next ≡ next + 0 = omega arith in ap (λ n. entry_numbered n es) p) ∙ h) ∙ option_or-none slot)
     slot_at next (slot ∷ slots) (suc k) h = slot_at (next + 1) slots k
         ((let p : (next + 1) + k ≡ next + suc k = omega arith in ap (λ n. entry_numbered n es) p) ∙ h)
 
