@@ -8,8 +8,9 @@ use Rattle.std.specs.FinMap.Entries.{find}
 use Rattle.std.proofs.lemmas.Bool.{cases_lt, cases_eq}
 use Rattle.std.proofs.lemmas.List.{get_or_default, get_or_past, get_or-set_same, get_or-set_other}
 use Rattle.corrections.specs.declared.target.Target.{Target}
-use Rattle.corrections.specs.Targets.{key_cmp}
-use Rattle.corrections.proofs.Keyed.{key_total, key_exact, tied-same, tied-other}
+use Rattle.corrections.proofs.Keyed.{tied-same, tied-other}
+use Rattle.tape_types.specs.Pairs.{pair_cmp}
+use Rattle.tape_types.proofs.Pairs.{pair_total, pair_exact}
 use Rattle.corrections.specs.TargetRows.{RowTargets, row_entries, targets_of_rows}
 use Rattle.tape_types.specs.Ranges.{FIRST_PARTICIPANT}
 
@@ -19,27 +20,27 @@ tagged who es = map_list (λ e. ((who, e.0), e.1)) es
 
 -- another participant's key is not among them
 find-other : (w n who : ℕ) (es : List (ℕ × Target)) (rest : List ((ℕ × ℕ) × Target)) → w ≢ who
-    → find key_cmp (w, n) (tagged who es ++ rest) ≡ find key_cmp (w, n) rest
+    → find pair_cmp (w, n) (tagged who es ++ rest) ≡ find pair_cmp (w, n) rest
 find-other w n who [] rest other = refl
 find-other w n who (e ∷ es) rest other =
-    ap (λ b. cond b (Some e.1) (find key_cmp (w, n) (tagged who es ++ rest))) (tied-other w n who e.0 other) ∙ find-other w n who es rest other
+    ap (λ b. cond b (Some e.1) (find pair_cmp (w, n) (tagged who es ++ rest))) (tied-other w n who e.0 other) ∙ find-other w n who es rest other
 
 -- a key of this participant is among them, or nowhere
-find-same : (w n who : ℕ) (es : List (ℕ × Target)) (rest : List ((ℕ × ℕ) × Target)) → w ≡ who → find key_cmp (w, n) rest ≡ None
-    → find key_cmp (w, n) (tagged who es ++ rest) ≡ find nat_cmp n es
+find-same : (w n who : ℕ) (es : List (ℕ × Target)) (rest : List ((ℕ × ℕ) × Target)) → w ≡ who → find pair_cmp (w, n) rest ≡ None
+    → find pair_cmp (w, n) (tagged who es ++ rest) ≡ find nat_cmp n es
 find-same w n who [] rest same none = none
 find-same w n who (e ∷ es) rest same none =
-    ap (λ b. cond b (Some e.1) (find key_cmp (w, n) (tagged who es ++ rest))) (tied-same w n who e.0 same)
+    ap (λ b. cond b (Some e.1) (find pair_cmp (w, n) (tagged who es ++ rest))) (tied-same w n who e.0 same)
     ∙ ap (λ o. cond (eq_by_cmp nat_cmp n e.0) (Some e.1) o) (find-same w n who es rest same none)
 
 -- a participant before the first row has nothing
-find-before : (w n who : ℕ) (rows : List RowTargets) → w < who → find key_cmp (w, n) (row_entries who rows) ≡ None
+find-before : (w n who : ℕ) (rows : List RowTargets) → w < who → find pair_cmp (w, n) (row_entries who rows) ≡ None
 find-before w n who [] before = refl
 find-before w n who (row ∷ rows) before =
     find-other w n who (map.entries row) (row_entries (who + 1) rows) (λ same. omega arith) ∙ find-before w n (who + 1) rows (omega arith)
 
 -- the others have what their row has
-find-row : (w n who i : ℕ) (rows : List RowTargets) → who + i ≡ w → find key_cmp (w, n) (row_entries who rows) ≡ map.get (get_or rows i map.empty) n
+find-row : (w n who i : ℕ) (rows : List RowTargets) → who + i ≡ w → find pair_cmp (w, n) (row_entries who rows) ≡ map.get (get_or rows i map.empty) n
 find-row w n who i [] at = sym (map.get-empty nat_cmp n)
 find-row w n who zero (row ∷ rows) at =
     find-same w n who (map.entries row) (row_entries (who + 1) rows) (omega arith) (find-before w n (who + 1) rows (omega arith)) ∙ sym (map.get-entries row n)
@@ -50,21 +51,21 @@ find-row w n who (suc i) (row ∷ rows) at =
 pub get-row : (rows : List RowTargets) (w n i : ℕ) (d : RowTargets) → i + FIRST_PARTICIPANT ≡ w → i < length rows
     → map.get (targets_of_rows rows) (w, n) ≡ map.get (get_or rows i d) n
 get-row rows w n i d at inside =
-    map.get-from_entries key_total (row_entries FIRST_PARTICIPANT rows) (w, n) ∙ find-row w n FIRST_PARTICIPANT i rows (omega arith)
+    map.get-from_entries pair_total (row_entries FIRST_PARTICIPANT rows) (w, n) ∙ find-row w n FIRST_PARTICIPANT i rows (omega arith)
     ∙ ap (λ r. map.get r n) (get_or_default rows i map.empty d inside)
 
 -- or nothing, where it has none
 get-else : (rows : List RowTargets) (w n i : ℕ) → FIRST_PARTICIPANT + i ≡ w → map.get (targets_of_rows rows) (w, n) ≡ map.get (get_or rows i map.empty) n
-get-else rows w n i at = map.get-from_entries key_total (row_entries FIRST_PARTICIPANT rows) (w, n) ∙ find-row w n FIRST_PARTICIPANT i rows at
+get-else rows w n i at = map.get-from_entries pair_total (row_entries FIRST_PARTICIPANT rows) (w, n) ∙ find-row w n FIRST_PARTICIPANT i rows at
 
 -- there is nothing by a letter before the first participant's
 get-before : (rows : List RowTargets) (w n : ℕ) → w < FIRST_PARTICIPANT → map.get (targets_of_rows rows) (w, n) ≡ None
-get-before rows w n before = map.get-from_entries key_total (row_entries FIRST_PARTICIPANT rows) (w, n) ∙ find-before w n FIRST_PARTICIPANT rows before
+get-before rows w n before = map.get-from_entries pair_total (row_entries FIRST_PARTICIPANT rows) (w, n) ∙ find-before w n FIRST_PARTICIPANT rows before
 
 -- rows that answer alike are the same targets
-same_rows : (rows : List RowTargets) (m : map.FinMap key_cmp Target) → ((w n : ℕ) → w < FIRST_PARTICIPANT → map.get m (w, n) ≡ None)
+same_rows : (rows : List RowTargets) (m : map.FinMap pair_cmp Target) → ((w n : ℕ) → w < FIRST_PARTICIPANT → map.get m (w, n) ≡ None)
     → ((i n : ℕ) → map.get (get_or rows i map.empty) n ≡ map.get m (FIRST_PARTICIPANT + i, n)) → targets_of_rows rows ≡ m
-same_rows rows m before rest = map.same_map key_total key_exact _ _ (λ q. elim (cases_lt q.0 FIRST_PARTICIPANT) [
+same_rows rows m before rest = map.same_map pair_total pair_exact _ _ (λ q. elim (cases_lt q.0 FIRST_PARTICIPANT) [
   | inl lt ↦ get-before rows q.0 q.1 lt ∙ sym (before q.0 q.1 lt)
   | inr le ↦
       let at : FIRST_PARTICIPANT + (q.0 - FIRST_PARTICIPANT) ≡ q.0 = omega arith in
@@ -73,15 +74,15 @@ same_rows rows m before rest = map.same_map key_total key_exact _ _ (λ q. elim 
 
 -- empty rows have no target
 pub targets-empty : (rows : List RowTargets) → ((i : ℕ) → i < length rows → get_or rows i map.empty ≡ map.empty) → targets_of_rows rows ≡ map.empty
-targets-empty rows empty = same_rows rows map.empty (λ w n lt. map.get-empty key_cmp (w, n)) (λ i n.
+targets-empty rows empty = same_rows rows map.empty (λ w n lt. map.get-empty pair_cmp (w, n)) (λ i n.
     let none : get_or rows i map.empty ≡ map.empty = elim (cases_lt i (length rows)) [ inl lt ↦ empty i lt | inr le ↦ get_or_past rows i map.empty le ] in
-    ap (λ row. map.get row n) none ∙ map.get-empty nat_cmp n ∙ sym (map.get-empty key_cmp (FIRST_PARTICIPANT + i, n)))
+    ap (λ row. map.get row n) none ∙ map.get-empty nat_cmp n ∙ sym (map.get-empty pair_cmp (FIRST_PARTICIPANT + i, n)))
 
 -- one more target in a row is one more of the day
 pub targets-insert : (rows : List RowTargets) (who n i : ℕ) (d row : RowTargets) (v : Target) → i + FIRST_PARTICIPANT ≡ who → i < length rows
     → row ≡ map.insert (get_or rows i d) n v → targets_of_rows (set rows i row) ≡ map.insert (targets_of_rows rows) (who, n) v
 targets-insert rows who n i d row v at inside is = same_rows (set rows i row) (map.insert (targets_of_rows rows) (who, n) v)
-    (λ w m lt. map.get-insert key_total (targets_of_rows rows) (who, n) v (w, m)
+    (λ w m lt. map.get-insert pair_total (targets_of_rows rows) (who, n) v (w, m)
     ∙ ap (λ b. cond b (Some v) (map.get (targets_of_rows rows) (w, m))) (tied-other w m who n (λ same. omega arith)) ∙ get-before rows w m lt)
     (λ j m. elim (cases_eq j i) [
       | inl same ↦
@@ -89,13 +90,13 @@ targets-insert rows who n i d row v at inside is = same_rows (set rows i row) (m
           ∙ ap (λ r. map.get r m) (get_or-set_same rows i row map.empty inside ∙ is)
           ∙ map.get-insert nat_cmp_total (get_or rows i d) n v m
           ∙ ap (λ b. cond b (Some v) (map.get (get_or rows i d) m)) (sym (tied-same (FIRST_PARTICIPANT + j) m who n (omega arith)))
-          ∙ ap (λ o. cond (eq_by_cmp key_cmp (FIRST_PARTICIPANT + j, m) (who, n)) (Some v) o)
+          ∙ ap (λ o. cond (eq_by_cmp pair_cmp (FIRST_PARTICIPANT + j, m) (who, n)) (Some v) o)
           (sym (get-row rows (FIRST_PARTICIPANT + j) m i d (omega arith) inside))
-          ∙ sym (map.get-insert key_total (targets_of_rows rows) (who, n) v (FIRST_PARTICIPANT + j, m))
+          ∙ sym (map.get-insert pair_total (targets_of_rows rows) (who, n) v (FIRST_PARTICIPANT + j, m))
       | inr other ↦
           ap (λ r. map.get r m) (get_or-set_other rows i j row map.empty other)
           ∙ sym (get-else rows (FIRST_PARTICIPANT + j) m j refl)
           ∙ ap (λ b. cond b (Some v) (map.get (targets_of_rows rows) (FIRST_PARTICIPANT + j, m)))
           (sym (tied-other (FIRST_PARTICIPANT + j) m who n (λ same. other (omega arith))))
-          ∙ sym (map.get-insert key_total (targets_of_rows rows) (who, n) v (FIRST_PARTICIPANT + j, m))
+          ∙ sym (map.get-insert pair_total (targets_of_rows rows) (who, n) v (FIRST_PARTICIPANT + j, m))
     ])

@@ -1,22 +1,17 @@
 -- The targets of the day as a finite map.
 use Rattle.std.specs.Prelude.{◌≡◌, ℕ, cond, not, List, Option, Some, None, Result, Ok, Err, IsSomeAnd}
-use Rattle.std.specs.declared.cmp.Ordering.{Ordering}
-use Rattle.std.specs.Ordering.{nat_cmp, ordering_then}
 use Rattle.std.specs.FinMap as map
 use Rattle.tape_types.specs.Names.{symbol_eq}
+use Rattle.tape_types.specs.Pairs.{pair_cmp}
 use Rattle.corrections.specs.declared.target.Target.{Target}
 use Rattle.corrections.specs.declared.target.Standing.{Standing}
 use Rattle.corrections.specs.declared.target.Standing.TheVariants.{Standing as Stands, Cancelled as IsCancelled}
 use Rattle.corrections.specs.declared.target_fault.TargetFault.{TargetFault}
 use Rattle.corrections.specs.declared.target_fault.TargetFault.TheVariants.{NoSuchReport, OtherSymbol, Cancelled}
 
--- a participant and its message number, in the order of the one and then the other
-abbrev pub key_cmp : ℕ × ℕ → ℕ × ℕ → Ordering
-key_cmp p q = ordering_then (nat_cmp p.0 q.0) (nat_cmp p.1 q.1)
-
--- each report by its participant and its message number
+-- each report by its participant and then by its message number
 abbrev pub Targets : Type 0
-Targets = map.FinMap key_cmp Target
+Targets = map.FinMap pair_cmp Target
 
 -- a report that stands
 abbrev pub standing_target : List ℕ → ℕ → Target

@@ -3,7 +3,8 @@ ghost use Rattle.std.specs.Prelude.{◌≡◌};
 ghost use Rattle.std.specs.Ordering.{eq_by_cmp, as_partial_cmp};
 ghost use Rattle.std.specs.Cmp.Rules.{comparing};
 ghost use Rattle.std.proofs.Common.{rules};
-ghost use Rattle.price_index.specs.Pairs.{pair_cmp, rank};
+ghost use Rattle.price_index.specs.Pairs.{rank};
+ghost use Rattle.tape_types.specs.Pairs.{pair_cmp};
 ghost use Rattle.tape_types.specs.Ranges.{IsTapeNumber};
 
 use crate::three_bytes::{THREE_BYTE_NUMBERS, ThreeBytes};

@@ -1,4 +1,5 @@
 pub mod ListingFaults
 pub mod Names
+pub mod Pairs
 pub mod Ranges
 pub mod RisingEntries
