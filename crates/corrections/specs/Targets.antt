@@ -31,7 +31,7 @@ abbrev pub target_answer : List ℕ → Option Target → Result ℕ TargetFault
 target_answer symbol None = Err NoSuchReport
 target_answer symbol (Some t) = cond (not (symbol_eq symbol t.symbol)) (Err OtherSymbol) (standing_answer t.standing t.place)
 
--- the report, cancelled
+-- the same report, which no longer stands
 abbrev pub cancelled_target : Target → Target
 cancelled_target t = record { symbol = t.symbol; place = t.place; standing = IsCancelled }
 

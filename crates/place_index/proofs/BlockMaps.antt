@@ -29,7 +29,7 @@ module _ {V : Type 0} (m : map.FinMap nat_cmp V) (es : List (ℕ × V)) (is : ma
   pub seen : m ≡ values_in es
   seen = sym (itself-seen m) ∙ ap values_in is
 
-  -- they rise
+  -- the block's entries rise by place
   pub entries-rise : HasRisingKeys es
   entries-rise = subst HasRisingKeys is (map.entries_sorted m)
 
@@ -156,7 +156,7 @@ module _ {V : Type 0} where
   -- an edit of the block where a place belongs
   module _ (k : ℕ) (bs : List (List (ℕ × V))) (valid : IsBlockList bs) (b : ℕ) (at : IsBlockFor k bs b) (lt : b < length bs) (y y2 : List (ℕ × V))
       (is : y ≡ get_or bs b []) where
-    -- that block rises
+    -- the entries of the block where the place belongs rise
     rises : HasRisingKeys (get_or bs b [])
     rises = block-rising bs b valid.rising
 
@@ -164,7 +164,7 @@ module _ {V : Type 0} where
     pub some-in_block : IsSome (map.get (values_of bs) k) → IsSome (map.get (values_in y) k)
     some-in_block some = subst (λ x. IsSome (map.get (values_in x) k)) (sym is) (subst IsSome (found-in_block k bs valid b at lt) some)
 
-    -- where it stands
+    -- a place that has a value stands at an index of that block
     standing : IsSome (map.get (values_of bs) k) → (i : ℕ) × StandsIn k (get_or bs b []) i
     standing some = stands-exists k (get_or bs b []) rises (subst IsSome (found-in_block k bs valid b at lt) some)
 

@@ -479,7 +479,7 @@ set-last [] x y (suc i) e = absurd (omega arith)
 set-last (b ∷ bs) x y zero e = absurd (omega arith)
 set-last (b ∷ bs) x y (suc i) e = ap (λ l. b ∷ l) (set-last bs x y i (omega arith))
 
--- and read
+-- the last of some blocks is read at the index that is the number of those before it
 pub get-last : {A : Type 0} (bs : List A) (x d : A) (i : ℕ) → i ≡ length bs → get_or (bs ++ x ∷ []) i d ≡ x
 get-last [] x d zero e = refl
 get-last [] x d (suc i) e = absurd (omega arith)

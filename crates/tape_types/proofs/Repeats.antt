@@ -42,7 +42,7 @@ module _ {A : Type 0} (eq : A → A → Bool) where
       (or_parts (list_any (λ z. eq z x) xs) (list_any (λ z. eq z x) ys) (sym (list_any-append (λ z. eq z x) xs ys) ∙ split.0)).0
       (has_repeat-front xs ys split.1)
 
-  -- one name more
+  -- the first names and the next one are the first names by one more
   next_names : (names : List A) (i : ℕ) (x : A) → i < length names → x ≡ get_or names i x → take (i + 1) names ≡ take i names ++ x ∷ []
   next_names names i x inside at = take_more names i x inside ∙ ap (λ y. take i names ++ y ∷ []) (sym at)
 

@@ -58,7 +58,7 @@ module _ {X : Type 0} where
   below-each x (e ∷ es) h zero d lt = lt_from x e.0 (and_left _ _ h)
   below-each x (e ∷ es) h (suc j) d lt = below-each x es (and_rest _ _ h) j d (omega arith)
 
-  -- the keys rise
+  -- in sorted entries a key is at most each later one
   pub keys-rise : (es : List (ℕ × X)) → T (is_sorted nat_cmp es) → (i j : ℕ) (d : ℕ × X) → i ≤ j → j < length es → (get_or es i d).0 ≤ (get_or es j d).0
   keys-rise [] h i j d le lt = absurd (omega arith)
   keys-rise (e ∷ es) h zero zero d le lt = omega arith
@@ -304,7 +304,7 @@ module _ {K X : Type 0} (number : K → ℕ) where
   keyed-set (x ∷ es) zero e = refl
   keyed-set (x ∷ es) (suc i) e = ap (λ l. (number x.0, x.1) ∷ l) (keyed-set es i e)
 
-  -- one less
+  -- the entries without the one at an index, keyed, are the keyed entries without it
   pub keyed-remove : (es : List (K × X)) (i : ℕ) → keyed number (remove es i) ≡ remove (keyed number es) i
   keyed-remove [] zero = refl
   keyed-remove [] (suc i) = refl
@@ -514,7 +514,7 @@ module _ {X : Type 0} where
           rw (map.get-from_entries nat_cmp_total (e ∷ es) q)
           (elim (eq_by_cmp nat_cmp q e.0) as (λ b. IsSome (cond b (Some e.1) (find nat_cmp q es))) [ true ↦ refl | false ↦ found ])
 
-  -- and is vacant
+  -- a key above all has no value
   pub vacant-above : (k : ℕ) (m : map.FinMap nat_cmp X) → AllBelow m k → map.get m k ≡ None
   vacant-above k m above = elim (map.get m k) as (λ o. map.get m k ≡ o → o ≡ None) [
     | None ↦ λ _. refl

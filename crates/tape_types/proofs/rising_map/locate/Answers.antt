@@ -18,7 +18,7 @@ returns-in_default g c =
     ∙ find-absent (number c.args.key) (keyed number es) c.position_of-index.result c.requires.rising c.position_of-index.ensures
     (λ d lt same. differs (ap (λ x. x.0) (sym (keyed-entry number es c.position_of-index.result e read.0 (read.1 e) d)) ∙ same))
 
--- or none
+-- no key stands there: the position is past the end
 pub returns-in_default-2 : goal.returns-in_default-2
 returns-in_default-2 g c =
     let number = g.K.NumberKey.number in

@@ -29,7 +29,7 @@ invariant_of-self g c =
     (keyed-replaced number e.0 es c.self.invariant c.args.index
     (subst (λ (x : ℕ × g.row.V.Denot). StandsIn x.0 (keyed number es) c.args.index) is there) c.args.value).0
 
--- and no other
+-- the map has the new value at the key of the entry at this index
 pub returns : goal.returns
 returns g c = record {
   changed = λ n at.
