@@ -1,5 +1,6 @@
 //! Worked rows and vectors, layer by layer.
 
+mod books;
 mod limits;
 mod matrix;
 mod messages;

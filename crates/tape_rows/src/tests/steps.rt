@@ -120,7 +120,7 @@ fn header(who: u8, number: u32, symbol: &[u8; 8]) -> Option<Header> {
     })
 }
 
-fn content(condition: &[u8; 4], price: u64, shares: u32) -> Option<Content> {
+pub(super) fn content(condition: &[u8; 4], price: u64, shares: u32) -> Option<Content> {
     Some(Content {
         price: Price::try_new(price)?,
         size: Size::try_new(shares)?,

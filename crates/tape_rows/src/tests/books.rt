@@ -1,0 +1,78 @@
+//! A book alone, over each store: a report is added, replaced and removed. A tape corrects its books by another call.
+
+use super::steps::{Figures, Point, content, figures_of};
+use super::tape::{CORRECTED, EMPTY, OF_N_ALONE, OF_Q_ALONE};
+use std::alloc::Global;
+use summaries::{IndexStore, ScratchStore, Store};
+use symbol_book::Book;
+use tape_types::{Participant, TapeNumber};
+
+/// The consolidated summary, N's own and Q's own.
+type Shown = [Figures; 3];
+
+/// Q's report finds a last one of another participant, and so does not become it.
+const ADDED: Figures = Figures {
+    opening: Some(Point(100_000, 1, b'N')),
+    high: Some(Point(100_500, 2, b'Q')),
+    low: Some(Point(100_000, 1, b'N')),
+    last: Some(Point(100_000, 1, b'N')),
+    volume: 200,
+    trades: 2,
+};
+
+/// N's report as it was added.
+const OF_N_ADDED: Figures = Figures {
+    opening: Some(Point(100_000, 1, b'N')),
+    high: Some(Point(100_000, 1, b'N')),
+    low: Some(Point(100_000, 1, b'N')),
+    last: Some(Point(100_000, 1, b'N')),
+    volume: 100,
+    trades: 1,
+};
+
+/// What is shown after both reports are added, after N's has another content, and after it is gone.
+const SHOWN: [Shown; 3] = [
+    [ADDED, OF_N_ADDED, OF_Q_ALONE],
+    [CORRECTED, OF_N_ALONE, OF_Q_ALONE],
+    [OF_Q_ALONE, EMPTY, OF_Q_ALONE],
+];
+
+fn shown<S: Store>(book: &Book<S>, n: Participant, q: Participant) -> Shown {
+    [
+        figures_of(book.consolidated()),
+        figures_of(book.of(n)),
+        figures_of(book.of(q)),
+    ]
+}
+
+/// Adds N's report and Q's, gives N's another content and removes it, and tells what is shown after each.
+fn shown_in_turn<S: Store>(alloc: Global) -> Option<[Shown; 3]> {
+    let of_n = content(b"@   ", 100_000, 100)?;
+    let of_q = content(b"@ L ", 100_500, 100)?;
+    let other = content(b"@ Z ", 99_000, 200)?;
+    let first = TapeNumber::try_new(1)?;
+    let second = TapeNumber::try_new(2)?;
+    let n = Participant::try_new(b'N')?;
+    let q = Participant::try_new(b'Q')?;
+    let mut book = Book::<S>::new(alloc);
+    book.add(first, n, of_n.price, of_n.size, &of_n.condition)
+        .ok()?;
+    book.add(second, q, of_q.price, of_q.size, &of_q.condition)
+        .ok()?;
+    let added = shown(&book, n, q);
+    book.replace(first, other.price, other.size, &other.condition)
+        .ok()?;
+    let replaced = shown(&book, n, q);
+    book.remove(first);
+    Some([added, replaced, shown(&book, n, q)])
+}
+
+#[test]
+fn a_replaced_report_shows_in_every_summary_over_the_plain_store(rt: HostRuntime) {
+    assert_eq!(rt; shown_in_turn::<ScratchStore>(rt.alloc()), Some(SHOWN));
+}
+
+#[test]
+fn a_replaced_report_shows_in_every_summary_over_the_indexes(rt: HostRuntime) {
+    assert_eq!(rt; shown_in_turn::<IndexStore>(rt.alloc()), Some(SHOWN));
+}
