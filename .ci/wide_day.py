@@ -2,7 +2,8 @@
 """A wide day: wide_day.py TAPEBOX
 
 A message with 140,000 digits after it, and then a report of each of 26 participants in each of 4,096 symbols, so that the report of the day has
-110,592 rows and far more than a megabyte. Each price is another, so the expected output needs no more than least and greatest.
+110,592 rows and far more than a megabyte, and places go beyond 65,536. In each symbol the participants' prices differ, so the expected
+output needs no more than the least and the greatest.
 """
 
 import string
@@ -44,9 +45,9 @@ def main():
         rows.append(row(at, "ALL", trades))
         rows.extend(row(at, PARTICIPANTS[who], [trade]) for who, trade in enumerate(trades))
     wanted = "\n".join(["refused 23 ExtraBytes", *map(str, range(1, places + 1)), HEADINGS, *rows, ""])
-    done = subprocess.run([sys.argv[1], "batch"], input=day.encode(), stdout=subprocess.PIPE, timeout=60, check=False)
-    if done.returncode != 0:
-        sys.exit(f"status {done.returncode}")
+    done = subprocess.run([sys.argv[1], "batch"], input=day.encode(), capture_output=True, timeout=60, check=False)
+    if done.returncode != 0 or done.stderr:
+        sys.exit(f"status {done.returncode}, standard error {done.stderr!r}")
     text = done.stdout.decode()
     if text != wanted:
         pairs = enumerate(zip(text.split("\n"), wanted.split("\n")), 1)
