@@ -21,7 +21,7 @@ pub enum DeliverFault {
 impl DeliverFault {
     /// The number of the fault: 61, 62 or 63.
     pub fn code(self) -> u8
-        ensures code { result ≡ deliver_fault_code self }
+        ensures number { result ≡ deliver_fault_code self }
     {
         match self {
             DeliverFault::Foreign => 61,
@@ -32,7 +32,7 @@ impl DeliverFault {
 
     /// The name of the fault, as it is printed.
     pub fn name(self) -> &'static str
-        ensures name { result.now ≡ deliver_fault_name self }
+        ensures text { result.now ≡ deliver_fault_name self }
     {
         match self {
             DeliverFault::Foreign => "Foreign",

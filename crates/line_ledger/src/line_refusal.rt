@@ -19,7 +19,7 @@ pub enum LineRefusal {
 impl LineRefusal {
     /// The number of the refusal: 94, or that of the tape's refusal.
     pub fn code(self) -> u8
-        ensures code { result ≡ line_refusal_code self }
+        ensures number { result ≡ line_refusal_code self }
     {
         match self {
             LineRefusal::Behind => 94,
@@ -29,7 +29,7 @@ impl LineRefusal {
 
     /// The name of the refusal, as it is printed.
     pub fn name(self) -> &'static str
-        ensures name { result.now ≡ line_refusal_name self }
+        ensures text { result.now ≡ line_refusal_name self }
     {
         match self {
             LineRefusal::Behind => "Behind",

@@ -11,14 +11,14 @@ pub struct NotOnTape;
 impl NotOnTape {
     /// The number of the fault.
     pub fn code(self) -> u8
-        ensures code { result ≡ 93 }
+        ensures number { result ≡ 93 }
     {
         93
     }
 
     /// The name of the fault, as it is printed.
     pub fn name(self) -> &'static str
-        ensures name { result.now ≡ codes "NotOnTape" }
+        ensures text { result.now ≡ codes "NotOnTape" }
     {
         "NotOnTape"
     }

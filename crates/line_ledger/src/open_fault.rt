@@ -17,7 +17,7 @@ pub enum OpenFault {
 impl OpenFault {
     /// The number of the fault.
     pub fn code(self) -> u8
-        ensures code { result ≡ open_fault_code self }
+        ensures number { result ≡ open_fault_code self }
     {
         match self {
             OpenFault::NotEmpty => 7,
@@ -27,7 +27,7 @@ impl OpenFault {
 
     /// The name of the fault, as it is printed.
     pub fn name(self) -> &'static str
-        ensures name { result.now ≡ open_fault_name self }
+        ensures text { result.now ≡ open_fault_name self }
     {
         match self {
             OpenFault::NotEmpty => "NotEmpty",

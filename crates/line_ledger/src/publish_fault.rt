@@ -17,7 +17,7 @@ pub enum PublishFault {
 impl PublishFault {
     /// The number of the fault.
     pub fn code(self) -> u8
-        ensures code { result ≡ publish_fault_code self }
+        ensures number { result ≡ publish_fault_code self }
     {
         match self {
             PublishFault::Unpublished(_) => 81,
@@ -27,7 +27,7 @@ impl PublishFault {
 
     /// The name of the fault, as it is printed.
     pub fn name(self) -> &'static str
-        ensures name { result.now ≡ publish_fault_name self }
+        ensures text { result.now ≡ publish_fault_name self }
     {
         match self {
             PublishFault::Unpublished(_) => "Unpublished",

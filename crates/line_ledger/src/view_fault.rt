@@ -17,7 +17,7 @@ pub enum ViewFault {
 impl ViewFault {
     /// The number of the fault.
     pub fn code(self) -> u8
-        ensures code { result ≡ view_fault_code self }
+        ensures number { result ≡ view_fault_code self }
     {
         match self {
             ViewFault::UnknownSymbol => 36,
@@ -27,7 +27,7 @@ impl ViewFault {
 
     /// The name of the fault, as it is printed.
     pub fn name(self) -> &'static str
-        ensures name { result.now ≡ view_fault_name self }
+        ensures text { result.now ≡ view_fault_name self }
     {
         match self {
             ViewFault::UnknownSymbol => "UnknownSymbol",

@@ -21,7 +21,7 @@ pub enum DeliveryFault {
 impl DeliveryFault {
     /// The number of the fault: 64, or that of the packet's or the window's fault.
     pub fn code(self) -> u8
-        ensures code { result ≡ delivery_fault_code self }
+        ensures number { result ≡ delivery_fault_code self }
     {
         match self {
             DeliveryFault::Failed => 64,
@@ -32,7 +32,7 @@ impl DeliveryFault {
 
     /// The name of the fault, as it is printed.
     pub fn name(self) -> &'static str
-        ensures name { result.now ≡ delivery_fault_name self }
+        ensures text { result.now ≡ delivery_fault_name self }
     {
         match self {
             DeliveryFault::Failed => "Failed",

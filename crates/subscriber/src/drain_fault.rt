@@ -33,7 +33,7 @@ pub struct DrainFault {
 impl Stop {
     /// The number of the stop: 42, 64, or that of the tape's refusal.
     pub fn code(self) -> u8
-        ensures code { result ≡ stop_code self }
+        ensures number { result ≡ stop_code self }
     {
         match self {
             Stop::Refused(refusal) => refusal.code(),
@@ -44,7 +44,7 @@ impl Stop {
 
     /// The name of the stop, as it is printed.
     pub fn name(self) -> &'static str
-        ensures name { result.now ≡ stop_name self }
+        ensures text { result.now ≡ stop_name self }
     {
         match self {
             Stop::Refused(refusal) => refusal.name(),
