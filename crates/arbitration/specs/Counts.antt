@@ -42,7 +42,7 @@ fresh_count Fresh = 1
 fresh_count Repeated = 0
 fresh_count Beyond = 0
 
--- how many entries of a packet come to what
+-- how many entries of a packet are fresh, repeated and beyond
 abbrev pub taken_of : ℕ → List (Option Entry) → List Entry → Taken
 taken_of next slots es = record {
   fresh = count_by (λ e. is_fresh (placing_of next slots e)) es;

@@ -1,4 +1,4 @@
-//! What the entries of a packet came to.
+//! What became of a packet's entries.
 ghost use Rattle.std.specs.Prelude.{◌≡◌, ◌+◌, ◌<◌, ◌^◌};
 ghost use Rattle.arbitration.specs.Counts.{taken_with};
 
@@ -9,7 +9,7 @@ pub(crate) enum Placing {
     Fresh,
     /// It was taken out before, or its slot had it already.
     Repeated,
-    /// Its number is above the last slot's, so it was let go.
+    /// Its number is above the last slot's, so it was dropped.
     Beyond,
 }
 

@@ -46,7 +46,7 @@ impl Model for Window {
 }
 
 impl Window {
-    /// The window of a session from which nothing was taken, and to which nothing came.
+    /// An empty window of a session. All its memory is taken here; where that runs out, it is an `AllocError`.
     pub fn new(alloc: Global, session: u64) -> Result<Self, AllocError>
         ensures empty { IfOk result (λ w. w ≡ empty_window session) }
     {
@@ -101,7 +101,8 @@ impl Window {
         }
     }
 
-    /// Takes the next entry out: the base is one more, and a slot is free for the number that is now in reach.
+    /// Takes out the entry that `next_ready` gives, which has to be there: the base rises by one, and a slot is free for the number
+    /// that is now in reach.
     pub fn taken(&mut self)
         requires { IsSome (next_of self.old) }
         ensures state { self.new ≡ window_past 1 self.old }
@@ -111,8 +112,8 @@ impl Window {
         self.base += 1;
     }
 
-    /// What to ask for: the first numbers that were announced and neither were taken out nor wait. They go on to before the
-    /// next entry that waits or to the last number announced, and are at most `ASKED_MOST`. `None` where no number is missing.
+    /// What to ask for: the first numbers that were announced and were neither taken out nor wait, up to the next entry that
+    /// waits or the last number announced, and at most `ASKED_MOST` of them. `None` where no number is missing.
     pub fn missing(&self) -> Option<Request>
         ensures gap { MatchOption result
             ((n : ℕ) → ¬ (IsMissing self.now n))

@@ -1,4 +1,4 @@
--- The answers that a day holds until its input was read whole.
+-- The answers that a day holds until its input has been read whole.
 use Rattle.std.specs.Prelude.{◌≡◌, ℕ, Bool, true, false, List, ◌++◌, Option, Result}
 use Rattle.tape_core.specs.Tape.{TapeState}
 use Rattle.batch.specs.Batch.{RunsOut, line_answers, tape_after_lines}

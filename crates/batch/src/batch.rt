@@ -161,7 +161,7 @@ fn limited<R: Read>(reader: &mut R) -> Take<&mut R>
     reader.take(INPUT_MOST + 1)
 }
 
-/// Reads a batch whole and writes it, as `batch_over` does, and gives what was read back beside the end.
+/// Reads a batch whole and writes it, as `batch_over` does, and returns the end together with what was read.
 fn batch_kept<T: Threads + Sync, R: Read, W: Write>(
     rt: &T,
     alloc: Global,
@@ -175,7 +175,7 @@ fn batch_kept<T: Threads + Sync, R: Read, W: Write>(
     let Ok(left) = BufReader::with_capacity(alloc, READ_PIECE, limited(reader)) else {
         return (BatchEnd::OutOfMemory, None);
     };
-    // Room to write comes first, so that it takes none to tell a refusal out of memory.
+    // Room to write is taken first, so that writing a refusal out of memory needs none.
     let Ok(mut gathered) = Gathered::new(alloc) else {
         return (BatchEnd::OutOfMemory, None);
     };

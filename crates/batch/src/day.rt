@@ -1,4 +1,4 @@
-//! A day: its tape, and the answers that it holds until its input was read whole.
+//! A day: its tape, and the answers that it holds until its input has been read whole.
 ghost use Rattle.std.specs.Prelude.{◌≡◌, ◌≢◌, ◌≤◌, ◌+◌, ◌↔◌, [], ◌∷◌, false, length, Err, IsOk, IsTrue, IfOk, IfErr, IfSome, OnOk, OnErr};
 ghost use Rattle.tape_core.specs.declared.refusal.Refusal.TheVariants.{OutOfMemory};
 ghost use Rattle.batch.specs.Batch.{line_answer, tape_after_line};
@@ -50,7 +50,7 @@ fn is_out_of_memory(answer: &Answer) -> bool
     matches!(answer, Err(BatchRefusal::Refused(Refusal::OutOfMemory)))
 }
 
-/// A day: its tape, and the answers that it holds until its input was read whole.
+/// A day: its tape, and the answers that it holds until its input has been read whole.
 #[derive(Drop)]
 pub struct Day {
     /// The tape.
@@ -85,7 +85,7 @@ impl Day {
         if self.is_stopped {
             return Ok(());
         }
-        // Room for the answer comes first, so that it takes none to hold a refusal out of memory.
+        // Room for the answer is taken first, so that an answer out of memory needs none.
         self.answers.reserve(1)?;
         let answer = answer(&mut self.tape, &mut self.known, line);
         self.is_stopped = is_out_of_memory(&answer);
@@ -125,8 +125,8 @@ impl Day {
     }
 
     /// Answers all lines of an input: those that stand whole in a piece, then the one between two pieces, and so on. Where
-    /// memory runs out at a line, the rest is taken without memory, so that the input is known to fit. An error is that of
-    /// a failed read, of an input beyond the limit, or of running out of memory for an answer or a line between two pieces.
+    /// memory runs out at a line, the rest is skipped, which takes none, to learn whether the input fits. The error is `ReadFault`
+    /// for a failed read, `TooLarge` beyond the limit, and `OutOfMemory` for an answer, a line between two pieces, or a read.
     pub fn answer_all<B: BufRead>(
         &mut self,
         input: &mut Input<B>,

@@ -67,8 +67,8 @@ impl<B: BufRead> Input<B> {
         Ok(())
     }
 
-    /// Takes the next line, without its line feed: whether there was one. A failed read and running out of memory for the line are
-    /// told as such, and an input beyond the limit as `TooLarge`; what was taken then is not told.
+    /// Takes the next line, without its line feed: whether there was one. The error is `ReadFault` for a failed read, `OutOfMemory`
+    /// where memory runs out, and `TooLarge` beyond the limit; how much was taken then is not specified.
     pub fn next_line(&mut self, line: &mut Vec<u8>) -> Result<bool, ReadEnd>
         ensures took { IfOk result (λ some. TakesLines (B.remaining self.old.left) (B.remaining self.new.left) self.old.taken self.new.taken
             (if some then line.new.items ∷ [] else [])) }

@@ -76,8 +76,8 @@ impl KnownDigits {
         }
     }
 
-    /// Decodes digits to the front of the row, and answers how many bytes they spell, or `None` where one of them is no digit.
-    /// What the row has after them is not said.
+    /// Decodes digits to the front of the row, and returns how many bytes they spell, or `None` where one of them is no digit.
+    /// What else the row holds is unspecified.
     pub fn decode(&mut self, digits: &[u8], row: &mut [u8; LONGEST_FRAME]) -> Option<usize>
         requires fits { length digits.now ≤ 2 * LONGEST_FRAME }
         requires even { length digits.now % 2 ≡ 0 }

@@ -11,7 +11,7 @@ use memchr::{memchr, memrchr};
 #[derive(Drop)]
 pub struct Lines<'a> {
     rest: &'a [u8],
-    /// How long the line before was, or 0.
+    /// How many bytes the previous line had, or 0.
     former: usize,
 }
 
@@ -55,8 +55,8 @@ impl<'a> Iterator for Lines<'a> {
 
 /// Where the first line of a text ends.
 ///
-/// Most message lines are as long as the one before. That a text has no line feed before that place is found without
-/// a branch that hangs on its bytes.
+/// Most message lines are as long as the one before, so that place is tried first. Whether a line feed comes earlier is found
+/// without a branch that depends on the bytes.
 fn line_end(text: &[u8], former: usize) -> Option<usize>
     ensures { IsFirstByte (is_byte 10) text.now result }
 {

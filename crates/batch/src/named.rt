@@ -1,4 +1,4 @@
-//! What a name in a header, or among the program's words, names.
+//! What a name in a header, or among the program's arguments, names.
 ghost use Rattle.std.specs.Prelude.{◌≡◌, List, ℕ, Option};
 
 use tape_types::{Participant, Symbol};

@@ -185,6 +185,7 @@ fn joined<S: Store>(
     let mut rows = Vec::with_capacity(alloc, row_count(pieces))?;
     let mut start = 0;
     while let Some(piece) = piece_from(tape, start, size) {
+        // The workers took every piece, so it is there; no clause of theirs says so.
         let Some(made) = rows_from(pieces, start) else {
             return Err(AllocError);
         };

@@ -7,7 +7,7 @@ use summaries::Store;
 use tape_core::Tape;
 use tape_types::{Participant, Symbol};
 
-/// A row of the report: what the reports of a symbol that stand come to, of all participants or of one.
+/// A row of the report: the summary of a symbol's reports that stand, of all participants or of one.
 #[derive(Clone, Copy, Debug, PartialEq, Eq)]
 pub struct Row {
     /// The symbol that it is about.
@@ -15,7 +15,7 @@ pub struct Row {
     /// The participant whose reports alone it counts, by the participant columns of the matrix, or `None` for the reports of
     /// all, by the consolidated columns.
     pub who: Option<Participant>,
-    /// What the reports that stand come to.
+    /// The summary of the reports that stand.
     pub summary: Summary,
 }
 

@@ -93,8 +93,8 @@ pub fn read_tape(alloc: Global, input: &[u8]) -> anyhow::Result<Tape<IndexStore>
     Ok(tape)
 }
 
-/// The messages of a day's listed participants, in order. A line that is no message is passed over. The listing is lent, and
-/// dropped by name: each way out on which it would be dropped is a long proof.
+/// The messages of a day's listed participants, in order. A line that is no message is passed over. The listing is lent and then
+/// dropped explicitly, since each exit that dropped it implicitly would need a long proof.
 pub fn read_messages(alloc: Global, input: &[u8]) -> anyhow::Result<Vec<Message>> {
     let listing = read_listing(alloc, input)?;
     let messages = messages_of(alloc, &listing, input);

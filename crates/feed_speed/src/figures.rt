@@ -37,7 +37,7 @@ impl Figures {
     }
 }
 
-/// A count of things that took this time, as things a second.
+/// The rate of so many things in this time, in things a second, rounded down. A time of zero counts as a nanosecond.
 pub fn per_second(count: u64, time: Duration) -> u128 {
     count as u128 * 1_000_000_000 / time.as_nanos().max(1)
 }

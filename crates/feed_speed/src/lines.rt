@@ -20,7 +20,7 @@ use tape_types::Participant;
 /// How often the tape and the lines are measured, in turns.
 const RUNS: u32 = 5;
 
-/// What one run came to, or the least of several.
+/// The figures of one run, or the least of several.
 #[derive(Clone, Copy)]
 struct Run {
     /// The time of the tape alone.
@@ -117,8 +117,8 @@ fn admission_time<R: Clock>(
     began.elapsed(rt)
 }
 
-/// How long a new tape takes to admit the messages alone. The tape is lent, and dropped by name: each way out on which it
-/// would be dropped is a long proof.
+/// How long a new tape takes to admit the messages alone. The tape is lent and then dropped explicitly, since each exit that
+/// dropped it implicitly would need a long proof.
 fn time_alone<R: AllocGlobal + Clock>(
     rt: &R,
     input: &[u8],
@@ -192,8 +192,8 @@ pub fn measure<R: AllocGlobal + Clock + Threads + Wait + Sync>(
     measure_messages(rt, input, &messages)
 }
 
-/// The same of the messages, which are written as the lines' bytes before the first run. What holds a vector ends in one call,
-/// and its proof stays short.
+/// The same of the messages, which are written as the lines' bytes before the first run. A function that owns a vector ends in
+/// one call, so that its proof stays short.
 fn measure_messages<R: AllocGlobal + Clock + Threads + Wait + Sync>(
     rt: &R,
     input: &[u8],

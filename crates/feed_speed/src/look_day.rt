@@ -35,7 +35,7 @@ pub struct Looks {
     pub time: Duration,
 }
 
-/// What a day of lines and looks came to.
+/// The figures of a day of lines and looks.
 #[derive(Clone, Copy)]
 pub struct DayLooks {
     /// The entries of the day's tape.

@@ -45,7 +45,7 @@ fn print_figures<R: AllocGlobal + Clock + Print + Threads + Wait + Sync>(
     Ok(())
 }
 
-/// Reads a day from standard input, and measures what the words ask for. For words that ask for nothing, nothing is read.
+/// Reads a day from standard input, and measures what the arguments ask for. Where they ask for nothing, nothing is read.
 fn main(rt: HostRuntime) -> anyhow::Result<ExitCode> {
     let Some(mode) = given_mode(&rt)? else {
         let _ = eprintln!(rt; "feed_speed: bad arguments");

@@ -1,4 +1,4 @@
-//! What the program's words ask for.
+//! What the program's arguments ask for.
 ghost use Rattle.std.specs.Prelude.{◌≡◌, ◌≢◌, ◌∷◌, ◌↔◌, [], Some, map, codes, string_bytes};
 ghost use Rattle.feed_speed.specs.declared.mode.Mode.TheVariants.{Feed, Lines, Looks, Rows};
 
@@ -19,7 +19,7 @@ pub enum Mode {
     Looks,
 }
 
-/// What one word asks for: `rows` for the rows, `lines` for the lines, `looks` for the looks, and all others for nothing.
+/// What one argument asks for: `rows` for the rows, `lines` for the lines, `looks` for the looks, and any other for nothing.
 fn mode_of_word(word: &str) -> Option<Mode>
     ensures feed { result ≢ Some Feed }
     ensures rows { (result ≡ Some Rows) ↔ (word.now ≡ codes "rows") }
@@ -37,8 +37,8 @@ fn mode_of_word(word: &str) -> Option<Mode>
     }
 }
 
-/// What the words after the program's own name ask for: none for the feed, `rows` alone for the rows, `lines` alone for the
-/// lines, `looks` alone for the looks, and all others for nothing.
+/// What the arguments after the program's own name ask for: none for the feed, `rows` alone for the rows, `lines` alone for the
+/// lines, `looks` alone for the looks, and any others for nothing.
 fn mode_of(words: &[String]) -> Option<Mode>
     ensures feed { (result ≡ Some Feed) ↔ (words.now ≡ []) }
     ensures rows { (result ≡ Some Rows) ↔ (map string_bytes words.now ≡ codes "rows" ∷ []) }
@@ -52,7 +52,7 @@ fn mode_of(words: &[String]) -> Option<Mode>
     }
 }
 
-/// What the program is asked for. Words that are no text ask for nothing; where memory runs out there are no words to tell.
+/// What the program is asked for. Arguments that are not valid text ask for nothing; where memory runs out, it is an error.
 pub fn given_mode<R: Env + AllocGlobal>(rt: &R) -> Result<Option<Mode>, AllocError> {
     match env::args(rt) {
         Ok(words) => {

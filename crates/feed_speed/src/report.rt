@@ -106,7 +106,7 @@ fn run_times<R: AllocGlobal + Clock + Threads + Sync>(
     })
 }
 
-/// How long so many workers take to make the rows. They are given back after the clock was read.
+/// How long so many workers take to make the rows, which are dropped after the clock has been read.
 fn time_by<R: AllocGlobal + Clock + Threads + Sync>(
     rt: &R,
     tape: &Tape<IndexStore>,

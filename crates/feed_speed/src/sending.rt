@@ -10,14 +10,14 @@ use subscriber::Subscriber;
 use summaries::IndexStore;
 use tape_core::Tape;
 
-/// The figures of a day, unless the subscriber came to hold less than its tape. The input is read before.
+/// The figures of a day, unless the subscriber ended up with less than its tape. The input has been read before.
 pub fn measure<R: AllocGlobal + Clock>(rt: &R, input: &[u8]) -> anyhow::Result<Figures> {
     let began = Instant::now(rt)?;
     let tape = day::read_tape(rt.alloc(), input)?;
     measure_tape(rt, input, &tape, began)
 }
 
-/// The same of a tape that was read. What holds a tape or a subscriber ends in one call, and its proof stays short.
+/// The same of a tape that was read. A function that owns a tape or a subscriber ends in one call, so that its proof stays short.
 fn measure_tape<R: AllocGlobal + Clock>(
     rt: &R,
     input: &[u8],

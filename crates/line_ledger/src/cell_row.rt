@@ -79,8 +79,8 @@ impl CellRow {
         number > 0 && number <= self.many && self.cells[number as usize - 1].get().is_none()
     }
 
-    /// Sets the cell of a number: `Ok(None)` where it was set before, or where there is none, and no memory is asked for. Where
-    /// memory runs out, the cell is as it was.
+    /// Sets the cell of a number: `Ok(None)` where it was set before, or where there is none. No memory is asked for where the
+    /// cell is seen to be set, or is not there. Where memory runs out, the cell is as it was.
     pub(crate) fn set(&self, number: u32, entry: &Entry) -> Result<Option<Token>, AllocError>
         ensures ok { IfOk result (λ set. IfSome set (λ token. (token.entry ≡ entry.now) × (token.number ≡ number) × IsTokenOf self.now token)) }
         ensures memory { IfErr result (λ _. number ≤ length self.now) }

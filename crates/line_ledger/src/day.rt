@@ -62,7 +62,8 @@ impl Day {
         self.seen.len() as u32
     }
 
-    /// Whether the day has the token's entry at its number: else it is 93 NotOnTape. Up to the published count it has.
+    /// Confirms that the day has the token's entry at its number, or answers 93 NotOnTape. It confirms every token up to the
+    /// published count.
     pub fn confirm(&self, token: &Token) -> Result<(), NotOnTape>
         requires { IsTokenOf self.now.names token.now }
         ensures exact { IsOk result ↔ (slice_get self.now.tape.entries (token.now.number - 1) ≡ Some token.now.entry) }

@@ -46,12 +46,12 @@ fn is_told(told: &Told, entry: &Entry) -> bool
     told.number == entry.number && told.message == entry.message
 }
 
-/// Seats of which there is one of each participant stay so, whatever they are told.
+/// Where there is exactly one seat of each participant, that stays so, whatever the seats are told.
 pub fn seats()
     ensures each { (participants : List ℕ) (old new : List SeatState) → IsOneEach participants old → whos new ≡ whos old → IsOneEach participants new }
 {}
 
-/// A disagreement is one: lists that first differ somewhere are not the same and first differ nowhere else, and an end that
+/// A disagreement is unique: lists that first differ somewhere are not the same and first differ nowhere else, and an end that
 /// could answer 92 could not answer a day, nor name another participant or position.
 pub fn disagreement()
     ensures differ { (told entries : List Told) (at : ℕ) → DiffersFirst told entries at → ¬ (told ≡ entries) }

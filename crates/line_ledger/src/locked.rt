@@ -303,6 +303,7 @@ impl<D: DayName> Locked<D> {
         ensures memory { IfErr result (λ fault. fault ≡ OutOfMemory) }
     {
         let alloc = prepared.alloc;
+        // For the proof alone: by the clauses of these calls the tape is legal and its limit in range.
         let _ = prepared.tape.entries();
         let _ = prepared.tape.limit();
         let many = prepared.tape.listing().participants().as_slice().len();
@@ -406,9 +407,9 @@ impl<D: DayName> Locked<D> {
     }
 
     /// Publishes the tape's next entries, at most so many: sets the next cells to them, and answers a token of each, in order.
-    /// 81 Unpublished where the cell of the next number was set before or is not there, before any memory is asked for, and
-    /// then 82 OutOfMemory where memory runs out: what was set before that stays set, and is counted. Where nothing is left to
-    /// publish, the answer is Ok and takes no memory. The row is to be the one that `start` gave.
+    /// 81 Unpublished where the cell of the next number was set before or is not there, which is looked at for the first number
+    /// before any memory is asked for, and 82 OutOfMemory where memory runs out: what was set before that stays set, and is
+    /// counted. Where nothing is left to publish, the answer is Ok and takes no memory. The row is to be the one that `start` gave.
     pub fn publish(&mut self, row: &CellRow, most: u32) -> Result<Vec<Token>, PublishFault>
         ensures ok { IfOk result (λ tokens. Publishes self.old row.now most tokens.items self.new) }
         ensures err { IfErr result (λ _. Stops self.old row.now most self.new) }

@@ -114,7 +114,8 @@ fn carries(entry: &Entry) -> bool
 impl<D: DayName> Source for Published<'_, D> {
     ghost list = { λ p. shown p.tokens };
 
-    /// Looks on from its own count, up to the first cell that shows nothing. Where memory runs out, it is as it was.
+    /// Looks on from its own count, up to the first cell that shows no entry which can follow. Where memory runs out, it is as
+    /// it was.
     #[tactic(auto, using(crate::proofs::Pushes::goes_on_more, crate::proofs::Pushes::goes_on_none, crate::proofs::Pushes::shown_goes_on, crate::proofs::Pushes::shown_kept))]
     fn refresh(&mut self) -> Result<(), AllocError>
         ensures cells { self.new.names ≡ self.old.names }

@@ -24,8 +24,8 @@ use tape_types::Symbol;
 /// How often a call tries for the lock before it may sleep for it.
 const TRIES: u32 = 30;
 
-/// How many turns of `spin_loop` are between two tries: about as long as ten admissions take. Tries that come faster make the
-/// lock, and with it the tape's ends, go from one processor's caches to the next at each message.
+/// How many turns of `spin_loop` are between two tries: about as long as ten admissions take. With more frequent tries the lock
+/// and the end of the tape would move from one processor's caches to another's at each message.
 const TURNS: u32 = 200;
 
 /// Lets some time pass.
@@ -73,8 +73,8 @@ impl<D: DayName> SharedTape<D> {
         ))
     }
 
-    /// Takes the lock. Whoever has it is soon done, and to sleep and be woken takes longer than that: so it is tried for, `TRIES`
-    /// times, before the thread may sleep.
+    /// Takes the lock. Its holder is soon done, sooner than a thread could sleep and be woken, so it is tried `TRIES` times before
+    /// the thread may sleep.
     #[inline(always)]
     fn lock(&self, rt: &impl Wait) -> MutexGuard<'_, Locked<D>> {
         for _ in 0..TRIES {
@@ -166,8 +166,9 @@ impl<D: DayName> SharedTape<D> {
 
     /// Ends the day, with the seats in any order. Where there is not exactly one seat of each participant it is 91 MissingSeat:
     /// shared tape and seats are handed back, and the tape stays open. Else the tape is closed and the seats are spent, and
-    /// it is 92 Disagrees where a seat was not told what the tape has of its participant. It waits for nobody: who has the
-    /// shared tape has joined all that were lent it. It goes over the tape once for each participant, and once over the cells.
+    /// it is 92 Disagrees where a seat was not told what the tape has of its participant. It waits for nobody: the owner of the
+    /// shared tape has joined every thread that borrowed it. It goes over the tape once for each participant, and once over the
+    /// cells.
     pub fn end(self, seats: Vec<LineSeat<D>>) -> Result<Day, EndFault<D>>
         ensures ok { IfOk result (λ day. IsEnd D.listing seats.items day.tape) }
         ensures cells { IfOk result (λ day. day.names ≡ self) }

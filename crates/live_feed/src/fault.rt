@@ -5,15 +5,16 @@ ghost use Rattle.live_feed.specs.Faults.{fault_status};
 /// What ends a day without a report, in the order of the statuses.
 #[derive(Clone, Copy, Debug, PartialEq, Eq)]
 pub enum Fault {
-    /// A socket could not be opened, or a read failed.
+    /// A socket could not be opened, a connection was not accepted, a read failed, or there is not one listener for each
+    /// participant.
     Read,
-    /// A write failed.
+    /// A write or a flush failed.
     Write,
     /// Memory ran out.
     Memory,
     /// No thread could be started.
     Worker,
-    /// The tape is not what was told of it.
+    /// The tape is not what was told of it, or its limit is outside 1 to `TAPE_MOST`.
     Disagrees,
 }
 

@@ -42,7 +42,7 @@ fn dial<R: Net<Listener = TcpListener, Stream = TcpStream>>(
     Ok(stream)
 }
 
-/// What a drain that stops is to the run.
+/// The run's fault for a drain that stopped.
 fn fault_of_drain(fault: DrainFault) -> Fault
     ensures memory { (result ≡ Memory) ↔ (fault.why ≡ Refused OutOfMemory) }
 {
@@ -52,7 +52,7 @@ fn fault_of_drain(fault: DrainFault) -> Fault
     }
 }
 
-/// What an answer that does not come is to the run.
+/// The run's fault for a request that brought no packets.
 fn fault_of_ask(fault: AskFault) -> Fault
     ensures read { fault ≡ ReadFault → result ≡ Read }
     ensures write { fault ≡ WriteFault → result ≡ Write }
@@ -78,7 +78,7 @@ fn copy_of(alloc: Global, listing: &Listing) -> Result<Listing, Fault> {
     }
 }
 
-/// Whether a subscriber is given up that holds so many entries: it is to be after so many or fewer.
+/// Whether a subscriber that holds so many entries is given up: `restart_after` is that many or fewer.
 fn is_given_up(restart_after: Option<u32>, held: usize) -> bool
     ensures given_up { (result ≡ true) ↔ IsSomeAnd restart_after (λ most. most ≤ held) }
 {
@@ -136,8 +136,8 @@ impl Follower {
         Ok(())
     }
 
-    /// Asks for what is missing, and takes the answer. It is to bring the first number that was asked for, so that each
-    /// question brings the follower on.
+    /// Asks for what is missing, and takes the answer. It has to bring the first number that was asked for, so that each
+    /// request makes progress.
     fn ask_for(&mut self, request: &Request) -> Result<(), Fault> {
         let asked = ask(
             self.alloc,
@@ -199,7 +199,8 @@ impl Follower {
         }
     }
 
-    /// Takes what came by a line, unless the run is over, and whether it is over then. A restart is looked at before the end is.
+    /// Takes what came by a line, unless the run is over, and tells whether it is over then. Whether to restart is looked at
+    /// before the end is.
     pub(crate) fn step<R: Net<Listener = TcpListener, Stream = TcpStream>>(
         &mut self,
         rt: &R,

@@ -2,7 +2,7 @@
 
 use arbitration::Line;
 
-/// Which data packets a line loses before they are sent. An end is never lost so.
+/// Which data packets a line loses before they are sent. An end packet is never lost this way.
 pub trait Loss {
     /// Whether the line loses the data packet whose first entry has this tape number, from 1. It is asked for lines A and B.
     fn drops(&self, line: Line, first: u32) -> bool;

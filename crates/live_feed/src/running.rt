@@ -68,8 +68,9 @@ fn serve_and_send<D: DayName + Send + Sync, R: Threads + Wait + Clock + Sync, L:
     Sides { served, sent }
 }
 
-/// Runs the lines beside the sender, whose packets are written in the text, and the retransmission, and joins all. Where no thread can be started the lines run
-/// first, then the sender, and the retransmission last, so that none waits for one that has yet to start.
+/// Runs the lines, the sender and the retransmission at once, and joins all; packets are written in the text. Where no thread
+/// can be started the lines run first, then the sender, and the retransmission last, so that none waits for one that has yet
+/// to start.
 pub(crate) fn run_together<
     D: DayName + Send + Sync,
     R: Threads + Wait + Clock + Sync,

@@ -2,31 +2,31 @@
 
 use std::net::{Ipv4Addr, SocketAddr, TcpListener, UdpSocket};
 
-/// What a live day is given open.
+/// The open sockets of a live day.
 #[derive(Drop)]
 pub struct LiveSockets {
     /// One listener for each participant's line, in listing order.
     pub lines: Vec<TcpListener>,
     /// Where subscribers connect for what was lost.
     pub retransmission: TcpListener,
-    /// What the packets of both lines are sent by.
+    /// The socket from which the packets of both lines are sent.
     pub sender: UdpSocket,
     /// The ports of lines A and B, on this machine.
     pub ports: [u16; 2],
 }
 
-/// What a follower is given open, and where it asks.
+/// The open sockets of a follower, and the port at which it asks.
 #[derive(Drop)]
 pub struct FollowSockets {
-    /// What line A is read from, bound to its port.
+    /// The socket from which line A is read, bound to its port.
     pub a: UdpSocket,
-    /// What line B is read from, bound to its port.
+    /// The socket from which line B is read, bound to its port.
     pub b: UdpSocket,
     /// The port of the retransmission, on this machine.
     pub retransmission: u16,
 }
 
-/// A port of this machine: 127.0.0.1.
+/// The address of a port of this machine, on 127.0.0.1.
 pub fn here(port: u16) -> SocketAddr {
     SocketAddr::from((Ipv4Addr::LOCALHOST, port))
 }

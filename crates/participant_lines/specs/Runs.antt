@@ -21,7 +21,7 @@ use Rattle.participant_lines.specs.declared.line_end.Ended.TheVariants.{Clean, T
 abbrev pub FRAMES_MOST : ℕ
 FRAMES_MOST = 2097152
 
--- what a tape's refusal is to its line: 40 ends it, and each other one is counted
+-- what a tape's refusal does to its line: 40 ends it, and each other one is counted
 abbrev pub refusal_effect : Refusal → Result ℕ Ended
 refusal_effect tape.Closed = Ok 1
 refusal_effect tape.Full = Ok 1
@@ -35,7 +35,7 @@ refusal_effect tape.Cancelled = Ok 1
 refusal_effect tape.OutOfMemory = Err OutOfMemory
 refusal_effect tape.WrongNumber = Ok 1
 
--- what an answer is to its line: how many refusals it makes, or the end that it brings
+-- what an answer does to its line: how many refusals it makes, or the end that it brings
 abbrev pub effect_of : Result ℕ LineRefusal → Result ℕ Ended
 effect_of (Ok number) = Ok 0
 effect_of (Err line.Behind) = Err Behind

@@ -13,12 +13,12 @@ pub enum Ended {
     Oversize,
     /// A read failed. What was read after the frames that were done is not a whole frame.
     ReadFault,
-    /// As many frames were done as ever are, whatever follows them.
+    /// `FRAMES_MOST` frames were done, which is the most. What follows them is left unread.
     TooMany,
     /// 40: memory ran out for the next frame's message. The frame was read, and nothing changed; it is not counted.
     OutOfMemory,
-    /// 94: the tape has not of the participant what the seat was told. The next frame was read, and nothing changed; it is not
-    /// counted.
+    /// 94: the tape's count, sizes or last number of the participant is not what the seat was told. The next frame was read, and
+    /// nothing changed; it is not counted.
     Behind,
 }
 
@@ -27,7 +27,7 @@ pub struct LineEnd<D: DayName> {
     /// The line's seat, with what it was told.
     pub seat: LineSeat<D>,
     /// How many frames were refused, from 0 to 2,097,152: those that spell no message (13 to 21), and those whose message the
-    /// tape does not take (31 to 39).
+    /// tape does not take (32, 33 and 35 to 39).
     pub refused: u32,
     /// Why no more were done.
     pub ended: Ended,

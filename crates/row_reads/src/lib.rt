@@ -10,8 +10,8 @@ mod writing;
 use std::io::{ErrorKind, Read};
 pub use writing::{WriteFault, write_text};
 
-/// Reads until the row is full or the input ends: how many bytes were read, or `None` where a read failed. A read that
-/// was interrupted is tried again. No byte is read beyond the row.
+/// Reads until the row is full or the input ends: how many bytes were read, or `None` where a read failed, after fewer bytes
+/// than the row has. A read that was interrupted is tried again. No byte is read beyond the row.
 #[inline(always)]
 pub fn fill<R: Read>(reader: &mut R, row: &mut [u8]) -> Option<usize>
     ensures within { IfSome result (λ n. n ≤ length row.new) }

@@ -5,12 +5,12 @@ ghost use Rattle.row_reads.specs.Writing.{WritesPrefix};
 
 use std::io::{ErrorKind, Write};
 
-/// A write failed.
+/// A write failed, or took no byte.
 #[derive(Clone, Copy, Debug, PartialEq, Eq)]
 pub struct WriteFault;
 
-/// Writes all of a text. After a write that failed, the writer has a prefix of the text and nothing else. An interrupted write
-/// is made again.
+/// Writes all of a text. Where a write fails or takes no byte, that is a `WriteFault`, and the writer has got a prefix of the
+/// text and nothing else. An interrupted write is tried again.
 pub fn write_text<W: Write>(writer: &mut W, text: &[u8]) -> Result<(), WriteFault>
     ensures written { OnOk result (Appends (W.contents writer.old) (W.contents writer.new) text.now) }
     ensures prefix { WritesPrefix text.now (W.contents writer.old) (W.contents writer.new) }

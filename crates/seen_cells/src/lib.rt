@@ -18,7 +18,7 @@ pub struct Seen<T> {
     marker: PhantomData<*const T>,
     /// The name of the cell.
     pub ghost cell: { ℕ },
-    /// The value that was seen in it.
+    /// The value that was seen in it, if any was.
     pub ghost known: { Option T } by { coded_option T.code },
 }
 
@@ -38,7 +38,7 @@ impl<T> Seen<T> {
         }
     }
 
-    /// The same once more.
+    /// A copy of the same fact.
     pub fn again(&self) -> Seen<T>
         ensures same { result ≡ self.now }
     {

@@ -16,7 +16,7 @@ fn seen(cell: &OnceBox<u32>) -> Option<(u32, Seen<u32>)>
     Some((value, Seen::of(&mut note)))
 }
 
-/// What two threads find in the cell of which this was seen.
+/// Copies of the fact, made in two threads at once: that this compiles is the test.
 fn found_twice<R: Threads + Sync>(rt: &R, one: &Seen<u32>) -> (Seen<u32>, Seen<u32>) {
     join(rt, || one.again(), || one.again())
 }

@@ -1,4 +1,4 @@
--- The schedules of a tape and a subscriber: messages are admitted, packets come, the subscriber drains and starts anew.
+-- The schedules of a tape and a subscriber: messages are admitted, packets come, the subscriber drains and restarts.
 use Rattle.std.specs.Prelude.{◌≡◌, ℕ, Bool, true, false, if◌then◌else◌, List, [], ◌∷◌, length, max, is_some, ◌⊎◌}
 use Rattle.tape_types.specs.Names.{Names}
 use Rattle.reports.specs.declared.message.Message.{Message}
@@ -36,7 +36,7 @@ pub data Event : Type 0 where
   Comes : (line : Line) → (packet : Packet) → Event
   -- the subscriber drains, and ends after this many entries: nothing more is ready, it is out of memory, or it stops otherwise
   Drains : (count : ℕ) → Event
-  -- the subscriber starts anew
+  -- the subscriber restarts
   Restarts : Event
 
 -- the tape after it was sent a message

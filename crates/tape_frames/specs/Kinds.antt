@@ -1,4 +1,4 @@
--- The kinds of packets, each by the byte that stands behind the version.
+-- The kinds of packets, each by the byte after the version.
 use Rattle.std.specs.Prelude.{ℕ}
 
 -- the kind of a packet with entries: 'D'

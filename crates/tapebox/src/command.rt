@@ -1,4 +1,4 @@
-//! What the program's words ask for.
+//! What the program's arguments ask for.
 ghost use Rattle.std.specs.Prelude.{◌≡◌, ◌⊎◌, IfOk, Ok, Err, length, true};
 ghost use Rattle.std.specs.Iterator.{at_most};
 ghost use Rattle.tapebox.specs.Program.{AsksFor, asks_follow, asks_live, batch_words};
@@ -10,13 +10,13 @@ use std::alloc::Global;
 use std::str;
 use tape_types::{Listing, ListingFault, PARTICIPANTS_MOST, Participant, SYMBOLS_MOST, Symbol};
 
-/// The words of a batch.
+/// The arguments of a batch.
 const BATCH: &[u8] = b"batch\0";
 
-/// The first word of a tape that is made from lines.
+/// The first argument for a tape that is made from lines.
 const LIVE: &[u8] = b"live\0";
 
-/// The first word of a tape that is followed.
+/// The first argument for a tape that is followed.
 const FOLLOW: &[u8] = b"follow\0";
 
 /// How many ports there are, with port 0.
@@ -33,7 +33,7 @@ pub enum Command {
     Follow(FollowWords),
 }
 
-/// Why the words ask for nothing.
+/// Why the arguments ask for nothing.
 #[derive(Clone, Copy, Debug, PartialEq, Eq)]
 pub enum CommandFault {
     /// They are not those of a command.
@@ -42,7 +42,7 @@ pub enum CommandFault {
     OutOfMemory,
 }
 
-/// The words that are left, each ended by a zero byte.
+/// The arguments that are left, each ended by a zero byte.
 #[derive(Drop)]
 struct Words<'a> {
     rest: &'a [u8],
@@ -71,22 +71,22 @@ fn decimal(word: &[u8]) -> Option<u64> {
 }
 
 impl<'a> Words<'a> {
-    /// The next word.
+    /// The next argument.
     fn word(&mut self) -> Result<&'a [u8], CommandFault> {
         self.next().ok_or(CommandFault::BadArguments)
     }
 
-    /// The next word as a number up to 18,446,744,073,709,551,615.
+    /// The next argument as a number up to 18,446,744,073,709,551,615.
     fn number(&mut self) -> Result<u64, CommandFault> {
         decimal(self.word()?).ok_or(CommandFault::BadArguments)
     }
 
-    /// The next word as a number up to 65,535.
+    /// The next argument as a number up to 65,535.
     fn short(&mut self) -> Result<u16, CommandFault> {
         u16::try_from(self.number()?).map_err(|_| CommandFault::BadArguments)
     }
 
-    /// The next word as a port, 1 to 65,535.
+    /// The next argument as a port, 1 to 65,535.
     fn port(&mut self) -> Result<u16, CommandFault> {
         match self.short()? {
             0 => Err(CommandFault::BadArguments),
@@ -94,24 +94,24 @@ impl<'a> Words<'a> {
         }
     }
 
-    /// The next two words, of symbols and of participants.
+    /// The next two arguments, the symbols and the participants.
     fn names(&mut self) -> Result<(&'a [u8], &'a [u8]), CommandFault> {
         Ok((self.word()?, self.word()?))
     }
 
-    /// The next three words as the ports of both lines and of the retransmission.
+    /// The next three arguments as the ports of both lines and of the retransmission.
     fn feed_ports(&mut self) -> Result<([u16; 2], u16), CommandFault> {
         Ok(([self.port()?, self.port()?], self.port()?))
     }
 
-    /// The last word as a session. Refused where a word is left behind it.
+    /// The last argument as a session. Refused where another one follows.
     fn session(&mut self) -> Result<u64, CommandFault> {
         let session = self.number()?;
         self.end()?;
         Ok(session)
     }
 
-    /// Refused where a word is left.
+    /// Refused where an argument is left.
     fn end(&self) -> Result<(), CommandFault> {
         if self.rest.is_empty() {
             Ok(())
@@ -121,19 +121,19 @@ impl<'a> Words<'a> {
     }
 }
 
-/// Whether each piece of a word, between single commas, is a name, and there are at most so many. It takes no memory.
+/// Whether each piece of an argument, between single commas, is a name, and there are at most so many. It takes no memory.
 fn are_names<N: Named>(word: &[u8], most: usize) -> bool {
     let pieces = || word.split(|byte| *byte == b',');
     pieces().all(|piece| N::of_name(piece).is_some()) && pieces().count() <= most
 }
 
-/// Whether a piece of a word stands twice in it, found by comparing all pairs: asked for only where memory ran out.
+/// Whether a piece of an argument stands twice in it, found by comparing all pairs: asked for only where memory ran out.
 fn has_repeat(word: &[u8]) -> bool {
     let pieces = || word.split(|byte| *byte == b',');
     pieces().any(|piece| pieces().filter(|other| *other == piece).count() > 1)
 }
 
-/// The names of a word, or `None` where memory runs out or one is no name.
+/// The names in an argument, or `None` where memory runs out or one is no name.
 fn names<N: Named>(alloc: Global, word: &[u8]) -> Option<Vec<N>> {
     let mut names = Vec::new(alloc);
     for piece in word.split(|byte| *byte == b',') {
@@ -142,7 +142,7 @@ fn names<N: Named>(alloc: Global, word: &[u8]) -> Option<Vec<N>> {
     Some(names)
 }
 
-/// The listing of a word of symbols and a word of participants, or out of memory, whatever else is wrong with the words.
+/// The listing of the symbols and the participants in two arguments, or out of memory, whatever else is wrong with them.
 fn listed(alloc: Global, symbols: &[u8], participants: &[u8]) -> Result<Listing, ListingFault> {
     let Some(symbols) = names::<Symbol>(alloc, symbols) else {
         return Err(ListingFault::OutOfMemory);
@@ -153,8 +153,8 @@ fn listed(alloc: Global, symbols: &[u8], participants: &[u8]) -> Result<Listing,
     Listing::new(alloc, &symbols, &participants)
 }
 
-/// The listing of a word of symbols and a word of participants, of which there are to be at most so many. Out of memory is
-/// answered only where nothing is wrong with the words.
+/// The listing of the symbols and the participants in two arguments, of at most so many participants. Out of memory is
+/// answered only where nothing is wrong with either.
 fn listing(
     alloc: Global,
     symbols: &[u8],
@@ -175,7 +175,7 @@ fn listing(
     }
 }
 
-/// The words of `live`.
+/// The arguments of `live`.
 #[derive(Drop)]
 pub struct LiveWords {
     /// The symbols and the participants.
@@ -193,8 +193,8 @@ pub struct LiveWords {
 }
 
 impl LiveWords {
-    /// Reads the words behind `live`. Memory is taken for the names, once all else is right: the last participant's line has
-    /// a port, too.
+    /// Reads the arguments after `live`. Memory is taken for the names once all else is right, which includes a port for the
+    /// last participant's line.
     fn read(alloc: Global, words: &[u8]) -> Result<LiveWords, CommandFault> {
         let mut words = Words { rest: words };
         let (symbols, participants) = words.names()?;
@@ -215,7 +215,7 @@ impl LiveWords {
     }
 }
 
-/// The words of `follow`.
+/// The arguments of `follow`.
 #[derive(Drop)]
 pub struct FollowWords {
     /// The symbols and the participants.
@@ -229,7 +229,7 @@ pub struct FollowWords {
 }
 
 impl FollowWords {
-    /// Reads the words behind `follow`. Memory is taken for the names, once all else is right.
+    /// Reads the arguments after `follow`. Memory is taken for the names once all else is right.
     fn read(alloc: Global, words: &[u8]) -> Result<FollowWords, CommandFault> {
         let mut words = Words { rest: words };
         let (symbols, participants) = words.names()?;
@@ -245,7 +245,8 @@ impl FollowWords {
     }
 }
 
-/// What words ask for, each ended by a zero byte, or why they ask for nothing.
+/// What arguments ask for, each ended by a zero byte, or why they ask for nothing: `BadArguments`, or `OutOfMemory` for the
+/// names of `live` or `follow`.
 pub fn read_command(alloc: Global, words: &[u8]) -> Result<Command, CommandFault>
     ensures batch { words.now ≡ batch_words → result ≡ Ok Batch }
     ensures asked { IfOk result (λ command. AsksFor command words.now) }

@@ -93,7 +93,7 @@ fn report_status<E: Write>(errors: &mut E, status: u8) -> u8
     status
 }
 
-/// The status of `live` on its words. Where it is 0, the report of the day is written.
+/// The status of `live` with its arguments. Where it is 0, the report of the day is written.
 fn live_status<T, W>(rt: &T, alloc: Global, words: LiveWords, writer: &mut W) -> u8
 where
     T: Threads + Wait + Clock + Net<Listener = TcpListener, Stream = TcpStream> + Sync,
@@ -117,7 +117,7 @@ where
     }
 }
 
-/// Runs `live` on its words, and gives its status.
+/// Runs `live` with its arguments, and returns its status.
 pub fn run_live<T, W, E>(
     rt: &T,
     alloc: Global,
@@ -135,7 +135,7 @@ where
     report_status(errors, status)
 }
 
-/// The status of `follow` on its words. Where it is 0, the report of the day is written.
+/// The status of `follow` with its arguments. Where it is 0, the report of a legal tape is written.
 fn follow_status<T, W>(rt: &T, alloc: Global, words: FollowWords, writer: &mut W) -> u8
 where
     T: Threads + Wait + Net<Listener = TcpListener, Stream = TcpStream> + Sync,
@@ -158,7 +158,7 @@ where
     }
 }
 
-/// Runs `follow` on its words, and gives its status.
+/// Runs `follow` with its arguments, and returns its status.
 pub fn run_follow<T, W, E>(
     rt: &T,
     alloc: Global,

@@ -112,7 +112,7 @@ fn lines_of_two<'a, D: DayName, A: Abort>(
     lines
 }
 
-/// Runs two lines over their readers: the seats after it, and what the lines came to. Other seats stop the test.
+/// Runs two lines over their readers: the seats after it, and the lines' outcomes. Other seats stop the test.
 fn run_two<D: DayName + Send + Sync, T: Threads + Wait + Abort + Sync>(
     rt: &T,
     alloc: Global,

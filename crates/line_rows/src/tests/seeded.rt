@@ -295,7 +295,7 @@ fn confirmed_day<D: DayName, A: Abort>(
     Some((day, confirmed))
 }
 
-/// What was published and found of a day, and what its lines came to, with the day and what it confirms.
+/// What was published and found of a day, and the outcomes of its lines, with the day and what it confirms.
 type DayOfLines = (Found, Option<(Vec<LineFigures>, (Day, Confirmed))>);
 
 /// The same of lines over these bytes.
@@ -327,7 +327,7 @@ fn lines_of_prepared<T: Threads + Wait + Abort + Sync>(
     lines_of_a_day::<Brand, T>(rt, alloc, prepared, inputs)
 }
 
-/// What eight lines at once came to, and the day that they made.
+/// The outcomes of eight lines at once, and the day that they made.
 fn day_of_eight<T: Threads + Wait + Abort + Sync>(rt: &T, alloc: Global) -> Option<DayOfLines> {
     let inputs = inputs(alloc)?;
     lines_of_prepared(rt, alloc, empty_day(alloc)?, &inputs)
@@ -342,7 +342,7 @@ fn is_same(tape: &Tape<IndexStore>, other: &Tape<IndexStore>) -> bool {
 /// the other, and how many of all messages are on it.
 type Compared = (Option<bool>, bool, usize);
 
-/// What lines came to and the day's tape, compared with the one that its messages make.
+/// The lines' outcomes and the day's tape, compared with the tape that its messages make.
 fn compared(alloc: Global, lines: &[LineFigures], tape: &Tape<IndexStore>) -> Option<Compared> {
     let again = tape_again(alloc, tape)?;
     let are_all = are_all_lines_of(&again, lines);

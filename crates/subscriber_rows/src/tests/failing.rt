@@ -53,7 +53,7 @@ struct SlowWrites {
 }
 
 impl SlowWrites {
-    /// A writer that fails once it was called so often.
+    /// A writer that fails after so many calls.
     fn new(until_fault: u32) -> Self {
         SlowWrites {
             taken: 0,
@@ -215,8 +215,8 @@ fn end_of_reads(alloc: Global, until_fault: u32) -> (Option<ServeEnd>, usize) {
     (end, output.len())
 }
 
-/// How serving two requests of zeros ends, by a writer that fails once it was called so often, and how many bytes and
-/// flushes it took.
+/// How serving two requests of zeros ends, by a writer that fails after so many calls, and how many bytes and flushes it
+/// took.
 fn end_of_writes(alloc: Global, until_fault: u32) -> (Option<ServeEnd>, u32, u32) {
     let mut reader = [0; 28].as_slice();
     let mut writer = SlowWrites::new(until_fault);
@@ -224,7 +224,7 @@ fn end_of_writes(alloc: Global, until_fault: u32) -> (Option<ServeEnd>, u32, u32
     (end, writer.taken, writer.flushes)
 }
 
-/// How serving a request for 64 of twenty entries ends, and how many writes and flushes there are.
+/// How serving these requests over twenty entries ends, and how many writes and flushes there are.
 fn end_of_calls(alloc: Global, input: &[u8]) -> (Option<ServeEnd>, u32, u32) {
     let mut reader = input;
     let mut writer = Calls::new();
@@ -296,7 +296,7 @@ fn a_slow_reader_is_read_to_its_end(rt: HostRuntime) {
     assert_eq!(rt; end_of_reads(rt.alloc(), 29), (end(2, Ended::Clean), 2));
 }
 
-/// Whether so many requests are answered by a writer that fails once it was called so often, and it took so many bytes.
+/// Whether so many requests are answered by a writer that fails after so many calls, and it took so many bytes.
 fn ends_so(alloc: Global, calls: u32, served: u32, taken: u32) -> bool {
     end_of_writes(alloc, calls) == (end(served, Ended::WriteFault), taken, served)
 }
@@ -398,7 +398,7 @@ fn a_refresh_without_memory_ends_the_serving_and_nothing_is_answered(rt: HostRun
     assert_eq!(rt; end_without_memory(rt.alloc()), wanted);
 }
 
-/// How serving one request of zeros ends by this reader. What is answered is let go.
+/// How serving one request of zeros ends by this reader. The answer is discarded.
 fn end_by_reader<R: Read>(alloc: Global, reader: &mut R) -> Option<ServeEnd> {
     let mut output = Vec::new(alloc);
     served(alloc, 0, reader, &mut output)

@@ -1,4 +1,4 @@
-//! Seeded schedules in which packets are lost, doubled, reordered and cut short, and the subscriber starts anew.
+//! Seeded schedules in which packets are lost, duplicated, reordered and cut short, and the subscriber restarts.
 ghost use Rattle.std.specs.Prelude.{◌≤◌, ◌<◌};
 ghost use Rattle.tape_types.specs.Ranges.{TAPE_MOST};
 
@@ -88,13 +88,13 @@ fn figures_filled(front: &mut Feed, tape: &Feed, len: usize) -> Option<Figures> 
     }
 }
 
-/// The figures of the tape of another's first entries, made anew.
+/// The figures of a new tape to which another's first entries are admitted.
 fn front_figures(alloc: Global, tape: &Feed, len: usize) -> Option<Figures> {
     let mut front = feed::feed(alloc, LIMIT)?;
     figures_filled(&mut front, tape, len)
 }
 
-/// A subscriber starts anew.
+/// A subscriber restarts.
 fn restart(old: &mut Subscriber, alloc: Global) -> Option<()> {
     *old = subscriber(alloc, LIMIT)?;
     Some(())
@@ -208,7 +208,7 @@ impl Schedule {
         self.holds_a_prefix(alloc)?.then_some(())
     }
 
-    /// One time in eight the subscriber starts anew.
+    /// One time in eight the subscriber restarts.
     fn restarts(&mut self, alloc: Global) -> Option<()> {
         if self.dice.below(8) > 0 {
             return Some(());

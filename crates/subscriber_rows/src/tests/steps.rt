@@ -237,7 +237,7 @@ fn take(alloc: Global, subscriber: &mut Subscriber, step: Step) -> Option<Told> 
     }
 }
 
-/// Takes the steps until one is told otherwise than it has to be, and tells how many were told so.
+/// Takes the steps up to the first whose answer is not the expected one, and returns how many were answered as expected.
 pub(super) fn told_so(alloc: Global, subscriber: &mut Subscriber, steps: &[(Step, Told)]) -> usize {
     for at in 0..steps.len() {
         let (step, wanted) = steps[at];

@@ -252,12 +252,12 @@ fn hundred(alloc: Global) -> Option<Tape<ScratchStore>> {
     Tape::new(alloc, listing, 1).ok()
 }
 
-/// The same of five symbols.
+/// What `calls` tells of the tape of five symbols.
 fn calls_of_five<R: Threads + Sync>(rt: &R, alloc: Global, workers: usize) -> Option<(u32, usize)> {
     calls(rt, alloc, &empty(alloc)?, workers)
 }
 
-/// The same of a hundred symbols, of which two workers have more than one in a piece.
+/// What `calls` tells of the tape of a hundred symbols, of which two workers have more than one in a piece.
 fn calls_of_hundred<R: Threads + Sync>(
     rt: &R,
     alloc: Global,

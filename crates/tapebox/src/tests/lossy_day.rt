@@ -1,4 +1,4 @@
-//! A day over sockets: one that both lines lose a part of, with a subscriber that starts anew, and one that nothing is lost of and
+//! Days over sockets: one that both lines lose part of, with a follower that restarts, and one of which nothing is lost and
 //! nothing is asked for.
 
 use crate::{FollowSockets, LiveSockets, Loss, NoLoss, follow_over, live_over};
@@ -172,7 +172,7 @@ fn open_all<R: Abort + Net<Listener = TcpListener, Stream = TcpStream>>(
     }
 }
 
-/// What a day loses, how many connections it serves, and after how many entries its follower starts anew.
+/// What a day loses, how many connections it serves, and after how many entries its follower restarts.
 #[derive(Drop)]
 struct Plan<L> {
     loss: L,

@@ -1,13 +1,13 @@
-//! The words of `live` and of `follow`: each number is the field that stands in its place.
+//! The arguments of `live` and of `follow`: each number is the field of its place.
 
 use crate::command::{Command, FollowWords, LiveWords, read_command};
 use std::alloc::Global;
 use tape_types::Listing;
 
-/// The words of a tape that is made, each number another one.
+/// The arguments for a tape that is made, all numbers different.
 const LIVE: &[u8] = b"live\0AB,CD\0N,Q,P\09000\09101\09102\09203\05\077\0";
 
-/// The words of a tape that is followed, each number another one.
+/// The arguments for a tape that is followed, all numbers different.
 const FOLLOW: &[u8] = b"follow\0AB,CD\0N,Q,P\09101\09102\09203\077\0";
 
 /// How many symbols and how many participants a listing has.
@@ -18,14 +18,14 @@ fn listed(listing: &Listing) -> [usize; 2] {
     ]
 }
 
-/// How many names are listed, and the numbers in the order of the words.
+/// How many names are listed, and the numbers in the order of the arguments.
 fn numbers_of_live(live: &LiveWords) -> ([usize; 2], [u16; 5], u64) {
     let [a, b] = live.ports;
     let numbers = [live.first_port, a, b, live.retransmission, live.serves];
     (listed(&live.listing), numbers, live.session)
 }
 
-/// The same of words that are those of `live`.
+/// The same of arguments that are those of `live`.
 fn live_numbers(alloc: Global, words: &[u8]) -> Option<([usize; 2], [u16; 5], u64)> {
     match read_command(alloc, words) {
         Ok(Command::Live(live)) => Some(numbers_of_live(&live)),
@@ -33,14 +33,14 @@ fn live_numbers(alloc: Global, words: &[u8]) -> Option<([usize; 2], [u16; 5], u6
     }
 }
 
-/// How many names are listed, and the numbers in the order of the words.
+/// How many names are listed, and the numbers in the order of the arguments.
 fn numbers_of_follow(follow: &FollowWords) -> ([usize; 2], [u16; 3], u64) {
     let [a, b] = follow.ports;
     let numbers = [a, b, follow.retransmission];
     (listed(&follow.listing), numbers, follow.session)
 }
 
-/// The same of words that are those of `follow`.
+/// The same of arguments that are those of `follow`.
 fn follow_numbers(alloc: Global, words: &[u8]) -> Option<([usize; 2], [u16; 3], u64)> {
     match read_command(alloc, words) {
         Ok(Command::Follow(follow)) => Some(numbers_of_follow(&follow)),
