@@ -18,5 +18,5 @@ register_code target =
     (λ r. (r.targets, r.last_numbers)) (λ p. record { targets = p.0; last_numbers = p.1 }) (λ _. refl)
 
 -- a participant's greatest message number, 0 for none
-abbrev pub last_of : RegisterState → ℕ → ℕ
-last_of register who = slice_index register.last_numbers (row_index who)
+abbrev pub last_number_of : RegisterState → ℕ → ℕ
+last_number_of register who = slice_index register.last_numbers (row_index who)

@@ -3,7 +3,7 @@ ghost use Rattle.std.specs.Prelude.{◌≡◌, ◌+◌, ◌<◌, ℕ, OnOk, OnEr
 ghost use Rattle.std.specs.FinMap as map;
 ghost use Rattle.tape_types.specs.Ranges.{IsParticipant, row_index};
 ghost use Rattle.corrections.specs.Targets.{IsStanding, standing_target, target_answer, targets_after_cancel};
-ghost use Rattle.corrections.specs.RegisterState.{last_of};
+ghost use Rattle.corrections.specs.RegisterState.{last_number_of};
 
 use crate::{Standing, Target, TargetFault};
 use std::alloc::{AllocError, Global};
@@ -41,7 +41,7 @@ impl Register {
     /// An empty register, in which no participant has a message. It takes no memory.
     pub fn new(alloc: Global) -> Self
         ensures targets { result.targets ≡ map.empty }
-        ensures last_numbers { (who : ℕ) → last_of result who ≡ 0 }
+        ensures last_numbers { (who : ℕ) → last_number_of result who ≡ 0 }
     {
         Register {
             rows: array::from_fn(|_| RisingMap::new(alloc)),
@@ -122,17 +122,17 @@ impl Register {
 
     /// Notes a participant's newest message number. It takes no memory.
     pub fn advance(&mut self, who: Participant, number: MsgNumber)
-        requires above { last_of self.old who < number }
+        requires above { last_number_of self.old who < number }
         ensures targets { self.new.targets ≡ self.old.targets }
         ensures last_numbers { (other : ℕ) → IsParticipant other →
-            last_of self.new other ≡ (if other == who then number else last_of self.old other) }
+            last_number_of self.new other ≡ (if other == who then number else last_number_of self.old other) }
     {
         self.last_numbers[who.row_index()] = number.value();
     }
 
     /// A participant's greatest message number so far, 0 for none.
     pub fn last_number(&self, who: Participant) -> u32
-        ensures value { result ≡ last_of self.now who }
+        ensures value { result ≡ last_number_of self.now who }
     {
         self.last_numbers[who.row_index()]
     }

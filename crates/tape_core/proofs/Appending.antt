@@ -2,7 +2,7 @@
 use Rattle.std.proofs.Common.{◌≡◌, ℕ, ◌≤◌, ◌==◌, if◌then◌else◌, List, get_or, set, Option, Some, None, refl, sym, subst, ◌∙◌}
 use Rattle.std.specs.Option.{option_map}
 use Rattle.tape_types.specs.Ranges.{IsParticipant, SIZE_MOST}
-use Rattle.corrections.specs.RegisterState.{RegisterState, last_of}
+use Rattle.corrections.specs.RegisterState.{RegisterState, last_number_of}
 use Rattle.reports.specs.declared.message.Message.{Message}
 use Rattle.reports.specs.declared.message.Message.TheVariants.{Report, Cancel, Correct}
 use Rattle.reports.specs.Messages.{header_of, named_target}
@@ -71,7 +71,7 @@ module _ (t : TapeState) (kept : List Trades) (register : RegisterState) (row : 
       → changed ≡ book_after book route.place m
       → register'.targets ≡ targets_after register.targets route.place m
       → ((other : ℕ) → IsParticipant other
-      → last_of register' other ≡ (if other == (header_of m).participant then (header_of m).number else last_of register other))
+      → last_number_of register' other ≡ (if other == (header_of m).participant then (header_of m).number else last_number_of register other))
       → reported_size m ≤ SIZE_MOST
       → ((other : ℕ) → IsParticipant other
       → total_at row' other ≡ (if is_of other m then option_map (total_after m) (total_at row other) else total_at row other))
