@@ -5,9 +5,8 @@ use Rattle.std.proofs.lemmas.List.Elements.{All-head, All-tail}
 use Rattle.reports.specs.declared.message.Message.{Message}
 use Rattle.reports.specs.declared.message.Message.TheVariants.{Report, Cancel, Correct}
 use Rattle.reports.specs.Messages.{named_target}
-use Rattle.reports.specs.Kinds.{REPORT_LENGTH, CANCEL_LENGTH, CORRECTION_LENGTH}
-use Rattle.reports.specs.Spelling.{IsMessage, content_text, header_text, spelling, target_text}
-use Rattle.reports.proofs.Messages.{length-content, length-header}
+use Rattle.reports.specs.Spelling.{kind_byte, spelling}
+use Rattle.reports.proofs.Messages.{body_length, length-spelling}
 use Rattle.scratch_fold.specs.declared.summary.Summary.{Summary}
 use Rattle.tape_core.specs.declared.entry.Entry.{Entry}
 use Rattle.tape_frames.specs.declared.packet.Packet.TheVariants.{Data, Beat, End}
@@ -34,22 +33,8 @@ length-carried_text None (Some z) carries = absurd (cc carries)
 length-carried_text (Some n) None carries = absurd (cc carries)
 length-carried_text (Some n) (Some z) carries = length-summary_text z
 
--- the length of a message by its kind
-abbrev message_length : Message → ℕ
-message_length (Report header content) = 2 + REPORT_LENGTH
-message_length (Cancel header target) = 2 + CANCEL_LENGTH
-message_length (Correct header target content) = 2 + CORRECTION_LENGTH
-
--- a message has as many bytes as its kind asks for
-length-spelling : (m : Message) → IsMessage m → length (spelling m) ≡ message_length m
-length-spelling (Report h c) fits =
-    omega (arith, length-append (header_text h) (content_text c), length-header h fits.0, length-content c fits.1)
-length-spelling (Cancel h n) fits = omega (arith, length-append (header_text h) (target_text n), length-header h fits.0)
-length-spelling (Correct h n c) fits =
-    omega (arith, length-append (header_text h) (target_text n ++ content_text c), length-header h fits.0, length-content c fits.1.1)
-
 -- the three parts of an entry together
-entry_sum : (m : Message) → 4 + (message_length m + carried_length (named_target m)) ≡ entry_length m
+entry_sum : (m : Message) → 4 + (2 + body_length (kind_byte m) + carried_length (named_target m)) ≡ entry_length m
 entry_sum (Report h c) = refl
 entry_sum (Cancel h n) = refl
 entry_sum (Correct h n c) = refl
