@@ -201,13 +201,13 @@ fn has_figures(
 }
 
 /// The size of a report as it was reported, 0 for another message.
-fn reported(message: &Message) -> u64
+fn reported_size(message: &Message) -> u64
     ensures size { result ≡ reported_size message.now }
     ensures bound { result ≤ SIZE_MOST }
 {
-    match message {
-        Message::Report { content, .. } => u64::from(content.size.value()),
-        Message::Cancel { .. } | Message::Correct { .. } => 0,
+    match message.reported() {
+        Some(content) => u64::from(content.size.value()),
+        None => 0,
     }
 }
 
@@ -378,7 +378,7 @@ impl<D: DayName> Locked<D> {
         self.book.audit(&mut seat.share);
         let _ = self.tape.entries();
         let _ = self.tape.limit();
-        seat.sizes += reported(&message);
+        seat.sizes += reported_size(&message);
         seat.last = message.header().number.value();
         Ok(Receipt { number })
     }
