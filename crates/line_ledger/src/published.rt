@@ -7,7 +7,6 @@ ghost use Rattle.line_ledger.specs.Cells.{FirstTokens, shown};
 ghost use Rattle.line_ledger.specs.Publishing.{GoesOn};
 
 use crate::{DayName, SharedTape, Token};
-use reports::Message;
 use std::alloc::AllocError;
 use std::marker::Model;
 use tape_core::Entry;
@@ -105,10 +104,7 @@ fn can_follow(entry: &Entry, number: u32) -> bool
 fn carries(entry: &Entry) -> bool
     ensures { IsTrue result ↔ Carries entry.now }
 {
-    match entry.message {
-        Message::Report { .. } => entry.after.is_none(),
-        Message::Cancel { .. } | Message::Correct { .. } => entry.after.is_some(),
-    }
+    entry.message.target().is_some() == entry.after.is_some()
 }
 
 impl<D: DayName> Source for Published<'_, D> {
