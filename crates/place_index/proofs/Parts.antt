@@ -8,13 +8,13 @@ use Rattle.std.specs.FinMap as map
 use Rattle.std.specs.FinMap.Entries.{is_sorted, below_all, find}
 use Rattle.std.proofs.lemmas.Bool.{cases_lt}
 use Rattle.std.proofs.lemmas.Bool.Decides.{nat_tests}
-use Rattle.std.proofs.lemmas.List.{append-nil, length-take-le, length-drop}
+use Rattle.std.proofs.lemmas.List.{append-nil, append_assoc, length-take-le, length-drop, take-append-drop}
 use Rattle.tape_types.specs.RisingEntries.{AllBelow}
 use Rattle.place_index.specs.Places.{IsVacant, IsFirstPlace, IsLastPlace}
 use Rattle.place_index.specs.Blocks.{joined, BLOCK_MOST, top, values_of, values_in, all_values, begins_by, AllAbove, IsBlockList, IsBlockFor}
 use Rattle.place_index.specs.Blocks.{HasLastBlock}
-use Rattle.place_index.proofs.BlockLists.{append-assoc, joined-append, sized-push}
-use Rattle.place_index.proofs.BlockOrder.{take_drop, Under, sorted-left, sorted-right, under-top}
+use Rattle.place_index.proofs.BlockLists.{joined-append, sized-push}
+use Rattle.place_index.proofs.BlockOrder.{Under, sorted-left, sorted-right, under-top}
 use Rattle.place_index.proofs.BlockOrder.{top-right, find-top, absent-behind, first-entry, top-at}
 use Rattle.tape_types.proofs.NumberMaps.{key_itself, same_key}
 use Rattle.tape_types.proofs.RisingEntries.{and_left, and_rest, and_both, lt_from, vacant-above}
@@ -399,8 +399,8 @@ module _ {V : Type 0} where
         let count = length-take-le i es within in
         let is : joined (bs ++ take i es ∷ []) ++ drop i es ≡ joined bs ++ es =
         ap (λ l. l ++ drop i es) (joined-append bs (take i es ∷ []) ∙ ap (λ l. joined bs ++ l) (append-nil (take i es)))
-        ∙ append-assoc (joined bs) (take i es) (drop i es)
-        ∙ ap (λ l. joined bs ++ l) (sym (take_drop i es)) in (
+        ∙ append_assoc (joined bs) (take i es) (drop i es)
+        ∙ ap (λ l. joined bs ++ l) (take-append-drop i es) in (
           record {
             rising = subst (λ l. T (is_sorted nat_cmp l)) (sym is) valid.rising;
             sized = sized-push bs (take i es) valid.sized (omega (arith, count), omega (arith, count, valid.short));
