@@ -452,11 +452,6 @@ module _ {V : Type 0} where
     }))
   ]
 
-  -- without an entry no place has a value
-  pub none-in : (es : List (ℕ × V)) (q : ℕ) → length es ≡ 0 → map.get (values_in es) q ≡ None
-  none-in [] q e = map.get-from_entries nat_cmp_total [] q
-  none-in (x ∷ xs) q e = absurd (omega arith)
-
   -- the first entry has the first place, and the last one the last
   pub first-in : (es : List (ℕ × V)) (d : ℕ × V) → T (is_sorted nat_cmp es) → 0 < length es → IsFirstPlace (values_in es) (get_or es 0 d).0
   first-in [] d h some = absurd (omega arith)

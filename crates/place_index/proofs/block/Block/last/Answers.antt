@@ -1,8 +1,9 @@
-use Rattle.std.proofs.Common.{◌≡◌, ap, [], length, subst}
+use Rattle.std.proofs.Common.{◌≡◌, [], subst}
 use Rattle.std.specs.Prelude.{MatchOption}
 use Rattle.place_index.specs.Blocks.{EndsAt}
 use Rattle.place_index.proofs.BlockMaps.{ends-last, entries-rise, slice-is}
-use Rattle.place_index.proofs.Parts.{match-weaker, none-in}
+use Rattle.place_index.proofs.BlockOrder.{none-in}
+use Rattle.place_index.proofs.Parts.{match-weaker}
 use Rattle.place_index.proofs.block.Block.last.Goals as goal
 
 pub returns-clause-listed : goal.returns-clause-listed
@@ -15,6 +16,6 @@ returns-clause-last g c =
     let es = c.args.self.now in
     let is = slice-is c.self.inside.entries es c.self.view_is c.entries.result.now c.entries.ensures.entries in
     let rise = entries-rise c.self.inside.entries es c.self.view_is in
-    match-weaker _ _ _ _ c.last_place.result (λ none. λ q. none-in es q (ap length none))
+    match-weaker _ _ _ _ c.last_place.result (λ none. λ q. none-in es q none)
     (λ place at. ends-last es place rise at)
     (subst (λ l. MatchOption c.last_place.result (l ≡ []) (EndsAt l)) is c.last_place.ensures)
