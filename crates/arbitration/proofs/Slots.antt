@@ -40,17 +40,21 @@ length-slots_after next (slot ∷ slots) es = ap suc (length-slots_after (next +
 pub other_number : (next : ℕ) (e : Entry) → (e.number ≡ next → ⊥) → entry_numbered next (e ∷ []) ≡ None
 other_number next e other = cond-false (e.number == next) _ _ (ne_eqb _ _ other)
 
+-- an entry whose number no slot has changes none
+slots_after-other : (next : ℕ) (slots : List (Option Entry)) (e : Entry) → ((k : ℕ) → k < length slots → e.number ≡ next + k → ⊥)
+    → slots_after next slots (e ∷ []) ≡ slots
+slots_after-other next [] e other = refl
+slots_after-other next (slot ∷ slots) e other =
+    ap₂ ◌∷◌ (ap (option_or slot) (other_number next e (λ same. other 0 (omega arith) (omega arith))) ∙ option_or-none slot)
+    (slots_after-other (next + 1) slots e (λ k within same. other (suc k) (omega arith) (omega arith)))
+
 -- an entry below the first slot changes none
 pub slots_after-below : (next : ℕ) (slots : List (Option Entry)) (e : Entry) → e.number < next → slots_after next slots (e ∷ []) ≡ slots
-slots_after-below next [] e h = refl
-slots_after-below next (slot ∷ slots) e h =
-    ap₂ ◌∷◌ (ap (option_or slot) (other_number next e (λ p. omega arith)) ∙ option_or-none slot) (slots_after-below (next + 1) slots e (omega arith))
+slots_after-below next slots e below = slots_after-other next slots e (λ k within same. omega arith)
 
 -- an entry past the last slot changes none
 pub slots_after-past : (next : ℕ) (slots : List (Option Entry)) (e : Entry) → next + length slots ≤ e.number → slots_after next slots (e ∷ []) ≡ slots
-slots_after-past next [] e h = refl
-slots_after-past next (slot ∷ slots) e h =
-    ap₂ ◌∷◌ (ap (option_or slot) (other_number next e (λ p. omega arith)) ∙ option_or-none slot) (slots_after-past (next + 1) slots e (omega arith))
+slots_after-past next slots e past = slots_after-other next slots e (λ k within same. omega arith)
 
 -- an entry whose slot is full changes none
 pub slots_after-full : (next : ℕ) (slots : List (Option Entry)) (e x : Entry) (k : ℕ) → e.number ≡ next + k → slice_get slots k ≡ Some (Some x)
