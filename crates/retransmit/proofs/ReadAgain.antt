@@ -2,7 +2,7 @@
 use Rattle.std.proofs.Common.{◌≡◌, ℕ, ◌+◌, ◌-◌, ◌*◌, ◌≤◌, ◌<◌, List, ◌∷◌, ◌++◌, Result}
 use Rattle.std.proofs.Common.{Ok, Err, length, lit<, take, drop, refl, sym, ap, ◌∙◌, arith, inl, inr}
 use Rattle.std.specs.Prelude.{All, OnOk, flat_map, nat_le, nat_lt, ◌==◌, ◌||◌, ◌&&◌}
-use Rattle.std.specs.Int.{w16, w32, w64}
+use Rattle.std.specs.Int.{w8, w16, w32, w64, to_be_bytes}
 use Rattle.std.proofs.lemmas.Bool.{and_parts, cases_Bool, eqb-false, leb-true, ltb-false, or_parts}
 use Rattle.std.proofs.lemmas.List.{length-take}
 use Rattle.std.proofs.lemmas.List.Elements.{All-take, All-drop}
@@ -40,15 +40,18 @@ pub OnOk-then : {A E P Q : Type 0} (r : Result A E) → (P → Q) → OnOk r P �
 OnOk-then (Ok x) f p = f p
 OnOk-then (Err e) f p = tt
 
+-- after its first byte an answer is read by that byte
+after_first : (first : ℕ) (rest : List ℕ) → first < 256 → answer_at (to_be_bytes w8 first ++ rest) ≡ answered_at first rest
+unfolding answer_at
+after_first first rest byte =
+    ap (λ (r : Result (ℕ × List ℕ) AskFault). r >>= λ x. answered_at x.0 x.1) ((number_reader fault.ReadFault wide8).again first rest byte)
+
 -- a refusal's byte is read as that refusal
 refusal_is_read : (refusal : Refusal) (rest : List ℕ) → answer_at (refusal_code refusal ∷ rest) ≡ Err (fault.Refused refusal)
-unfolding answer_at answered_at
-refusal_is_read OtherSession rest =
-    ap (λ (r : Result (ℕ × List ℕ) AskFault). r >>= λ first. answered_at first.0 first.1) ((number_reader fault.ReadFault wide8).again 71 rest (lit< tt))
-refusal_is_read Beyond rest = ap (λ (r : Result (ℕ × List ℕ) AskFault). r >>= λ first. answered_at first.0 first.1)
-    ((number_reader fault.ReadFault wide8).again 72 rest (lit< tt))
-refusal_is_read BadSpan rest =
-    ap (λ (r : Result (ℕ × List ℕ) AskFault). r >>= λ first. answered_at first.0 first.1) ((number_reader fault.ReadFault wide8).again 73 rest (lit< tt))
+unfolding answered_at
+refusal_is_read OtherSession rest = after_first (refusal_code OtherSession) rest (lit< tt)
+refusal_is_read Beyond rest = after_first (refusal_code Beyond) rest (lit< tt)
+refusal_is_read BadSpan rest = after_first (refusal_code BadSpan) rest (lit< tt)
 
 -- the packets of an answer are as long as packets may be
 abbrev pub IsShort : List Entry → ℕ → Answer → Type 0

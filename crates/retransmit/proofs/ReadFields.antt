@@ -10,9 +10,11 @@ use Rattle.std.proofs.lemmas.List.{length-take, take_at, drop_at}
 use Rattle.reports.specs.Fields.{Reads, bytes_at, number_at, ranged_at}
 use Rattle.reports.proofs.Fields.{ok_is}
 use Rattle.retransmit.specs.Asking.{Follows, answered_at, as_is, answer_fault, range_at, texts_of}
+use Rattle.retransmit.specs.Faults.{refusal_code}
 use Rattle.row_reads.specs.FailedReads.{ReadsFewer}
 use Rattle.retransmit.specs.declared.ask_fault.AskFault.{AskFault}
 use Rattle.retransmit.specs.declared.ask_fault.AskFault.TheVariants.{ReadFault, BadAnswer}
+use Rattle.retransmit.specs.declared.refusal.Refusal.TheVariants.{OtherSession, Beyond, BadSpan}
 use Rattle.retransmit.proofs.Readings.{Follows-fault, Follows-here, Follows-same, Follows-stops, Follows-then, Tells}
 
 -- bytes at the front, as many as asked for, are read
@@ -125,7 +127,9 @@ cond_tells false x y p q = q
 
 -- what is wrong with a first byte tells
 first_tells : (first : ℕ) → Tells (answer_fault first)
-first_tells first = cond_tells (first == 71) _ _ tt (cond_tells (first == 72) _ _ tt (cond_tells (first == 73) _ _ tt tt))
+first_tells first =
+    cond_tells (first == refusal_code OtherSession) _ _ tt
+    (cond_tells (first == refusal_code Beyond) _ _ tt (cond_tells (first == refusal_code BadSpan) _ _ tt tt))
 
 -- a first byte of no range
 pub Follows-first : (first : ℕ) (fault : AskFault) (a : Option (List ℕ)) → (first ≡ 0 → ⊥) → fault ≡ answer_fault first
