@@ -1,8 +1,9 @@
 -- A message stands in the first bytes of a line, as many as the longest has.
-use Rattle.std.proofs.Common.{◌≡◌, ◌+◌, ◌%◌, ◌≤◌, ◌==◌, ◌||◌, ◌∷◌, ◌++◌, ◌∙◌, [], ℕ, List, true, false, Some, None, Err, refl, sym, ap, inl, inr, arith, length}
-use Rattle.std.proofs.Common.{take, drop, nat_lt, append-nil, length-append, length-drop, ◌⊎◌}
+use Rattle.std.proofs.Common.{◌≡◌, ◌+◌, ◌*◌, ◌%◌, ◌≤◌, ◌==◌, ◌||◌, ◌∷◌, ◌++◌, ◌∙◌, [], ℕ, List, true, false, Some, None, Err, refl, sym, ap, inl, inr, arith}
+use Rattle.std.proofs.Common.{length, take, drop, nat_lt, append-nil, length-append, length-drop, ◌⊎◌}
 use Rattle.std.specs.List.{list_all}
-use Rattle.std.proofs.lemmas.Bool.{cases_Bool, le-ltb}
+use Rattle.std.specs.Prelude.{min}
+use Rattle.std.proofs.lemmas.Bool.{cases_Bool, cases_lt, le-ltb}
 use Rattle.std.proofs.lemmas.Bool.Decides.{nat_tests}
 use Rattle.std.proofs.lemmas.List.{take-append-le}
 use lib.Seq.{drop-append-le}
@@ -50,6 +51,16 @@ spelled-front_None digits front rest split even none = rw (split, hex_bytes-fron
 pub spelled-rest_None : (digits front rest : List ℕ) → digits ≡ front ++ rest → length front % 2 ≡ 0 → length rest % 2 ≡ 0 → list_all is_hex_digit rest ≡ false
     → Err BadLine ≡ spelled_message (hex_bytes digits)
 spelled-rest_None digits front rest split even even_rest no_digit = rw (split, hex_bytes-rest_None front rest even even_rest no_digit) refl
+
+-- where digits are cut behind those of the longest message, none are left, or the front's bytes are as many as that message has
+pub rest-or_longest : (digits front rest bytes : List ℕ) → digits ≡ front ++ rest → length front ≡ min (length digits) (2 * LONGEST_FRAME)
+    → 2 * length bytes ≡ length front → (length rest ≡ 0) ⊎ (length bytes ≡ LONGEST_FRAME)
+rest-or_longest digits front rest bytes split cut half =
+    let total : length digits ≡ length front + length rest = ap length split ∙ length-append front rest in
+    elim (cases_lt (2 * LONGEST_FRAME) (length digits)) [
+      | inl long ↦ inr (omega arith)
+      | inr short ↦ inl (omega arith)
+    ]
 
 -- no digits spell no bytes
 none_behind : (rest others : List ℕ) → length rest ≡ 0 → hex_bytes rest ≡ Some others → others ≡ []

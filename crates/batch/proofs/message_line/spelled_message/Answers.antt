@@ -1,10 +1,10 @@
-use Rattle.std.proofs.Common.{◌≡◌, ◌∙◌, ap, arith, length, length-take, sym, refl, inl, inr, take, ◌⊎◌}
-use Rattle.std.proofs.lemmas.Bool.{cases_lt}
-use Rattle.batch.specs.MessageLine.{from_bytes}
+use Rattle.std.proofs.Common.{◌≡◌, ◌∙◌, ap, arith, length-take, sym, refl, take}
+use Rattle.reports.specs.Reading.{message_at}
+use Rattle.batch.specs.MessageLine.{from_bytes, hex_bytes, spelled_message}
 use Rattle.batch.proofs.HexLemmas.{hex_bytes-odd}
-use Rattle.batch.proofs.FrontLemmas.{spelled-front_None, spelled-rest_None, spelled-Some}
+use Rattle.batch.proofs.FrontLemmas.{rest-or_longest, spelled-front_None, spelled-rest_None, spelled-Some}
 use Rattle.batch.proofs.message_line.spelled_message.Goals as goal
-use Rattle.reports.specs.Reading.{LONGEST_FRAME}
+use Rattle.batch.proofs.message_line.spelled_message.Goals.{After-decode-2}
 
 pub returns-then-digits-ne0 : goal.returns-then-digits-ne0
 returns-then-digits-ne0 c = rw (hex_bytes-odd c.args.digits.now (omega arith)) refl
@@ -18,30 +18,21 @@ returns-then-not-are_digits c =
     spelled-rest_None c.args.digits.now c.split_at.result.0.now c.split_at.result.1.now c.split_at.ensures.by_index.0 (omega arith) (omega arith)
     (sym c.if-not-are_digits.ensures)
 
-pub returns-in-Ok : goal.returns-in-Ok
-returns-in-Ok c =
+-- what is read of the front's bytes is what all digits spell
+front_read : (c : After-decode-2) → from_bytes (message_at (take c.in-Some.len c.decode.new.row)) ≡ spelled_message (hex_bytes c.args.digits.now)
+front_read c =
+    let digits = c.args.digits.now in
+    let front = c.split_at.result.0.now in
     let rest = c.split_at.result.1.now in
-    let row = c.decode.new.row in
-    let kept = length-take c.in-Some.len row in
+    let bytes = take c.in-Some.len c.decode.new.row in
+    let split = c.split_at.ensures.by_index.0 in
+    let kept = length-take c.in-Some.len c.decode.new.row in
     let half = c.in-Some.ensures.len in
-    let all : (length rest ≡ 0) ⊎ (length (take c.in-Some.len row) ≡ LONGEST_FRAME) = elim (cases_lt (length c.args.digits.now) 133) [
-      | inl short ↦ inl (omega arith)
-      | inr long ↦ inr (omega arith)
-    ] in
-    ap from_bytes c.in-Ok.ensures.exact
-    ∙ spelled-Some c.args.digits.now c.split_at.result.0.now rest _ c.split_at.ensures.by_index.0 (omega arith) (omega arith) all c.in-Some.ensures.bytes
-    (sym c.if-not-are_digits.ensures)
+    let all = rest-or_longest digits front rest bytes split (omega arith) (omega arith) in
+    spelled-Some digits front rest bytes split (omega arith) (omega arith) all c.in-Some.ensures.bytes (sym c.if-not-are_digits.ensures)
+
+pub returns-in-Ok : goal.returns-in-Ok
+returns-in-Ok c = ap from_bytes c.in-Ok.ensures.exact ∙ front_read (goal.at.returns-in-Ok c).After-decode-2
 
 pub returns-in-Err : goal.returns-in-Err
-returns-in-Err c =
-    let rest = c.split_at.result.1.now in
-    let row = c.decode.new.row in
-    let kept = length-take c.in-Some.len row in
-    let half = c.in-Some.ensures.len in
-    let all : (length rest ≡ 0) ⊎ (length (take c.in-Some.len row) ≡ LONGEST_FRAME) = elim (cases_lt (length c.args.digits.now) 133) [
-      | inl short ↦ inl (omega arith)
-      | inr long ↦ inr (omega arith)
-    ] in
-    ap from_bytes c.in-Err.ensures.exact
-    ∙ spelled-Some c.args.digits.now c.split_at.result.0.now rest _ c.split_at.ensures.by_index.0 (omega arith) (omega arith) all c.in-Some.ensures.bytes
-    (sym c.if-not-are_digits.ensures)
+returns-in-Err c = ap from_bytes c.in-Err.ensures.exact ∙ front_read (goal.at.returns-in-Err c).After-decode-2
