@@ -376,6 +376,7 @@ impl<D: DayName> Locked<D> {
         };
         self.book.add(&mut seat.share, 1);
         self.book.audit(&mut seat.share);
+        // For the proof alone: the clauses of these calls bound the tape's length.
         let _ = self.tape.entries();
         let _ = self.tape.limit();
         seat.sizes += reported_size(&message);

@@ -1,4 +1,4 @@
-use Rattle.std.proofs.Common.{◌-◌, ◌<◌, arith, rules}
+use Rattle.std.proofs.Common.{◌<◌, arith, rules}
 use Rattle.std.specs.FinMap as map
 use Rattle.corrections.proofs.LastNumbers.{slice_index-replicate_zero}
 use Rattle.corrections.proofs.RegisterRows.{targets-empty}
