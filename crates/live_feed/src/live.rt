@@ -10,7 +10,7 @@ ghost use Rattle.live_feed.specs.declared.fault.Fault.TheVariants.{Disagrees};
 use crate::bell::Bell;
 use crate::feed::Feed;
 use crate::running::{Joined, run_together};
-use crate::seated::{Ran, Reader, Waiting, lines_of};
+use crate::seated::{Ran, Reader, Waiting, seated_lines};
 use crate::sending::room_for_a_packet;
 use crate::starting::{accept_all, can_start, prepare_day};
 use crate::writing::write_day;
@@ -160,7 +160,7 @@ fn run_named<D: DayName + Send + Sync, R: Threads + Wait + Clock + Sync, L: Loss
         return Err(Fault::Memory);
     };
     let waiting = Waiting {
-        lines: lines_of(seats, readers, lines),
+        lines: seated_lines(seats, readers, lines),
         room,
     };
     let bell = Bell::new();

@@ -41,7 +41,7 @@ pub(crate) struct Ran<D: DayName> {
 }
 
 /// The seats with what their lines are read from, put into a vector with room for them.
-pub(crate) fn lines_of<D: DayName>(
+pub(crate) fn seated_lines<D: DayName>(
     seats: Vec<LineSeat<D>>,
     readers: Vec<Reader>,
     lines: Vec<SeatedLine<D>>,
