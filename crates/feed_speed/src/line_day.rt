@@ -4,7 +4,7 @@ ghost use Rattle.std.specs.Vec.{vec_capacity};
 ghost use Rattle.line_ledger.specs.Ends.{IsOneEach, whos};
 
 use line_ledger::{DayName, EndFault, LineSeat, Prepared, SharedTape};
-use participant_lines::{LineEnd, Unstarted, run_lines};
+use participant_lines::{Unstarted, run_lines, seats_of_ends, seats_of_lines};
 use std::alloc::Global;
 use std::io;
 use std::marker::Brand;
@@ -53,41 +53,6 @@ fn lines_of<'a, D: DayName>(
     }
     left.destroy_empty();
     lines
-}
-
-/// The seats of ended lines, put into a vector with room for them.
-fn seats_of_ends<D: DayName>(ends: Vec<LineEnd<D>>, seats: Vec<LineSeat<D>>) -> Vec<LineSeat<D>>
-    requires room { vec_len ends ≤ vec_capacity seats }
-    requires empty { seats.items ≡ [] }
-    ensures { whos result.items ≡ map (λ e. e.seat.who) ends.items }
-{
-    let mut seats = seats;
-    let mut left = ends.into_iter();
-    while let Some(end) = left.next() {
-        let LineEnd {
-            seat,
-            refused: _,
-            ended: _,
-        } = end;
-        seats.push_reserved(seat);
-    }
-    left.destroy_empty();
-    seats
-}
-
-/// The seats of lines that were not started, put into a vector with room for them.
-fn seats_of_lines<D: DayName>(lines: Vec<Line<'_, D>>, seats: Vec<LineSeat<D>>) -> Vec<LineSeat<D>>
-    requires room { vec_len lines ≤ vec_capacity seats }
-    requires empty { seats.items ≡ [] }
-    ensures { whos result.items ≡ map (λ l. l.0.who) lines.entry.items }
-{
-    let mut seats = seats;
-    let mut left = lines.into_iter();
-    while let Some((seat, _)) = left.next() {
-        seats.push_reserved(seat);
-    }
-    left.destroy_empty();
-    seats
 }
 
 /// Runs the lines at once: the seats after it, and whether the lines were started.

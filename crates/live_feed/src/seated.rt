@@ -9,7 +9,9 @@ ghost use Rattle.participant_lines.specs.declared.unstarted.Lack.TheVariants.{Me
 use crate::Fault;
 use crate::bell::Bell;
 use line_ledger::{DayName, LineSeat, SharedTape};
-use participant_lines::{Ended, Lack, LineEnd, Unstarted, run_lines};
+use participant_lines::{
+    Ended, Lack, LineEnd, Unstarted, run_lines, seats_of_ends, seats_of_lines,
+};
 use std::alloc::Global;
 use std::io::BufReader;
 use std::net::TcpStream;
@@ -97,41 +99,6 @@ fn fault_of_ends<D: DayName>(ends: &[LineEnd<D>]) -> Option<Fault> {
         fault = Fault::least(fault, fault_of_end(end.ended));
     }
     fault
-}
-
-/// The seats of ended lines, put into a vector with room for them.
-fn seats_of_ends<D: DayName>(ends: Vec<LineEnd<D>>, room: Vec<LineSeat<D>>) -> Vec<LineSeat<D>>
-    requires room { vec_len ends ≤ vec_capacity room }
-    requires empty { room.items ≡ [] }
-    ensures { whos result.items ≡ map (λ e. e.seat.who) ends.items }
-{
-    let mut seats = room;
-    let mut left = ends.into_iter();
-    while let Some(end) = left.next() {
-        let LineEnd {
-            seat,
-            refused: _,
-            ended: _,
-        } = end;
-        seats.push_reserved(seat);
-    }
-    left.destroy_empty();
-    seats
-}
-
-/// The seats of lines that were not started, put into a vector with room for them.
-fn seats_of_lines<D: DayName>(lines: Vec<SeatedLine<D>>, room: Vec<LineSeat<D>>) -> Vec<LineSeat<D>>
-    requires room { vec_len lines ≤ vec_capacity room }
-    requires empty { room.items ≡ [] }
-    ensures { whos result.items ≡ map (λ l. l.0.who) lines.items }
-{
-    let mut seats = room;
-    let mut left = lines.into_iter();
-    while let Some((seat, _)) = left.next() {
-        seats.push_reserved(seat);
-    }
-    left.destroy_empty();
-    seats
 }
 
 /// Runs the lines at once, each in a worker that rings the bell after each message.

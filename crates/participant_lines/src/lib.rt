@@ -5,9 +5,11 @@ mod frame;
 mod line_end;
 mod lines;
 mod running;
+mod seats;
 mod unstarted;
 
 pub use line_end::{Ended, LineEnd};
 pub use lines::run_lines;
 pub use running::{FRAMES_MOST, run_line};
+pub use seats::{seats_of_ends, seats_of_lines};
 pub use unstarted::{Lack, Unstarted};

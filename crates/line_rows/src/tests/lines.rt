@@ -4,7 +4,7 @@ ghost use Rattle.std.specs.Vec.{vec_capacity};
 
 use super::days::ended_day;
 use line_ledger::{Day, DayName, LineSeat, Prepared, SharedTape};
-use participant_lines::{Ended, LineEnd, Unstarted, run_lines};
+use participant_lines::{Ended, LineEnd, Unstarted, run_lines, seats_of_ends, seats_of_lines};
 use std::alloc::Global;
 use std::io::BufRead;
 use std::marker::Brand;
@@ -52,42 +52,6 @@ fn input_of(inputs: &[Vec<u8>], line: usize) -> &[u8] {
         Some(bytes) => bytes.as_slice(),
         None => &[],
     }
-}
-
-/// The seats of ended lines, put into a vector with room for them.
-fn seats_of_ends<D: DayName>(ends: Vec<LineEnd<D>>, seats: Vec<LineSeat<D>>) -> Vec<LineSeat<D>>
-    requires room { vec_len ends ≤ vec_capacity seats }
-    requires empty { seats.items ≡ [] }
-{
-    let mut seats = seats;
-    let mut left = ends.into_iter();
-    while let Some(end) = left.next() {
-        let LineEnd {
-            seat,
-            refused: _,
-            ended: _,
-        } = end;
-        seats.push_reserved(seat);
-    }
-    left.destroy_empty();
-    seats
-}
-
-/// The seats of lines that were not started, put into a vector with room for them.
-fn seats_of_lines<D: DayName, R: Drop>(
-    lines: Vec<(LineSeat<D>, R)>,
-    seats: Vec<LineSeat<D>>,
-) -> Vec<LineSeat<D>>
-    requires room { vec_len lines ≤ vec_capacity seats }
-    requires empty { seats.items ≡ [] }
-{
-    let mut seats = seats;
-    let mut left = lines.into_iter();
-    while let Some((seat, _)) = left.next() {
-        seats.push_reserved(seat);
-    }
-    left.destroy_empty();
-    seats
 }
 
 /// What an ended line came to.
@@ -169,6 +133,25 @@ pub(super) fn run_inputs<
     let lines = lines_of(seats, lines, inputs);
     assert!(rt; lines.len() <= room.capacity());
     run_all(rt, alloc, shared, lines, room, gate)
+}
+
+/// The same seats, taken back from lines over no bytes that were not started. Without memory for the lines they are given back
+/// as they are.
+pub(super) fn seats_taken_back<D: DayName, A: Abort>(
+    rt: &A,
+    alloc: Global,
+    seats: Vec<LineSeat<D>>,
+) -> Vec<LineSeat<D>> {
+    let Ok(lines) = Vec::with_capacity(alloc, seats.len()) else {
+        return seats;
+    };
+    let Ok(room) = Vec::with_capacity(alloc, seats.len()) else {
+        lines.destroy_empty();
+        return seats;
+    };
+    let lines = lines_of(seats, lines, &[]);
+    assert!(rt; lines.len() <= room.capacity());
+    seats_of_lines(lines, room)
 }
 
 /// What the lines of a day came to, and the day.

@@ -6,7 +6,7 @@ use super::days::{
     Confirmed, EIGHT, TURNS, confirmed_at_end, day_of_eight, day_of_two, joined, report,
     without_price,
 };
-use super::lines::{LineFigures, day_of_lines, run_inputs};
+use super::lines::{LineFigures, day_of_lines, run_inputs, seats_taken_back};
 use line_ledger::{
     Day, DayName, EndFault, LineSeat, Prepared, PublishFault, Published, SharedTape, Token, Unended,
 };
@@ -218,6 +218,7 @@ fn two_lines<D: DayName + Send + Sync, T: Threads + Wait + Abort + Sync>(
     };
     let (seats, figures) = run_inputs(rt, alloc, &shared, seats, inputs, meeting);
     let counts = counts_of(figures);
+    let seats = seats_taken_back(rt, alloc, seats);
     let shown = views(rt, &shared, seats.as_slice());
     let (published, tokens) = publications(rt, &shared);
     let (code, confirmed) = late_end(rt, shared, seats, tokens.as_slice());

@@ -2,11 +2,12 @@ use Rattle.std.proofs.Common.{◌≡◌, ◌+◌, ◌≤◌, ◌++◌, map}
 use Rattle.std.specs.Vec.{vec_len, vec_capacity}
 use Rattle.std.specs.Vec.Iter.{into_iter_items, into_iter_len}
 use Rattle.line_ledger.specs.Ends.{whos}
-use Rattle.live_feed.proofs.seated.seats_of_ends.Given as goal
+use Rattle.participant_lines.proofs.seats.seats_of_ends.Given as goal
 
--- the participants of the seats that were moved, and of the ends that are left
+-- the seats that were moved, and those of the ends that are left; and the same of their participants
 abbrev pub invariant-loop-end : goal.invariant-loop-end
 invariant-loop-end g l =
+    (l.seats.items ++ map (λ e. e.seat) (into_iter_items l.left) ≡ map (λ e. e.seat) l.fn.ends.items) ×
     (whos l.seats.items ++ map (λ e. e.seat.who) (into_iter_items l.left) ≡ map (λ e. e.seat.who) l.fn.ends.items) ×
     (vec_len l.seats + into_iter_len l.left ≡ vec_len l.fn.ends) × (vec_len l.fn.ends ≤ vec_capacity l.seats)
 
