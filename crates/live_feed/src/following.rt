@@ -3,6 +3,7 @@
 use crate::Fault;
 use crate::follower::Follower;
 use arbitration::Line;
+use std::io::ErrorKind;
 use std::net::{Net, SocketAddr, TcpListener, TcpStream, UdpSocket};
 use std::sync::{Mutex, Wait};
 use std::thread::{Threads, join};
@@ -22,7 +23,8 @@ pub(crate) struct FollowedLine<'a> {
     pub(crate) other: SocketAddr,
 }
 
-/// Reads a datagram of a line, and has the follower take it: whether the run is over then. A read that fails ends it.
+/// Reads a datagram of a line, and has the follower take it: whether the run is over then. A read that fails ends it, and one
+/// that was interrupted brings nothing.
 fn follow_on<R: Net<Listener = TcpListener, Stream = TcpStream> + Wait>(
     rt: &R,
     follower: &Mutex<Follower>,
@@ -31,6 +33,7 @@ fn follow_on<R: Net<Listener = TcpListener, Stream = TcpStream> + Wait>(
 ) -> bool {
     match followed.socket.recv_from(room) {
         Ok((len, _)) => follower.lock(rt).step(rt, followed.line, &room[..len]),
+        Err(error) if error.kind() == ErrorKind::Interrupted => false,
         Err(_) => {
             follower.lock(rt).fail(Fault::Read);
             true
