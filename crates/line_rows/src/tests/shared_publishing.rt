@@ -1,5 +1,5 @@
 //! What lines publish, and what readers find that take no lock.
-ghost use Rattle.std.specs.Prelude.{◌≡◌};
+ghost use Rattle.std.specs.Prelude.{◌≡◌, IfSome};
 ghost use Rattle.line_ledger.specs.Cells.{FirstTokens, IsTokenOf};
 ghost use Rattle.line_ledger.specs.Ends.{IsOneEach};
 
@@ -60,43 +60,47 @@ fn numbers_shown<D: DayName>(shared: &SharedTape<D>) -> u32 {
     sum
 }
 
-/// The cell's own token, compared with this one, or a copy of it.
-fn look_again<D: DayName>(shared: &SharedTape<D>, token: &Token) -> Token
+/// What a look finds in a token's cell, compared with the token.
+fn look_again<D: DayName>(shared: &SharedTape<D>, token: &Token) -> Option<Token>
     requires { IsTokenOf shared.now token.now }
-    ensures { result.entry ≡ token.now.entry }
+    ensures { IfSome result (λ found. found.entry ≡ token.now.entry) }
 {
-    match shared.look(token.number()) {
-        Some(found) => {
-            shared.compare(&found, token);
-            found
-        }
-        None => shared.again(token),
-    }
+    let found = shared.look(token.number())?;
+    shared.compare(&found, token);
+    Some(found)
 }
 
-/// What two threads find in a token's cell, which is the token's entry.
+/// What two threads find in a token's cell, each the token's entry or nothing.
 fn looked_twice<D: DayName + Send + Sync, R: Threads + Sync>(
     rt: &R,
     shared: &SharedTape<D>,
     token: &Token,
-) -> (Token, Token)
+) -> (Option<Token>, Option<Token>)
     requires { IsTokenOf shared.now token.now }
-    ensures { (result.0.entry ≡ token.now.entry) × (result.1.entry ≡ token.now.entry) }
+    ensures { IfSome result.0 (λ found. found.entry ≡ token.now.entry) × IfSome result.1 (λ found. found.entry ≡ token.now.entry) }
 {
     join(
         rt,
-        || -> Token
+        || -> Option<Token>
             requires { IsTokenOf shared.now token.now }
-            ensures { result.entry ≡ token.entry.now.entry }
+            ensures { IfSome result (λ found. found.entry ≡ token.entry.now.entry) }
         { look_again(shared, token) },
-        || -> Token
+        || -> Option<Token>
             requires { IsTokenOf shared.now token.now }
-            ensures { result.entry ≡ token.entry.now.entry }
+            ensures { IfSome result (λ found. found.entry ≡ token.entry.now.entry) }
         { look_again(shared, token) },
     )
 }
 
-/// Whether two threads find one entry in the fifth cell.
+/// Whether a token was found, and shows the entry that this one shows.
+fn shows_entry_of(found: Option<&Token>, token: &Token) -> bool {
+    match found {
+        Some(found) => found.entry() == token.entry(),
+        None => false,
+    }
+}
+
+/// Whether two threads both find the entry of the fifth cell by a copy of its token.
 fn is_found_twice<D: DayName + Send + Sync, R: Threads + Sync>(
     rt: &R,
     shared: &SharedTape<D>,
@@ -104,8 +108,9 @@ fn is_found_twice<D: DayName + Send + Sync, R: Threads + Sync>(
     let Some(token) = shared.look(5) else {
         return false;
     };
-    let (one, other) = looked_twice(rt, shared, &token);
-    one.entry() == other.entry()
+    let copy = shared.again(&token);
+    let (one, other) = looked_twice(rt, shared, &copy);
+    shows_entry_of(one.as_ref(), &token) && shows_entry_of(other.as_ref(), &token)
 }
 
 /// What is set, found and shown, whether two threads found the fifth entry, and what the day confirms of what was found.
