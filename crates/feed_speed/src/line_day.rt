@@ -35,7 +35,7 @@ fn input_of(inputs: &[Vec<u8>], line: usize) -> &[u8] {
 }
 
 /// The seats with the bytes of their lines, put into a vector with room for them.
-fn lines_of<'a, D: DayName>(
+fn seated_lines<'a, D: DayName>(
     seats: Vec<LineSeat<D>>,
     lines: Vec<Line<'a, D>>,
     inputs: &'a [Vec<u8>],
@@ -100,7 +100,7 @@ pub fn run_seats<D: DayName + Send + Sync, R: Threads + Wait + Sync>(
         lines.destroy_empty();
         return (seats, false);
     };
-    let lines = lines_of(seats, lines, inputs);
+    let lines = seated_lines(seats, lines, inputs);
     run_all(rt, alloc, shared, lines, room)
 }
 

@@ -1,4 +1,4 @@
-//! Lines run at once over bytes, and what each came to.
+//! Lines run at once over bytes, and the outcome of each.
 ghost use Rattle.std.specs.Prelude.{◌≡◌, ◌≤◌, [], vec_len};
 ghost use Rattle.std.specs.Vec.{vec_capacity};
 
@@ -16,7 +16,7 @@ use tape_types::Gate;
 /// A seat and the bytes of its line.
 type Line<'a, D> = (LineSeat<D>, &'a [u8]);
 
-/// What a line came to: how many frames were refused, why it ended, and how many messages its seat was told of, with their
+/// The outcome of a line: how many frames were refused, why it ended, and how many messages its seat was told of, with their
 /// sizes and the last number.
 #[derive(Clone, Copy, Debug, PartialEq, Eq)]
 pub(super) struct LineFigures {
@@ -28,7 +28,7 @@ pub(super) struct LineFigures {
 }
 
 /// The seats with the bytes of their lines, put into a vector with room for them. A line without bytes has an empty input.
-fn lines_of<'a, D: DayName>(
+fn seated_lines<'a, D: DayName>(
     seats: Vec<LineSeat<D>>,
     lines: Vec<Line<'a, D>>,
     inputs: &'a [Vec<u8>],
@@ -54,7 +54,7 @@ fn input_of(inputs: &[Vec<u8>], line: usize) -> &[u8] {
     }
 }
 
-/// What an ended line came to.
+/// The outcome of an ended line.
 fn line_figures<D: DayName>(end: &LineEnd<D>) -> LineFigures {
     LineFigures {
         refused: end.refused,
@@ -65,7 +65,7 @@ fn line_figures<D: DayName>(end: &LineEnd<D>) -> LineFigures {
     }
 }
 
-/// What the ended lines came to, in their order.
+/// The outcomes of ended lines, in their order.
 fn all_figures<D: DayName>(alloc: Global, ends: &[LineEnd<D>]) -> Option<Vec<LineFigures>> {
     let mut figures = Vec::new(alloc);
     for end in ends {
@@ -74,7 +74,7 @@ fn all_figures<D: DayName>(alloc: Global, ends: &[LineEnd<D>]) -> Option<Vec<Lin
     Some(figures)
 }
 
-/// Runs the lines at once: the seats after it, and what the lines came to.
+/// Runs the lines at once: the seats after it, and the lines' outcomes.
 pub(super) fn run_all<
     D: DayName + Send + Sync,
     R: BufRead + Send + Drop,
@@ -109,7 +109,7 @@ pub(super) fn run_all<
     }
 }
 
-/// Runs a line over each participant's bytes, all at once: the seats after it, and what the lines came to.
+/// Runs a line over each participant's bytes, all at once: the seats after it, and the lines' outcomes.
 pub(super) fn run_inputs<
     D: DayName + Send + Sync,
     G: Gate + Sync,
@@ -130,7 +130,7 @@ pub(super) fn run_inputs<
         return (seats, None);
     };
     assert!(rt; seats.len() <= lines.capacity());
-    let lines = lines_of(seats, lines, inputs);
+    let lines = seated_lines(seats, lines, inputs);
     assert!(rt; lines.len() <= room.capacity());
     run_all(rt, alloc, shared, lines, room, gate)
 }
@@ -149,12 +149,12 @@ pub(super) fn seats_taken_back<D: DayName, A: Abort>(
         lines.destroy_empty();
         return seats;
     };
-    let lines = lines_of(seats, lines, &[]);
+    let lines = seated_lines(seats, lines, &[]);
     assert!(rt; lines.len() <= room.capacity());
     seats_of_lines(lines, room)
 }
 
-/// What the lines of a day came to, and the day.
+/// The outcomes of the lines of a day, and the day.
 fn day_after<D: DayName + Send + Sync, G: Gate + Sync, T: Threads + Wait + Abort + Sync>(
     rt: &T,
     alloc: Global,
@@ -173,7 +173,7 @@ fn day_after<D: DayName + Send + Sync, G: Gate + Sync, T: Threads + Wait + Abort
     figures.zip(ended_day(rt, shared, seats))
 }
 
-/// What the lines of a day came to, one for each participant, in listing order and over these bytes, and the day that they
+/// The outcomes of the lines of a day, one for each participant, in listing order and over these bytes, and the day that they
 /// made. More participants than inputs stop the test.
 pub(super) fn day_of_lines<G: Gate + Sync, T: Threads + Wait + Abort + Sync>(
     rt: &T,

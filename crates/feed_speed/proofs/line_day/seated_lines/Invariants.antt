@@ -2,7 +2,7 @@ use Rattle.std.proofs.Common.{◌≡◌, ◌+◌, ◌≤◌, ◌++◌, map}
 use Rattle.std.specs.Vec.{vec_len, vec_capacity}
 use Rattle.std.specs.Vec.Iter.{into_iter_items, into_iter_len}
 use Rattle.line_ledger.specs.Ends.{whos}
-use Rattle.feed_speed.proofs.line_day.lines_of.Given as goal
+use Rattle.feed_speed.proofs.line_day.seated_lines.Given as goal
 
 -- the participants of the lines that were made, and of the seats that are left
 abbrev pub invariant-loop-seat : goal.invariant-loop-seat
