@@ -112,8 +112,8 @@ impl Window {
         self.base += 1;
     }
 
-    /// What to ask for: the first numbers that were announced and were neither taken out nor wait, up to the next entry that
-    /// waits or the last number announced, and at most `ASKED_MOST` of them. `None` where no number is missing.
+    /// What to ask for: the first numbers that were announced but are neither taken out nor waiting, up to just before the next
+    /// entry that waits or to the last number announced, and at most `ASKED_MOST` of them. `None` where no number is missing.
     pub fn missing(&self) -> Option<Request>
         ensures gap { MatchOption result
             ((n : ℕ) → ¬ (IsMissing self.now n))

@@ -62,8 +62,8 @@ pub fn disagreement()
         → DisagreesAt participants entries seats who at → DisagreesAt participants entries seats other place → (who ≡ other) × (at ≡ place) }
 {}
 
-/// Where each token is confirmed, tokens of the first cells show the first entries of the tape. So each packet that is cut of
-/// what they show was cut of the tape, whenever that was, and the tape may be the closed one of a day that has ended.
+/// Where each token is confirmed, tokens of the first cells show the first entries of the tape. So each packet that is cut from
+/// what they show was cut from the tape, whenever that was, and the tape may be the closed one of a day that has ended.
 pub fn confirmed()
     ensures prefix { (names : List ℕ) (tokens : List TokenState) (entries : List Entry)
         → FirstTokens names tokens → HaveAll entries tokens → BeginsWith (shown tokens) entries }

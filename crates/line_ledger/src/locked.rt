@@ -466,7 +466,7 @@ impl<D: DayName> Locked<D> {
     }
 
     /// Ends the day with one seat of each participant, in any order, and closes its tape, whose length is the sum of the
-    /// seats' counts: the shares show it, and nothing counts it. Where a seat was not told what the tape has of its
+    /// seats' counts: the shares show it, and nothing adds them up. Where a seat was not told what the tape has of its
     /// participant, that is a disagreement, which hands the closed tape back. Else the day keeps the cells and what was seen
     /// in them. The seats are spent in each case.
     pub fn finish(self, row: CellRow, seats: Vec<LineSeat<D>>) -> Result<Day, Disagreement>

@@ -73,8 +73,8 @@ impl<D: DayName> SharedTape<D> {
         ))
     }
 
-    /// Takes the lock. Its holder is soon done, sooner than a thread could sleep and be woken, so it is tried `TRIES` times before
-    /// the thread may sleep.
+    /// Takes the lock. Its holder is soon done, sooner than a thread could sleep and be woken, so the lock is tried `TRIES` times
+    /// before the thread may sleep.
     #[inline(always)]
     fn lock(&self, rt: &impl Wait) -> MutexGuard<'_, Locked<D>> {
         for _ in 0..TRIES {

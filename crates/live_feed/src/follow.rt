@@ -1,4 +1,4 @@
-//! A follower of a day: it reads both lines, asks for what both lost, and reports the tape that it comes to hold.
+//! A follower of a day: it reads both lines, asks for what is missing, and reports the tape that it comes to hold.
 ghost use Rattle.std.specs.Prelude.{◌≡◌, ◌⊎◌, ◌≤◌, OnOk};
 ghost use Rattle.live_feed.specs.Reports.{WritesOneReport};
 

@@ -246,8 +246,8 @@ fn live<R: Threads + Wait + Clock + Sync, L: Loss + Sync, W: Write>(
 /// Runs a day over sockets, and writes its report to `writer`.
 ///
 /// It waits for one connection of each participant, in listing order, and runs the lines at once. What they admit is
-/// published eight entries at a time, and each publication is sent as one packet on lines A and B, unless `loss` drops it. Once
-/// the lines have ended, the end is sent three times on each. Beside that `serves` retransmission connections are served,
+/// published up to eight entries at a time, and each publication is sent as one packet on lines A and B, unless `loss` drops it.
+/// Once the lines have ended, the end is sent three times on each. Beside that `serves` retransmission connections are served,
 /// one after the other; with 0 of them none is awaited. After all are joined the day is ended, each entry that was published is
 /// confirmed, and the number that the end told is compared with the day's length.
 ///

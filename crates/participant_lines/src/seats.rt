@@ -6,8 +6,8 @@ ghost use Rattle.line_ledger.specs.Ends.{whos};
 use crate::LineEnd;
 use line_ledger::{DayName, LineSeat};
 
-/// The seats of lines that have ended, in the order of their ends. They are put into an empty vector with room for them, so that
-/// no memory is taken.
+/// The seats of lines that have ended, in the order of the ends given. They are put into an empty vector with room for them, so
+/// that no memory is taken.
 pub fn seats_of_ends<D: DayName>(ends: Vec<LineEnd<D>>, room: Vec<LineSeat<D>>) -> Vec<LineSeat<D>>
     requires room { vec_len ends ≤ vec_capacity room }
     requires empty { room.items ≡ [] }

@@ -107,7 +107,7 @@ the_length : (o : Option ℕ) (b : Bool) (n : ℕ) → IfSome o (λ count. (b �
 the_length None b n h = tt
 the_length (Some count) b n h = h.1
 
--- a packet that was cut of the tape is taken
+-- a packet that was cut from the tape is taken
 pub accepts : (w : World) (packet : Packet) → IsSound w → IsCut w packet → Accepts w.subscriber.window w.subscriber.tape.entries packet
 accepts w packet s cut =
     let held = w.subscriber.tape.entries in

@@ -120,7 +120,7 @@ sends w m s = by (refusal w.tape m) refl
     by (Some r) refused =
         subst (λ t. IsSound (record w { tape = t })) (sym (cond-true (is_some (refusal w.tape m)) w.tape (with_message w.tape m) (ap is_some refused))) s
 
--- what a packet that was cut of the tape tells
+-- what a packet that was cut from the tape tells
 pub record Tells (w : World) (packet : Packet) : Type 0 where
   pub session : session_of packet ≡ w.session
   pub stands : (k : ℕ) (e : Entry) → slice_get (entries_of packet) k ≡ Some e → (m : ℕ) × (e.number ≡ suc m) × (slice_get w.tape.entries m ≡ Some e)
@@ -128,7 +128,7 @@ pub record Tells (w : World) (packet : Packet) : Type 0 where
   pub last : last_of packet ≤ length w.tape.entries
   pub ended : IfSome (end_of packet) (λ count. (w.tape.closed ≡ true) × (count ≡ length w.tape.entries))
 
--- a packet that was cut of a legal tape tells what stands there
+-- a packet that was cut from a legal tape tells what stands there
 pub tells : (w : World) (packet : Packet) → IsLegal w.tape → IsCut w packet → Tells w packet
 tells w (Data session row) legal cut =
     let numbers = (legal-IsPublished w.tape legal).numbered in

@@ -60,11 +60,11 @@ run w (event ∷ events) = run (world_after w event) events
 abbrev pub held_prefix : World → TapeState
 held_prefix w = tape_before w.tape (length w.subscriber.tape.entries)
 
--- a packet that was cut of the tape as it is now
+-- a packet that was cut from the tape as it is now
 abbrev pub IsCut : World → Packet → Type 0
 IsCut w packet = IsCutOf w.session w.tape packet
 
--- each packet that comes was cut of the tape as it is then
+-- each packet that comes was cut from the tape as it is then
 abbrev pub IsAllowed : World → Event → Type 0
 IsAllowed w (Admits message) = Unit {0}
 IsAllowed w Closes = Unit {0}

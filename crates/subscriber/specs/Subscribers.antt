@@ -7,7 +7,7 @@ use Rattle.tape_core.specs.Laws.{entry_eq}
 use Rattle.tape_core.specs.Tape.{TapeState, empty_tape, refusal, next_entry, with_message}
 use Rattle.arbitration.specs.Windows.{WindowState, empty_window, next_of, window_past}
 
--- a window, the own tape, and whether its own entry was once not the feed's
+-- a window, the subscriber's own tape, and whether an entry of that tape was once not the feed's
 pub record SubscriberState : Type 0 where
   pub window : WindowState
   pub tape : TapeState

@@ -23,7 +23,7 @@ ghost use Rattle.subscriber.specs.Schedules.{World, Event, Comes, Drains, tape_a
 ghost use Rattle.subscriber.specs.Schedules.{announced_by, IsSchedule, HasNoRestart, Brings, run};
 
 /// What holds after every schedule of a tape and a subscriber. The clauses up to `gap_filled` are of an honest feed, whose
-/// packets are cut of the tape; those from `legal` on hold whatever comes; those from `admits` on tie the events to the calls.
+/// packets are cut from the tape; those from `legal` on hold whatever comes; those from `admits` on tie the events to the calls.
 pub fn schedule()
     // The tape that is sent is legal.
     ensures tape { (events : List Event) (w : World) → LeadsTo events w → IsLegal w.tape }
@@ -40,7 +40,7 @@ pub fn schedule()
     ensures no_more { (events : List Event) (w : World) → LeadsTo events w → length w.subscriber.tape.entries ≤ announced_by 0 events }
     ensures no_gap { (events : List Event) (w : World) → LeadsTo events w → has_gap w.subscriber ≡ false
         → length w.subscriber.tape.entries ≡ announced_by 0 events }
-    // A packet that was cut of the tape is taken, and its bytes are refused for no reason.
+    // A packet that was cut from the tape is taken, and its bytes are refused for no reason.
     ensures accepted { (events : List Event) (w : World) → LeadsTo events w → (packet : Packet) → IsCut w packet
         → Accepts w.subscriber.window w.subscriber.tape.entries packet }
     ensures never_refused { (events : List Event) (w : World) → LeadsTo events w → (packet : Packet) → IsCut w packet

@@ -1,4 +1,4 @@
--- What is cut of a tape.
+-- What is cut from a tape.
 use Rattle.std.proofs.Common.{ℕ, ◌-◌, List, ◌++◌, take, drop, sym, ap, ◌∙◌}
 use Rattle.std.proofs.lemmas.List.{append_assoc, take-append-drop}
 use Rattle.tape_core.specs.declared.entry.Entry.{Entry}
@@ -6,7 +6,7 @@ use Rattle.tape_frames.specs.Cuts.{IsPartOf}
 use Rattle.tape_frames.specs.Limits.{ENTRIES_MOST}
 use Rattle.tape_frames.specs.Sources.{BeginsWith, cut_of}
 
--- what is cut of a prefix of a tape, from a number on, is a part of the tape
+-- what is cut from a prefix of a tape, from a number on, is a part of the tape
 pub cut_is_part : (es tape : List Entry) (from : ℕ) → BeginsWith es tape → IsPartOf (cut_of es from) tape
 cut_is_part es tape from begin =
     let skipped = take (from - 1) es in

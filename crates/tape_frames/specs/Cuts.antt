@@ -1,4 +1,4 @@
--- A packet that was cut of a tape.
+-- A packet that was cut from a tape.
 use Rattle.std.specs.Prelude.{◌≡◌, ℕ, ◌≤◌, true, List, ◌++◌, length}
 use Rattle.tape_core.specs.declared.entry.Entry.{Entry}
 use Rattle.tape_core.specs.Tape.{TapeState}
@@ -9,7 +9,7 @@ use Rattle.tape_frames.specs.declared.packet.Packet.TheVariants.{Data, Beat, End
 abbrev pub IsPartOf : List Entry → List Entry → Type 0
 IsPartOf row tape = (before : List Entry) × (after : List Entry) × (tape ≡ before ++ (row ++ after))
 
--- a packet under this session that was cut of the tape: some of its entries, or its length at some time, or its length once it is closed
+-- a packet under this session that was cut from the tape: some of its entries, or its length at some time, or its length once it is closed
 abbrev pub IsCutOf : ℕ → TapeState → Packet → Type 0
 IsCutOf own t (Data session row) = (session ≡ own) × IsPartOf row t.entries
 IsCutOf own t (Beat session last) = (session ≡ own) × (last ≤ length t.entries)

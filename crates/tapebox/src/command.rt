@@ -62,7 +62,7 @@ impl<'a> Iterator for Words<'a> {
     }
 }
 
-/// A number in decimal digits alone, with no sign. Zeros before it are taken.
+/// A number in decimal digits alone, with no sign. Leading zeros are accepted.
 fn decimal(word: &[u8]) -> Option<u64> {
     if !word.iter().all(|byte| byte.is_ascii_digit()) {
         return None;

@@ -135,7 +135,7 @@ pub(super) fn run_inputs<
     run_all(rt, alloc, shared, lines, room, gate)
 }
 
-/// The same seats, taken back from lines over no bytes that were not started. Without memory for the lines they are given back
+/// The same seats, taken back from lines that have no bytes and were not started. Without memory for the lines they are given back
 /// as they are.
 pub(super) fn seats_taken_back<D: DayName, A: Abort>(
     rt: &A,

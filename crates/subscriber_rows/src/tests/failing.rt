@@ -350,7 +350,7 @@ fn an_answer_is_read_to_its_end_and_no_further(rt: HostRuntime) {
     assert_eq!(rt; reader.left.len(), 1);
 }
 
-/// What asking for 64 entries from 3 tells, by a writer that fails once it was called so often, how many bytes that took, and how
+/// What asking for 64 entries from 3 tells, by a writer that fails after so many calls, how many bytes that took, and how
 /// many are left to be read.
 fn told_of_writes(alloc: Global, calls: u32) -> (Option<Result<usize, AskFault>>, u32, usize) {
     let mut reader = REQUEST.as_slice();

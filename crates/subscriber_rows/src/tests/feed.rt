@@ -147,7 +147,7 @@ fn bytes_of(alloc: Global, packet: &Packet) -> Option<Vec<u8>> {
     write_packet(packet, &mut text).is_ok().then_some(text)
 }
 
-/// The bytes of the packet that is cut of the tape from a number on: eight entries at most.
+/// The bytes of the packet that is cut from the tape from a number on: eight entries at most.
 pub(super) fn packet(alloc: Global, tape: &Feed, session: u64, from: u32) -> Option<Vec<u8>> {
     if from == 0 || from as usize > tape.entries().len() {
         return None;
