@@ -3,3 +3,4 @@ pub mod Names
 pub mod Pairs
 pub mod Ranges
 pub mod RisingEntries
+pub mod RisingState

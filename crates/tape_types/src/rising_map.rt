@@ -1,9 +1,9 @@
 //! A finite map in one vector.
-ghost use Rattle.std.specs.Prelude.{◌≡◌, ◌<◌, ◌≤◌, ℕ, length, take, drop, IfOk, OnOk, OnErr, MatchOption, IsSome, IsTrue, Some, None};
-ghost use Rattle.std.specs.Coded.{coded_ℕ};
+ghost use Rattle.std.specs.Prelude.{◌≡◌, ◌-◌, ◌<◌, ◌≤◌, ℕ, length, take, drop, vec_len, vec_capacity, IfOk, OnOk, OnErr, MatchOption, IsSome, IsTrue, Some, None};
 ghost use Rattle.std.specs.Ordering.{nat_cmp};
 ghost use Rattle.std.specs.FinMap as map;
 ghost use Rattle.tape_types.specs.RisingEntries.{AllBelow, HasRisingKeys, IsPosition, StandsIn, keyed};
+ghost use Rattle.tape_types.specs.RisingState.{RisingState, rising_code};
 
 use std::alloc::{AllocError, Global};
 use std::marker::Model;
@@ -25,11 +25,14 @@ pub struct RisingMap<K: NumberKey, V> {
 }
 
 impl<K: NumberKey, V> Model for RisingMap<K, V> {
-    ghost Value = { map.FinMap nat_cmp V };
+    ghost Value = { RisingState V };
 
-    ghost coded = { map.code coded_ℕ V.code };
+    ghost coded = { rising_code V.code };
 
-    ghost view = { λ r. map.from_entries (keyed K.number r.entries.items) };
+    ghost view = { λ r. record {
+      values = map.from_entries (keyed K.number r.entries.items);
+      spare = vec_capacity r.entries - vec_len r.entries;
+    } };
 
     ghost invariant = { λ r. HasRisingKeys (keyed K.number r.entries.items) };
 }
@@ -37,7 +40,7 @@ impl<K: NumberKey, V> Model for RisingMap<K, V> {
 impl<K: NumberKey, V: Copy> RisingMap<K, V> {
     /// An empty map. It takes no memory.
     pub fn new(alloc: Global) -> Self
-        ensures empty { result ≡ map.empty }
+        ensures empty { result.values ≡ map.empty }
     {
         RisingMap {
             entries: Vec::new(alloc),
@@ -46,21 +49,21 @@ impl<K: NumberKey, V: Copy> RisingMap<K, V> {
 
     /// How many entries it has.
     pub fn len(&self) -> usize
-        ensures length { result ≡ map.len self.now }
+        ensures length { result ≡ map.len self.now.values }
     {
         self.entries.len()
     }
 
     /// The entries by rising key.
     pub fn entries(&self) -> &[(K, V)]
-        ensures entries { keyed K.number result.now ≡ map.entries self.now }
+        ensures entries { keyed K.number result.now ≡ map.entries self.now.values }
     {
         self.entries.as_slice()
     }
 
     /// The value of a key, if it has one.
     pub fn get(&self, key: K) -> Option<V>
-        ensures value { result ≡ map.get self.now (K.number key) }
+        ensures value { result ≡ map.get self.now.values (K.number key) }
     {
         let index = locate(&self.entries, key)?;
         let (_, value) = self.entries[index];
@@ -69,21 +72,36 @@ impl<K: NumberKey, V: Copy> RisingMap<K, V> {
 
     /// The index of a key's entry among `entries`, if the key has a value.
     pub fn position(&self, key: K) -> Option<usize>
-        ensures position { MatchOption result (map.get self.now (K.number key) ≡ None)
-            (λ i. StandsIn (K.number key) (map.entries self.now) i) }
+        ensures position { MatchOption result (map.get self.now.values (K.number key) ≡ None)
+            (λ i. StandsIn (K.number key) (map.entries self.now.values) i) }
     {
         locate(&self.entries, key)
     }
 
-    /// Gives a value to a key that has none. Out of memory, the map is unchanged.
+    /// The index of a key's entry as `position` answers it. It looks at the index `hint` first, and searches only where another
+    /// entry stands there, or none.
+    pub fn position_near(&self, key: K, hint: usize) -> Option<usize>
+        ensures position { MatchOption result (map.get self.now.values (K.number key) ≡ None)
+            (λ i. StandsIn (K.number key) (map.entries self.now.values) i) }
+    {
+        match self.entries.get(hint) {
+            Some((at, _)) if at.number() == key.number() => Some(hint),
+            _ => self.position(key),
+        }
+    }
+
+    /// Gives a value to a key that has none. It fails only out of memory, which it asks for only where the vector is full, and
+    /// then the map is unchanged.
     #[inline(always)]
     pub fn insert(&mut self, key: K, value: V) -> Result<(), AllocError>
-        requires vacant { map.get self.old (K.number key) ≡ None }
-        ensures ok { OnOk result (self.new ≡ map.insert self.old (K.number key) value) }
+        requires vacant { map.get self.old.values (K.number key) ≡ None }
+        ensures ok { OnOk result (self.new.values ≡ map.insert self.old.values (K.number key) value) }
         ensures err { OnErr result (self.new ≡ self.old) }
+        ensures full { OnErr result (self.old.spare ≡ 0) }
     {
+        self.entries.reserve(1)?;
         if is_above_all(&self.entries, key) {
-            self.entries.push((key, value))?;
+            self.entries.push_reserved((key, value));
         } else {
             let index = position_of(&self.entries, key);
             self.entries.insert(index, (key, value))?;
@@ -91,22 +109,26 @@ impl<K: NumberKey, V: Copy> RisingMap<K, V> {
         Ok(())
     }
 
-    /// Gives a value to a key that is above all others, and looks at none of them. Out of memory, the map is unchanged.
+    /// Gives a value to a key that is above all others, and looks at none of them. It fails only out of memory, which it asks
+    /// for only where the vector is full, and then the map is unchanged.
     pub fn push(&mut self, key: K, value: V) -> Result<(), AllocError>
-        requires above { AllBelow self.old (K.number key) }
-        ensures ok { OnOk result (self.new ≡ map.insert self.old (K.number key) value) }
+        requires above { AllBelow self.old.values (K.number key) }
+        ensures ok { OnOk result (self.new.values ≡ map.insert self.old.values (K.number key) value) }
         ensures err { OnErr result (self.new ≡ self.old) }
+        ensures full { OnErr result (self.old.spare ≡ 0) }
     {
         let entry = (key, value);
-        self.entries.push(entry)?;
+        self.entries.reserve(1)?;
+        self.entries.push_reserved(entry);
         Ok(())
     }
 
     /// Gives another value to a key that has one, and answers the former. It takes no memory.
     pub fn set(&mut self, key: K, value: V) -> V
-        requires present { IsSome (map.get self.old (K.number key)) }
-        ensures former { Some result ≡ map.get self.old (K.number key) }
-        ensures changed { self.new ≡ map.insert self.old (K.number key) value }
+        requires present { IsSome (map.get self.old.values (K.number key)) }
+        ensures former { Some result ≡ map.get self.old.values (K.number key) }
+        ensures changed { self.new.values ≡ map.insert self.old.values (K.number key) value }
+        ensures spare { self.new.spare ≡ self.old.spare }
     {
         let index = locate(&self.entries, key).unwrap();
         let (_, former) = self.entries[index];
@@ -116,8 +138,9 @@ impl<K: NumberKey, V: Copy> RisingMap<K, V> {
 
     /// Gives another value to the key of the entry at an index. It takes no memory.
     pub fn set_at(&mut self, index: usize, value: V)
-        requires within { index < map.len self.old }
-        ensures changed { (n : ℕ) → StandsIn n (map.entries self.old) index → self.new ≡ map.insert self.old n value }
+        requires within { index < map.len self.old.values }
+        ensures changed { (n : ℕ) → StandsIn n (map.entries self.old.values) index → self.new.values ≡ map.insert self.old.values n value }
+        ensures spare { self.new.spare ≡ self.old.spare }
     {
         let (key, _) = self.entries[index];
         self.entries[index] = (key, value);
@@ -125,8 +148,8 @@ impl<K: NumberKey, V: Copy> RisingMap<K, V> {
 
     /// Takes a key out with its value, if it has one. It takes no memory.
     pub fn remove(&mut self, key: K) -> Option<V>
-        ensures value { result ≡ map.get self.old (K.number key) }
-        ensures removed { self.new ≡ map.remove self.old (K.number key) }
+        ensures value { result ≡ map.get self.old.values (K.number key) }
+        ensures removed { self.new.values ≡ map.remove self.old.values (K.number key) }
     {
         let index = locate(&self.entries, key)?;
         let (_, value) = self.entries.remove(index);
@@ -135,8 +158,8 @@ impl<K: NumberKey, V: Copy> RisingMap<K, V> {
 
     /// A copy of the entries from an index on, as a map of their own. It fails only where memory runs out.
     pub fn copy_from(&self, alloc: Global, index: usize) -> Result<Self, AllocError>
-        requires { index ≤ map.len self.now }
-        ensures entries { IfOk result (λ m. map.entries m ≡ drop index (map.entries self.now)) }
+        requires { index ≤ map.len self.now.values }
+        ensures entries { IfOk result (λ m. map.entries m.values ≡ drop index (map.entries self.now.values)) }
     {
         let entries = copied_from(alloc, &self.entries, index)?;
         Ok(RisingMap { entries })
@@ -144,7 +167,7 @@ impl<K: NumberKey, V: Copy> RisingMap<K, V> {
 
     /// Removes all entries from an index on. It takes no memory.
     pub fn truncate(&mut self, index: usize)
-        ensures entries { map.entries self.new ≡ take index (map.entries self.old) }
+        ensures entries { map.entries self.new.values ≡ take index (map.entries self.old.values) }
     {
         self.entries.truncate(index);
     }

@@ -9,7 +9,7 @@ pub copied_from-requires : goal.copied_from-requires
 copied_from-requires g c =
     let number = g.K.NumberKey.number in
     let es = c.self.inside.entries.items in
-    let many = ap map.len (sym c.self.view_is) ∙ map.len-entries _ ∙ ap length (entries-seen _ c.self.invariant) ∙ length-keyed number es
+    let many = ap (λ s. map.len s.values) (sym c.self.view_is) ∙ map.len-entries _ ∙ ap length (entries-seen _ c.self.invariant) ∙ length-keyed number es
     ∙ ap length (sym c.deref.ensures.value) in
     subst (λ n. c.args.index ≤ n) many c.requires
 
@@ -28,5 +28,5 @@ returns g c = record {
       let as_keyed = ap (keyed number) is ∙ keyed-drop number c.args.index es in
       ap (λ l. map.entries (map.from_entries {R = nat_cmp} l)) as_keyed
       ∙ entries-seen _ (rising-drop c.args.index _ c.self.invariant)
-      ∙ ap (drop c.args.index) (sym (entries-seen _ c.self.invariant) ∙ ap map.entries c.self.view_is);
+      ∙ ap (drop c.args.index) (sym (entries-seen _ c.self.invariant) ∙ ap (λ s. map.entries s.values) c.self.view_is);
 }

@@ -7,5 +7,5 @@ use Rattle.tape_types.proofs.rising_map.RisingMap.entries.Goals as goal
 pub returns : goal.returns
 returns g c = record {
   entries =
-      ap (keyed g.K.NumberKey.number) c.as_slice.ensures.value ∙ sym (entries-seen _ c.self.invariant) ∙ ap map.entries c.self.view_is;
+      ap (keyed g.K.NumberKey.number) c.as_slice.ensures.value ∙ sym (entries-seen _ c.self.invariant) ∙ ap (λ s. map.entries s.values) c.self.view_is;
 }

@@ -1,4 +1,4 @@
-use Rattle.std.proofs.Common.{◌≡◌, None, subst}
+use Rattle.std.proofs.Common.{◌≡◌, None, ap, subst}
 use Rattle.std.specs.Prelude.{MatchOption}
 use Rattle.std.specs.Ordering.{nat_cmp}
 use Rattle.std.specs.FinMap as map
@@ -13,7 +13,7 @@ returns g c =
     let k = number c.args.key in
     let found = rw c.deref.ensures.value at c.locate.ensures in
     record {
-      position = subst (λ m. MatchOption c.locate.result (map.get m k ≡ None) (StandsIn k (map.entries c.args.self.now))) c.self.view_is
+      position = subst (λ m. MatchOption c.locate.result (map.get m k ≡ None) (StandsIn k (map.entries c.args.self.now.values))) (ap (λ s. s.values) c.self.view_is)
           (subst (λ l. MatchOption c.locate.result (map.get (map.from_entries {R = nat_cmp} (keyed number es)) k ≡ None) (StandsIn k l))
-          (keyed-seen number es c.self.invariant _ c.self.view_is) found);
+          (keyed-seen number es c.self.invariant _ (ap (λ s. s.values) c.self.view_is)) found);
     }

@@ -9,8 +9,8 @@ invariant_of-self-2 g c =
     let number = g.K.NumberKey.number in
     let es = c.self.inside.entries.items in
     let k = number c.args.key in
-    let above = subst (λ m. AllBelow m k) (sym c.self.view_is) c.requires.above in
-    rw c.in_ok-push.ensures.items
+    let above = subst (λ m. AllBelow m k) (sym (ap (λ s. s.values) c.self.view_is)) c.requires.above in
+    rw (c.push_reserved.ensures.items, c.reserve.ensures.items)
     (keyed-pushed number c.args.key es c.self.invariant c.args.value
     (subst (IsPosition k (keyed number es)) (length-keyed number es) (position-above k (keyed number es) c.self.invariant above)) (vacant-above k _ above)).0
 
@@ -19,8 +19,8 @@ returns-clause-ok g c =
     let number = g.K.NumberKey.number in
     let es = c.self.inside.entries.items in
     let k = number c.args.key in
-    let above = subst (λ m. AllBelow m k) (sym c.self.view_is) c.requires.above in
-    rw c.in_ok-push.ensures.items
+    let above = subst (λ m. AllBelow m k) (sym (ap (λ s. s.values) c.self.view_is)) c.requires.above in
+    rw (c.push_reserved.ensures.items, c.reserve.ensures.items)
     (keyed-pushed number c.args.key es c.self.invariant c.args.value
     (subst (IsPosition k (keyed number es)) (length-keyed number es) (position-above k (keyed number es) c.self.invariant above)) (vacant-above k _ above)).1
-    ∙ ap (λ m. map.insert m k c.args.value) c.self.view_is
+    ∙ ap (λ m. map.insert m k c.args.value) (ap (λ s. s.values) c.self.view_is)

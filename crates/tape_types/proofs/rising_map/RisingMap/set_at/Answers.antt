@@ -6,12 +6,12 @@ use Rattle.tape_types.proofs.rising_map.RisingMap.set_at.Goals as goal
 
 pub index-requires : goal.index-requires
 index-requires g c =
-    let many = length-seen g.K.NumberKey.number c.self.inside.entries.items c.self.invariant _ c.self.view_is in
+    let many = length-seen g.K.NumberKey.number c.self.inside.entries.items c.self.invariant _ (ap (λ s. s.values) c.self.view_is) in
     subst (λ n. c.args.index < n) (sym (c.self.inside.entries.ok.0 ∙ many)) c.requires.within
 
 pub index_mut-requires : goal.index_mut-requires
 index_mut-requires g c =
-    let many = length-seen g.K.NumberKey.number c.self.inside.entries.items c.self.invariant _ c.self.view_is in
+    let many = length-seen g.K.NumberKey.number c.self.inside.entries.items c.self.invariant _ (ap (λ s. s.values) c.self.view_is) in
     subst (λ n. c.args.index < n) (sym (c.self.inside.entries.ok.0 ∙ many)) c.requires.within
 
 -- the key that is there stands there
@@ -22,7 +22,7 @@ invariant_of-self g c =
     let e = c.index.result.now in
     let d : ℕ × g.row.V.Denot = (number e.0, e.1) in
     let lt : c.args.index < length es =
-    subst (λ n. c.args.index < n) (sym (length-seen number es c.self.invariant _ c.self.view_is)) c.requires.within in
+    subst (λ n. c.args.index < n) (sym (length-seen number es c.self.invariant _ (ap (λ s. s.values) c.self.view_is))) c.requires.within in
     let there = stands-at (keyed number es) c.args.index d c.self.invariant
     (subst (λ n. c.args.index < n) (sym (length-keyed number es)) lt) in
     let is = keyed-entry number es c.args.index e lt c.index.ensures d in
@@ -37,12 +37,13 @@ returns g c = record {
       let es = c.self.inside.entries.items in
       let e = c.index.result.now in
       let d : ℕ × g.row.V.Denot = (number e.0, e.1) in
-      let there = subst (λ l. StandsIn n l c.args.index) (sym (keyed-seen number es c.self.invariant _ c.self.view_is)) at in
+      let there = subst (λ l. StandsIn n l c.args.index) (sym (keyed-seen number es c.self.invariant _ (ap (λ s. s.values) c.self.view_is))) at in
       let lt : c.args.index < length es = subst (λ n. c.args.index < n) (length-keyed number es) there.within in
       let is = keyed-entry number es c.args.index e lt c.index.ensures d in
       let same = sym (there.has_key d) ∙ ap (λ (x : ℕ × g.row.V.Denot). x.0) is in
       (keyed-replaced number e.0 es c.self.invariant c.args.index
       (subst (λ k. StandsIn k (keyed number es) c.args.index) same there) c.args.value).1
-      ∙ ap (λ m. map.insert m (number e.0) c.args.value) c.self.view_is
-      ∙ ap (λ k. map.insert c.args.self.now k c.args.value) (sym same);
+      ∙ ap (λ m. map.insert m (number e.0) c.args.value) (ap (λ s. s.values) c.self.view_is)
+      ∙ ap (λ k. map.insert c.args.self.now.values k c.args.value) (sym same);
+  spare = ap (λ s. s.spare) c.self.view_is;
 }

@@ -18,5 +18,5 @@ returns g c = record {
       let as_keyed = ap (keyed number) c.truncate.ensures.items ∙ keyed-take number c.args.index c.self.inside.entries.items in
       ap (λ l. map.entries (map.from_entries {R = nat_cmp} l)) as_keyed
       ∙ entries-seen _ (rising-take c.args.index _ c.self.invariant)
-      ∙ ap (take c.args.index) (sym (entries-seen _ c.self.invariant) ∙ ap map.entries c.self.view_is);
+      ∙ ap (take c.args.index) (sym (entries-seen _ c.self.invariant) ∙ ap (λ s. map.entries s.values) c.self.view_is);
 }
