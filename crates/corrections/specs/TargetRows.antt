@@ -1,20 +1,24 @@
 -- The targets of the day by rows, one for each participant.
 use Rattle.std.specs.Prelude.{ℕ, ◌+◌, List, [], ◌∷◌, ◌++◌, map as map_list}
-use Rattle.std.specs.Ordering.{nat_cmp}
 use Rattle.std.specs.FinMap as map
 use Rattle.corrections.specs.declared.target.Target.{Target}
 use Rattle.corrections.specs.Targets.{Targets}
 use Rattle.tape_types.specs.Ranges.{FIRST_PARTICIPANT}
+use Rattle.tape_types.specs.RisingState.{RisingState}
 
--- the reports of one participant by their message numbers
-abbrev pub RowTargets : Type 0
-RowTargets = map.FinMap nat_cmp Target
+-- the reports of one participant by their message numbers, and the room left beside them
+abbrev pub Row : Type 0
+Row = RisingState Target
+
+-- a row without a report, and without room
+abbrev pub empty_row : Row
+empty_row = record { values = map.empty; spare = 0 }
 
 -- the entries of rows, the first row's under the participant `who` and each further one's under the next
-abbrev pub row_entries : ℕ → List RowTargets → List ((ℕ × ℕ) × Target)
+abbrev pub row_entries : ℕ → List Row → List ((ℕ × ℕ) × Target)
 row_entries who [] = []
-row_entries who (row ∷ rows) = map_list (λ e. ((who, e.0), e.1)) (map.entries row) ++ row_entries (who + 1) rows
+row_entries who (row ∷ rows) = map_list (λ e. ((who, e.0), e.1)) (map.entries row.values) ++ row_entries (who + 1) rows
 
 -- the targets of rows that begin with the first participant's
-abbrev pub targets_of_rows : List RowTargets → Targets
+abbrev pub targets_of_rows : List Row → Targets
 targets_of_rows rows = map.from_entries (row_entries FIRST_PARTICIPANT rows)

@@ -3,6 +3,7 @@ use Rattle.std.specs.Prelude.{◌≡◌, ℕ, cond, not, List, Option, Some, Non
 use Rattle.std.specs.FinMap as map
 use Rattle.tape_types.specs.Names.{symbol_eq}
 use Rattle.tape_types.specs.Pairs.{pair_cmp}
+use Rattle.corrections.specs.declared.target.Located.{Located}
 use Rattle.corrections.specs.declared.target.Target.{Target}
 use Rattle.corrections.specs.declared.target.Standing.{Standing}
 use Rattle.corrections.specs.declared.target.Standing.TheVariants.{Standing as Stands, Cancelled as IsCancelled}
@@ -30,6 +31,11 @@ standing_answer IsCancelled place = Err Cancelled
 abbrev pub target_answer : List ℕ → Option Target → Result ℕ TargetFault
 target_answer symbol None = Err NoSuchReport
 target_answer symbol (Some t) = cond (not (symbol_eq symbol t.symbol)) (Err OtherSymbol) (standing_answer t.standing t.place)
+
+-- what was located, by its place alone
+abbrev pub located_place : {E : Type 0} → Result Located E → Result ℕ E
+located_place (Ok located) = Ok located.place
+located_place (Err fault) = Err fault
 
 -- the same report, which no longer stands
 abbrev pub cancelled_target : Target → Target

@@ -6,5 +6,5 @@ mod target;
 mod target_fault;
 
 pub use register::Register;
-pub use target::{Standing, Target};
+pub use target::{Located, Standing, Target};
 pub use target_fault::TargetFault;

@@ -21,3 +21,13 @@ pub struct Target {
     /// Whether the report stands.
     pub standing: Standing,
 }
+
+/// Where a report is that a target names.
+#[derive(Clone, Copy, Debug, PartialEq, Eq)]
+pub struct Located {
+    /// The tape number of the report's admission.
+    pub place: TapeNumber,
+    /// The index of the report among its participant's reports by rising message number. A report between them moves it, so it
+    /// tells where to look first.
+    pub index: usize,
+}

@@ -2,7 +2,7 @@
 use Rattle.std.proofs.Common.{◌≡◌, ℕ, ◌≤◌, ◌==◌, if◌then◌else◌, List, get_or, set, Option, Some, None, refl, sym, subst, ◌∙◌}
 use Rattle.std.specs.Option.{option_map}
 use Rattle.tape_types.specs.Ranges.{IsParticipant, SIZE_MOST}
-use Rattle.corrections.specs.RegisterState.{RegisterState, last_number_of}
+use Rattle.corrections.specs.RegisterState.{RegisterState, last_number_of, targets_of}
 use Rattle.reports.specs.declared.message.Message.{Message}
 use Rattle.reports.specs.declared.message.Message.TheVariants.{Report, Cancel, Correct}
 use Rattle.reports.specs.Messages.{header_of, named_target}
@@ -29,7 +29,7 @@ placed number place e = cc
 module _ (t : TapeState) (kept : List Trades) (register : RegisterState) (row : Totals) (keeps : KeepsTape t kept register row) (route : Route) (book : Trades)
     (read : book ≡ get_or kept route.book book) where
   -- book and register can take the change
-  pub can-change : (m : Message) → refusal t m ≡ None → IsRoute t m route → CanChange book register.targets route.place m
+  pub can-change : (m : Message) → refusal t m ≡ None → IsRoute t m route → CanChange book (targets_of register) route.place m
   can-change (Report header content) none is = (
     subst (λ n. map.get book n ≡ None) (sym is.number ∙ placed route.number route.place is.place)
         (place-vacant t kept register row keeps header content none route.book book is.book read),
@@ -39,7 +39,7 @@ module _ (t : TapeState) (kept : List Trades) (register : RegisterState) (row : 
       let there = IsTarget-faultless (messages_of t.entries) header.symbol header.participant target route.place
       (admissible t (Cancel header target) none).target is.place in (
         place-present t kept register row keeps header target route.place route.book book is.book read there,
-        IsTarget-standing (messages_of t.entries) header.symbol register.targets header.participant target route.place keeps.targets there,
+        IsTarget-standing (messages_of t.entries) header.symbol (targets_of register) header.participant target route.place keeps.targets there,
       )
   can-change (Correct header target content) none is =
       place-theirs t kept register row keeps header target route.place route.book book is.book read
@@ -69,7 +69,7 @@ module _ (t : TapeState) (kept : List Trades) (register : RegisterState) (row : 
   -- what the fields keep stays kept
   pub KeepsTape-message : (m : Message) → refusal t m ≡ None → IsRoute t m route → (register' : RegisterState) (row' : Totals) (changed : Trades)
       → changed ≡ book_after book route.place m
-      → register'.targets ≡ targets_after register.targets route.place m
+      → targets_of register' ≡ targets_after (targets_of register) route.place m
       → ((other : ℕ) → IsParticipant other
       → last_number_of register' other ≡ (if other == (header_of m).participant then (header_of m).number else last_number_of register other))
       → reported_size m ≤ SIZE_MOST

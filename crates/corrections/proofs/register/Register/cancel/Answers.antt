@@ -1,43 +1,17 @@
-use Rattle.std.proofs.Common.{◌<◌, length, get_or, ap, sym, ◌∙◌, subst, ℕ, arith}
+use Rattle.std.proofs.Common.{◌<◌, length, ap, sym, ◌∙◌, subst, arith}
 use Rattle.std.specs.FinMap as map
 use Rattle.std.proofs.lemmas.Option.{MatchOption-at_none}
-use Rattle.corrections.specs.declared.target.Target.{Target}
-use Rattle.corrections.specs.Targets.{IsStanding, Targets, cancelled_target, with_cancelled}
-use Rattle.corrections.specs.RegisterState.{RegisterState}
-use Rattle.corrections.proofs.RegisterRows.{get-row, targets-insert}
+use Rattle.corrections.specs.RegisterState.{targets_of}
+use Rattle.corrections.specs.Targets.{IsStanding}
+use Rattle.corrections.proofs.RegisterRows.{get-row}
 use Rattle.corrections.proofs.register.Register.cancel.Goals as goal
-use Rattle.corrections.proofs.register.Register.cancel.Goals.{in-Some, in_default}
-use Rattle.tape_types.proofs.RisingEntries.{keyed-get}
 
-pub set_at-requires : goal.set_at-requires
-set_at-requires c =
-    let at = c.in-Some.ensures.position in
-    record { within = subst (λ n. c.in-Some.index < n) (sym (map.len-entries _)) at.within }
-
-pub returns : goal.returns
-returns c = record {
-  cancelled =
-      let rows = c.self.inside.rows in
-      let inside : c.row_index.result < length rows = omega arith in
-      let key : ℕ × ℕ = (c.args.who, c.args.target) in
-      let with_targets : Targets → RegisterState = λ t. record { targets = t; last_numbers = c.self.inside.last_numbers } in
-      let row = c.index-self-row_index.result in
-      let there = sym (get-row rows c.args.who c.args.target c.row_index.result row c.row_index.ensures.letter inside)
-      ∙ ap (λ (r : RegisterState). map.get r.targets key) c.self.view_is in
-      elim c.match-position.branch [
-        | in-Some w ↦
-            let at = w.in-Some.ensures.position in
-            let es = w.entries.result.now in
-            let e = w.index-entries-index.result in
-            let v : Target = cancelled_target (get_or es w.in-Some.index e).1 in
-            let held = keyed-get (λ n. n) es _ w.entries.ensures.entries c.args.target w.in-Some.index at e in
-            rw w.self-inside-is
-            (ap with_targets (targets-insert rows c.args.who c.args.target c.row_index.result row w.set_at.new.self v
-            c.row_index.ensures.letter inside (w.set_at.ensures.changed c.args.target at))
-            ∙ ap (λ (r : RegisterState). record r { targets = map.insert r.targets key v }) c.self.view_is
-            ∙ ap (λ o. record c.args.self.now { targets = with_cancelled c.args.self.now.targets key o }) (sym held ∙ there))
-        | in_default w ↦
-            let none = MatchOption-at_none _ _ w.in_default.is c.position.ensures.position in
-            absurd (subst IsStanding (sym there ∙ none) c.requires.standing)
-      ];
-}
+-- a report that stands has its place in the row
+pub returns-in_default-clause-cancelled : goal.returns-in_default-clause-cancelled
+returns-in_default-clause-cancelled c =
+    let inside : c.row_index.result < length c.self.inside.rows = omega arith in
+    let none = MatchOption-at_none _ _ c.in_default.is c.position.ensures.position in
+    absurd (subst IsStanding
+    (ap (λ r. map.get (targets_of r) (c.args.who, c.args.target)) (sym c.self.view_is)
+    ∙ get-row c.self.inside.rows c.args.who c.args.target c.row_index.result c.index-self-row_index.result c.row_index.ensures.letter inside ∙ none)
+    c.requires.standing)

@@ -1,8 +1,8 @@
 use Rattle.std.proofs.Common.{◌<◌, length, ap, sym, ◌∙◌, arith}
 use Rattle.std.specs.FinMap as map
 use Rattle.std.proofs.lemmas.Result.{on_ok_weaker}
-use Rattle.corrections.specs.RegisterState.{RegisterState}
-use Rattle.corrections.specs.Targets.{Targets, standing_target}
+use Rattle.corrections.specs.RegisterState.{targets_of}
+use Rattle.corrections.specs.Targets.{standing_target}
 use Rattle.corrections.proofs.RegisterRows.{get-row, targets-insert}
 use Rattle.corrections.proofs.register.Register.record.Goals as goal
 
@@ -11,15 +11,13 @@ insert-requires c =
     let inside : c.row_index.result < length c.self.inside.rows = omega arith in
     record {
       vacant = sym (get-row c.self.inside.rows c.args.who c.args.number c.row_index.result c.index-self-row_index.result c.row_index.ensures.letter inside)
-          ∙ ap (λ r. map.get r.targets (c.args.who, c.args.number)) c.self.view_is ∙ c.requires.vacant;
+          ∙ ap (λ r. map.get (targets_of r) (c.args.who, c.args.number)) c.self.view_is ∙ c.requires.vacant;
     }
 
 pub returns-clause-ok : goal.returns-clause-ok
 returns-clause-ok c =
     let inside : c.row_index.result < length c.self.inside.rows = omega arith in
-    let with_targets : Targets → RegisterState = λ t. record { targets = t; last_numbers = c.self.inside.last_numbers } in
-    on_ok_weaker c.insert.result (λ is. ap with_targets
-    (targets-insert c.self.inside.rows c.args.who c.args.number c.row_index.result c.index-self-row_index.result c.insert.new.self
-    (standing_target c.args.symbol c.args.place) c.row_index.ensures.letter inside is)
-    ∙ ap (λ (r : RegisterState). record r { targets = map.insert r.targets (c.args.who, c.args.number) (standing_target c.args.symbol c.args.place) })
-    c.self.view_is) c.insert.ensures.ok
+    on_ok_weaker c.insert.result (λ is.
+    targets-insert c.self.inside.rows c.args.who c.args.number c.row_index.result c.index-self-row_index.result c.insert.new.self
+    (standing_target c.args.symbol c.args.place) c.row_index.ensures.letter inside is
+    ∙ ap (λ r. map.insert (targets_of r) (c.args.who, c.args.number) (standing_target c.args.symbol c.args.place)) c.self.view_is) c.insert.ensures.ok

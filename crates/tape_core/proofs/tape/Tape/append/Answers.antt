@@ -1,6 +1,7 @@
-use Rattle.std.proofs.Common.{◌≡◌, ◌<◌, ◌==◌, if◌then◌else◌, set, sym, ap, subst, ◌∙◌, arith}
-use Rattle.tape_types.specs.Ranges.{IsParticipant}
-use Rattle.corrections.specs.RegisterState.{RegisterState, last_number_of}
+use Rattle.std.proofs.Common.{◌≡◌, ◌<◌, ◌==◌, if◌then◌else◌, set, slice_index, sym, ap, subst, ◌∙◌, arith}
+use Rattle.tape_types.specs.Ranges.{IsParticipant, row_index}
+use Rattle.corrections.specs.RegisterState.{last_number_of}
+use Rattle.corrections.specs.TargetRows.{targets_of_rows}
 use Rattle.reports.specs.Messages.{header_of}
 use Rattle.tape_core.specs.declared.entry.Entry.{Entry}
 use Rattle.tape_core.specs.Kept.{KeepsTape}
@@ -24,7 +25,7 @@ advance-requires g c =
     let is = c.header-header.ensures.header in
     record {
       above = subst (λ h. last_number_of c.make_change.new.register h.participant < h.number) (sym is)
-          (subst (λ r. last_number_of r (header_of m).participant < (header_of m).number) (sym c.in_ok-after.ensures.register)
+          (subst (λ l. slice_index l (row_index (header_of m).participant) < (header_of m).number) (sym c.in_ok-after.ensures.last_numbers)
           (register-above _ _ _ _ c.self.invariant m (ap (λ t. refusal t m) c.self.view_is ∙ c.requires.none)
           (subst (λ h. IsParticipant h.participant) is (omega arith, omega arith))));
     }
@@ -48,8 +49,9 @@ invariant_of-self-2 g c =
     (sym (with_message-pushed _ m _ _ _ c.push_reserved.ensures.items c.in_ok-reserve.ensures.items (pushed-next g c)))
     (KeepsTape-message _ _ _ _ c.self.invariant c.args.route _ c.index_mut-book.ensures.value m (ap (λ t. refusal t m) c.self.view_is ∙ c.requires.none)
     (subst (λ t. IsRoute t m c.args.route) (sym c.self.view_is) c.requires.route) c.advance.new.self c.add.new.self c.make_change.new.book made.book
-    (c.advance.ensures.targets ∙ ap (λ (r : RegisterState). r.targets) made.register)
-    (λ other of. c.advance.ensures.last_numbers other of ∙ (λ i. if other == (is i).participant then (is i).number else last_number_of (made.register i) other))
+    (ap targets_of_rows c.advance.ensures.rows ∙ made.targets)
+    (λ other of. c.advance.ensures.last_numbers other of
+    ∙ (λ i. if other == (is i).participant then (is i).number else slice_index (made.last_numbers i) (row_index other)))
     c.add.ensures.size c.add.ensures.totals)
 
 pub returns-clause-entry : goal.returns-clause-entry

@@ -1,4 +1,5 @@
 use Rattle.std.proofs.Common.{◌≡◌, ◌==◌, nat_le, length, true, false, Some, sym, ap, ◌∙◌, rules}
+use Rattle.corrections.specs.Targets.{located_place}
 use Rattle.reports.specs.Messages.{header_of}
 use Rattle.tape_core.specs.Standing.{last_number}
 use Rattle.tape_core.specs.Tape.{messages_of, lists_symbol, lists_participant, refusal}
@@ -8,7 +9,7 @@ use Rattle.tape_core.proofs.tape.Tape.route.Goals.{After-place}
 use Rattle.tape_core.proofs.tape.Tape.route.Goals as goal
 
 -- after all other tests, what the register answers for the target decides
-refusal-is : (g : Over) (c : After-place g) → refused c.place.result ≡ refusal c.args.self.now c.args.message.now
+refusal-is : (g : Over) (c : After-place g) → refused (located_place c.place.result) ≡ refusal c.args.self.now c.args.message.now
 refusal-is g c =
     let m = c.args.message.now in
     let inside = c.self.inside in
@@ -23,5 +24,5 @@ refusal-is g c =
 pub returns-in_err-place-clause-refused : goal.returns-in_err-place-clause-refused
 returns-in_err-place-clause-refused g c =
     let is : refusal c.args.self.now c.args.message.now ≡ Some c.in_err-place.field-0.0 =
-    sym (refusal-is g (goal.at.returns-in_err-place-clause-refused g c).After-place) ∙ ap refused c.in_err-place.was in
+    sym (refusal-is g (goal.at.returns-in_err-place-clause-refused g c).After-place) ∙ ap (λ r. refused (located_place r)) c.in_err-place.was in
     search rules
