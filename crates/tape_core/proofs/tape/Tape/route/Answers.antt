@@ -21,8 +21,8 @@ refusal-is g c =
     ap refused c.place.ensures ∙ register_place-faults (messages_of inside.entries.items) inside.register c.next_number-number.result m c.self.invariant.targets
     ∙ sym (refusal-of_target _ m unclosed room listed above known) ∙ ap (λ t. refusal t m) c.self.view_is
 
-pub returns-in_err-place-clause-refused : goal.returns-in_err-place-clause-refused
-returns-in_err-place-clause-refused g c =
-    let is : refusal c.args.self.now c.args.message.now ≡ Some c.in_err-place.field-0.0 =
-    sym (refusal-is g (goal.at.returns-in_err-place-clause-refused g c).After-place) ∙ ap (λ r. refused (located_place r)) c.in_err-place.was in
+pub returns-in_err-located-clause-refused : goal.returns-in_err-located-clause-refused
+returns-in_err-located-clause-refused g c =
+    let is : refusal c.args.self.now c.args.message.now ≡ Some c.in_err-located.field-0.0 =
+    sym (refusal-is g (goal.at.returns-in_err-located-clause-refused g c).After-place) ∙ ap (λ r. refused (located_place r)) c.in_err-located.was in
     search rules
