@@ -17,7 +17,7 @@ use Rattle.batch.specs.declared.read_end.ReadEnd.TheVariants.{TooLarge as ReadTo
 use Rattle.batch.specs.declared.reading.Batch.{Batch}
 use Rattle.batch.specs.declared.reading.Batch.TheVariants.{Answered, HeaderRefused}
 use Rattle.batch.proofs.BatchLemmas.{Appends-same}
-use Rattle.row_reads.proofs.WriteLemmas.{WritesPrefix-kept, WritesPrefix-longer, WritesPrefix-whole}
+use Rattle.row_reads.specs.Lemmas.WriteLemmas.{WritesPrefix-kept, WritesPrefix-longer, WritesPrefix-whole}
 use Rattle.batch.proofs.WrittenDay.{ReadsBatch-may, ReadsBatch-stop, ReadsBatch-text}
 
 -- what was written is what the end says

@@ -9,7 +9,7 @@ use Rattle.std.proofs.lemmas.List.{take-append-le}
 use lib.Seq.{drop-append-le}
 use Rattle.hex.specs.Hex.{is_hex_digit}
 use Rattle.reports.specs.Reading.{announced_length, message_at, LONGEST_BODY, LONGEST_FRAME}
-use Rattle.reports.proofs.Messages.{announced_length-append}
+use Rattle.reports.specs.Lemmas.Messages.{announced_length-append}
 use Rattle.batch.specs.declared.batch_refusal.BatchRefusal.TheVariants.{BadLine}
 use Rattle.batch.specs.MessageLine.{from_bytes, hex_bytes, spelled_message}
 use Rattle.batch.proofs.HexLemmas.{hex_bytes-front_None, hex_bytes-rest_None, hex_bytes-Some}

@@ -1,3 +1,2 @@
-pub mod Keyed
 mod LastNumbers
 mod RegisterRows

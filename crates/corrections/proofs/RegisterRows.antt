@@ -8,9 +8,9 @@ use Rattle.std.specs.FinMap.Entries.{find}
 use Rattle.std.proofs.lemmas.Bool.{cases_lt, cases_eq}
 use Rattle.std.proofs.lemmas.List.{get_or_default, get_or_past, get_or-set_same, get_or-set_other}
 use Rattle.corrections.specs.declared.target.Target.{Target}
-use Rattle.corrections.proofs.Keyed.{tied-same, tied-other}
+use Rattle.corrections.specs.Lemmas.Keyed.{tied-same, tied-other}
 use Rattle.tape_types.specs.Pairs.{pair_cmp}
-use Rattle.tape_types.proofs.Pairs.{pair_total, pair_exact}
+use Rattle.tape_types.specs.Lemmas.Pairs.{pair_total, pair_exact}
 use Rattle.corrections.specs.TargetRows.{Row, empty_row, row_entries, targets_of_rows}
 use Rattle.tape_types.specs.Ranges.{FIRST_PARTICIPANT}
 

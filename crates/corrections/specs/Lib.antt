@@ -1,3 +1,4 @@
+pub mod Lemmas
 pub mod RegisterState
 pub mod TargetFaults
 pub mod TargetRows

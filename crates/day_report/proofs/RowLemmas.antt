@@ -6,7 +6,7 @@ use Rattle.std.proofs.lemmas.Bool.{cases_Bool}
 use Rattle.std.proofs.lemmas.List.{length-map}
 use Rattle.scratch_fold.specs.declared.summary.Summary.{Summary}
 use Rattle.scratch_fold.specs.Fold.{empty_summary}
-use Rattle.summaries.proofs.OtherLaws.{trades-from}
+use Rattle.summaries.specs.Lemmas.OtherLaws.{trades-from}
 use Rattle.tape_core.specs.Standing.{standing_reports, placed_participant, participant_summary}
 use Rattle.tape_core.specs.Tape.{TapeState, lists_participant, messages_of, participant_summary_at_index}
 use Rattle.day_report.specs.Rows.{participant_row}

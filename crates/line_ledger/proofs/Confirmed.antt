@@ -8,7 +8,7 @@ use Rattle.tape_core.specs.Tape.{TapeState}
 use Rattle.tape_frames.specs.Sources.{BeginsWith, cut_of}
 use Rattle.line_ledger.specs.Cells.{TokenState, FirstTokens, HaveAll, shown}
 use Rattle.tape_frames.specs.Cuts.{IsPartOf}
-use Rattle.tape_frames.proofs.Cuts.{cut_is_part}
+use Rattle.tape_frames.specs.Lemmas.Cuts.{cut_is_part}
 
 -- entries that have each token's entry at its place begin with what the tokens show
 begins : (tokens : List TokenState) (entries : List Entry)

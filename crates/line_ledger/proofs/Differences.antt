@@ -12,7 +12,7 @@ use Rattle.std.proofs.Math.Seq.{take-append_seam, get_or-append_seam, split_at, 
 use Rattle.reports.specs.contracts.message.MessagePartialEq.TheImpl as message
 use Rattle.tape_core.specs.declared.entry.Entry.{Entry}
 use Rattle.tape_core.specs.Standing.{is_of}
-use Rattle.tape_core.proofs.Equality.{message-Decides}
+use Rattle.tape_core.specs.Lemmas.Equality.{message-Decides}
 use Rattle.line_ledger.specs.declared.told.Told.{Told}
 use Rattle.line_ledger.specs.Ends.{told_entry, told_of, DiffersFirst}
 

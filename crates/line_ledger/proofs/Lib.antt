@@ -1,4 +1,3 @@
-pub mod OneEach
 mod Confirmed
 mod Differences
 mod Endings

@@ -6,8 +6,8 @@ use Rattle.std.proofs.lemmas.List.{take-map}
 use Rattle.tape_core.specs.declared.entry.Entry.{Entry}
 use Rattle.tape_frames.specs.EntryRows.{Carries}
 use Rattle.tape_frames.specs.Sources.{BeginsWith, IsPublished}
-use Rattle.tape_frames.proofs.GrowingRows.{IsNumberedFrom-push}
-use Rattle.tape_frames.proofs.Sources.{IsPublished-take}
+use Rattle.tape_frames.specs.Lemmas.GrowingRows.{IsNumberedFrom-push}
+use Rattle.tape_frames.specs.Lemmas.Sources.{IsPublished-take}
 use Rattle.seen_cells.specs.declared.Seen.{Seen}
 use Rattle.line_ledger.specs.Cells.{TokenState, IsTokenOf, Each, TokenAt, NextTokens, FirstTokens, shown, SeenAt, FirstSeen}
 use Rattle.line_ledger.specs.Publishing.{GoesOn}

@@ -3,6 +3,7 @@ pub mod Cells
 pub mod Days
 pub mod Ends
 pub mod Faults
+pub mod Lemmas
 pub mod Publishing
 pub mod Seats
 pub mod Views

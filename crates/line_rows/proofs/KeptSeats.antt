@@ -3,7 +3,7 @@ use Rattle.std.proofs.Common.{◌≡◌, ℕ, List, get_or, set}
 use Rattle.std.proofs.Math.Seq.{map-set_same}
 use Rattle.line_ledger.specs.Seats.{SeatState}
 use Rattle.line_ledger.specs.Ends.{IsOneEach}
-use Rattle.line_ledger.proofs.OneEach.{each_kept}
+use Rattle.line_ledger.specs.Lemmas.OneEach.{each_kept}
 
 -- one seat is another of the same participant
 pub each_set : (participants : List ℕ) (seats : List SeatState) (i : ℕ) (s d : SeatState) → IsOneEach participants seats

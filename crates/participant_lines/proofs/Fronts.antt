@@ -5,7 +5,7 @@ use Rattle.std.specs.Int.{w16, from_be_bytes}
 use Rattle.std.specs.Io.KnownBytes.{Consumes, IsAtEnd}
 use Rattle.std.proofs.KnownBytes.{Consumes-trans}
 use Rattle.reports.specs.Reading.{announced_length, LONGEST_BODY}
-use Rattle.reports.proofs.Messages.{announced_length-append}
+use Rattle.reports.specs.Lemmas.Messages.{announced_length-append}
 use Rattle.participant_lines.specs.Frames.{IsFrame, IsLength, IsPart}
 
 -- bytes that have what they announce begin with a frame

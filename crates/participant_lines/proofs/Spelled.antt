@@ -7,7 +7,7 @@ use Rattle.reports.specs.Spelling.{Spells}
 use Rattle.reports.specs.declared.fault.MessageFault.{MessageFault}
 use Rattle.reports.specs.declared.fault.MessageFault.TheVariants as fault
 use Rattle.reports.specs.declared.message.Message.{Message}
-use Rattle.reports.proofs.Fields.{passed, bind_ok, ok_is}
+use Rattle.reports.specs.Lemmas.Fields.{passed, bind_ok, ok_is}
 use Rattle.participant_lines.specs.Frames.{IsFrame}
 
 -- a message that is read of a frame takes all of it

@@ -11,8 +11,8 @@ use Rattle.std.proofs.lemmas.Result.{on_err_weaker, on_ok_weaker}
 use Rattle.std.proofs.lemmas.List.{get_or_default}
 use Rattle.std.proofs.lemmas.List.Edits.{insert_end, length-remove}
 use Rattle.tape_types.specs.RisingEntries.{HasRisingKeys, IsPosition, StandsIn, keyed, AllBelow}
-use Rattle.tape_types.proofs.RisingEntries.{entries-inserted, entries-removed, entries-replaced, find-absent, find-at, itself-seen, keyed-itself}
-use Rattle.tape_types.proofs.RisingEntries.{position-above, position-exists, removed-absent, stands-exists, vacant-above}
+use Rattle.tape_types.specs.Lemmas.RisingEntries.{entries-inserted, entries-removed, entries-replaced, find-absent, find-at, itself-seen, keyed-itself}
+use Rattle.tape_types.specs.Lemmas.RisingEntries.{position-above, position-exists, removed-absent, stands-exists, vacant-above}
 use Rattle.place_index.specs.Blocks.{EndsAt, IsBlockFor, IsBlockList, StandsAt, StartsAt, joined, BLOCK_MOST, values_in, values_of}
 use Rattle.place_index.specs.Places.{IsFirstPlace, IsLastPlace}
 use Rattle.place_index.proofs.BlockOrder.{absent-behind, absent-in, block-rising, blocks-insert, found-in, in-either, inside, set-back, stands-remove}

@@ -16,8 +16,8 @@ use Rattle.place_index.specs.Blocks.{HasLastBlock}
 use Rattle.place_index.proofs.BlockLists.{joined-append, sized-push}
 use Rattle.place_index.proofs.BlockOrder.{Under, sorted-left, sorted-right, under-top}
 use Rattle.place_index.proofs.BlockOrder.{top-right, find-top, absent-behind, first-entry, top-at}
-use Rattle.tape_types.proofs.NumberMaps.{key_itself, same_key}
-use Rattle.tape_types.proofs.RisingEntries.{and_left, and_rest, and_both, lt_from, vacant-above}
+use Rattle.tape_types.specs.Lemmas.NumberMaps.{key_itself, same_key}
+use Rattle.tape_types.specs.Lemmas.RisingEntries.{and_left, and_rest, and_both, lt_from, vacant-above}
 
 -- a number below another compares as less
 less_is : (x y : ℕ) → x < y → T (is_lt (nat_cmp x y))

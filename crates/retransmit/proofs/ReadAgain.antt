@@ -7,7 +7,7 @@ use Rattle.std.proofs.lemmas.Bool.{and_parts, cases_Bool, eqb-false, leb-true, l
 use Rattle.std.proofs.lemmas.List.{length-take}
 use Rattle.std.proofs.lemmas.List.Elements.{All-take, All-drop}
 use Rattle.reports.specs.Fields.{◌>>=◌, Reads, number_at, ranged_at}
-use Rattle.reports.proofs.Fields.{bind_ok, chosen, number_reader, ok_is, wide8}
+use Rattle.reports.specs.Lemmas.Fields.{bind_ok, chosen, number_reader, ok_is, wide8}
 use Rattle.tape_core.specs.declared.entry.Entry.{Entry}
 use Rattle.tape_frames.specs.declared.request.Request.{Request}
 use Rattle.tape_frames.specs.declared.request_fault.RequestFault.{RequestFault}
@@ -28,7 +28,7 @@ use Rattle.retransmit.specs.declared.refusal.Refusal.{Refusal}
 use Rattle.retransmit.specs.declared.refusal.Refusal.TheVariants.{OtherSession, Beyond, BadSpan}
 use Rattle.retransmit.proofs.LawProofs.{answers_are_read}
 use Rattle.retransmit.proofs.PacketRuns.{ArePackets-short, length-packet_texts}
-use Rattle.tape_frames.proofs.Lengths.{length-data_text}
+use Rattle.tape_frames.specs.Lemmas.Lengths.{length-data_text}
 
 -- a fact that holds anyway
 pub OnOk-always : {A E P : Type 0} (r : Result A E) → P → OnOk r P

@@ -8,7 +8,7 @@ use Rattle.std.specs.Io.KnownBytes.{Consumes}
 use Rattle.std.proofs.lemmas.Bool.{and_parts, cases_Bool, le-leb, le-ltb, leb-true, lt-ltb, ne_eqb}
 use Rattle.std.proofs.lemmas.List.{length-take, take_at, drop_at}
 use Rattle.reports.specs.Fields.{Reads, bytes_at, number_at, ranged_at}
-use Rattle.reports.proofs.Fields.{ok_is}
+use Rattle.reports.specs.Lemmas.Fields.{ok_is}
 use Rattle.retransmit.specs.Asking.{Follows, answered_at, as_is, answer_fault, range_at, texts_of}
 use Rattle.retransmit.specs.Faults.{refusal_code}
 use Rattle.row_reads.specs.FailedReads.{ReadsFewer}

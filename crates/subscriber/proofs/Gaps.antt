@@ -7,17 +7,17 @@ use Rattle.std.proofs.lemmas.Bool.{cases_lt, cond-true, lt-ltb, false≢true}
 use Rattle.std.proofs.lemmas.Option.{same_Some, slice_get-get_or, slice_get_past}
 use Rattle.tape_core.specs.declared.entry.Entry.{Entry}
 use Rattle.tape_frames.specs.Packets.{entries_of}
-use Rattle.tape_frames.proofs.Numbers.{slice_get-append-lt}
+use Rattle.tape_frames.specs.Lemmas.Numbers.{slice_get-append-lt}
 use Rattle.arbitration.specs.Windows.{flat, next_of, REACH}
 use Rattle.arbitration.specs.Deliveries.{entry_numbered, slots_after}
 use Rattle.arbitration.specs.Gaps.{waiting_entry, IsGap}
-use Rattle.arbitration.proofs.Windows.{REACH-asked}
-use Rattle.arbitration.proofs.Gaps.{waiting_at}
+use Rattle.arbitration.specs.Lemmas.Windows.{REACH-asked}
+use Rattle.arbitration.specs.Lemmas.Gaps.{waiting_at}
 use Rattle.subscriber.specs.Subscribers.{SubscriberState, with_entry, subscriber_after_entry, subscriber_after}
 use Rattle.subscriber.specs.Drains.{DrainsAll}
 use Rattle.subscriber.specs.Schedules.{World, Event, Admits, Closes, Comes, Drains, Restarts, world_after}
 use Rattle.subscriber.specs.Schedules.{run, IsSchedule, is_restart, brings, HasNoRestart, Brings}
-use Rattle.subscriber.proofs.Turns.{after_entry-keeps, length-with_entry}
+use Rattle.subscriber.specs.Lemmas.Turns.{after_entry-keeps, length-with_entry}
 use Rattle.subscriber.proofs.Sound.{IsSound, keeps, keeps_all}
 
 -- the entry of a number is held or waits

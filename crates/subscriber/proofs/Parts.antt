@@ -6,8 +6,8 @@ use Rattle.tape_core.specs.declared.entry.Entry.{Entry}
 use Rattle.tape_frames.specs.EntryRows.{IsNumberedFrom, last_number}
 use Rattle.arbitration.specs.Deliveries.{entry_numbered}
 use Rattle.tape_frames.specs.Cuts.{IsPartOf}
-use Rattle.tape_frames.proofs.Numbers.{IsNumberedFrom-append, slice_get-append-add, slice_get-append-lt, number_at}
-use Rattle.arbitration.proofs.Numbers.{numbered_place}
+use Rattle.tape_frames.specs.Lemmas.Numbers.{IsNumberedFrom-append, slice_get-append-add, slice_get-append-lt, number_at}
+use Rattle.arbitration.specs.Lemmas.Numbers.{numbered_place}
 
 -- an entry that a part has under a number is the tape's entry of that number
 pub part_at : (tape es : List Entry) → IsNumberedFrom 1 tape → IsPartOf es tape → (m : ℕ) (e : Entry) → entry_numbered (1 + m) es ≡ Some e

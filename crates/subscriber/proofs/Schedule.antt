@@ -16,14 +16,14 @@ use Rattle.tape_frames.specs.Packets.{entries_of, last_of, end_of}
 use Rattle.tape_frames.specs.declared.packet_fault.PacketFault.{PacketFault}
 use Rattle.tape_frames.specs.Reading.{packet_of}
 use Rattle.tape_frames.specs.Spelling.{Spells}
-use Rattle.tape_frames.proofs.Packets.{one_packet_spelling, packet_again}
-use Rattle.tape_frames.proofs.Numbers.{slice_get-append-add, slice_get-append-lt}
+use Rattle.tape_frames.specs.Lemmas.Packets.{one_packet_spelling, packet_again}
+use Rattle.tape_frames.specs.Lemmas.Numbers.{slice_get-append-add, slice_get-append-lt}
 use Rattle.arbitration.specs.declared.line.Line.{Line}
 use Rattle.arbitration.specs.declared.taken.Taken.{Taken}
 use Rattle.arbitration.specs.declared.deliver_fault.DeliverFault.{DeliverFault}
 use Rattle.arbitration.specs.declared.deliver_fault.DeliverFault.TheVariants.{Foreign, Conflict, PastEnd}
 use Rattle.arbitration.specs.Windows.{ready_entries, flat, next_of}
-use Rattle.arbitration.proofs.Gaps.{none_ready, ready-past}
+use Rattle.arbitration.specs.Lemmas.Gaps.{none_ready, ready-past}
 use Rattle.arbitration.specs.Deliveries.{known_entry, Agrees, Accepts, Refuses, window_after, is_beyond, is_other_end, is_past_end}
 use Rattle.subscriber.specs.declared.delivery_fault.DeliveryFault.{DeliveryFault}
 use Rattle.subscriber.specs.declared.delivery_fault.DeliveryFault.TheVariants as delivery
@@ -35,7 +35,7 @@ use Rattle.subscriber.specs.Drains.{Delivers, RefusesDelivery, DrainStops, Stops
 use Rattle.subscriber.specs.Schedules.{World, Event, Admits, Closes, Comes, Drains, Restarts, world_after}
 use Rattle.subscriber.specs.Schedules.{run, start, IsCut, announced_by, held_prefix, LeadsTo}
 use Rattle.subscriber.proofs.Due.{FromDue-at}
-use Rattle.subscriber.proofs.Turns.{after_entry-keeps, after_entry-admitted, after_entry-refused}
+use Rattle.subscriber.specs.Lemmas.Turns.{after_entry-keeps, after_entry-admitted, after_entry-refused}
 use Rattle.subscriber.proofs.Sound.{IsSound, tells, next_ready, next_own, takes, drains}
 
 -- a drain announces nothing

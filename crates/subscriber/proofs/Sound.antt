@@ -13,27 +13,27 @@ use Rattle.tape_core.specs.declared.entry.Entry.{Entry}
 use Rattle.tape_core.specs.declared.refusal.Refusal.{Refusal}
 use Rattle.tape_core.specs.Laws.{limit_refusal}
 use Rattle.tape_core.specs.Tape.{TapeState, IsLegal, refusal, next_entry, with_message}
-use Rattle.tape_core.proofs.LegalNext.{IsLegal-with_message, admissible}
-use Rattle.tape_core.proofs.LegalPrefix.{refusal-next, entry-next}
+use Rattle.tape_core.specs.Lemmas.LegalNext.{IsLegal-with_message, admissible}
+use Rattle.tape_core.specs.Lemmas.LegalPrefix.{refusal-next, entry-next}
 use Rattle.tape_frames.specs.declared.packet.Packet.{Packet}
 use Rattle.tape_frames.specs.declared.packet.Packet.TheVariants.{Data, Beat, End}
 use Rattle.tape_frames.specs.EntryRows.{last_number}
 use Rattle.tape_frames.specs.Packets.{session_of, entries_of, last_of, end_of}
-use Rattle.tape_frames.proofs.Legal.{legal-IsPublished}
-use Rattle.tape_frames.proofs.Numbers.{slice_get-append-add, slice_get-append-lt}
+use Rattle.tape_frames.specs.Lemmas.Legal.{legal-IsPublished}
+use Rattle.tape_frames.specs.Lemmas.Numbers.{slice_get-append-add, slice_get-append-lt}
 use Rattle.arbitration.specs.declared.line.Line.{Line}
 use Rattle.arbitration.specs.Deliveries.{entry_numbered}
 use Rattle.arbitration.specs.Windows.{next_of, flat, REACH}
-use Rattle.arbitration.proofs.Numbers.{find_place}
-use Rattle.arbitration.proofs.Slots.{length-slots_after}
+use Rattle.arbitration.specs.Lemmas.Numbers.{find_place}
+use Rattle.arbitration.specs.Lemmas.Slots.{length-slots_after}
 use Rattle.subscriber.specs.Drains.{DrainsAll}
 use Rattle.subscriber.specs.Subscribers.{SubscriberState, NextIsOwn, new_subscriber, own_entry, with_entry, subscriber_after_entry, subscriber_after}
 use Rattle.subscriber.specs.Schedules.{World, Event, Admits, Closes, Comes, Drains, Restarts, world_after}
 use Rattle.subscriber.specs.Schedules.{run, start, IsCut, IsAllowed, IsSchedule, LeadsTo, tape_after}
 use Rattle.subscriber.proofs.Parts.{part_at, part_stands, part_last}
 use Rattle.subscriber.proofs.Due.{FromDue, FromDue-replicate, FromDue-grow, FromDue-append, FromDue-slots_after}
-use Rattle.subscriber.proofs.Turns.{after_entry-admitted, after_entry-refused, own_runs}
-use Rattle.subscriber.proofs.Legal.{IsLegal-empty}
+use Rattle.subscriber.specs.Lemmas.Turns.{after_entry-admitted, after_entry-refused, own_runs}
+use Rattle.subscriber.specs.Lemmas.Legal.{IsLegal-empty}
 
 -- a world that a schedule leads to: the entries that are due were announced and are not held yet
 pub record IsSound (w : World) : Type 0 where

@@ -1,12 +1,12 @@
 -- How many entries are ready, told by the drains that take them.
 use Rattle.std.proofs.Common.{◌≡◌, ℕ, zero, suc, ◌+◌, length, None, sym, ap, subst, ◌∙◌, arith}
-use Rattle.arbitration.proofs.Gaps.{none_ready, ready-past}
+use Rattle.arbitration.specs.Lemmas.Gaps.{none_ready, ready-past}
 use Rattle.arbitration.specs.Windows.{next_of, ready_entries}
 use Rattle.subscriber.specs.Subscribers.{SubscriberState, with_entry, subscriber_after_entry, subscriber_after}
 use Rattle.subscriber.specs.declared.drain_fault.DrainFault.{DrainFault}
 use Rattle.subscriber.specs.Drains.{DrainsAll, DrainStops}
-use Rattle.subscriber.proofs.Failures.{at_most}
-use Rattle.subscriber.proofs.Turns.{after_entry-keeps, length-with_entry}
+use Rattle.subscriber.specs.Lemmas.Failures.{at_most}
+use Rattle.subscriber.specs.Lemmas.Turns.{after_entry-keeps, length-with_entry}
 
 -- how many entries are ready
 abbrev pub ready_count : SubscriberState → ℕ

@@ -18,7 +18,7 @@ use Rattle.tape_core.specs.Tape.{TapeState, refusal, messages_of, next_entry, wi
 use Rattle.tape_core.specs.Totals.{total_at, total_after}
 use Rattle.tape_core.proofs.Keeping.{place-vacant, number-vacant, place-present, place-theirs, entry-cancel, entry-correct, KeepsTape-report, KeepsTape-cancel}
 use Rattle.tape_core.proofs.Keeping.{KeepsTape-correct}
-use Rattle.tape_core.proofs.LegalNext.{admissible}
+use Rattle.tape_core.specs.Lemmas.LegalNext.{admissible}
 use Rattle.tape_core.proofs.NamedTargets.{IsTarget-faultless, IsTarget-standing}
 use Rattle.std.specs.FinMap as map
 

@@ -6,7 +6,7 @@ use Rattle.std.specs.FinMap as map
 use Rattle.sale_matrix.specs.declared.content.Content.{Content}
 use Rattle.symbol_book.specs.declared.trade.Trade.{Trade}
 use Rattle.symbol_book.specs.Columns.{Trades, with_content, trades_with_content, reported_trade}
-use Rattle.tape_types.proofs.NumberMaps.{key_itself, other_key}
+use Rattle.tape_types.specs.Lemmas.NumberMaps.{key_itself, other_key}
 
 -- a place that had a trade put in has it
 pub has-put : (m n : Trades) (k : ℕ) (v : Trade) → n ≡ map.insert m k v → IsSome (map.get n k)

@@ -1,3 +1,4 @@
+pub mod Lemmas
 pub mod ListingFaults
 pub mod Names
 pub mod Pairs

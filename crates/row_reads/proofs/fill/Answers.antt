@@ -1,5 +1,5 @@
 use Rattle.std.proofs.Common.{◌-◌, length, rules}
-use Rattle.row_reads.proofs.Fills.{failed_read, filled_more, filled_same}
+use Rattle.row_reads.specs.Lemmas.Fills.{failed_read, filled_more, filled_same}
 use Rattle.row_reads.proofs.fill.Goals as goal
 use Rattle.row_reads.proofs.fill.Goals.{in-Ok, in-Err+else-ne}
 

@@ -4,9 +4,9 @@ use Rattle.arbitration.specs.declared.taken.Taken.{Taken}
 use Rattle.arbitration.specs.Counts.{fresh_count, taken_with, placing_of}
 use Rattle.arbitration.specs.Deliveries.{slots_after}
 use Rattle.tape_frames.specs.EntryRows.{first_number}
-use Rattle.arbitration.proofs.Numbers.{row_numbers}
-use Rattle.arbitration.proofs.Slots.{slots_after-none, turn_slots}
-use Rattle.arbitration.proofs.Counts.{turn_taken, fresh_more}
+use Rattle.arbitration.specs.Lemmas.Numbers.{row_numbers}
+use Rattle.arbitration.specs.Lemmas.Slots.{slots_after-none, turn_slots}
+use Rattle.arbitration.specs.Lemmas.Counts.{turn_taken, fresh_more}
 use Rattle.arbitration.proofs.placing.settle.Goals as goal
 
 pub loop-entry-init : goal.loop-entry-init

@@ -1,4 +1,4 @@
-use Rattle.line_ledger.proofs.OneEach.{each_kept}
+use Rattle.line_ledger.specs.Lemmas.OneEach.{each_kept}
 use Rattle.line_ledger.proofs.laws.seats.Goals as goal
 
 pub returns : goal.returns

@@ -1,6 +1,6 @@
 use Rattle.std.proofs.Common.{rules, ◌≡◌, sym, ◌∙◌}
 use Rattle.tape_core.specs.Laws.{entry_eq}
-use Rattle.tape_core.proofs.Equality.{entry-Decides}
+use Rattle.tape_core.specs.Lemmas.Equality.{entry-Decides}
 use Rattle.line_ledger.proofs.same_entry.is_same.Goals as goal
 
 -- `==` of entries decides whether they are one

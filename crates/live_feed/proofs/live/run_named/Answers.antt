@@ -1,5 +1,5 @@
 use Rattle.std.proofs.Common.{rules}
-use Rattle.line_ledger.proofs.OneEach.{after_lines}
+use Rattle.line_ledger.specs.Lemmas.OneEach.{after_lines}
 use Rattle.live_feed.proofs.live.run_named.Goals as goal
 
 pub finish_day-requires : goal.finish_day-requires

@@ -1,5 +1,5 @@
 use Rattle.std.proofs.Common.{rules, ◌≤◌, ◌-◌, length, length-take-le, take, arith}
-use Rattle.row_reads.proofs.Fills.{put_front}
+use Rattle.row_reads.specs.Lemmas.Fills.{put_front}
 use Rattle.participant_lines.proofs.frame.read_on.Goals as goal
 
 pub returns-in-Some-clause-bytes : goal.returns-in-Some-clause-bytes

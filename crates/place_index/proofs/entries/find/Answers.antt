@@ -2,7 +2,7 @@ use Rattle.std.proofs.Common.{◌∙◌, sym}
 use Rattle.place_index.specs.Blocks.{values_of, values_in}
 use Rattle.place_index.proofs.Parts.{begun, blocks-valid, both-of, get-first, get-second, none-below, not-begun}
 use Rattle.place_index.proofs.entries.find.Goals as goal
-use Rattle.tape_types.proofs.RisingEntries.{vacant-above}
+use Rattle.tape_types.specs.Lemmas.RisingEntries.{vacant-above}
 
 pub find-requires-else-begins_by : goal.find-requires-else-begins_by
 find-requires-else-begins_by g c = blocks-valid c.args.blocks.now c.args.last.now c.requires

@@ -2,7 +2,7 @@ use Rattle.std.proofs.Common.{◌∙◌, sym}
 use Rattle.place_index.specs.Blocks.{values_of, values_in}
 use Rattle.place_index.proofs.Parts.{begun, blocks-remove_before, blocks-valid, both-of, get-first, get-second, last-remove, none-below, not-begun}
 use Rattle.place_index.proofs.entries.remove.Goals as goal
-use Rattle.tape_types.proofs.RisingEntries.{vacant-above}
+use Rattle.tape_types.specs.Lemmas.RisingEntries.{vacant-above}
 
 pub remove-requires-else-begins_by : goal.remove-requires-else-begins_by
 remove-requires-else-begins_by g c = record { valid = blocks-valid c.args.blocks.now.items c.args.last.now c.requires.valid }

@@ -2,7 +2,7 @@ use Rattle.std.proofs.Common.{◌∙◌, IsSome, sym, subst, arith}
 use Rattle.place_index.specs.Blocks.{values_of, values_in}
 use Rattle.place_index.proofs.Parts.{begun, blocks-insert_before, blocks-valid, both-of, get-first, get-second, last-insert, none-below, not-begun}
 use Rattle.place_index.proofs.entries.set.Goals as goal
-use Rattle.tape_types.proofs.RisingEntries.{vacant-above}
+use Rattle.tape_types.specs.Lemmas.RisingEntries.{vacant-above}
 
 pub set-requires : goal.set-requires
 set-requires g c =

@@ -1,6 +1,6 @@
 use Rattle.std.proofs.Common.{◌∙◌, Bor, List, ℕ, ap}
 use Rattle.std.proofs.lemmas.List.{take_rest}
-use Rattle.row_reads.proofs.WriteLemmas.{WritesUpTo-both, WritesUpTo-count, WritesUpTo-kept}
+use Rattle.row_reads.specs.Lemmas.WriteLemmas.{WritesUpTo-both, WritesUpTo-count, WritesUpTo-kept}
 use Rattle.row_reads.proofs.writing.write_text.Goals.{in-Err, in-Ok}
 use Rattle.row_reads.proofs.writing.write_text.Goals as goal
 

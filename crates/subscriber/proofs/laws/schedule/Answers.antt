@@ -2,14 +2,14 @@ use Rattle.std.proofs.Common.{◌≡◌, ◌+◌, ◌++◌, [], append-nil, leng
 use Rattle.std.proofs.lemmas.Bool.{both_ways, cases_lt, lt-ltb, ltb-true}
 use Rattle.arbitration.specs.Windows.{ready_entries}
 use Rattle.subscriber.specs.Schedules.{announced_by}
-use Rattle.tape_frames.proofs.Cuts.{cut_is_part}
+use Rattle.tape_frames.specs.Lemmas.Cuts.{cut_is_part}
 use Rattle.subscriber.proofs.Sound.{sound, next_own, after_drain}
 use Rattle.subscriber.proofs.Schedule.{announced_told, accepts, never_refused, bytes_come}
 use Rattle.subscriber.proofs.Schedule.{empties, honest_stop, prefix_summary, prefix_own_summary}
-use Rattle.subscriber.proofs.Failures.{runs, fails, other_summary}
+use Rattle.subscriber.specs.Lemmas.Failures.{runs, fails, other_summary}
 use Rattle.subscriber.proofs.Events.{admits, drain_event, stop_event}
 use Rattle.subscriber.proofs.Gaps.{gap_next, gap_filled}
-use Rattle.subscriber.proofs.Legal.{legal, fails_by_other}
+use Rattle.subscriber.specs.Lemmas.Legal.{legal, fails_by_other}
 use Rattle.subscriber.proofs.laws.schedule.Goals as goal
 
 pub returns-clause-tape : goal.returns-clause-tape

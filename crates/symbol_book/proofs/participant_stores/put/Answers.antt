@@ -3,7 +3,7 @@ use Rattle.std.specs.FinMap as map
 use Rattle.std.proofs.lemmas.Result.{on_ok_weaker, on_err_weaker}
 use Rattle.summaries.specs.Effects.{Effects}
 use Rattle.symbol_book.specs.Stores.{participant_effects, AllSettled, OwnBecomes}
-use Rattle.symbol_book.proofs.ParticipantStores.{OwnBecomes-set, OwnBecomes-from, participant_effects-read}
+use Rattle.symbol_book.specs.Lemmas.ParticipantStores.{OwnBecomes-set, OwnBecomes-from, participant_effects-read}
 use Rattle.symbol_book.proofs.participant_stores.put.Given.{Over}
 use Rattle.symbol_book.proofs.participant_stores.put.Goals as goal
 use Rattle.symbol_book.proofs.participant_stores.put.Goals.{After-index_mut, then-len-index+in_ok-make_room, else-len-index}

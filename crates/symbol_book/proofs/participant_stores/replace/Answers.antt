@@ -4,7 +4,7 @@ use Rattle.std.proofs.lemmas.Result.{on_ok_weaker, on_err_weaker}
 use Rattle.summaries.specs.Effects.{Effects}
 use Rattle.symbol_book.specs.Columns.{own_effect_of}
 use Rattle.symbol_book.specs.Stores.{participant_effects}
-use Rattle.symbol_book.proofs.ParticipantStores.{OwnBecomes-set, index-there, participant_effects-read}
+use Rattle.symbol_book.specs.Lemmas.ParticipantStores.{OwnBecomes-set, index-there, participant_effects-read}
 use Rattle.symbol_book.proofs.participant_stores.replace.Goals as goal
 
 pub index_mut-requires : goal.index_mut-requires

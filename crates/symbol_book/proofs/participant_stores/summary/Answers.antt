@@ -1,7 +1,7 @@
 use Rattle.std.proofs.Common.{◌<◌, ◌≤◌, length, ap, sym, ◌∙◌, rules}
 use Rattle.summaries.specs.Effects.{map_summary}
-use Rattle.symbol_book.proofs.ParticipantStores.{participant_effects-past, participant_effects-read}
-use Rattle.symbol_book.proofs.Entries.{summary-none}
+use Rattle.symbol_book.specs.Lemmas.ParticipantStores.{participant_effects-past, participant_effects-read}
+use Rattle.symbol_book.specs.Lemmas.Entries.{summary-none}
 use Rattle.symbol_book.proofs.participant_stores.summary.Goals as goal
 
 pub returns-in-Some : goal.returns-in-Some

@@ -2,7 +2,7 @@ use Rattle.std.proofs.Common.{◌≡◌, ◌<◌, length, ap, sym, ◌∙◌, su
 use Rattle.std.specs.FinMap as map
 use Rattle.summaries.specs.Effects.{Effects}
 use Rattle.symbol_book.specs.Stores.{participant_effects}
-use Rattle.symbol_book.proofs.ParticipantStores.{OwnBecomes-set, index-there, participant_effects-read}
+use Rattle.symbol_book.specs.Lemmas.ParticipantStores.{OwnBecomes-set, index-there, participant_effects-read}
 use Rattle.symbol_book.proofs.participant_stores.take.Goals as goal
 
 pub index_mut-requires : goal.index_mut-requires

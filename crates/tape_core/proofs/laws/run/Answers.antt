@@ -1,5 +1,5 @@
 use Rattle.tape_core.specs.Tape.{IsLegal, IsTape}
-use Rattle.tape_core.proofs.LegalNext.{IsLegal-with_message, IsTape-with_message}
+use Rattle.tape_core.specs.Lemmas.LegalNext.{IsLegal-with_message, IsTape-with_message}
 use Rattle.tape_core.proofs.RunLemmas.{Run-keeps}
 use Rattle.tape_core.proofs.laws.run.Goals as goal
 

@@ -1,4 +1,4 @@
-use Rattle.tape_frames.proofs.Lengths.{entry_lengths, packet_lengths, request_lengths}
+use Rattle.tape_frames.specs.Lemmas.Lengths.{entry_lengths, packet_lengths, request_lengths}
 use Rattle.tape_frames.proofs.spelling.spelling_lengths.Goals as goal
 
 pub returns-clause-entries : goal.returns-clause-entries

@@ -1,7 +1,7 @@
 use Rattle.std.proofs.Common.{◌<◌, ◌-◌, subst, sym, get_or, length, arith}
 use Rattle.std.proofs.lemmas.Bool.Decides.{nat_tests}
 use Rattle.tape_types.specs.RisingEntries.{IsPosition, keyed}
-use Rattle.tape_types.proofs.RisingEntries.{position-after_last, length-keyed, keyed-at}
+use Rattle.tape_types.specs.Lemmas.RisingEntries.{position-after_last, length-keyed, keyed-at}
 use Rattle.tape_types.proofs.rising_map.is_above_all.Goals as goal
 
 pub returns-in-Some : goal.returns-in-Some

@@ -3,7 +3,7 @@ use Rattle.std.specs.Cmp.{nat_cmp_total}
 use Rattle.std.specs.FinMap as map
 use Rattle.std.proofs.lemmas.Bool.Decides.{nat_tests}
 use Rattle.tape_types.specs.RisingEntries.{keyed}
-use Rattle.tape_types.proofs.RisingEntries.{find-absent, keyed-entry, length-keyed}
+use Rattle.tape_types.specs.Lemmas.RisingEntries.{find-absent, keyed-entry, length-keyed}
 use Rattle.tape_types.proofs.rising_map.locate.Goals as goal
 
 -- another key stands there

@@ -1,6 +1,6 @@
 use Rattle.std.proofs.Common.{ltb, rules}
 use Rattle.std.proofs.lemmas.List.Sorted.{IsPartitionPoint-from_clause, IsPartitionedBy-ltb}
-use Rattle.tape_types.proofs.RisingEntries.{keyed-rise, keyed-parted}
+use Rattle.tape_types.specs.Lemmas.RisingEntries.{keyed-rise, keyed-parted}
 use Rattle.tape_types.proofs.rising_map.position_of.Goals as goal
 
 -- the closure tests whether an entry's number is below

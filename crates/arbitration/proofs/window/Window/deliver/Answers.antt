@@ -8,9 +8,9 @@ use Rattle.arbitration.specs.Counts.{taken_of, brought_with}
 use Rattle.arbitration.specs.Deliveries.{slots_after, is_beyond, is_other_end}
 use Rattle.arbitration.specs.Inside.{state_of}
 use Rattle.std.proofs.Common.{max, ◌||◌}
-use Rattle.arbitration.proofs.Windows.{IsWindow-window_after, brought_fits, REACH-fits}
-use Rattle.arbitration.proofs.Numbers.{row_numbers}
-use Rattle.arbitration.proofs.Counts.{few_taken}
+use Rattle.arbitration.specs.Lemmas.Windows.{IsWindow-window_after, brought_fits, REACH-fits}
+use Rattle.arbitration.specs.Lemmas.Numbers.{row_numbers}
+use Rattle.arbitration.specs.Lemmas.Counts.{few_taken}
 use Rattle.arbitration.proofs.window.Window.deliver.Goals as goal
 
 pub add-requires : goal.add-requires

@@ -2,7 +2,7 @@ use Rattle.std.proofs.Common.{◌+◌, ap, sym, subst, ◌∙◌}
 use Rattle.std.specs.Prelude.{is_some}
 use Rattle.arbitration.specs.Windows.{WindowState, IsWindow, next_of}
 use Rattle.arbitration.specs.Inside.{state_of}
-use Rattle.arbitration.proofs.Windows.{IsWindow-window_past, rotated, some_slots}
+use Rattle.arbitration.specs.Lemmas.Windows.{IsWindow-window_past, rotated, some_slots}
 use Rattle.arbitration.proofs.window.Window.taken.Goals as goal
 
 pub invariant_of-self : goal.invariant_of-self

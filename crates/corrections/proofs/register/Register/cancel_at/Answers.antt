@@ -7,7 +7,7 @@ use Rattle.corrections.specs.Targets.{IsStanding, cancelled_target, with_cancell
 use Rattle.corrections.proofs.RegisterRows.{get-row, targets-insert}
 use Rattle.corrections.proofs.register.Register.cancel_at.Goals as goal
 use Rattle.corrections.proofs.register.Register.cancel_at.Goals.{in-Some, in_default}
-use Rattle.tape_types.proofs.RisingEntries.{keyed-get}
+use Rattle.tape_types.specs.Lemmas.RisingEntries.{keyed-get}
 
 pub set_at-requires : goal.set_at-requires
 set_at-requires c =

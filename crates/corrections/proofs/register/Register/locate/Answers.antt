@@ -7,7 +7,7 @@ use Rattle.corrections.specs.Targets.{standing_answer, target_answer}
 use Rattle.corrections.proofs.RegisterRows.{get-row}
 use Rattle.corrections.proofs.register.Register.locate.Goals.{After-ne}
 use Rattle.corrections.proofs.register.Register.locate.Goals as goal
-use Rattle.tape_types.proofs.RisingEntries.{keyed-get}
+use Rattle.tape_types.specs.Lemmas.RisingEntries.{keyed-get}
 
 -- the target's key names the report that was read
 there : (c : After-ne) → map.get (targets_of c.args.self.now) (c.args.who, c.args.target)

@@ -2,7 +2,7 @@ use Rattle.std.proofs.Common.{rules, ◌≡◌, None, map, subst}
 use Rattle.tape_types.specs.Names.{names_fault}
 use Rattle.line_ledger.specs.Ends.{IsOneEach}
 use Rattle.line_ledger.specs.Seats.{untold}
-use Rattle.line_ledger.proofs.OneEach.{opened_each}
+use Rattle.line_ledger.specs.Lemmas.OneEach.{opened_each}
 use Rattle.line_ledger.proofs.locked.Locked.start.Goals as goal
 
 -- the participants of a listing are distinct

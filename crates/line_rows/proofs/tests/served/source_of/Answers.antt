@@ -1,6 +1,6 @@
 use Rattle.std.proofs.Common.{sym, subst}
 use Rattle.tape_frames.specs.Sources.{IsPublished}
-use Rattle.tape_frames.proofs.Legal.{legal-IsPublished}
+use Rattle.tape_frames.specs.Lemmas.Legal.{legal-IsPublished}
 use Rattle.line_rows.proofs.tests.served.source_of.Goals as goal
 
 pub new-requires : goal.new-requires

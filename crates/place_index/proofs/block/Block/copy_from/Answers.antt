@@ -1,7 +1,7 @@
 use Rattle.std.proofs.Common.{◌≤◌, ap, subst, sym, length, ◌∙◌}
 use Rattle.std.specs.FinMap as map
 use Rattle.place_index.specs.Blocks.{top}
-use Rattle.tape_types.proofs.RisingEntries.{keyed-itself}
+use Rattle.tape_types.specs.Lemmas.RisingEntries.{keyed-itself}
 use Rattle.place_index.proofs.block.Block.copy_from.Goals as goal
 
 pub copy_from-requires : goal.copy_from-requires

@@ -1,6 +1,6 @@
 use Rattle.std.proofs.Common.{[], ap, sym, ◌∙◌}
 use Rattle.std.specs.FinMap as map
-use Rattle.tape_types.proofs.RisingEntries.{entries-seen}
+use Rattle.tape_types.specs.Lemmas.RisingEntries.{entries-seen}
 use Rattle.place_index.specs.Blocks.{top}
 use Rattle.place_index.proofs.block.Block.empty.Goals as goal
 

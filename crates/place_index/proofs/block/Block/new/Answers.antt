@@ -2,7 +2,7 @@ use Rattle.std.proofs.Common.{[], ap, sym, ◌∙◌}
 use Rattle.std.specs.Ordering.{nat_cmp}
 use Rattle.std.specs.Cmp.{nat_cmp_total}
 use Rattle.std.specs.FinMap as map
-use Rattle.tape_types.proofs.RisingEntries.{entries-seen}
+use Rattle.tape_types.specs.Lemmas.RisingEntries.{entries-seen}
 use Rattle.place_index.specs.Blocks.{top}
 use Rattle.place_index.proofs.block.Block.new.Goals as goal
 

@@ -1,7 +1,7 @@
 use Rattle.std.proofs.Common.{ap, sym, ◌∙◌}
 use Rattle.std.specs.FinMap as map
 use Rattle.place_index.specs.Blocks.{top}
-use Rattle.tape_types.proofs.RisingEntries.{keyed-itself}
+use Rattle.tape_types.specs.Lemmas.RisingEntries.{keyed-itself}
 use Rattle.place_index.proofs.BlockMaps.{absent-same, length-out, seen, taken-out, values-removed}
 use Rattle.place_index.proofs.block.Block.remove.Goals as goal
 

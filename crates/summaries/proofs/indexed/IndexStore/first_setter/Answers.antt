@@ -1,7 +1,7 @@
 use Rattle.std.proofs.Common.{ap, subst, sym, ◌∙◌}
 use Rattle.std.specs.Prelude.{T}
 use Rattle.std.proofs.lemmas.Map.Keys.{ge_from_not_lt}
-use Rattle.tape_types.proofs.RisingEntries.{lt_from}
+use Rattle.tape_types.specs.Lemmas.RisingEntries.{lt_from}
 use Rattle.summaries.specs.Effects.{Effects, Change}
 use Rattle.summaries.proofs.Ends.{setter_conditional, setter_always, setter_both_always, setter_both_conditional}
 use Rattle.summaries.proofs.indexed.IndexStore.first_setter.Goals as goal

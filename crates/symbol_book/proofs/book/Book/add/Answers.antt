@@ -3,8 +3,8 @@ use Rattle.std.specs.FinMap as map
 use Rattle.symbol_book.specs.declared.trade.Trade.{Trade}
 use Rattle.symbol_book.specs.Columns.{content_of, reported_trade, consolidated_effect_of, own_effect_of}
 use Rattle.symbol_book.specs.Stores.{participant_effects, OwnBecomes}
-use Rattle.symbol_book.proofs.ParticipantStores.{OwnBecomes-here}
-use Rattle.symbol_book.proofs.HeldTrades.{Book-same, Book-add, Book-undone, get-inserted, on_err_any}
+use Rattle.symbol_book.specs.Lemmas.ParticipantStores.{OwnBecomes-here}
+use Rattle.symbol_book.specs.Lemmas.HeldTrades.{Book-same, Book-add, Book-undone, get-inserted, on_err_any}
 use Rattle.symbol_book.proofs.book.Book.add.Goals as goal
 
 pub invariant_of-self : goal.invariant_of-self

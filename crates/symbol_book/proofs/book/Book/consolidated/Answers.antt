@@ -1,6 +1,6 @@
 use Rattle.std.proofs.Common.{ap, ◌∙◌}
 use Rattle.symbol_book.specs.Columns.{consolidated_summary}
-use Rattle.symbol_book.proofs.Entries.{consolidated-is}
+use Rattle.symbol_book.specs.Lemmas.Entries.{consolidated-is}
 use Rattle.symbol_book.proofs.book.Book.consolidated.Goals as goal
 
 pub returns : goal.returns

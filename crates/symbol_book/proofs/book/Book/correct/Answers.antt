@@ -3,7 +3,7 @@ use Rattle.std.specs.FinMap as map
 use Rattle.symbol_book.specs.declared.trade.Trade.{Trade}
 use Rattle.symbol_book.specs.Columns.{Trades, reported_trade, consolidated_effect_of, own_effect_of, trades_with_content}
 use Rattle.symbol_book.specs.Stores.{book_trades, participant_effects, OwnBecomes}
-use Rattle.symbol_book.proofs.HeldTrades.{Book-replace, Book-same, effect_of_theirs, trades_with_content-is, either, on_ok_both, on_err_both}
+use Rattle.symbol_book.specs.Lemmas.HeldTrades.{Book-replace, Book-same, effect_of_theirs, trades_with_content-is, either, on_ok_both, on_err_both}
 use Rattle.symbol_book.proofs.book.Book.correct.Goals as goal
 
 pub invariant_of-self : goal.invariant_of-self

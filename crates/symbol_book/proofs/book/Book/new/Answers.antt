@@ -1,5 +1,5 @@
 use Rattle.std.specs.FinMap as map
-use Rattle.symbol_book.proofs.HeldTrades.{trades-unique, IsBook-holds, HoldTrades-empty, AllSettled-empty}
+use Rattle.symbol_book.specs.Lemmas.HeldTrades.{trades-unique, IsBook-holds, HoldTrades-empty, AllSettled-empty}
 use Rattle.symbol_book.proofs.book.Book.new.Goals as goal
 
 pub invariant_of-result : goal.invariant_of-result

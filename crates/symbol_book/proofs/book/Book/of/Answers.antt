@@ -2,7 +2,7 @@ use Rattle.std.proofs.Common.{ap, ◌∙◌}
 use Rattle.summaries.specs.Effects.{map_summary}
 use Rattle.symbol_book.specs.Columns.{own_summary}
 use Rattle.symbol_book.specs.Stores.{participant_effects}
-use Rattle.symbol_book.proofs.Entries.{own-is}
+use Rattle.symbol_book.specs.Lemmas.Entries.{own-is}
 use Rattle.symbol_book.proofs.book.Book.of.Goals as goal
 
 pub returns : goal.returns

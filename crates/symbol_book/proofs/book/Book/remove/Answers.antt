@@ -1,6 +1,6 @@
 use Rattle.std.proofs.Common.{ap, ◌∙◌}
 use Rattle.std.specs.FinMap as map
-use Rattle.symbol_book.proofs.HeldTrades.{Book-remove}
+use Rattle.symbol_book.specs.Lemmas.HeldTrades.{Book-remove}
 use Rattle.symbol_book.proofs.book.Book.remove.Goals as goal
 
 pub invariant_of-self : goal.invariant_of-self

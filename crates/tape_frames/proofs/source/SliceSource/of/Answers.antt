@@ -1,6 +1,6 @@
 use Rattle.std.proofs.Common.{subst, sym}
 use Rattle.tape_frames.specs.Sources.{IsPublished}
-use Rattle.tape_frames.proofs.Legal.{legal-IsPublished}
+use Rattle.tape_frames.specs.Lemmas.Legal.{legal-IsPublished}
 use Rattle.tape_frames.proofs.source.SliceSource.of.Goals as goal
 
 pub invariant_of-result : goal.invariant_of-result

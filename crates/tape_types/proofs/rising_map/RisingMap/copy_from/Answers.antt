@@ -2,7 +2,7 @@ use Rattle.std.proofs.Common.{◌≤◌, ap, ◌∙◌, subst, sym, length, drop
 use Rattle.std.specs.Ordering.{nat_cmp}
 use Rattle.std.specs.FinMap as map
 use Rattle.tape_types.specs.RisingEntries.{HasRisingKeys, keyed}
-use Rattle.tape_types.proofs.RisingEntries.{entries-seen, keyed-drop, length-keyed, rising-drop}
+use Rattle.tape_types.specs.Lemmas.RisingEntries.{entries-seen, keyed-drop, length-keyed, rising-drop}
 use Rattle.tape_types.proofs.rising_map.RisingMap.copy_from.Goals as goal
 
 pub copied_from-requires : goal.copied_from-requires

@@ -1,7 +1,7 @@
 use Rattle.std.proofs.Common.{sym, ap, ◌∙◌}
 use Rattle.std.specs.FinMap as map
 use Rattle.tape_types.specs.RisingEntries.{keyed}
-use Rattle.tape_types.proofs.RisingEntries.{entries-seen}
+use Rattle.tape_types.specs.Lemmas.RisingEntries.{entries-seen}
 use Rattle.tape_types.proofs.rising_map.RisingMap.entries.Goals as goal
 
 pub returns : goal.returns

@@ -1,7 +1,7 @@
 use Rattle.std.proofs.Common.{◌<◌, sym, ap, ◌∙◌, Some, subst, length}
 use Rattle.std.specs.FinMap as map
 use Rattle.tape_types.specs.RisingEntries.{StandsIn, keyed}
-use Rattle.tape_types.proofs.RisingEntries.{keyed-entry, keyed-found, length-keyed}
+use Rattle.tape_types.specs.Lemmas.RisingEntries.{keyed-entry, keyed-found, length-keyed}
 use Rattle.tape_types.proofs.rising_map.RisingMap.get.Goals as goal
 
 pub returns : goal.returns

@@ -1,6 +1,6 @@
 use Rattle.std.proofs.Common.{ap, ◌∙◌}
 use Rattle.std.specs.FinMap as map
-use Rattle.tape_types.proofs.RisingEntries.{keyed-inserted, keyed-pushed}
+use Rattle.tape_types.specs.Lemmas.RisingEntries.{keyed-inserted, keyed-pushed}
 use Rattle.tape_types.proofs.rising_map.RisingMap.insert.Goals as goal
 
 -- a key above all others goes to the end

@@ -1,5 +1,5 @@
 use Rattle.std.proofs.Common.{ap, ◌∙◌}
-use Rattle.tape_types.proofs.RisingEntries.{length-seen}
+use Rattle.tape_types.specs.Lemmas.RisingEntries.{length-seen}
 use Rattle.tape_types.proofs.rising_map.RisingMap.len.Goals as goal
 
 pub returns : goal.returns

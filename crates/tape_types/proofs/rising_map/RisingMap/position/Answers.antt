@@ -3,7 +3,7 @@ use Rattle.std.specs.Prelude.{MatchOption}
 use Rattle.std.specs.Ordering.{nat_cmp}
 use Rattle.std.specs.FinMap as map
 use Rattle.tape_types.specs.RisingEntries.{StandsIn, keyed}
-use Rattle.tape_types.proofs.RisingEntries.{keyed-seen}
+use Rattle.tape_types.specs.Lemmas.RisingEntries.{keyed-seen}
 use Rattle.tape_types.proofs.rising_map.RisingMap.position.Goals as goal
 
 pub returns : goal.returns

@@ -2,7 +2,7 @@ use Rattle.std.proofs.Common.{◌≡◌, ◌<◌, ℕ, ap, ◌∙◌, subst, sym
 use Rattle.std.specs.FinMap as map
 use Rattle.std.proofs.lemmas.Bool.Decides.{nat_tests}
 use Rattle.tape_types.specs.RisingEntries.{StandsIn, keyed}
-use Rattle.tape_types.proofs.RisingEntries.{keyed-entry, keyed-seen, length-keyed, stands-at}
+use Rattle.tape_types.specs.Lemmas.RisingEntries.{keyed-entry, keyed-seen, length-keyed, stands-at}
 use Rattle.tape_types.proofs.rising_map.RisingMap.position_near.Goals as goal
 
 -- the entry at the hint has the key, so the key stands there

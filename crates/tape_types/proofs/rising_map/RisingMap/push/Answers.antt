@@ -1,7 +1,7 @@
 use Rattle.std.proofs.Common.{ap, ◌∙◌, subst, sym}
 use Rattle.std.specs.FinMap as map
 use Rattle.tape_types.specs.RisingEntries.{AllBelow, IsPosition, keyed}
-use Rattle.tape_types.proofs.RisingEntries.{keyed-pushed, length-keyed, position-above, vacant-above}
+use Rattle.tape_types.specs.Lemmas.RisingEntries.{keyed-pushed, length-keyed, position-above, vacant-above}
 use Rattle.tape_types.proofs.rising_map.RisingMap.push.Goals as goal
 
 pub invariant_of-self-2 : goal.invariant_of-self-2

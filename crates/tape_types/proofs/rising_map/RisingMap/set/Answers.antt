@@ -3,7 +3,7 @@ use Rattle.std.specs.Prelude.{MatchOption}
 use Rattle.std.specs.Ordering.{nat_cmp}
 use Rattle.std.specs.FinMap as map
 use Rattle.tape_types.specs.RisingEntries.{StandsIn, keyed}
-use Rattle.tape_types.proofs.RisingEntries.{keyed-entry, keyed-found, keyed-replaced, length-keyed}
+use Rattle.tape_types.specs.Lemmas.RisingEntries.{keyed-entry, keyed-found, keyed-replaced, length-keyed}
 use Rattle.tape_types.proofs.rising_map.RisingMap.set.Goals as goal
 
 pub invariant_of-self : goal.invariant_of-self

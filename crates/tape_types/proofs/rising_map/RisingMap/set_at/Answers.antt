@@ -1,7 +1,7 @@
 use Rattle.std.proofs.Common.{◌<◌, ℕ, ap, ◌∙◌, subst, sym, length}
 use Rattle.std.specs.FinMap as map
 use Rattle.tape_types.specs.RisingEntries.{StandsIn, keyed}
-use Rattle.tape_types.proofs.RisingEntries.{keyed-entry, keyed-replaced, keyed-seen, length-keyed, length-seen, stands-at}
+use Rattle.tape_types.specs.Lemmas.RisingEntries.{keyed-entry, keyed-replaced, keyed-seen, length-keyed, length-seen, stands-at}
 use Rattle.tape_types.proofs.rising_map.RisingMap.set_at.Goals as goal
 
 pub index-requires : goal.index-requires

@@ -2,7 +2,7 @@ use Rattle.std.proofs.Common.{ap, ◌∙◌, subst, sym, take}
 use Rattle.std.specs.Ordering.{nat_cmp}
 use Rattle.std.specs.FinMap as map
 use Rattle.tape_types.specs.RisingEntries.{HasRisingKeys, keyed}
-use Rattle.tape_types.proofs.RisingEntries.{entries-seen, keyed-take, rising-take}
+use Rattle.tape_types.specs.Lemmas.RisingEntries.{entries-seen, keyed-take, rising-take}
 use Rattle.tape_types.proofs.rising_map.RisingMap.truncate.Goals as goal
 
 pub invariant_of-self : goal.invariant_of-self

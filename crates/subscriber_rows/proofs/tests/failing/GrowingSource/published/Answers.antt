@@ -1,4 +1,4 @@
-use Rattle.tape_frames.proofs.Sources.{IsPublished-take}
+use Rattle.tape_frames.specs.Lemmas.Sources.{IsPublished-take}
 use Rattle.subscriber_rows.proofs.tests.failing.GrowingSource.published.Goals as goal
 
 pub returns-clause-published : goal.returns-clause-published

@@ -1,5 +1,5 @@
 use Rattle.std.proofs.Common.{◌≤◌, rules}
-use Rattle.retransmit.proofs.Fronts.{BeginsWith-take}
+use Rattle.retransmit.specs.Lemmas.Fronts.{BeginsWith-take}
 use Rattle.subscriber_rows.proofs.tests.failing.GrowingSource.refresh.Goals as goal
 
 pub returns-clause-ok : goal.returns-clause-ok

@@ -1,0 +1,4 @@
+pub mod Drains
+pub mod Failures
+pub mod Legal
+pub mod Turns

@@ -1,0 +1,4 @@
+pub mod Ascending
+pub mod At
+pub mod LastLaw
+pub mod OtherLaws

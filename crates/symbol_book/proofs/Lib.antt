@@ -1,3 +1,0 @@
-pub mod Entries
-mod HeldTrades
-mod ParticipantStores

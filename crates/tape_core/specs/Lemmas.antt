@@ -1,0 +1,4 @@
+pub mod Equality
+pub mod LegalNext
+pub mod LegalPrefix
+pub mod WrongNumber

@@ -1,0 +1,9 @@
+pub mod Cuts
+mod Entries
+pub mod GrowingRows
+pub mod Legal
+pub mod Lengths
+pub mod Numbers
+pub mod Packets
+pub mod Sources
+mod Summaries

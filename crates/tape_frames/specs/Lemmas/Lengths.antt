@@ -1,0 +1,87 @@
+-- How long the spellings are.
+use Rattle.std.proofs.Common.{◌≡◌, ℕ, ◌+◌, ◌*◌, ◌≤◌, List, [], ◌∷◌, ◌++◌, length, length-append, Option, Some, None, refl, arith}
+use Rattle.std.specs.Prelude.{All, flat_map}
+use Rattle.std.proofs.lemmas.List.Elements.{All-head, All-tail}
+use Rattle.reports.specs.declared.message.Message.{Message}
+use Rattle.reports.specs.declared.message.Message.TheVariants.{Report, Cancel, Correct}
+use Rattle.reports.specs.Messages.{named_target}
+use Rattle.reports.specs.Spelling.{kind_byte, spelling}
+use Rattle.reports.specs.Lemmas.Messages.{body_length, length-spelling}
+use Rattle.scratch_fold.specs.declared.summary.Summary.{Summary}
+use Rattle.tape_core.specs.declared.entry.Entry.{Entry}
+use Rattle.tape_frames.specs.declared.packet.Packet.TheVariants.{Data, Beat, End}
+use Rattle.tape_frames.specs.Kinds.{DATA}
+use Rattle.tape_frames.specs.Limits.{ENTRIES_MOST, SUMMARY_LENGTH, LONGEST_ENTRY, LONGEST_PACKET}
+use Rattle.tape_frames.specs.Lengths.{EntryLengths, PacketLengths, RequestLengths, entry_length}
+use Rattle.tape_frames.specs.EntryRows.{CarriesFor, first_number}
+use Rattle.tape_frames.specs.Spelling as frames
+use Rattle.tape_frames.specs.Spelling.{IsEntry, carried_text, entry_text, packet_text}
+use Rattle.tape_frames.specs.Lemmas.Summaries.{length-summary_text}
+use Rattle.tape_frames.specs.Lemmas.Packets.{length-packet_text}
+
+-- ---- entries
+
+-- what is carried where a target is named is a summary
+abbrev carried_length : Option ℕ → ℕ
+carried_length None = 0
+carried_length (Some target) = SUMMARY_LENGTH
+
+-- what is carried is as long as the kind asks for
+length-carried_text : (named : Option ℕ) (after : Option Summary) → CarriesFor named after → length (carried_text after) ≡ carried_length named
+length-carried_text None None carries = refl
+length-carried_text None (Some z) carries = absurd (cc carries)
+length-carried_text (Some n) None carries = absurd (cc carries)
+length-carried_text (Some n) (Some z) carries = length-summary_text z
+
+-- the three parts of an entry together
+entry_sum : (m : Message) → 4 + (2 + body_length (kind_byte m) + carried_length (named_target m)) ≡ entry_length m
+entry_sum (Report h c) = refl
+entry_sum (Cancel h n) = refl
+entry_sum (Correct h n c) = refl
+
+-- each entry has as many bytes as its kind asks for
+pub entry_lengths : EntryLengths
+entry_lengths e is = omega (
+  arith,
+  length-append (spelling e.message) (carried_text e.after),
+  length-spelling e.message is.message,
+  length-carried_text (named_target e.message) e.after is.carries,
+  entry_sum e.message,
+)
+
+-- no entry is longer than a correction
+entry_at_most : (m : Message) → entry_length m ≤ LONGEST_ENTRY
+entry_at_most (Report h c) = omega arith
+entry_at_most (Cancel h n) = omega arith
+entry_at_most (Correct h n c) = omega arith
+
+-- ---- packets
+
+-- entries are no longer than as many corrections
+length-entries : (es : List Entry) → All IsEntry es → length (flat_map entry_text es) ≤ LONGEST_ENTRY * length es
+length-entries [] all = omega arith
+length-entries (e ∷ es) all =
+    let first : IsEntry e = All-head IsEntry e es all in
+    omega (
+      arith,
+      length-append (entry_text e) (flat_map entry_text es),
+      entry_lengths e first,
+      entry_at_most e.message,
+      length-entries es (All-tail IsEntry e es all),
+    )
+
+-- a data packet of no more entries than a packet has is no longer than the longest packet
+pub length-data_text : (session : ℕ) (es : List Entry) → All IsEntry es → length es ≤ ENTRIES_MOST
+    → length (packet_text (Data session es)) ≤ LONGEST_PACKET
+length-data_text session es all few =
+    omega (arith, length-append (frames.header_text DATA session (first_number es) (length es)) (flat_map entry_text es), length-entries es all, few)
+
+-- each packet has a header at least, and no packet is longer than the longest
+pub packet_lengths : PacketLengths
+packet_lengths (Data session es) is = (length-packet_text (Data session es), length-data_text session es is.1.1 is.1.0.few)
+packet_lengths (Beat session last) is = (length-packet_text (Beat session last), omega arith)
+packet_lengths (End session count) is = (length-packet_text (End session count), omega arith)
+
+-- all requests have the same length
+pub request_lengths : RequestLengths
+request_lengths r = omega arith

@@ -1,0 +1,3 @@
+pub mod NumberMaps
+pub mod Pairs
+pub mod RisingEntries
