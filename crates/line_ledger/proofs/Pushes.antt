@@ -1,8 +1,7 @@
 -- Lists of tokens, and of what was seen, with one more, and the front of such a list.
 use Rattle.std.proofs.Common.{◌≡◌, ℕ, ◌+◌, ◌<◌, List, [], ◌∷◌, ◌++◌, length, length-append, min, take, slice_index_or, sym, ap, ◌∙◌, ◌⊎◌, inl, inr, arith}
 use Rattle.std.proofs.Math.Nat.{eq-or-lt_of_le}
-use Rattle.std.proofs.lemmas.List.{append-nil, append_assoc, get_or_append_left, get_or_push, get_or-take, length-take, length-map, map-append, take_at}
-use Rattle.std.proofs.lemmas.List.{take-map}
+use Rattle.std.proofs.lemmas.List.{append-nil, append_assoc, get_or_append_left, get_or_push, get_or-take, length-take, length-map, map-append, take-map}
 use Rattle.tape_core.specs.declared.entry.Entry.{Entry}
 use Rattle.tape_frames.specs.EntryRows.{Carries}
 use Rattle.tape_frames.specs.Sources.{BeginsWith, IsPublished}
@@ -84,7 +83,3 @@ goes_on_push ts ts' t pushed = (t ∷ [], pushed)
 -- what the tokens show goes on as they do
 pub shown_goes_on : (ts ts' : List TokenState) → GoesOn ts ts' → BeginsWith (shown ts) (shown ts')
 shown_goes_on ts ts' on = (shown on.0, ap shown on.1 ∙ map-append (λ (t : TokenState). t.entry) ts on.0)
-
--- the front that was there before shows what was shown before
-pub shown_kept : (ts ts' ts'' : List TokenState) (n : ℕ) → GoesOn ts ts' → n ≡ length ts → ts'' ≡ take n ts' → shown ts'' ≡ shown ts
-shown_kept ts ts' ts'' n on len cut = ap shown (cut ∙ ap (take n) on.1 ∙ take_at ts on.0 n (sym len))

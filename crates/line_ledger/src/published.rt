@@ -112,7 +112,7 @@ impl<D: DayName> Source for Published<'_, D> {
 
     /// Looks on from its own count, up to the first cell that shows no entry which can follow. Where memory runs out, it is as
     /// it was.
-    #[tactic(auto, using(crate::proofs::Pushes::goes_on_more, crate::proofs::Pushes::goes_on_none, crate::proofs::Pushes::shown_goes_on, crate::proofs::Pushes::shown_kept))]
+    #[tactic(auto, using(crate::proofs::Pushes::shown_goes_on))]
     fn refresh(&mut self) -> Result<(), AllocError>
         ensures cells { self.new.names ≡ self.old.names }
         ensures tokens { OnOk result (GoesOn self.old.tokens self.new.tokens) }
