@@ -43,7 +43,8 @@ find-before w n who (row ∷ rows) before =
 find-row : (w n who i : ℕ) (rows : List Row) → who + i ≡ w → find pair_cmp (w, n) (row_entries who rows) ≡ map.get (get_or rows i empty_row).values n
 find-row w n who i [] at = sym (map.get-empty nat_cmp n)
 find-row w n who zero (row ∷ rows) at =
-    find-same w n who (map.entries row.values) (row_entries (who + 1) rows) (omega arith) (find-before w n (who + 1) rows (omega arith)) ∙ sym (map.get-entries row.values n)
+    find-same w n who (map.entries row.values) (row_entries (who + 1) rows) (omega arith) (find-before w n (who + 1) rows (omega arith))
+    ∙ sym (map.get-entries row.values n)
 find-row w n who (suc i) (row ∷ rows) at =
     find-other w n who (map.entries row.values) (row_entries (who + 1) rows) (λ same. omega arith) ∙ find-row w n (who + 1) i rows (omega arith)
 
@@ -75,7 +76,8 @@ same_rows rows m before rest = map.same_map pair_total pair_exact _ _ (λ q. eli
 -- empty rows have no target
 pub targets-empty : (rows : List Row) → ((i : ℕ) → i < length rows → (get_or rows i empty_row).values ≡ map.empty) → targets_of_rows rows ≡ map.empty
 targets-empty rows empty = same_rows rows map.empty (λ w n lt. map.get-empty pair_cmp (w, n)) (λ i n.
-    let none : (get_or rows i empty_row).values ≡ map.empty = elim (cases_lt i (length rows)) [ inl lt ↦ empty i lt | inr le ↦ ap (λ (r : Row). r.values) (get_or_past rows i empty_row le) ] in
+    let none : (get_or rows i empty_row).values ≡ map.empty =
+    elim (cases_lt i (length rows)) [ inl lt ↦ empty i lt | inr le ↦ ap (λ (r : Row). r.values) (get_or_past rows i empty_row le) ] in
     ap (λ row. map.get row n) none ∙ map.get-empty nat_cmp n ∙ sym (map.get-empty pair_cmp (FIRST_PARTICIPANT + i, n)))
 
 -- one more target in a row is one more of the day

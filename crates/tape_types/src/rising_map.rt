@@ -1,5 +1,6 @@
 //! A finite map in one vector.
-ghost use Rattle.std.specs.Prelude.{◌≡◌, ◌-◌, ◌<◌, ◌≤◌, ℕ, length, take, drop, vec_len, vec_capacity, IfOk, OnOk, OnErr, MatchOption, IsSome, IsTrue, Some, None};
+ghost use Rattle.std.specs.Prelude.{◌≡◌, ◌-◌, ◌<◌, ◌≤◌, ℕ, length, take, drop, vec_len, vec_capacity};
+ghost use Rattle.std.specs.Prelude.{IfOk, OnOk, OnErr, MatchOption, IsSome, IsTrue, Some, None};
 ghost use Rattle.std.specs.Ordering.{nat_cmp};
 ghost use Rattle.std.specs.FinMap as map;
 ghost use Rattle.tape_types.specs.RisingEntries.{AllBelow, HasRisingKeys, IsPosition, StandsIn, keyed};

@@ -9,7 +9,8 @@ use Rattle.tape_types.specs.Ranges.{FIRST_PARTICIPANT, LAST_PARTICIPANT, IsParti
 use Rattle.scratch_fold.specs.declared.summary.Mark.{Mark}
 use Rattle.scratch_fold.specs.declared.summary.Summary.{Summary}
 use Rattle.reports.specs.Fields.{number_at, ranged_at, text_at}
-use Rattle.reports.specs.Lemmas.Fields.{IsReader, Takes, Takes-then, first_taken, number_reader, ok_is, passed, ranged_reader, text_reader, wide8, wide32, wide64}
+use Rattle.reports.specs.Lemmas.Fields.{IsReader, Takes, Takes-then, first_taken, number_reader, ok_is, passed, ranged_reader, text_reader}
+use Rattle.reports.specs.Lemmas.Fields.{wide8, wide32, wide64}
 use Rattle.tape_frames.specs.declared.packet_fault.PacketFault.TheVariants.{Short, BadEntry}
 use Rattle.tape_frames.specs.Limits.{MARK_LENGTH, ALL_MARKS, SUMMARY_LENGTH}
 use Rattle.tape_frames.specs.Spelling.{IsFigure, IsMark, IsSummary, bit, figure_text, mark_text, marks_text, no_mark_text, presence, summary_text}

@@ -15,5 +15,5 @@ returns g c = record {
       let lt : i < length es = subst (λ n. i < n) (length-keyed number es) at.within in
       ap (λ x. Some x.1) (sym (keyed-entry number es i e lt c.index.ensures (number e.0, e.1)))
       ∙ sym (keyed-found number c.args.key es c.self.invariant i at (number e.0, e.1))
-      ∙ ap (λ m. map.get m (number c.args.key)) (ap (λ s. s.values) c.self.view_is);
+      ∙ ap (λ s. map.get s.values (number c.args.key)) c.self.view_is;
 }

@@ -9,15 +9,17 @@ invariant_of-self-then-is_above_all g c =
     let k = g.K.NumberKey.number c.args.key in
     rw (c.push_reserved.ensures.items, c.reserve.ensures.items)
     (keyed-pushed g.K.NumberKey.number c.args.key c.self.inside.entries.items c.self.invariant c.args.value
-    (rw (c.deref.ensures.value, c.reserve.ensures.items) at (c.is_above_all.ensures c.if-is_above_all.true)) (ap (λ m. map.get m k) (ap (λ s. s.values) c.self.view_is) ∙ c.requires.vacant)).0
+    (rw (c.deref.ensures.value, c.reserve.ensures.items) at (c.is_above_all.ensures c.if-is_above_all.true))
+    (ap (λ s. map.get s.values k) c.self.view_is ∙ c.requires.vacant)).0
 
 pub returns-then-is_above_all-clause-ok : goal.returns-then-is_above_all-clause-ok
 returns-then-is_above_all-clause-ok g c =
     let k = g.K.NumberKey.number c.args.key in
     rw (c.push_reserved.ensures.items, c.reserve.ensures.items)
     (keyed-pushed g.K.NumberKey.number c.args.key c.self.inside.entries.items c.self.invariant c.args.value
-    (rw (c.deref.ensures.value, c.reserve.ensures.items) at (c.is_above_all.ensures c.if-is_above_all.true)) (ap (λ m. map.get m k) (ap (λ s. s.values) c.self.view_is) ∙ c.requires.vacant)).1
-    ∙ ap (λ m. map.insert m k c.args.value) (ap (λ s. s.values) c.self.view_is)
+    (rw (c.deref.ensures.value, c.reserve.ensures.items) at (c.is_above_all.ensures c.if-is_above_all.true))
+    (ap (λ s. map.get s.values k) c.self.view_is ∙ c.requires.vacant)).1
+    ∙ ap (λ s. map.insert s.values k c.args.value) c.self.view_is
 
 -- any other at its position
 pub invariant_of-self-in-Continue-branch-2 : goal.invariant_of-self-in-Continue-branch-2
@@ -25,12 +27,14 @@ invariant_of-self-in-Continue-branch-2 g c =
     let k = g.K.NumberKey.number c.args.key in
     rw (c.in_ok-insert.ensures.items, c.reserve.ensures.items)
     (keyed-inserted g.K.NumberKey.number c.args.key c.self.inside.entries.items c.self.invariant c.args.value c.position_of-index.result
-    (rw (c.deref-else-is_above_all.ensures.value, c.reserve.ensures.items) at c.position_of-index.ensures) (ap (λ m. map.get m k) (ap (λ s. s.values) c.self.view_is) ∙ c.requires.vacant)).0
+    (rw (c.deref-else-is_above_all.ensures.value, c.reserve.ensures.items) at c.position_of-index.ensures)
+    (ap (λ s. map.get s.values k) c.self.view_is ∙ c.requires.vacant)).0
 
 pub returns-in_ok-insert-clause-ok : goal.returns-in_ok-insert-clause-ok
 returns-in_ok-insert-clause-ok g c =
     let k = g.K.NumberKey.number c.args.key in
     rw (c.in_ok-insert.ensures.items, c.reserve.ensures.items)
     (keyed-inserted g.K.NumberKey.number c.args.key c.self.inside.entries.items c.self.invariant c.args.value c.position_of-index.result
-    (rw (c.deref-else-is_above_all.ensures.value, c.reserve.ensures.items) at c.position_of-index.ensures) (ap (λ m. map.get m k) (ap (λ s. s.values) c.self.view_is) ∙ c.requires.vacant)).1
-    ∙ ap (λ m. map.insert m k c.args.value) (ap (λ s. s.values) c.self.view_is)
+    (rw (c.deref-else-is_above_all.ensures.value, c.reserve.ensures.items) at c.position_of-index.ensures)
+    (ap (λ s. map.get s.values k) c.self.view_is ∙ c.requires.vacant)).1
+    ∙ ap (λ s. map.insert s.values k c.args.value) c.self.view_is

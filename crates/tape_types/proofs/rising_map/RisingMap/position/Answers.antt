@@ -11,9 +11,10 @@ returns g c =
     let number = g.K.NumberKey.number in
     let es = c.self.inside.entries.items in
     let k = number c.args.key in
+    let seen = ap (λ s. s.values) c.self.view_is in
     let found = rw c.deref.ensures.value at c.locate.ensures in
     record {
-      position = subst (λ m. MatchOption c.locate.result (map.get m k ≡ None) (StandsIn k (map.entries c.args.self.now.values))) (ap (λ s. s.values) c.self.view_is)
+      position = subst (λ m. MatchOption c.locate.result (map.get m k ≡ None) (StandsIn k (map.entries c.args.self.now.values))) seen
           (subst (λ l. MatchOption c.locate.result (map.get (map.from_entries {R = nat_cmp} (keyed number es)) k ≡ None) (StandsIn k l))
-          (keyed-seen number es c.self.invariant _ (ap (λ s. s.values) c.self.view_is)) found);
+          (keyed-seen number es c.self.invariant _ seen) found);
     }

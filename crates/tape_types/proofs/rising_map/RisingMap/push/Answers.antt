@@ -23,4 +23,4 @@ returns-clause-ok g c =
     rw (c.push_reserved.ensures.items, c.reserve.ensures.items)
     (keyed-pushed number c.args.key es c.self.invariant c.args.value
     (subst (IsPosition k (keyed number es)) (length-keyed number es) (position-above k (keyed number es) c.self.invariant above)) (vacant-above k _ above)).1
-    ∙ ap (λ m. map.insert m k c.args.value) (ap (λ s. s.values) c.self.view_is)
+    ∙ ap (λ s. map.insert s.values k c.args.value) c.self.view_is

@@ -29,7 +29,7 @@ returns-clause-value g c =
     let lt : i < length es = subst (λ n. i < n) (length-keyed number es) at.within in
     ap (λ x. Some x.1) (sym (keyed-entry number es i e lt c.remove-value.ensures.value (number e.0, e.1)))
     ∙ sym (keyed-found number c.args.key es c.self.invariant i at (number e.0, e.1))
-    ∙ ap (λ m. map.get m (number c.args.key)) (ap (λ s. s.values) c.self.view_is)
+    ∙ ap (λ s. map.get s.values (number c.args.key)) c.self.view_is
 
 pub returns-clause-removed : goal.returns-clause-removed
 returns-clause-removed g c =
@@ -39,4 +39,4 @@ returns-clause-removed g c =
     let i = c.in_ok-index.index in
     let at = subst (λ l. StandsIn (number c.args.key) (keyed number l) i) c.deref.ensures.value c.in_ok-index.ensures in
     rw c.remove-value.ensures.items (keyed-removed number c.args.key es c.self.invariant i at (number e.0, e.1)).1
-    ∙ ap (λ m. map.remove m (number c.args.key)) (ap (λ s. s.values) c.self.view_is)
+    ∙ ap (λ s. map.remove s.values (number c.args.key)) c.self.view_is

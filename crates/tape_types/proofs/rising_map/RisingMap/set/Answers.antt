@@ -31,7 +31,7 @@ returns-clause-former g c =
     let lt : i < length es = subst (λ n. i < n) (length-keyed number es) at.within in
     ap (λ x. Some x.1) (sym (keyed-entry number es i e lt c.index.ensures (number e.0, e.1)))
     ∙ sym (keyed-found number c.args.key es c.self.invariant i at (number e.0, e.1))
-    ∙ ap (λ m. map.get m k) (ap (λ s. s.values) c.self.view_is)
+    ∙ ap (λ s. map.get s.values k) c.self.view_is
 
 pub returns-clause-changed : goal.returns-clause-changed
 returns-clause-changed g c =
@@ -43,4 +43,4 @@ returns-clause-changed g c =
     let at = subst (λ o. MatchOption o (map.get (map.from_entries {R = nat_cmp} (keyed number es)) k ≡ None)
     (StandsIn k (keyed number es))) c.unwrap-index.ensures found in
     (keyed-replaced number c.args.key es c.self.invariant c.unwrap-index.result at c.args.value).1
-    ∙ ap (λ m. map.insert m k c.args.value) (ap (λ s. s.values) c.self.view_is)
+    ∙ ap (λ s. map.insert s.values k c.args.value) c.self.view_is

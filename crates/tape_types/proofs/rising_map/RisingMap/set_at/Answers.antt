@@ -43,7 +43,7 @@ returns g c = record {
       let same = sym (there.has_key d) ∙ ap (λ (x : ℕ × g.row.V.Denot). x.0) is in
       (keyed-replaced number e.0 es c.self.invariant c.args.index
       (subst (λ k. StandsIn k (keyed number es) c.args.index) same there) c.args.value).1
-      ∙ ap (λ m. map.insert m (number e.0) c.args.value) (ap (λ s. s.values) c.self.view_is)
+      ∙ ap (λ s. map.insert s.values (number e.0) c.args.value) c.self.view_is
       ∙ ap (λ k. map.insert c.args.self.now.values k c.args.value) (sym same);
   spare = ap (λ s. s.spare) c.self.view_is;
 }
