@@ -1,5 +1,5 @@
 //! A finite map in one vector.
-ghost use Rattle.std.specs.Prelude.{◌≡◌, ◌-◌, ◌<◌, ◌≤◌, ℕ, length, take, drop, vec_len, vec_capacity};
+ghost use Rattle.std.specs.Prelude.{◌≡◌, ◌↔◌, ◌-◌, ◌<◌, ◌≤◌, ℕ, length, take, drop, vec_len, vec_capacity};
 ghost use Rattle.std.specs.Prelude.{IfOk, OnOk, OnErr, MatchOption, IsSome, IsTrue, Some, None};
 ghost use Rattle.std.specs.Ordering.{nat_cmp};
 ghost use Rattle.std.specs.FinMap as map;
@@ -178,7 +178,7 @@ impl<K: NumberKey, V: Copy> RisingMap<K, V> {
 #[inline(always)]
 fn is_above_all<K: NumberKey, V>(entries: &[(K, V)], key: K) -> bool
     requires rising { HasRisingKeys (keyed K.number entries.now) }
-    ensures { IsTrue result → IsPosition (K.number key) (keyed K.number entries.now) (length entries.now) }
+    ensures { IsTrue result ↔ IsPosition (K.number key) (keyed K.number entries.now) (length entries.now) }
 {
     match entries.last() {
         Some((last, _)) => last.number() < key.number(),

@@ -9,7 +9,7 @@ invariant_of-self-then-is_above_all g c =
     let k = g.K.NumberKey.number c.args.key in
     rw (c.push_reserved.ensures.items, c.reserve.ensures.items)
     (keyed-pushed g.K.NumberKey.number c.args.key c.self.inside.entries.items c.self.invariant c.args.value
-    (rw (c.deref.ensures.value, c.reserve.ensures.items) at (c.is_above_all.ensures c.if-is_above_all.true))
+    (rw (c.deref.ensures.value, c.reserve.ensures.items) at (c.is_above_all.ensures.0 c.if-is_above_all.true))
     (ap (λ s. map.get s.values k) c.self.view_is ∙ c.requires.vacant)).0
 
 pub returns-then-is_above_all-clause-ok : goal.returns-then-is_above_all-clause-ok
@@ -17,7 +17,7 @@ returns-then-is_above_all-clause-ok g c =
     let k = g.K.NumberKey.number c.args.key in
     rw (c.push_reserved.ensures.items, c.reserve.ensures.items)
     (keyed-pushed g.K.NumberKey.number c.args.key c.self.inside.entries.items c.self.invariant c.args.value
-    (rw (c.deref.ensures.value, c.reserve.ensures.items) at (c.is_above_all.ensures c.if-is_above_all.true))
+    (rw (c.deref.ensures.value, c.reserve.ensures.items) at (c.is_above_all.ensures.0 c.if-is_above_all.true))
     (ap (λ s. map.get s.values k) c.self.view_is ∙ c.requires.vacant)).1
     ∙ ap (λ s. map.insert s.values k c.args.value) c.self.view_is
 
