@@ -11,7 +11,8 @@ use Rattle.corrections.specs.declared.target.Target.{Target}
 use Rattle.corrections.specs.Lemmas.Keyed.{tied-same, tied-other}
 use Rattle.tape_types.specs.Pairs.{pair_cmp}
 use Rattle.tape_types.specs.Lemmas.Pairs.{pair_total, pair_exact}
-use Rattle.corrections.specs.TargetRows.{Row, empty_row, row_entries, targets_of_rows}
+use Rattle.corrections.specs.RegisterState.{RegisterState, targets_of}
+use Rattle.corrections.specs.TargetRows.{ReportRow, empty_row, row_entries, targets_of_rows}
 use Rattle.tape_types.specs.Ranges.{FIRST_PARTICIPANT}
 
 -- a row's entries under its participant
@@ -34,13 +35,13 @@ find-same w n who (e ∷ es) rest same none =
     ∙ ap (λ o. cond (eq_by_cmp nat_cmp n e.0) (Some e.1) o) (find-same w n who es rest same none)
 
 -- a participant before the first row has nothing
-find-before : (w n who : ℕ) (rows : List Row) → w < who → find pair_cmp (w, n) (row_entries who rows) ≡ None
+find-before : (w n who : ℕ) (rows : List ReportRow) → w < who → find pair_cmp (w, n) (row_entries who rows) ≡ None
 find-before w n who [] before = refl
 find-before w n who (row ∷ rows) before =
     find-other w n who (map.entries row.values) (row_entries (who + 1) rows) (λ same. omega arith) ∙ find-before w n (who + 1) rows (omega arith)
 
 -- the others have what their row has
-find-row : (w n who i : ℕ) (rows : List Row) → who + i ≡ w → find pair_cmp (w, n) (row_entries who rows) ≡ map.get (get_or rows i empty_row).values n
+find-row : (w n who i : ℕ) (rows : List ReportRow) → who + i ≡ w → find pair_cmp (w, n) (row_entries who rows) ≡ map.get (get_or rows i empty_row).values n
 find-row w n who i [] at = sym (map.get-empty nat_cmp n)
 find-row w n who zero (row ∷ rows) at =
     find-same w n who (map.entries row.values) (row_entries (who + 1) rows) (omega arith) (find-before w n (who + 1) rows (omega arith))
@@ -49,22 +50,27 @@ find-row w n who (suc i) (row ∷ rows) at =
     find-other w n who (map.entries row.values) (row_entries (who + 1) rows) (λ same. omega arith) ∙ find-row w n (who + 1) i rows (omega arith)
 
 -- what is found under a participant's number is what its row has
-pub get-row : (rows : List Row) (w n i : ℕ) (d : Row) → i + FIRST_PARTICIPANT ≡ w → i < length rows
+pub get-row : (rows : List ReportRow) (w n i : ℕ) (d : ReportRow) → i + FIRST_PARTICIPANT ≡ w → i < length rows
     → map.get (targets_of_rows rows) (w, n) ≡ map.get (get_or rows i d).values n
 get-row rows w n i d at inside =
     map.get-from_entries pair_total (row_entries FIRST_PARTICIPANT rows) (w, n) ∙ find-row w n FIRST_PARTICIPANT i rows (omega arith)
-    ∙ ap (λ (r : Row). map.get r.values n) (get_or_default rows i empty_row d inside)
+    ∙ ap (λ (r : ReportRow). map.get r.values n) (get_or_default rows i empty_row d inside)
+
+-- so it is in the register that has these rows
+pub get-seen : (rows : List ReportRow) (last_numbers : List ℕ) (register : RegisterState) → record { rows = rows; last_numbers = last_numbers } ≡ register
+    → (w n i : ℕ) (d : ReportRow) → i + FIRST_PARTICIPANT ≡ w → i < length rows → map.get (targets_of register) (w, n) ≡ map.get (get_or rows i d).values n
+get-seen rows last_numbers register is w n i d at inside = ap (λ r. map.get (targets_of r) (w, n)) (sym is) ∙ get-row rows w n i d at inside
 
 -- or nothing, where it has none
-get-else : (rows : List Row) (w n i : ℕ) → FIRST_PARTICIPANT + i ≡ w → map.get (targets_of_rows rows) (w, n) ≡ map.get (get_or rows i empty_row).values n
+get-else : (rows : List ReportRow) (w n i : ℕ) → FIRST_PARTICIPANT + i ≡ w → map.get (targets_of_rows rows) (w, n) ≡ map.get (get_or rows i empty_row).values n
 get-else rows w n i at = map.get-from_entries pair_total (row_entries FIRST_PARTICIPANT rows) (w, n) ∙ find-row w n FIRST_PARTICIPANT i rows at
 
 -- there is nothing by a letter before the first participant's
-get-before : (rows : List Row) (w n : ℕ) → w < FIRST_PARTICIPANT → map.get (targets_of_rows rows) (w, n) ≡ None
+get-before : (rows : List ReportRow) (w n : ℕ) → w < FIRST_PARTICIPANT → map.get (targets_of_rows rows) (w, n) ≡ None
 get-before rows w n before = map.get-from_entries pair_total (row_entries FIRST_PARTICIPANT rows) (w, n) ∙ find-before w n FIRST_PARTICIPANT rows before
 
 -- rows that answer alike are the same targets
-same_rows : (rows : List Row) (m : map.FinMap pair_cmp Target) → ((w n : ℕ) → w < FIRST_PARTICIPANT → map.get m (w, n) ≡ None)
+same_rows : (rows : List ReportRow) (m : map.FinMap pair_cmp Target) → ((w n : ℕ) → w < FIRST_PARTICIPANT → map.get m (w, n) ≡ None)
     → ((i n : ℕ) → map.get (get_or rows i empty_row).values n ≡ map.get m (FIRST_PARTICIPANT + i, n)) → targets_of_rows rows ≡ m
 same_rows rows m before rest = map.same_map pair_total pair_exact _ _ (λ q. elim (cases_lt q.0 FIRST_PARTICIPANT) [
   | inl lt ↦ get-before rows q.0 q.1 lt ∙ sym (before q.0 q.1 lt)
@@ -74,14 +80,14 @@ same_rows rows m before rest = map.same_map pair_total pair_exact _ _ (λ q. eli
 ])
 
 -- empty rows have no target
-pub targets-empty : (rows : List Row) → ((i : ℕ) → i < length rows → (get_or rows i empty_row).values ≡ map.empty) → targets_of_rows rows ≡ map.empty
+pub targets-empty : (rows : List ReportRow) → ((i : ℕ) → i < length rows → (get_or rows i empty_row).values ≡ map.empty) → targets_of_rows rows ≡ map.empty
 targets-empty rows empty = same_rows rows map.empty (λ w n lt. map.get-empty pair_cmp (w, n)) (λ i n.
     let none : (get_or rows i empty_row).values ≡ map.empty =
-    elim (cases_lt i (length rows)) [ inl lt ↦ empty i lt | inr le ↦ ap (λ (r : Row). r.values) (get_or_past rows i empty_row le) ] in
+    elim (cases_lt i (length rows)) [ inl lt ↦ empty i lt | inr le ↦ ap (λ (r : ReportRow). r.values) (get_or_past rows i empty_row le) ] in
     ap (λ row. map.get row n) none ∙ map.get-empty nat_cmp n ∙ sym (map.get-empty pair_cmp (FIRST_PARTICIPANT + i, n)))
 
 -- one more target in a row is one more of the day
-pub targets-insert : (rows : List Row) (who n i : ℕ) (d row : Row) (v : Target) → i + FIRST_PARTICIPANT ≡ who → i < length rows
+pub targets-insert : (rows : List ReportRow) (who n i : ℕ) (d row : ReportRow) (v : Target) → i + FIRST_PARTICIPANT ≡ who → i < length rows
     → row.values ≡ map.insert (get_or rows i d).values n v → targets_of_rows (set rows i row) ≡ map.insert (targets_of_rows rows) (who, n) v
 targets-insert rows who n i d row v at inside is = same_rows (set rows i row) (map.insert (targets_of_rows rows) (who, n) v)
     (λ w m lt. map.get-insert pair_total (targets_of_rows rows) (who, n) v (w, m)
@@ -89,14 +95,14 @@ targets-insert rows who n i d row v at inside is = same_rows (set rows i row) (m
     (λ j m. elim (cases_eq j i) [
       | inl same ↦
           ap (λ k. map.get (get_or (set rows i row) k empty_row).values m) same
-          ∙ ap (λ r. map.get r m) (ap (λ (r : Row). r.values) (get_or-set_same rows i row empty_row inside) ∙ is)
+          ∙ ap (λ r. map.get r m) (ap (λ (r : ReportRow). r.values) (get_or-set_same rows i row empty_row inside) ∙ is)
           ∙ map.get-insert nat_cmp_total (get_or rows i d).values n v m
           ∙ ap (λ b. cond b (Some v) (map.get (get_or rows i d).values m)) (sym (tied-same (FIRST_PARTICIPANT + j) m who n (omega arith)))
           ∙ ap (λ o. cond (eq_by_cmp pair_cmp (FIRST_PARTICIPANT + j, m) (who, n)) (Some v) o)
           (sym (get-row rows (FIRST_PARTICIPANT + j) m i d (omega arith) inside))
           ∙ sym (map.get-insert pair_total (targets_of_rows rows) (who, n) v (FIRST_PARTICIPANT + j, m))
       | inr other ↦
-          ap (λ (r : Row). map.get r.values m) (get_or-set_other rows i j row empty_row other)
+          ap (λ (r : ReportRow). map.get r.values m) (get_or-set_other rows i j row empty_row other)
           ∙ sym (get-else rows (FIRST_PARTICIPANT + j) m j refl)
           ∙ ap (λ b. cond b (Some v) (map.get (targets_of_rows rows) (FIRST_PARTICIPANT + j, m)))
           (sym (tied-other (FIRST_PARTICIPANT + j) m who n (λ same. other (omega arith))))

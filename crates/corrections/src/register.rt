@@ -127,8 +127,8 @@ impl Register {
     }
 
     /// Notes that a standing report is cancelled, as `cancel` does. It looks at the index first, and searches only where another
-    /// report lies there: with the index that `locate` gave it does not search until a report was recorded between. It takes no
-    /// memory.
+    /// report is there: with the index that `locate` gave, only where a report with a lower number was recorded in between. It
+    /// takes no memory.
     pub fn cancel_at(&mut self, who: Participant, target: MsgNumber, index: usize)
         requires standing { IsStanding (map.get (targets_of self.old) (who, target)) }
         ensures cancelled { targets_of self.new ≡ targets_after_cancel (targets_of self.old) (who, target) }

@@ -27,7 +27,7 @@ pub struct Target {
 pub struct Located {
     /// The tape number of the report's admission.
     pub place: TapeNumber,
-    /// The index of the report among its participant's reports by rising message number. A report between them moves it, so it
-    /// tells where to look first.
+    /// The index of the report among its participant's reports by rising message number. A report recorded below it moves it, so
+    /// it only tells where to look first.
     pub index: usize,
 }

@@ -11,6 +11,7 @@ pub struct Route {
     pub number: TapeNumber,
     /// The place that it changes: a report's is the number of its entry, and a cancel's or a correction's that of the report that its target names.
     pub place: TapeNumber,
-    /// Where the register had the report that its target names, which spares a cancel a second search; 0 for a report, which has no target.
+    /// At which index the register had the report that its target names, so that a cancel need not search for it again. Nobody reads
+    /// a report's, which is 0.
     pub index: usize,
 }

@@ -1,5 +1,5 @@
 -- The participants' own stores, one of them changed.
-use Rattle.std.proofs.Common.{◌≡◌, ℕ, ◌+◌, ◌-◌, ◌<◌, ◌≤◌, ◌≢◌, nat_le, Bool, true, false, true≢false, cond, List, [], ◌∷◌, length, get_or, set, map, Option}
+use Rattle.std.proofs.Common.{◌≡◌, ℕ, ◌+◌, ◌<◌, ◌≤◌, ◌≢◌, nat_le, Bool, true, false, true≢false, cond, List, [], ◌∷◌, length, get_or, set, map, Option}
 use Rattle.std.proofs.Common.{None, refl, sym, ap, subst, ◌∙◌, arith, IsSome, zero, suc}
 use Rattle.std.specs.Ordering.{nat_cmp, eq_by_cmp}
 use Rattle.std.specs.FinMap as map

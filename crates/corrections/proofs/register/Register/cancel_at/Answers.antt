@@ -4,7 +4,7 @@ use Rattle.std.proofs.lemmas.Option.{MatchOption-at_none}
 use Rattle.corrections.specs.declared.target.Target.{Target}
 use Rattle.corrections.specs.RegisterState.{targets_of}
 use Rattle.corrections.specs.Targets.{IsStanding, cancelled_target, with_cancelled}
-use Rattle.corrections.proofs.RegisterRows.{get-row, targets-insert}
+use Rattle.corrections.proofs.RegisterRows.{get-seen, targets-insert}
 use Rattle.corrections.proofs.register.Register.cancel_at.Goals as goal
 use Rattle.corrections.proofs.register.Register.cancel_at.Goals.{in-Some, in_default}
 use Rattle.tape_types.specs.Lemmas.RisingEntries.{keyed-get}
@@ -20,8 +20,7 @@ returns-clause-cancelled c =
     let inside : c.row_index.result < length rows = omega arith in
     let key : ℕ × ℕ = (c.args.who, c.args.target) in
     let row = c.index-self-row_index.result in
-    let there = sym (get-row rows c.args.who c.args.target c.row_index.result row c.row_index.ensures.letter inside)
-    ∙ ap (λ r. map.get (targets_of r) key) c.self.view_is in
+    let there = get-seen rows _ _ c.self.view_is c.args.who c.args.target c.row_index.result row c.row_index.ensures.letter inside in
     elim c.match-position_near.branch [
       | in-Some w ↦
           let at = w.in-Some.ensures.position in
@@ -33,8 +32,8 @@ returns-clause-cancelled c =
           (targets-insert rows c.args.who c.args.target c.row_index.result row w.set_at.new.self v
           c.row_index.ensures.letter inside (w.set_at.ensures.changed c.args.target at)
           ∙ ap (λ r. map.insert (targets_of r) key v) c.self.view_is
-          ∙ ap (with_cancelled (targets_of c.args.self.now) key) (sym held ∙ there))
+          ∙ ap (with_cancelled (targets_of c.args.self.now) key) (sym held ∙ sym there))
       | in_default w ↦
           let none = MatchOption-at_none _ _ w.in_default.is c.position_near.ensures.position in
-          absurd (subst IsStanding (sym there ∙ none) c.requires.standing)
+          absurd (subst IsStanding (there ∙ none) c.requires.standing)
     ]

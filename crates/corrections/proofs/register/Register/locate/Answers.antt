@@ -4,7 +4,7 @@ use Rattle.std.proofs.lemmas.Option.{MatchOption-at_none}
 use Rattle.corrections.specs.declared.target_fault.TargetFault.TheVariants.{OtherSymbol}
 use Rattle.corrections.specs.RegisterState.{targets_of}
 use Rattle.corrections.specs.Targets.{standing_answer, target_answer}
-use Rattle.corrections.proofs.RegisterRows.{get-row}
+use Rattle.corrections.proofs.RegisterRows.{get-seen}
 use Rattle.corrections.proofs.register.Register.locate.Goals.{After-ne}
 use Rattle.corrections.proofs.register.Register.locate.Goals as goal
 use Rattle.tape_types.specs.Lemmas.RisingEntries.{keyed-get}
@@ -14,8 +14,7 @@ there : (c : After-ne) → map.get (targets_of c.args.self.now) (c.args.who, c.a
     ≡ Some (get_or c.entries.result.now c.in-Some.index c.index-entries-index.result).1
 there c =
     let inside : c.row_index.result < length c.self.inside.rows = omega arith in
-    ap (λ r. map.get (targets_of r) (c.args.who, c.args.target)) (sym c.self.view_is)
-    ∙ get-row c.self.inside.rows c.args.who c.args.target c.row_index.result c.index-self-row_index.result c.row_index.ensures.letter inside
+    get-seen c.self.inside.rows _ _ c.self.view_is c.args.who c.args.target c.row_index.result c.index-self-row_index.result c.row_index.ensures.letter inside
     ∙ keyed-get (λ n. n) c.entries.result.now _ c.entries.ensures.entries c.args.target c.in-Some.index c.in-Some.ensures.position
     c.index-entries-index.result
 
@@ -31,8 +30,9 @@ pub returns-in_default-clause-answer : goal.returns-in_default-clause-answer
 returns-in_default-clause-answer c =
     let inside : c.row_index.result < length c.self.inside.rows = omega arith in
     let none = MatchOption-at_none _ _ c.in_default.is c.position.ensures.position in
-    sym (ap (target_answer c.args.symbol) (ap (λ r. map.get (targets_of r) (c.args.who, c.args.target)) (sym c.self.view_is)
-    ∙ get-row c.self.inside.rows c.args.who c.args.target c.row_index.result c.index-self-row_index.result c.row_index.ensures.letter inside ∙ none))
+    sym (ap (target_answer c.args.symbol)
+    (get-seen c.self.inside.rows _ _ c.self.view_is c.args.who c.args.target c.row_index.result c.index-self-row_index.result c.row_index.ensures.letter inside
+    ∙ none))
 
 pub returns-then-ne-clause-answer : goal.returns-then-ne-clause-answer
 returns-then-ne-clause-answer c =

@@ -3,15 +3,15 @@ use Rattle.std.specs.FinMap as map
 use Rattle.std.proofs.lemmas.Result.{on_ok_weaker}
 use Rattle.corrections.specs.RegisterState.{targets_of}
 use Rattle.corrections.specs.Targets.{standing_target}
-use Rattle.corrections.proofs.RegisterRows.{get-row, targets-insert}
+use Rattle.corrections.proofs.RegisterRows.{get-seen, targets-insert}
 use Rattle.corrections.proofs.register.Register.record.Goals as goal
 
 pub insert-requires : goal.insert-requires
 insert-requires c =
     let inside : c.row_index.result < length c.self.inside.rows = omega arith in
     record {
-      vacant = sym (get-row c.self.inside.rows c.args.who c.args.number c.row_index.result c.index-self-row_index.result c.row_index.ensures.letter inside)
-          ∙ ap (λ r. map.get (targets_of r) (c.args.who, c.args.number)) c.self.view_is ∙ c.requires.vacant;
+      vacant = sym (get-seen c.self.inside.rows _ _ c.self.view_is c.args.who c.args.number c.row_index.result c.index-self-row_index.result
+          c.row_index.ensures.letter inside) ∙ c.requires.vacant;
     }
 
 pub returns-clause-ok : goal.returns-clause-ok

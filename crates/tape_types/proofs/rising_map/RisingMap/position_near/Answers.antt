@@ -1,5 +1,4 @@
 use Rattle.std.proofs.Common.{◌≡◌, ◌<◌, ℕ, ap, ◌∙◌, subst, sym, length, arith}
-use Rattle.std.specs.FinMap as map
 use Rattle.std.proofs.lemmas.Bool.Decides.{nat_tests}
 use Rattle.tape_types.specs.RisingEntries.{StandsIn, keyed}
 use Rattle.tape_types.specs.Lemmas.RisingEntries.{keyed-entry, keyed-seen, length-keyed, stands-at}
