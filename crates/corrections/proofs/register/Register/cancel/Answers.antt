@@ -1,5 +1,4 @@
 use Rattle.std.proofs.Common.{◌<◌, length, ◌∙◌, subst, arith}
-use Rattle.std.specs.FinMap as map
 use Rattle.std.proofs.lemmas.Option.{MatchOption-at_none}
 use Rattle.corrections.specs.Targets.{IsStanding}
 use Rattle.corrections.proofs.RegisterRows.{get-seen}
