@@ -1,0 +1,46 @@
+#!/usr/bin/env python3
+"""each_part.py NAME..: tries each part of the shared must-fail edits of these crates by itself, in a copy of the repository.
+
+A shared edit breaks several functions, and is refused once one of them is. Its parts, each of which begins with a line
+'# part: NAME', become edits of their own here, so a part that a contract lets through is told as NOT REFUSED. Not a step of
+the gate: run it where a contract of such a function changes. It takes about 20 seconds a part.
+"""
+
+import pathlib
+import re
+import shutil
+import subprocess
+import sys
+import tempfile
+
+ROOT = pathlib.Path(__file__).resolve().parent.parent
+
+
+def parts_of(text):
+    """The parts of a shared edit by their names, or none where the edit is one alone."""
+    return re.findall(r"^# part: (\S+)\n(.*?)(?=^# part: |\Z)", text, re.M | re.S)
+
+
+def keep_parts(edits):
+    """Puts each part of the shared edits in a folder in place of all edits there, and returns how many parts there are."""
+    parts = [part for edit in edits.glob("*.edit") for part in parts_of(edit.read_text(encoding="utf-8"))]
+    shutil.rmtree(edits)
+    edits.mkdir()
+    for name, text in parts:
+        (edits / f"{name}.edit").write_text(text, encoding="utf-8")
+    return len(parts)
+
+
+def main(names):
+    if not names:
+        sys.exit(__doc__)
+    with tempfile.TemporaryDirectory() as room:
+        copy = pathlib.Path(room) / "copy"
+        shutil.copytree(ROOT, copy, ignore=shutil.ignore_patterns("out", "target"))
+        for name in names:
+            print(f"{name}: {keep_parts(copy / 'crates' / name / 'must-fail')} parts", flush=True)
+        return subprocess.run(["rt", "must-fail", *names], cwd=copy, check=False).returncode
+
+
+if __name__ == "__main__":
+    sys.exit(main(sys.argv[1:]))
