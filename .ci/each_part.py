@@ -2,8 +2,9 @@
 """each_part.py NAME..: tries each part of the shared must-fail edits of these crates by itself, in a copy of the repository.
 
 A shared edit breaks several functions, and is refused once one of them is. Its parts, each of which begins with a line
-'# part: NAME', become edits of their own here, so a part that a contract lets through is told as NOT REFUSED. Not a step of
-the gate: run it where a contract of such a function changes. It takes about 20 seconds a part.
+'# part: NAME', become edits of their own here, so a part that a contract lets through is reported as NOT REFUSED. It is not a
+step of the gate: run it when a contract of such a function changes. Each crate is checked once, unless `rt check` has left its
+work in the repository, and then a part takes 10 to 60 seconds.
 """
 
 import pathlib
@@ -17,7 +18,7 @@ ROOT = pathlib.Path(__file__).resolve().parent.parent
 
 
 def parts_of(text):
-    """The parts of a shared edit by their names, or none where the edit is one alone."""
+    """The name and the text of each part of a shared edit; none of an edit with one wrong body."""
     return re.findall(r"^# part: (\S+)\n(.*?)(?=^# part: |\Z)", text, re.M | re.S)
 
 
@@ -34,13 +35,17 @@ def keep_parts(edits):
 def main(names):
     if not names:
         sys.exit(__doc__)
+    for name in names:
+        if not (ROOT / "crates" / name / "must-fail").is_dir():
+            sys.exit(f"each_part.py: no crate {name} has must-fail edits")
     with tempfile.TemporaryDirectory() as room:
         copy = pathlib.Path(room) / "copy"
-        shutil.copytree(ROOT, copy, ignore=shutil.ignore_patterns("out", "target"))
+        # With what was proved and built here, so that it need not be done again.
+        shutil.copytree(ROOT, copy, ignore=shutil.ignore_patterns(".git", "target"))
         for name in names:
             print(f"{name}: {keep_parts(copy / 'crates' / name / 'must-fail')} parts", flush=True)
         return subprocess.run(["rt", "must-fail", *names], cwd=copy, check=False).returncode
 
 
 if __name__ == "__main__":
-    sys.exit(main(sys.argv[1:]))
+    sys.exit(main(list(dict.fromkeys(sys.argv[1:]))))
