@@ -3,8 +3,8 @@
 
 A shared edit breaks several functions, and is refused once one of them is. Its parts, each of which begins with a line
 '# part: NAME', become edits of their own here, so a part that a contract lets through is reported as NOT REFUSED. It is not a
-step of the gate: run it when a contract of such a function changes. Each crate is checked once, unless `rt check` has left its
-work in the repository, and then a part takes 10 to 60 seconds.
+step of the gate: run it when a contract of such a function changes. Each crate is first checked whole, unless `rt check` has left
+its work in the repository; after that a part takes 10 to 60 seconds.
 """
 
 import pathlib
