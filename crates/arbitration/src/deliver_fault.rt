@@ -1,13 +1,13 @@
 //! Why a packet is refused.
-ghost use Rattle.std.specs.Prelude.{◌≡◌};
+ghost use Rattle.std.specs.Prelude.{◌≡◌, Some};
 ghost use Rattle.arbitration.specs.DeliverFaults.{deliver_fault_code, deliver_fault_name};
 
+use std::fmt;
 use tape_types::TapeNumber;
 use thiserror::Error;
 
 /// Why a window refuses a packet. The first that applies is answered, and the window is then as it was.
 #[derive(Clone, Copy, Debug, PartialEq, Eq, Error)]
-#[error("{}", self.name())]
 pub enum DeliverFault {
     /// The packet is of another session than the window.
     Foreign,
@@ -39,5 +39,13 @@ impl DeliverFault {
             DeliverFault::Conflict(_) => "Conflict",
             DeliverFault::PastEnd => "PastEnd",
         }
+    }
+}
+
+impl fmt::Display for DeliverFault {
+    ghost output = { λ e. Some (deliver_fault_name e) };
+
+    fn fmt<W: fmt::Write>(&self, f: &mut fmt::Formatter<W>) -> fmt::Result {
+        f.write_str(self.name())
     }
 }

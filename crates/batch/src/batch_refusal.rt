@@ -1,14 +1,14 @@
 //! Why a line was refused.
-ghost use Rattle.std.specs.Prelude.{◌≡◌};
+ghost use Rattle.std.specs.Prelude.{◌≡◌, Some};
 ghost use Rattle.batch.specs.BatchRefusals.{batch_refusal_code, batch_refusal_name};
 
 use reports::MessageFault;
+use std::fmt;
 use tape_core::Refusal;
 use thiserror::Error;
 
 /// Why a line of a batch was refused, the first that applies.
 #[derive(Clone, Copy, Debug, PartialEq, Eq, Error)]
-#[error("{}", self.name())]
 pub enum BatchRefusal {
     /// The line is not one capital letter, one space and an even number of hexadecimal digits.
     BadLine,
@@ -43,5 +43,13 @@ impl BatchRefusal {
             BatchRefusal::ExtraBytes => "ExtraBytes",
             BatchRefusal::Refused(refusal) => refusal.name(),
         }
+    }
+}
+
+impl fmt::Display for BatchRefusal {
+    ghost output = { λ e. Some (batch_refusal_name e) };
+
+    fn fmt<W: fmt::Write>(&self, f: &mut fmt::Formatter<W>) -> fmt::Result {
+        f.write_str(self.name())
     }
 }

@@ -1,13 +1,13 @@
 //! Why a header was refused.
-ghost use Rattle.std.specs.Prelude.{◌≡◌};
+ghost use Rattle.std.specs.Prelude.{◌≡◌, Some};
 ghost use Rattle.batch.specs.Header.{header_fault_code, header_fault_name};
 
+use std::fmt;
 use tape_types::ListingFault;
 use thiserror::Error;
 
 /// Why the header of a batch was refused, the first that applies.
 #[derive(Clone, Copy, Debug, PartialEq, Eq, Error)]
-#[error("{}", self.name())]
 pub enum HeaderFault {
     /// A line is not names between single spaces.
     BadHeader,
@@ -34,5 +34,13 @@ impl HeaderFault {
             HeaderFault::BadHeader => "BadHeader",
             HeaderFault::BadListing(fault) => fault.name(),
         }
+    }
+}
+
+impl fmt::Display for HeaderFault {
+    ghost output = { λ e. Some (header_fault_name e) };
+
+    fn fmt<W: fmt::Write>(&self, f: &mut fmt::Formatter<W>) -> fmt::Result {
+        f.write_str(self.name())
     }
 }

@@ -1,12 +1,12 @@
 //! Why a target cannot be cancelled or corrected.
-ghost use Rattle.std.specs.Prelude.{◌≡◌};
+ghost use Rattle.std.specs.Prelude.{◌≡◌, Some};
 ghost use Rattle.corrections.specs.TargetFaults.{target_fault_code, target_fault_name};
 
+use std::fmt;
 use thiserror::Error;
 
 /// Why a target names no report that can be cancelled or corrected. The first that applies is answered.
 #[derive(Clone, Copy, Debug, PartialEq, Eq, Error)]
-#[error("{}", self.name())]
 pub enum TargetFault {
     /// No report of the participant has the target's number.
     NoSuchReport = 37,
@@ -33,5 +33,13 @@ impl TargetFault {
             TargetFault::OtherSymbol => "OtherSymbol",
             TargetFault::Cancelled => "Cancelled",
         }
+    }
+}
+
+impl fmt::Display for TargetFault {
+    ghost output = { λ e. Some (target_fault_name e) };
+
+    fn fmt<W: fmt::Write>(&self, f: &mut fmt::Formatter<W>) -> fmt::Result {
+        f.write_str(self.name())
     }
 }

@@ -1,14 +1,14 @@
 //! Why there is no report.
-ghost use Rattle.std.specs.Prelude.{◌≡◌};
+ghost use Rattle.std.specs.Prelude.{◌≡◌, Some};
 ghost use Rattle.day_report.specs.ReportFaults.{report_fault_code, report_fault_name};
 ghost use Rattle.day_report.specs.declared.report_fault.ReportFault.TheVariants.{OutOfMemory};
 
 use std::alloc::AllocError;
+use std::fmt;
 use thiserror::Error;
 
 /// Why the rows of a report were not made, or its text was not written. It is printed as its name.
 #[derive(Clone, Copy, Debug, PartialEq, Eq, Error)]
-#[error("{}", self.name())]
 pub enum ReportFault {
     /// There is no worker, or there are more than 64.
     BadWorkers = 95,
@@ -38,6 +38,14 @@ impl ReportFault {
             ReportFault::OutOfMemory => "OutOfMemory",
             ReportFault::WriteFault => "WriteFault",
         }
+    }
+}
+
+impl fmt::Display for ReportFault {
+    ghost output = { λ e. Some (report_fault_name e) };
+
+    fn fmt<W: fmt::Write>(&self, f: &mut fmt::Formatter<W>) -> fmt::Result {
+        f.write_str(self.name())
     }
 }
 

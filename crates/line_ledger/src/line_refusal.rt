@@ -1,13 +1,13 @@
 //! Why a message is not admitted on a line.
-ghost use Rattle.std.specs.Prelude.{◌≡◌};
+ghost use Rattle.std.specs.Prelude.{◌≡◌, Some};
 ghost use Rattle.line_ledger.specs.Faults.{line_refusal_code, line_refusal_name};
 
+use std::fmt;
 use tape_core::Refusal;
 use thiserror::Error;
 
 /// Why a message is not admitted on a line, the first reason that applies. Tape and seat are unchanged.
 #[derive(Clone, Copy, Debug, PartialEq, Eq, Error)]
-#[error("{}", self.name())]
 pub enum LineRefusal {
     /// 94 Behind: the tape's count, sizes or last number of the participant is not what its line was told.
     Behind,
@@ -35,5 +35,13 @@ impl LineRefusal {
             LineRefusal::Behind => "Behind",
             LineRefusal::Refused(refusal) => refusal.name(),
         }
+    }
+}
+
+impl fmt::Display for LineRefusal {
+    ghost output = { λ e. Some (line_refusal_name e) };
+
+    fn fmt<W: fmt::Write>(&self, f: &mut fmt::Formatter<W>) -> fmt::Result {
+        f.write_str(self.name())
     }
 }

@@ -1,11 +1,11 @@
 //! That a token's entry is not the day's.
-ghost use Rattle.std.specs.Prelude.{◌≡◌, codes};
+ghost use Rattle.std.specs.Prelude.{◌≡◌, codes, Some};
 
+use std::fmt;
 use thiserror::Error;
 
 /// 93 NotOnTape: the day has another entry at the token's number, or none.
 #[derive(Clone, Copy, Debug, PartialEq, Eq, Error)]
-#[error("{}", self.name())]
 pub struct NotOnTape;
 
 impl NotOnTape {
@@ -21,5 +21,13 @@ impl NotOnTape {
         ensures text { result.now ≡ codes "NotOnTape" }
     {
         "NotOnTape"
+    }
+}
+
+impl fmt::Display for NotOnTape {
+    ghost output = { λ _. Some (codes "NotOnTape") };
+
+    fn fmt<W: fmt::Write>(&self, f: &mut fmt::Formatter<W>) -> fmt::Result {
+        f.write_str(self.name())
     }
 }

@@ -1,12 +1,12 @@
 //! Why a day is not opened.
-ghost use Rattle.std.specs.Prelude.{◌≡◌};
+ghost use Rattle.std.specs.Prelude.{◌≡◌, Some};
 ghost use Rattle.line_ledger.specs.Faults.{open_fault_code, open_fault_name};
 
+use std::fmt;
 use thiserror::Error;
 
 /// Why a day is not prepared or opened, the first reason that applies. What was given is spent.
 #[derive(Clone, Copy, Debug, PartialEq, Eq, Error)]
-#[error("{}", self.name())]
 pub enum OpenFault {
     /// 7 NotEmpty: the tape is closed, or has an entry.
     NotEmpty,
@@ -33,5 +33,13 @@ impl OpenFault {
             OpenFault::NotEmpty => "NotEmpty",
             OpenFault::OutOfMemory => "OutOfMemory",
         }
+    }
+}
+
+impl fmt::Display for OpenFault {
+    ghost output = { λ e. Some (open_fault_name e) };
+
+    fn fmt<W: fmt::Write>(&self, f: &mut fmt::Formatter<W>) -> fmt::Result {
+        f.write_str(self.name())
     }
 }

@@ -1,12 +1,12 @@
 //! Why entries are not published.
-ghost use Rattle.std.specs.Prelude.{◌≡◌};
+ghost use Rattle.std.specs.Prelude.{◌≡◌, Some};
 ghost use Rattle.line_ledger.specs.Faults.{publish_fault_code, publish_fault_name};
 
+use std::fmt;
 use thiserror::Error;
 
 /// Why entries are not published, the first reason that applies. The cells that were set before it stay set, and are counted.
 #[derive(Clone, Copy, Debug, PartialEq, Eq, Error)]
-#[error("{}", self.name())]
 pub enum PublishFault {
     /// 81 Unpublished: the cell of this number, from 1, was set before, or there is none.
     Unpublished(u32),
@@ -33,5 +33,13 @@ impl PublishFault {
             PublishFault::Unpublished(_) => "Unpublished",
             PublishFault::OutOfMemory => "OutOfMemory",
         }
+    }
+}
+
+impl fmt::Display for PublishFault {
+    ghost output = { λ e. Some (publish_fault_name e) };
+
+    fn fmt<W: fmt::Write>(&self, f: &mut fmt::Formatter<W>) -> fmt::Result {
+        f.write_str(self.name())
     }
 }

@@ -1,12 +1,12 @@
 //! Why a line is not shown the tape.
-ghost use Rattle.std.specs.Prelude.{◌≡◌};
+ghost use Rattle.std.specs.Prelude.{◌≡◌, Some};
 ghost use Rattle.line_ledger.specs.Faults.{view_fault_code, view_fault_name};
 
+use std::fmt;
 use thiserror::Error;
 
 /// Why a line is not shown a symbol's summary, the first reason that applies.
 #[derive(Clone, Copy, Debug, PartialEq, Eq, Error)]
-#[error("{}", self.name())]
 pub enum ViewFault {
     /// 36 UnknownSymbol: the symbol is not listed.
     UnknownSymbol,
@@ -33,5 +33,13 @@ impl ViewFault {
             ViewFault::UnknownSymbol => "UnknownSymbol",
             ViewFault::Behind => "Behind",
         }
+    }
+}
+
+impl fmt::Display for ViewFault {
+    ghost output = { λ e. Some (view_fault_name e) };
+
+    fn fmt<W: fmt::Write>(&self, f: &mut fmt::Formatter<W>) -> fmt::Result {
+        f.write_str(self.name())
     }
 }

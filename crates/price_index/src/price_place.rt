@@ -1,9 +1,10 @@
 //! A price with a place.
 ghost use Rattle.std.specs.Prelude.{◌≡◌};
 ghost use Rattle.std.specs.Ordering.{eq_by_cmp, as_partial_cmp};
-ghost use Rattle.std.specs.Cmp.Rules.{comparing};
+ghost use Rattle.std.specs.Cmp.{eq_by_cmp_equiv, partial_equiv_from_equiv, partial_order_from_total};
 ghost use Rattle.std.proofs.Common.{rules};
 ghost use Rattle.price_index.specs.Pairs.{rank};
+ghost use Rattle.tape_types.specs.Lemmas.Pairs.{pair_total};
 ghost use Rattle.tape_types.specs.Pairs.{pair_cmp};
 ghost use Rattle.tape_types.specs.Ranges.{IsTapeNumber};
 
@@ -76,7 +77,7 @@ impl PricePlace {
 impl PartialEq for PricePlace {
     ghost eq = { eq_by_cmp pair_cmp };
 
-    ghost laws = { Prim.search (comparing, rules) };
+    ghost laws = { partial_equiv_from_equiv (eq_by_cmp_equiv pair_total) };
 
     fn eq(&self, other: &PricePlace) -> bool {
         self.rank() == other.rank()
@@ -84,13 +85,13 @@ impl PartialEq for PricePlace {
 }
 
 impl Eq for PricePlace {
-    ghost laws = { Prim.search (comparing, rules) };
+    ghost laws = { eq_by_cmp_equiv pair_total };
 }
 
 impl PartialOrd for PricePlace {
     ghost partial_cmp = { as_partial_cmp pair_cmp };
 
-    ghost laws = { Prim.search (comparing, rules) };
+    ghost laws = { partial_order_from_total pair_total };
 
     fn partial_cmp(&self, other: &PricePlace) -> Option<Ordering> {
         Some(self.cmp(other))
@@ -100,11 +101,11 @@ impl PartialOrd for PricePlace {
 impl Ord for PricePlace {
     ghost cmp = { pair_cmp };
 
-    ghost total = { Prim.search (comparing, rules) };
+    ghost total = { pair_total };
 
-    ghost matches_partial_cmp = { Prim.search (comparing, rules) };
+    ghost matches_partial_cmp = { Prim.search (rules) };
 
-    ghost matches_eq = { Prim.search (comparing, rules) };
+    ghost matches_eq = { Prim.search (rules) };
 
     #[inline(always)]
     fn cmp(&self, other: &PricePlace) -> Ordering {

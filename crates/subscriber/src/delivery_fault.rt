@@ -1,14 +1,14 @@
 //! Why bytes are not taken.
-ghost use Rattle.std.specs.Prelude.{◌≡◌};
+ghost use Rattle.std.specs.Prelude.{◌≡◌, Some};
 ghost use Rattle.subscriber.specs.Faults.{delivery_fault_code, delivery_fault_name};
 
 use arbitration::DeliverFault;
+use std::fmt;
 use tape_frames::PacketFault;
 use thiserror::Error;
 
 /// Why bytes that came by a line are not taken, the first reason that applies. The subscriber is unchanged.
 #[derive(Clone, Copy, Debug, PartialEq, Eq, Error)]
-#[error("{}", self.name())]
 pub enum DeliveryFault {
     /// 64 Failed: a drain has met another summary, and the subscriber takes nothing any more, not even a good packet.
     Failed,
@@ -39,5 +39,13 @@ impl DeliveryFault {
             DeliveryFault::NoPacket(fault) => fault.name(),
             DeliveryFault::Refused(fault) => fault.name(),
         }
+    }
+}
+
+impl fmt::Display for DeliveryFault {
+    ghost output = { λ e. Some (delivery_fault_name e) };
+
+    fn fmt<W: fmt::Write>(&self, f: &mut fmt::Formatter<W>) -> fmt::Result {
+        f.write_str(self.name())
     }
 }

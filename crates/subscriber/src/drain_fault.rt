@@ -1,13 +1,13 @@
 //! Why a drain stops.
-ghost use Rattle.std.specs.Prelude.{◌≡◌};
+ghost use Rattle.std.specs.Prelude.{◌≡◌, Some};
 ghost use Rattle.subscriber.specs.Faults.{stop_code, stop_name};
 
+use std::fmt;
 use tape_core::Refusal;
 use thiserror::Error;
 
 /// Why a drain stops before nothing is ready.
 #[derive(Clone, Copy, Debug, PartialEq, Eq, Error)]
-#[error("{}", self.name())]
 pub enum Stop {
     /// The subscriber's own tape refuses the next entry's message: the tape's refusal, 32 where the subscriber's limit is
     /// reached, 34 to 39 by a feed that is no tape, 40 out of memory. The entry stays in the window, and the next drain
@@ -22,7 +22,6 @@ pub enum Stop {
 
 /// A drain that stopped: the entries that it counts are held, and the rest stays in the window.
 #[derive(Clone, Copy, Debug, PartialEq, Eq, Error)]
-#[error("{}", self.why.name())]
 pub struct DrainFault {
     /// How many entries this drain has put on the subscriber's own tape, from 0 to `TAPE_MOST`.
     pub drained: u32,
@@ -51,5 +50,21 @@ impl Stop {
             Stop::OtherSummary => "OtherSummary",
             Stop::Failed => "Failed",
         }
+    }
+}
+
+impl fmt::Display for Stop {
+    ghost output = { λ e. Some (stop_name e) };
+
+    fn fmt<W: fmt::Write>(&self, f: &mut fmt::Formatter<W>) -> fmt::Result {
+        f.write_str(self.name())
+    }
+}
+
+impl fmt::Display for DrainFault {
+    ghost output = { λ e. Some (stop_name e.why) };
+
+    fn fmt<W: fmt::Write>(&self, f: &mut fmt::Formatter<W>) -> fmt::Result {
+        f.write_str(self.why.name())
     }
 }

@@ -1,12 +1,10 @@
 //! Packets, requests and the window by worked rows and vectors, and a subscriber's worked rows and seeded schedules, each packet as its bytes.
 
 mod failing;
-mod faults;
 mod feed;
 mod limits;
 mod memory;
 mod packets;
-mod printing;
 mod requests;
 mod rows;
 mod schedules;

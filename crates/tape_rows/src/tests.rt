@@ -2,14 +2,10 @@
 
 mod books;
 mod limits;
+mod listing;
 mod matrix;
 mod messages;
-mod places;
-mod prices;
-mod printing;
 mod report;
 mod steps;
 mod stores;
 mod tape;
-mod targets;
-mod values;

@@ -1,12 +1,12 @@
 //! Why no listing was made.
-ghost use Rattle.std.specs.Prelude.{◌≡◌};
+ghost use Rattle.std.specs.Prelude.{◌≡◌, Some};
 ghost use Rattle.tape_types.specs.ListingFaults.{listing_fault_code, listing_fault_name};
 
+use std::fmt;
 use thiserror::Error;
 
 /// Why no listing was made, the first that applies.
 #[derive(Clone, Copy, Debug, PartialEq, Eq, Error)]
-#[error("{}", self.name())]
 pub enum ListingFault {
     /// There is no symbol, or no participant.
     Empty = 1,
@@ -36,5 +36,13 @@ impl ListingFault {
             ListingFault::Repeated => "Repeated",
             ListingFault::OutOfMemory => "OutOfMemory",
         }
+    }
+}
+
+impl fmt::Display for ListingFault {
+    ghost output = { λ e. Some (listing_fault_name e) };
+
+    fn fmt<W: fmt::Write>(&self, f: &mut fmt::Formatter<W>) -> fmt::Result {
+        f.write_str(self.name())
     }
 }

@@ -1,14 +1,13 @@
-//! Where lists first differ, the limits of a tape, what is no empty open tape, and what faults print.
+//! Where lists first differ, the limits of a tape, and what is no empty open tape.
 
 use super::shared_days::{Sent, listing, message, tape};
 use line_ledger::laws::first_difference;
-use line_ledger::{LineRefusal, NotOnTape, OpenFault, PublishFault, Told, ViewFault, prepare};
+use line_ledger::{OpenFault, Told, prepare};
 use reports::Message;
 use scratch_fold::Mark;
 use std::alloc::Global;
-use std::fmt::Display;
 use summaries::IndexStore;
-use tape_core::{Entry, Refusal, Tape, TapeFault};
+use tape_core::{Entry, Tape, TapeFault};
 use tape_types::{Participant, TapeNumber};
 
 fn told(number: u32, message: Option<Message>) -> Option<Told> {
@@ -128,44 +127,4 @@ fn an_empty_open_tape_is_prepared_alone(rt: HostRuntime) {
         opened(alloc, false, true),
     ];
     assert_eq!(rt; answers, [Some(Ok(())), not_empty, not_empty]);
-}
-
-const STALE: LineRefusal = LineRefusal::Refused(Refusal::Stale);
-
-const UNPUBLISHED: PublishFault = PublishFault::Unpublished(3);
-
-/// The numbers of faults.
-fn codes() -> [u8; 4] {
-    [
-        STALE.code(),
-        LineRefusal::Behind.code(),
-        UNPUBLISHED.code(),
-        NotOnTape.code(),
-    ]
-}
-
-/// Whether a fault prints as this text.
-fn prints_as<F: Display>(alloc: Global, fault: &F, text: &str) -> bool {
-    match fault.to_string(alloc) {
-        Ok(printed) => printed.as_str() == text,
-        Err(_) => false,
-    }
-}
-
-/// Whether faults print as their names.
-fn print_as_named(alloc: Global) -> [bool; 6] {
-    [
-        prints_as(alloc, &STALE, "Stale"),
-        prints_as(alloc, &LineRefusal::Behind, "Behind"),
-        prints_as(alloc, &OpenFault::NotEmpty, "NotEmpty"),
-        prints_as(alloc, &ViewFault::Behind, "Behind"),
-        prints_as(alloc, &UNPUBLISHED, "Unpublished"),
-        prints_as(alloc, &NotOnTape, "NotOnTape"),
-    ]
-}
-
-#[test]
-fn a_fault_has_a_number_and_prints_as_its_name(rt: HostRuntime) {
-    assert_eq!(rt; codes(), [35, 94, 81, 93]);
-    assert_eq!(rt; print_as_named(rt.alloc()), [true; 6]);
 }

@@ -3,7 +3,6 @@ ghost use Rattle.std.specs.Prelude.{◌≡◌};
 ghost use Rattle.tape_frames.specs.Sources.{IsPublished};
 
 use super::feed::{Feed, SESSION, equal_reports};
-use super::printing::prints;
 use retransmit::{Answer, AskFault, Ended, Refusal, ServeEnd, answer, ask, serve};
 use std::alloc::{AllocError, Global};
 use std::io;
@@ -346,11 +345,4 @@ fn a_refusal_is_told(rt: HostRuntime) {
             "{byte}"
         );
     }
-}
-
-#[test]
-fn a_fault_prints_as_its_name(rt: HostRuntime) {
-    let fault = AskFault::Refused(Refusal::Beyond);
-    assert_eq!(rt; prints(rt.alloc(), &fault, "Refused"), Some(true));
-    assert_eq!(rt; prints(rt.alloc(), &Refusal::Beyond, "Beyond"), Some(true));
 }

@@ -1,7 +1,6 @@
 //! What no clause says: that rows are made where there is memory, by workers that run at once, when the gate is called, and
 //! the printed text.
 
-use super::printing::prints_as;
 use super::steps::Kind::Report;
 use super::steps::Step::Sends;
 use super::steps::Told::Number;
@@ -300,5 +299,4 @@ impl io::Write for Full {
 fn a_writer_that_takes_nothing_is_a_write_fault(rt: HostRuntime) {
     let fault = write_report(rt.alloc(), &[], &mut Full).err();
     assert_eq!(rt; fault, Some(ReportFault::WriteFault));
-    assert!(rt; prints_as(rt.alloc(), &ReportFault::WriteFault, "WriteFault"));
 }
