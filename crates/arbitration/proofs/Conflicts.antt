@@ -12,7 +12,7 @@ use Rattle.tape_core.specs.declared.entry.Entry.{Entry}
 use Rattle.tape_core.specs.Laws.{entry_eq}
 use Rattle.tape_core.specs.Lemmas.Equality.{entry-Decides}
 use Rattle.tape_frames.specs.EntryRows.{IsNumberedFrom}
-use Rattle.tape_frames.specs.Lemmas.Numbers.{number_at}
+use Rattle.tape_frames.specs.Lemmas.Numbers.{number_at_place}
 use Rattle.arbitration.specs.Windows.{flat}
 use Rattle.arbitration.specs.Deliveries.{known_entry, Agrees, IsLeastConflict}
 
@@ -59,8 +59,8 @@ least_conflict held next first slots es i d numbers within so_far differs = reco
   number = refl;
   differs = differs;
   least = λ k x k_within below.
-      let at_k = number_at first es k (get_or es k x) numbers (slice_get-get_or es k x k_within) in
-      let at_i = number_at first es i (get_or es i d) numbers (slice_get-get_or es i d within) in
+      let at_k = number_at_place first es k (get_or es k x) numbers (slice_get-get_or es k x k_within) in
+      let at_i = number_at_place first es i (get_or es i d) numbers (slice_get-get_or es i d within) in
       let before : k < i = omega arith in
       subst (Agrees held next slots) (get_or-take i es k x before) (so_far k x (omega (arith, length-take i es)));
 }

@@ -17,7 +17,7 @@ use Rattle.tape_core.specs.declared.refusal.Refusal.{Refusal}
 use Rattle.tape_core.specs.declared.refusal.Refusal.TheVariants as tape
 use Rattle.tape_types.specs.Names.{Names}
 use Rattle.participant_lines.specs.Frames.{EndsInput, IsFrame}
-use Rattle.participant_lines.specs.Runs.{AreDone, Does, EndsAfter, IsAnswered, IsDone, Runs, StopsAt, Takes, effect_of, FRAMES_MOST, refusal_effect}
+use Rattle.participant_lines.specs.Runs.{AreDone, Does, EndsAfter, IsAnswered, IsDone, Runs, StopsAt, TakesMessage, effect_of, FRAMES_MOST, refusal_effect}
 use Rattle.participant_lines.specs.declared.line_end.Ended.{Ended}
 use Rattle.participant_lines.specs.declared.line_end.Ended.TheVariants.{Clean, Truncated, Oversize, ReadFault, TooMany, OutOfMemory, Behind}
 
@@ -65,7 +65,7 @@ answered listing s s' m (Err refusal) tells why = why
 
 -- an answer after which the line goes on
 pub taken : (listing : Names) (s s' : SeatState) (m : Message) (answer : Result ℕ LineRefusal) (result : Result ℕ Ended) → IsAnswered listing s m answer s'
-    → result ≡ effect_of answer → IfOk result (λ refused. Takes listing s m refused s')
+    → result ≡ effect_of answer → IfOk result (λ refused. TakesMessage listing s m refused s')
 taken listing s s' m answer (Ok refused) tells is = (answer, tells, sym is)
 taken listing s s' m answer (Err ended) tells is = tt
 

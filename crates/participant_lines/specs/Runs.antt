@@ -47,14 +47,14 @@ IsAnswered listing s m (Ok number) s' = Tells s m number s'
 IsAnswered listing s m (Err why) s' = TellsWhy listing s m why s'
 
 -- a message was answered so that its line goes on, with so many refusals more
-abbrev pub Takes : Names → SeatState → Message → ℕ → SeatState → Type 0
-Takes listing s m refused s' = (answer : Result ℕ LineRefusal) × IsAnswered listing s m answer s' × (effect_of answer ≡ Ok refused)
+abbrev pub TakesMessage : Names → SeatState → Message → ℕ → SeatState → Type 0
+TakesMessage listing s m refused s' = (answer : Result ℕ LineRefusal) × IsAnswered listing s m answer s' × (effect_of answer ≡ Ok refused)
 
 -- a frame was done: it spells no message, which is counted as refused, or its message was taken
 abbrev pub IsDone : Names → SeatState → List ℕ → ℕ → SeatState → Type 0
 IsDone listing s frame refused s' =
     ((fault : MessageFault) × (message_at frame ≡ Err fault) × (s' ≡ s) × (refused ≡ 1))
-    ⊎ ((m : Message) × Spells frame m × Takes listing s m refused s')
+    ⊎ ((m : Message) × Spells frame m × TakesMessage listing s m refused s')
 
 -- these frames were done one after the other, and so many of them were refused
 unfoldable pub AreDone : Names → SeatState → List (List ℕ) → ℕ → SeatState → Type 0

@@ -1,6 +1,6 @@
 //! One line run to its end.
 ghost use Rattle.std.specs.Prelude.{◌≡◌, ◌≢◌, IfErr, IfOk};
-ghost use Rattle.participant_lines.specs.Runs.{Does, EndsAfter, Runs, StopsAt, Takes, effect_of};
+ghost use Rattle.participant_lines.specs.Runs.{Does, EndsAfter, Runs, StopsAt, TakesMessage, effect_of};
 ghost use Rattle.participant_lines.specs.declared.line_end.Ended.TheVariants.{TooMany};
 
 use crate::frame::read_spelled;
@@ -46,7 +46,7 @@ fn take_message<D: DayName, W: Wait>(
     seat: &mut LineSeat<D>,
     message: Message,
 ) -> Result<u32, Ended>
-    ensures ok { IfOk result (λ refused. Takes D.listing seat.old message refused seat.new) }
+    ensures ok { IfOk result (λ refused. TakesMessage D.listing seat.old message refused seat.new) }
     ensures err { IfErr result (λ ended. (seat.new ≡ seat.old) × StopsAt ended D.listing seat.old message) }
 {
     effect_of(shared.admit(rt, seat, message))

@@ -6,7 +6,7 @@ use Rattle.tape_core.specs.declared.entry.Entry.{Entry}
 use Rattle.tape_frames.specs.EntryRows.{IsNumberedFrom, last_number}
 use Rattle.arbitration.specs.Deliveries.{entry_numbered}
 use Rattle.tape_frames.specs.Cuts.{IsPartOf}
-use Rattle.tape_frames.specs.Lemmas.Numbers.{IsNumberedFrom-append, slice_get-append-add, slice_get-append-lt, number_at}
+use Rattle.tape_frames.specs.Lemmas.Numbers.{IsNumberedFrom-append, slice_get-append-add, slice_get-append-lt, number_at_place}
 use Rattle.arbitration.specs.Lemmas.Numbers.{numbered_place}
 
 -- an entry that a part has under a number is the tape's entry of that number
@@ -31,7 +31,7 @@ part_stands tape es h part k e found =
     let of_rest = (IsNumberedFrom-append 1 before (es ++ part.1) numbers).1 in
     let of_part = (IsNumberedFrom-append (1 + length before) es part.1 of_rest).0 in (
       length before + k,
-      number_at (1 + length before) es k e of_part found ∙ omega arith,
+      number_at_place (1 + length before) es k e of_part found ∙ omega arith,
       ap (λ t. slice_get t (length before + k)) part.2 ∙ slice_get-append-add before (es ++ part.1) k
           ∙ slice_get-append-lt es part.1 k (slice_get_within es k e found) ∙ found,
     )
@@ -50,6 +50,6 @@ part_last tape (x ∷ es) h part =
     let first : x.number ≡ 1 + length before = of_part.0 in (
       omega arith,
       λ k e found.
-          let place = number_at (1 + length before) (x ∷ es) k e of_part found in
+          let place = number_at_place (1 + length before) (x ∷ es) k e of_part found in
           let within = slice_get_within (x ∷ es) k e found in omega arith,
     )

@@ -7,7 +7,7 @@ use Rattle.std.proofs.lemmas.List.Elements.{All-nil}
 use Rattle.std.proofs.lemmas.Option.{same_Some, slice_get_past, slice_get-get_or, none-some, slice_get_within}
 use Rattle.std.specs.Prelude.{All, slice_get, IfSome}
 use Rattle.tape_core.specs.declared.entry.Entry.{Entry}
-use Rattle.tape_frames.specs.Lemmas.Numbers.{number_at, IsNumberedFrom-append}
+use Rattle.tape_frames.specs.Lemmas.Numbers.{number_at_place, IsNumberedFrom-append}
 use Rattle.tape_frames.specs.Packets.{entries_of, last_of, end_of, HasNumbers}
 use Rattle.tape_frames.specs.EntryRows.{IsNumberedFrom, IsEmptyOrRow, first_number}
 use Rattle.tape_frames.specs.declared.packet.Packet.{Packet}
@@ -18,13 +18,13 @@ use Rattle.tape_types.specs.Ranges.{TAPE_MOST}
 use Rattle.tape_frames.specs.Limits.{ENTRIES_MOST}
 
 -- the entry of a number in consecutive entries is the one at its place
-pub numbered_at : (first : ℕ) (es : List Entry) (m : ℕ) → IsNumberedFrom first es → entry_numbered (first + m) es ≡ slice_get es m
-numbered_at first [] m h = refl
-numbered_at first (e ∷ es) zero h = cond-true (e.number == (first + 0)) _ _ (eq-eqb _ _ (omega arith))
-numbered_at first (e ∷ es) (suc m) h =
+pub entry_numbered-place : (first : ℕ) (es : List Entry) (m : ℕ) → IsNumberedFrom first es → entry_numbered (first + m) es ≡ slice_get es m
+entry_numbered-place first [] m h = refl
+entry_numbered-place first (e ∷ es) zero h = cond-true (e.number == (first + 0)) _ _ (eq-eqb _ _ (omega arith))
+entry_numbered-place first (e ∷ es) (suc m) h =
     cond-false (e.number == (first + suc m)) _ _ (ne_eqb _ _ (λ p. omega arith))
     ∙ (let p : first + suc m ≡ (first + 1) + m = omega arith in ap (λ n. entry_numbered n es) p)
-    ∙ numbered_at (first + 1) es m h.1
+    ∙ entry_numbered-place (first + 1) es m h.1
 
 -- consecutive entries have none of a number below the first
 pub numbered_below : (first : ℕ) (es : List Entry) (n : ℕ) → IsNumberedFrom first es → n < first → entry_numbered n es ≡ None
@@ -39,7 +39,7 @@ numbered_place first es n e h found = elim (cases_lt n first) [
   | inl below ↦ absurd (none-some e (sym (numbered_below first es n h below) ∙ found))
   | inr above ↦
       let p : n ≡ first + (n - first) = omega arith in
-      (n - first, p, sym (numbered_at first es (n - first) h) ∙ ap (λ i. entry_numbered i es) (sym p) ∙ found)
+      (n - first, p, sym (entry_numbered-place first es (n - first) h) ∙ ap (λ i. entry_numbered i es) (sym p) ∙ found)
 ]
 
 -- the entry of a number stands in the list, and has the number
@@ -58,9 +58,9 @@ find_place (x ∷ es) n e found = elim (cases_Bool (x.number == n)) [
 pub number_is_new : (first : ℕ) (es : List Entry) (k : ℕ) (d : Entry) → IsNumberedFrom first es → k < length es
     → entry_numbered (get_or es k d).number (take k es) ≡ None
 number_is_new first es k d h within =
-    let number = number_at first es k (get_or es k d) h (slice_get-get_or es k d within) in
+    let number = number_at_place first es k (get_or es k d) h (slice_get-get_or es k d within) in
     let front = (IsNumberedFrom-append first (take k es) (drop k es) (subst (IsNumberedFrom first) (sym (take-append-drop k es)) h)).0 in
-    ap (λ n. entry_numbered n (take k es)) number ∙ numbered_at first (take k es) k front ∙ slice_get_past (take k es) k (omega (arith, length-take k es))
+    ap (λ n. entry_numbered n (take k es)) number ∙ entry_numbered-place first (take k es) k front ∙ slice_get_past (take k es) k (omega (arith, length-take k es))
 
 -- the entries of a packet are consecutive and few, and their numbers positive
 pub row_numbers : (es : List Entry) → IsEmptyOrRow es → IsNumberedFrom (first_number es) es × (length es ≤ ENTRIES_MOST) × All (λ e. 1 ≤ e.number) es
@@ -69,7 +69,7 @@ row_numbers (e ∷ es) h = (
   h.consecutive,
   h.few,
   λ k d within.
-      let number = number_at (first_number (e ∷ es)) (e ∷ es) k (get_or (e ∷ es) k d) h.consecutive (slice_get-get_or (e ∷ es) k d within) in
+      let number = number_at_place (first_number (e ∷ es)) (e ∷ es) k (get_or (e ∷ es) k d) h.consecutive (slice_get-get_or (e ∷ es) k d within) in
       let positive : 1 ≤ e.number = h.positive in
       omega arith,
 )
@@ -78,7 +78,7 @@ row_numbers (e ∷ es) h = (
 pub packet_numbers : (q : Packet) → HasNumbers q → (n : ℕ) (e : Entry) → entry_numbered n (entries_of q) ≡ Some e → (e.number ≡ n) × (n ≤ last_of q)
 packet_numbers (Data session row) h n e found =
     let place = find_place row n e found in
-    let number = number_at (first_number row) row place.0 e h.consecutive place.1 in
+    let number = number_at_place (first_number row) row place.0 e h.consecutive place.1 in
     let within = slice_get_within row place.0 e place.1 in
     (place.2, (let same : e.number ≡ n = place.2 in omega arith))
 packet_numbers (Beat session last) h n e found = absurd (cc)

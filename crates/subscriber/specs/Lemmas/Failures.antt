@@ -30,8 +30,8 @@ pub runs : (n : ℕ) (s after : SubscriberState) → DrainsAll n s after → aft
 runs n s after all = ap (λ (t : SubscriberState). t.failed) all.state ∙ runs_for n s all.running all.own
 
 -- a turn holds at most one entry more
-pub one_more : (s : SubscriberState) (o : Option Entry) → length (subscriber_after_entry o s).tape.entries ≤ length s.tape.entries + 1
-one_more s o = after_entry-keeps (λ t. length t.tape.entries ≤ length s.tape.entries + 1) s o (omega arith)
+pub one_entry_more : (s : SubscriberState) (o : Option Entry) → length (subscriber_after_entry o s).tape.entries ≤ length s.tape.entries + 1
+one_entry_more s o = after_entry-keeps (λ t. length t.tape.entries ≤ length s.tape.entries + 1) s o (omega arith)
     (λ e _ _ _. let more = length-with_entry s e in omega arith)
 
 -- a drain of n entries holds at most n more
@@ -39,7 +39,7 @@ pub at_most : (n : ℕ) (s : SubscriberState) → length (subscriber_after n s).
 at_most zero s = omega arith
 at_most (suc n) s =
     let rest = at_most n (subscriber_after_entry (next_of s.window) s) in
-    let one = one_more s (next_of s.window) in
+    let one = one_entry_more s (next_of s.window) in
     omega arith
 
 -- a turn that holds another entry than the feed's makes it fail
@@ -80,7 +80,7 @@ fails_for OtherSummary n s running is held =
     let t = subscriber_after (n - 1) s in
     let last : subscriber_after n s ≡ subscriber_after_entry (next_of t.window) t = ap (λ k. subscriber_after k s) back ∙ after-more (n - 1) s in
     let before = at_most (n - 1) s in
-    let one = one_more t (next_of t.window) in
+    let one = one_entry_more t (next_of t.window) in
     let size : length (subscriber_after_entry (next_of t.window) t).tape.entries
     ≡ length s.tape.entries + n = ap (λ (u : SubscriberState). length u.tape.entries) (sym last) ∙ held in
     ap (λ (u : SubscriberState). u.failed) last ∙ other_fails t (runs_for (n - 1) s running is.2) is.3 (omega arith)

@@ -68,7 +68,7 @@ row_of count number es are some few =
 -- ---- what follows a header
 
 -- what was read after a header is the packet's own
-pub record IsContent (header bytes : List ℕ) (x : Packet × List ℕ) : Type 0 where
+pub record IsPacketContent (header bytes : List ℕ) (x : Packet × List ℕ) : Type 0 where
   pub body : List ℕ
   pub taken : Takes bytes body x.1
   pub text : header ++ body ≡ packet_text x.0
@@ -76,7 +76,7 @@ pub record IsContent (header bytes : List ℕ) (x : Packet × List ℕ) : Type 0
 
 -- a data packet's entries that are read were spelled so
 data_takes : (session number count : ℕ) (bytes : List ℕ) (x : Packet × List ℕ) → AreBytes bytes → session < 2 ^ 64
-    → (row_at number count bytes >>= λ es. Ok (Data session es.0, es.1)) ≡ Ok x → IsContent (header_text DATA session number count) bytes x
+    → (row_at number count bytes >>= λ es. Ok (Data session es.0, es.1)) ≡ Ok x → IsPacketContent (header_text DATA session number count) bytes x
 unfolding row_at
 data_takes session number count bytes x fits session_fits e =
     let b = bind_ok (row_at number count bytes) (λ es. Ok (Data session es.0, es.1)) x e in
@@ -87,7 +87,7 @@ data_takes session number count bytes x fits session_fits e =
     let read = (entries_reader count number).takes bytes b.0 fits good.1 in
     let first : number ≡ first_number es = sym (first_is number es read.1.1.0 (omega (arith, some, read.1.0))) in
     let made : Packet × List ℕ = (Data session es, b.0.1) in
-    subst (IsContent (header_text DATA session number count) bytes) {x = made} (ok_is Short made x b.2) (record {
+    subst (IsPacketContent (header_text DATA session number count) bytes) {x = made} (ok_is Short made x b.2) (record {
       body = flat_map entry_text es;
       taken = read.0;
       text = ap (λ (n : ℕ). header_text DATA session n count ++ flat_map entry_text es) first
@@ -106,12 +106,12 @@ count_taken number count last e =
 alone_takes : (kind : ℕ) (make : ℕ → ℕ → Packet) → ((session n : ℕ) → packet_text (make session n) ≡ header_text kind session n 0)
     → ((session n : ℕ) → session < 2 ^ 64 → n ≤ TAPE_MOST → IsPacket (make session n))
     → (session number count : ℕ) (bytes : List ℕ) (x : Packet × List ℕ) → AreBytes bytes → session < 2 ^ 64
-    → (count_alone number count >>= λ last. Ok (make session last, bytes)) ≡ Ok x → IsContent (header_text kind session number count) bytes x
+    → (count_alone number count >>= λ last. Ok (make session last, bytes)) ≡ Ok x → IsPacketContent (header_text kind session number count) bytes x
 alone_takes kind make text valid session number count bytes x fits session_fits e =
     let b = bind_ok (count_alone number count) (λ last. Ok (make session last, bytes)) x e in
     let parts = count_taken number count b.0 b.1 in
     let made : Packet × List ℕ = (make session b.0, bytes) in
-    subst (IsContent (header_text kind session number count) bytes) {x = made} (ok_is Short made x b.2) (record {
+    subst (IsPacketContent (header_text kind session number count) bytes) {x = made} (ok_is Short made x b.2) (record {
       body = [];
       taken = record { parts = refl; rest_fits = fits };
       text = append-nil (header_text kind session number count)
@@ -123,21 +123,21 @@ alone_takes kind make text valid session number count bytes x fits session_fits 
 
 -- what is read after a header was spelled so
 content_takes : (kind session number count : ℕ) (bytes : List ℕ) (x : Packet × List ℕ) → AreBytes bytes → session < 2 ^ 64
-    → packet_content kind session number count bytes ≡ Ok x → IsContent (header_text kind session number count) bytes x
+    → packet_content kind session number count bytes ≡ Ok x → IsPacketContent (header_text kind session number count) bytes x
 unfolding packet_content
 content_takes kind session number count bytes x fits session_fits e =
     elim (cases_Bool (kind == DATA)) [
       | inl is_data ↦
-          subst (λ (k : ℕ). IsContent (header_text k session number count) bytes x) (sym (eqb-true kind DATA is_data))
+          subst (λ (k : ℕ). IsPacketContent (header_text k session number count) bytes x) (sym (eqb-true kind DATA is_data))
           (data_takes session number count bytes x fits session_fits (rw is_data at e))
       | inr not_data ↦ elim (cases_Bool (kind == BEAT)) [
         | inl is_beat ↦
-            subst (λ (k : ℕ). IsContent (header_text k session number count) bytes x) (sym (eqb-true kind BEAT is_beat))
+            subst (λ (k : ℕ). IsPacketContent (header_text k session number count) bytes x) (sym (eqb-true kind BEAT is_beat))
             (alone_takes BEAT Beat (λ s n. refl) (λ s n in_width in_range. (in_width, in_range)) session number count bytes x fits session_fits
             (rw (not_data, is_beat) at e))
         | inr not_beat ↦ elim (cases_Bool (kind == END)) [
           | inl is_end ↦
-              subst (λ (k : ℕ). IsContent (header_text k session number count) bytes x) (sym (eqb-true kind END is_end))
+              subst (λ (k : ℕ). IsPacketContent (header_text k session number count) bytes x) (sym (eqb-true kind END is_end))
               (alone_takes END End (λ s n. refl) (λ s n in_width in_range. (in_width, in_range)) session number count bytes x fits session_fits
               (rw (not_data, not_beat, is_end) at e))
           | inr not_end ↦ absurd (cc (rw (not_data, not_beat, not_end) at e))

@@ -10,7 +10,7 @@ use Rattle.tape_core.specs.declared.entry.Entry.{Entry}
 use Rattle.tape_frames.specs.Limits.{ENTRIES_MOST}
 use Rattle.tape_frames.specs.EntryRows.{Carries, IsNumberedFrom}
 use Rattle.tape_frames.specs.Sources.{IsPublished, cut_of}
-use Rattle.tape_frames.specs.Lemmas.Numbers.{IsNumberedFrom-take, number_at}
+use Rattle.tape_frames.specs.Lemmas.Numbers.{IsNumberedFrom-take, number_at_place}
 
 -- the first entries of what is published are published too
 pub IsPublished-take : (len : ℕ) (es : List Entry) → IsPublished es → IsPublished (take len es)
@@ -21,7 +21,7 @@ IsPublished-take len es published = record {
 
 -- the entry that is found under a number has it
 pub listed_number : (es : List Entry) (n : ℕ) (e : Entry) → IsNumberedFrom 1 es → 1 ≤ n → slice_get es (n - 1) ≡ Some e → e.number ≡ n
-listed_number es n e numbered some got = number_at 1 es (n - 1) e numbered got ∙ omega (arith, some)
+listed_number es n e numbered some got = number_at_place 1 es (n - 1) e numbered got ∙ omega (arith, some)
 
 -- and carries what its kind does
 pub listed_carries : (es : List Entry) (k : ℕ) (e : Entry) → All Carries es → slice_get es k ≡ Some e → Carries e
