@@ -94,15 +94,20 @@ fn end_of_front<W: Wait + Abort>(rt: &W, alloc: Global, len: usize) -> Option<Fi
     end_of_bytes(rt, alloc, bytes.get(..len)?)
 }
 
-/// A reader of these bytes that fails once where they end, and has ended when it is asked again.
+/// A reader of these bytes that is interrupted before each read, fails once where they end, and has ended when it is asked again.
 #[derive(Drop)]
 struct Failing<'a> {
     left: &'a [u8],
+    is_interrupted: bool,
     has_failed: bool,
 }
 
 impl Read for Failing<'_> {
     fn read(&mut self, buf: &mut [u8]) -> io::Result<usize> {
+        self.is_interrupted = !self.is_interrupted;
+        if self.is_interrupted {
+            return Err(io::Error::from(ErrorKind::Interrupted));
+        }
         if self.left.is_empty() && !self.has_failed {
             self.has_failed = true;
             return Err(io::Error::from(ErrorKind::BrokenPipe));
@@ -111,7 +116,8 @@ impl Read for Failing<'_> {
     }
 }
 
-/// How N's line ends over the first so many bytes of two reports and a read that fails, through a buffer of this size.
+/// How N's line ends over the first so many bytes of two reports and a read that fails, each read interrupted first, through a
+/// buffer of this size.
 fn end_of_failing<W: Wait + Abort>(
     rt: &W,
     alloc: Global,
@@ -121,6 +127,7 @@ fn end_of_failing<W: Wait + Abort>(
     let bytes = joined(alloc, &[REPORT, report(b'N', 2)])?;
     let failing = Failing {
         left: bytes.get(..len)?,
+        is_interrupted: false,
         has_failed: false,
     };
     let mut reader = BufReader::with_capacity(alloc, buffer, failing).ok()?;
@@ -167,7 +174,7 @@ fn an_input_ends_its_line(rt: HostRuntime) {
 
 // A buffer of 16 bytes has no frame whole, and one of 64 has one of two.
 #[test]
-fn a_read_that_fails_ends_its_line(rt: HostRuntime) {
+fn a_read_that_is_interrupted_is_tried_again_and_one_that_fails_ends_its_line(rt: HostRuntime) {
     for len in 0..81 {
         let count = len / 40;
         let ends = [
