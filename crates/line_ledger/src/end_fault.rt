@@ -46,7 +46,7 @@ impl<D: DayName> EndFault<D> {
         }
     }
 
-    /// The name of the fault, as it is printed.
+    /// The name of the fault, as in the profile.
     pub fn name(&self) -> &'static str
         ensures missing { (unended : _) → self.now ≡ MissingSeat unended → result.now ≡ codes "MissingSeat" }
         ensures disagrees { (disagreement : _) → self.now ≡ Disagrees disagreement → result.now ≡ codes "Disagrees" }
