@@ -34,7 +34,7 @@ def whole(row, column, most):
     """The column's number, from 1 to `most`."""
     text = row.get(column, "")
     if not re.fullmatch("[0-9]{1,20}", text) or not 1 <= int(text) <= most:
-        raise BadRow(f"{column} {text!r} is no number from 1 to {most}")
+        raise BadRow(f"{column} {text!r} is not a number from 1 to {most}")
     return int(text)
 
 
@@ -66,7 +66,7 @@ def header(row, kind):
     """What every message begins with, its length aside."""
     participant, symbol = row["participant"], row["symbol"]
     if not re.fullmatch("[A-Z]", participant):
-        raise BadRow(f"participant {participant!r} is no letter from A to Z")
+        raise BadRow(f"participant {participant!r} is not a letter from A to Z")
     if not re.fullmatch("[A-Z0-9.]{1,8}", symbol):
         raise BadRow(f"symbol {symbol!r} is not 1 to 8 of A to Z, 0 to 9 and the full stop")
     number = whole(row, "number", 4_294_967_295)
@@ -106,7 +106,7 @@ def encode(table):
     symbols, participants, lines = {}, {}, []
     for fields in table:
         if len(fields) != len(columns):
-            raise BadRow(f"{len(columns)} fields are wanted, and {len(fields)} are there")
+            raise BadRow(f"expected {len(columns)} fields, found {len(fields)}")
         row = dict(zip(columns, fields))
         lines.append(f"{row['participant']} {message(row).hex()}")
         symbols[row["symbol"]] = participants[row["participant"]] = None

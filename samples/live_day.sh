@@ -1,10 +1,10 @@
 #!/bin/sh
 # A day over sockets: live_day.sh [TABLE.csv]
 #
-# Starts `tapebox live`, a relay that loses, doubles and reorders packets and sends bytes that are none between them, and `tapebox
-# follow` behind it, sends the table's messages (without a word, those of corrections.csv), and compares the two reports byte for
-# byte. Prints the report once, and on standard error what the relay did. Where anything fails, the reports differ or the time is
-# over, the status is 1 and the reason stands on standard error. Needs python3 and Linux, whose /proc/net tells which ports are bound.
+# Starts `tapebox live`, a relay that loses, doubles and reorders packets and injects bytes that are no packet, and `tapebox follow`
+# behind it, sends the table's messages (without an argument, those of corrections.csv), and compares the two reports byte for
+# byte. Prints the report once, and on standard error what the relay did. If anything fails, the reports differ or the time is
+# up, the status is 1 and the reason stands on standard error. Needs python3 and Linux, whose /proc/net tells which ports are bound.
 #
 #     TAPEBOX   the program (../crates/tapebox/out/tapebox, from here)
 #     FOLLOWED  1, or 0 for a day that nobody follows: `live` awaits no retransmission, and its report alone is printed (1)

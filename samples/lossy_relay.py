@@ -9,7 +9,7 @@ not lost, the doubled ones are sent twice, and the reordered ones are held back 
 a fiftieth of a second passed. Before a garbled one, lost or not, goes a datagram of its own that is no packet of the day, but
 nothing on a line that loses all. What becomes of a line's packets is drawn from the seed, the line and their order alone.
 
-End packets go on at once and once, unless all of their line is lost: a follower that misses every end waits for ever, so both
+End packets go on at once and once, unless all of their line is lost: a follower that misses every end waits forever, so both
 lines together can't lose everything. Runs until it is told to end (SIGTERM or SIGINT), and then prints what became of each
 line's packets.
 """
@@ -172,7 +172,7 @@ def arguments():
     parser = argparse.ArgumentParser(description="Loses, doubles, reorders and garbles packets of the lines A and B.")
     for part in ("lose", "double", "reorder", "garble"):
         parser.add_argument(f"--{part}", type=percentages, default=(0, 0), metavar="P[,P]", help="percentage, or of A and B (0)")
-    parser.add_argument("--seed", type=int, default=1, metavar="N", help="what is drawn begins from it (1)")
+    parser.add_argument("--seed", type=int, default=1, metavar="N", help="seed of the random choices (1)")
     for name in ("IN_A", "IN_B", "OUT_A", "OUT_B"):
         parser.add_argument(name.lower(), type=port, metavar=name)
     words = parser.parse_args()

@@ -107,9 +107,9 @@ def arguments():
     parser.add_argument("participants", nargs="?", metavar="PARTICIPANTS", help="their letters as live has them")
     words = parser.parse_args()
     if words.names == (words.port is not None):
-        parser.error("either --names or PORT is wanted")
+        parser.error("give either --names or PORT")
     if words.pause < 0:
-        parser.error("a pause is not below 0")
+        parser.error("a pause must not be negative")
     return words, parser
 
 
