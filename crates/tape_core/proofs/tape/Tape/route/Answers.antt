@@ -17,7 +17,7 @@ refusal-is g c =
     let room : (length inside.entries.items == inside.limit) ≡ false = search rules in
     let listed : lists_participant inside.listing (header_of m).participant ≡ true = search rules in
     let above
-        : nat_le (header_of m).number (last_number (messages_of inside.entries.items) (header_of m).participant) ≡ false = search rules in
+    : nat_le (header_of m).number (last_number (messages_of inside.entries.items) (header_of m).participant) ≡ false = search rules in
     let known : lists_symbol inside.listing (header_of m).symbol ≡ true = search rules in
     ap refused c.locate.ensures ∙ register_place-faults (messages_of inside.entries.items) inside.register c.next_number-number.result m c.self.invariant.targets
     ∙ sym (refusal-of_target _ m unclosed room listed above known) ∙ ap (λ t. refusal t m) c.self.view_is
