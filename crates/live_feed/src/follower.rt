@@ -1,6 +1,6 @@
 //! What both lines of a follower share: its subscriber and the connection on which that asks.
-ghost use Rattle.std.specs.Prelude.{◌≡◌, ◌↔◌, ◌≤◌, IsSomeAnd, true};
-ghost use Rattle.live_feed.specs.declared.fault.Fault.TheVariants.{Memory, Read, Write};
+ghost use Rattle.std.specs.Prelude.{◌≡◌, ◌≢◌, ◌↔◌, ◌≤◌, IsSomeAnd, true};
+ghost use Rattle.live_feed.specs.declared.fault.Fault.TheVariants.{Disagrees, Memory, Read, Write};
 ghost use Rattle.retransmit.specs.declared.ask_fault.AskFault.TheVariants.{OutOfMemory as AskOutOfMemory, ReadFault, WriteFault};
 ghost use Rattle.subscriber.specs.declared.drain_fault.Stop.TheVariants.{Refused};
 ghost use Rattle.tape_core.specs.declared.refusal.Refusal.TheVariants.{OutOfMemory};
@@ -44,7 +44,8 @@ fn dial<R: Net<Listener = TcpListener, Stream = TcpStream>>(
 
 /// The run's fault for a drain that stopped.
 fn fault_of_drain(fault: DrainFault) -> Fault
-    ensures memory { (result ≡ Memory) ↔ (fault.why ≡ Refused OutOfMemory) }
+    ensures memory { fault.why ≡ Refused OutOfMemory → result ≡ Memory }
+    ensures other { fault.why ≢ Refused OutOfMemory → result ≡ Disagrees }
 {
     match fault.why {
         Stop::Refused(Refusal::OutOfMemory) => Fault::Memory,
@@ -57,6 +58,7 @@ fn fault_of_ask(fault: AskFault) -> Fault
     ensures read { fault ≡ ReadFault → result ≡ Read }
     ensures write { fault ≡ WriteFault → result ≡ Write }
     ensures memory { fault ≡ AskOutOfMemory → result ≡ Memory }
+    ensures other { fault ≢ ReadFault → fault ≢ WriteFault → fault ≢ AskOutOfMemory → result ≡ Disagrees }
 {
     match fault {
         AskFault::ReadFault => Fault::Read,

@@ -1,5 +1,5 @@
 //! The lines with their seats, before they run and after.
-ghost use Rattle.std.specs.Prelude.{◌≡◌, ◌≤◌, [], Some, map, vec_len};
+ghost use Rattle.std.specs.Prelude.{◌≡◌, ◌≢◌, ◌≤◌, [], None, Some, map, vec_len};
 ghost use Rattle.std.specs.Vec.{vec_capacity};
 ghost use Rattle.line_ledger.specs.Ends.{whos};
 ghost use Rattle.live_feed.specs.declared.fault.Fault.TheVariants.{Memory, Worker, Disagrees};
@@ -72,6 +72,7 @@ pub(crate) fn seated_lines<D: DayName>(
 fn fault_of_end(ended: Ended) -> Option<Fault>
     ensures memory { ended ≡ OutOfMemory → result ≡ Some Memory }
     ensures behind { ended ≡ Behind → result ≡ Some Disagrees }
+    ensures other { ended ≢ OutOfMemory → ended ≢ Behind → result ≡ None }
 {
     match ended {
         Ended::OutOfMemory => Some(Fault::Memory),
