@@ -15,7 +15,9 @@ use std::net::{Net, TcpListener, TcpStream, UdpSocket};
 use std::rt::Clock;
 use std::sync::Wait;
 use std::thread::Threads;
-use tape_types::TAPE_MOST;
+
+/// The limit of a running day's tape and of its follower's, in entries, whatever other tapes may have.
+const FEED_TAPE_MOST: u32 = 1_048_576;
 
 /// Opens a listener on each port from the first on, one for each participant.
 fn open_lines<T: Net<Listener = TcpListener, Stream = TcpStream>>(
@@ -106,7 +108,7 @@ where
             rt,
             alloc,
             words.listing,
-            TAPE_MOST,
+            FEED_TAPE_MOST,
             words.session,
             words.serves,
             sockets,
@@ -148,7 +150,7 @@ where
             rt,
             alloc,
             words.listing,
-            TAPE_MOST,
+            FEED_TAPE_MOST,
             words.session,
             sockets,
             None,
