@@ -341,6 +341,7 @@ impl<D: DayName> Locked<D> {
         ensures own { IfNone result ((header_of message.now).participant ≡ seat.now.who) }
         ensures agrees { IfNone result (agrees self.now.tape seat.now ≡ true) }
     {
+        // For the proof alone: what the tape's type keeps is known once the tape is used.
         let _ = &self.tape;
         if message.header().participant != seat.who {
             return Some(LineRefusal::Refused(Refusal::WrongLine));
@@ -392,6 +393,7 @@ impl<D: DayName> Locked<D> {
         ensures answer { MatchResult result (Shows self.now.tape seat.now symbol) (λ fault. view_fault self.now.tape seat.now symbol ≡ Some fault) }
         ensures told { IfOk result (λ view. length seat.now.told ≤ view.count) }
     {
+        // For the proof alone: what the tape's type keeps is known once the tape is used.
         let _ = &self.tape;
         let Some(summary) = self.tape.summary(symbol) else {
             return Err(ViewFault::UnknownSymbol);
@@ -461,6 +463,7 @@ impl<D: DayName> Locked<D> {
     pub(crate) fn is_each(&self, seats: &[LineSeat<D>]) -> bool
         ensures { IsTrue result ↔ IsOneEach D.listing.participants seats.now }
     {
+        // For the proof alone: what the tape's type keeps is known once the tape is used.
         let _ = &self.tape;
         is_one_each(self.tape.listing().participants().as_slice(), seats)
     }
