@@ -69,7 +69,7 @@ def look_at_data(taken):
     counts = set()
     for at, (time, packet) in enumerate(taken):
         version, kind, session, first, count = HEADER.unpack_from(packet)
-        if (version, kind, session, first) != (1, b"D", SESSION, last + 1) or not 1 <= count <= ENTRIES_MOST:
+        if (version, kind, session, first) != (2, b"D", SESSION, last + 1) or not 1 <= count <= ENTRIES_MOST:
             sys.exit(f"packet {at + 1} is {packet[:HEADER.size].hex()} after entry {last}")
         if at and at % PACKETS_BEFORE_REST == 0 and time - taken[at - 1][0] < REST:
             sys.exit(f"no rest after {at} packets")

@@ -3,14 +3,14 @@
 
 The table has a header row with these columns, in any order; `kind` and `target` may be left out of a table of reports.
 
-    kind         report, cancel or correct (or R, X, C, as the messages have it)
+    kind         report, cancel, correct or reinstate (or R, X, C, S, as the messages have it)
     participant  one letter, A to Z
     number       the participant's number of this message, 1 to 4294967295
     symbol       1 to 8 of A to Z, 0 to 9 and the full stop
-    target       the number of the participant's report that is cancelled or corrected; empty in a report
-    price        dollars, with at most four decimals; empty in a cancel
-    size         1 to 99999999; empty in a cancel
-    condition    four codes of the sale condition matrix, _ for a blank, as @_Z_; empty in a cancel
+    target       the number of the participant's report that is cancelled, corrected or reinstated; empty in a report
+    price        dollars, with at most four decimals; empty in a cancel and a reinstatement
+    size         1 to 99999999; empty where the price is
+    condition    four codes of the sale condition matrices, _ for a blank, as @_Z_; empty where the price is
 
 Every moment is 0. The two header lines have the symbols and the participants in the order of their appearance. Rows
 that the tape refuses, as a target that no report has, are encoded too. The first bad row ends the program with status 1
@@ -21,9 +21,9 @@ import csv
 import re
 import sys
 
-KINDS = {"report": "R", "cancel": "X", "correct": "C", "R": "R", "X": "X", "C": "C"}
+KINDS = {"report": "R", "cancel": "X", "correct": "C", "reinstate": "S", "R": "R", "X": "X", "C": "C", "S": "S"}
 COLUMNS = ["participant", "number", "symbol", "price", "size", "condition"]
-POSITIONS = ["@CNR", "_FO56479", "_LZTU", "_ABDSXY1HIVWPGMQ"]
+POSITIONS = ["@CNR", "_FO56479", "_LZTU", "_ABDSXY1HIVWPGMQ23"]
 
 
 class BadRow(Exception):
@@ -78,13 +78,13 @@ def message(row):
     """The row's message as bytes."""
     kind = KINDS.get(row.setdefault("kind", "report"))
     if kind is None:
-        raise BadRow(f"kind {row['kind']!r} is not report, cancel or correct")
+        raise BadRow(f"kind {row['kind']!r} is not report, cancel, correct or reinstate")
     body = header(row, kind)
     if kind == "R":
         empty(row, ["target"])
     else:
         body += whole(row, "target", 4_294_967_295).to_bytes(4, "big")
-    if kind == "X":
+    if kind in "XS":
         empty(row, ["price", "size", "condition"])
     else:
         size = whole(row, "size", 99_999_999)

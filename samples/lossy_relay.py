@@ -25,7 +25,7 @@ import sys
 import time
 
 HOST = "127.0.0.1"
-# A packet is at most 919 bytes; the kind stands after the version.
+# A packet is at most 1,823 bytes; the kind stands after the version.
 ROOM = 2048
 KIND = slice(1, 2)
 # Where the last byte of the session stands.

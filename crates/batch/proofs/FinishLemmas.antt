@@ -4,6 +4,7 @@ use Rattle.std.specs.Io.KnownBytes.{Keeps}
 use Rattle.std.proofs.KnownBytes.{Appends-kept, Keeps-refl}
 use Rattle.std.specs.List.{flat_map}
 use Rattle.tape_types.specs.Names.{Names}
+use Rattle.sale_matrix.specs.declared.matrix.Matrix.{Matrix}
 use Rattle.batch.specs.Batch.{INPUT_MOST, answer_line, fault_line, input_listing, message_lines}
 use Rattle.batch.specs.BatchEnds.{EndsAt, Wrote, WroteForMemory}
 use Rattle.batch.specs.Ends.{end_of_reading}
@@ -21,36 +22,36 @@ use Rattle.row_reads.specs.Lemmas.WriteLemmas.{WritesPrefix-kept, WritesPrefix-l
 use Rattle.batch.proofs.WrittenDay.{ReadsBatch-may, ReadsBatch-stop, ReadsBatch-text}
 
 -- what was written is what the end says
-pub Finishes-wrote : (read : Batch) (end : BatchEnd) (input : List ℕ) (old new : Option (List ℕ)) → ReadsBatch read input
-    → Finishes read end old new → Wrote end input old new
-Finishes-wrote (Answered day) Done input old new read h = Appends-same old new _ _ (ReadsBatch-text day input h.0 read) h.1
-Finishes-wrote (Answered day) OutOfMemory input old new read h = ReadsBatch-stop day input old new read h
-Finishes-wrote (Answered day) WriteFault input old new read h = (_, ReadsBatch-may day input read, h)
-Finishes-wrote (Answered day) BadHeader input old new read h = absurd h
-Finishes-wrote (Answered day) TooLarge input old new read h = absurd h
-Finishes-wrote (Answered day) ReadFault input old new read h = absurd h
-Finishes-wrote (HeaderRefused fault) BadHeader input old new read h = rw read h
-Finishes-wrote (HeaderRefused fault) WriteFault input old new read h = (fault_line fault, rw read refl, h)
-Finishes-wrote (HeaderRefused fault) Done input old new read h = absurd h
-Finishes-wrote (HeaderRefused fault) OutOfMemory input old new read h = absurd h
-Finishes-wrote (HeaderRefused fault) TooLarge input old new read h = absurd h
-Finishes-wrote (HeaderRefused fault) ReadFault input old new read h = absurd h
+pub Finishes-wrote : (matrix : Matrix) (read : Batch) (end : BatchEnd) (input : List ℕ) (old new : Option (List ℕ)) → ReadsBatch matrix read input
+    → Finishes read end old new → Wrote matrix end input old new
+Finishes-wrote matrix (Answered day) Done input old new read h = Appends-same old new _ _ (ReadsBatch-text matrix day input h.0 read) h.1
+Finishes-wrote matrix (Answered day) OutOfMemory input old new read h = ReadsBatch-stop matrix day input old new read h
+Finishes-wrote matrix (Answered day) WriteFault input old new read h = (_, ReadsBatch-may matrix day input read, h)
+Finishes-wrote matrix (Answered day) BadHeader input old new read h = absurd h
+Finishes-wrote matrix (Answered day) TooLarge input old new read h = absurd h
+Finishes-wrote matrix (Answered day) ReadFault input old new read h = absurd h
+Finishes-wrote matrix (HeaderRefused fault) BadHeader input old new read h = rw read h
+Finishes-wrote matrix (HeaderRefused fault) WriteFault input old new read h = (fault_line fault, rw read refl, h)
+Finishes-wrote matrix (HeaderRefused fault) Done input old new read h = absurd h
+Finishes-wrote matrix (HeaderRefused fault) OutOfMemory input old new read h = absurd h
+Finishes-wrote matrix (HeaderRefused fault) TooLarge input old new read h = absurd h
+Finishes-wrote matrix (HeaderRefused fault) ReadFault input old new read h = absurd h
 
 -- the end comes at that input
-pub Finishes-ends : (read : Batch) (end : BatchEnd) (input : List ℕ) (old new : Option (List ℕ)) → ReadsBatch read input
+pub Finishes-ends : (matrix : Matrix) (read : Batch) (end : BatchEnd) (input : List ℕ) (old new : Option (List ℕ)) → ReadsBatch matrix read input
     → Finishes read end old new → length input ≤ INPUT_MOST → EndsAt end input
-Finishes-ends (Answered day) Done input old new read h fits = (fits, rw read.1 refl)
-Finishes-ends (Answered day) OutOfMemory input old new read h fits = tt
-Finishes-ends (Answered day) WriteFault input old new read h fits = fits
-Finishes-ends (Answered day) BadHeader input old new read h fits = absurd h
-Finishes-ends (Answered day) TooLarge input old new read h fits = absurd h
-Finishes-ends (Answered day) ReadFault input old new read h fits = absurd h
-Finishes-ends (HeaderRefused fault) BadHeader input old new read h fits = (fits, rw read refl)
-Finishes-ends (HeaderRefused fault) WriteFault input old new read h fits = fits
-Finishes-ends (HeaderRefused fault) Done input old new read h fits = absurd h
-Finishes-ends (HeaderRefused fault) OutOfMemory input old new read h fits = absurd h
-Finishes-ends (HeaderRefused fault) TooLarge input old new read h fits = absurd h
-Finishes-ends (HeaderRefused fault) ReadFault input old new read h fits = absurd h
+Finishes-ends matrix (Answered day) Done input old new read h fits = (fits, rw read.1 refl)
+Finishes-ends matrix (Answered day) OutOfMemory input old new read h fits = tt
+Finishes-ends matrix (Answered day) WriteFault input old new read h fits = fits
+Finishes-ends matrix (Answered day) BadHeader input old new read h fits = absurd h
+Finishes-ends matrix (Answered day) TooLarge input old new read h fits = absurd h
+Finishes-ends matrix (Answered day) ReadFault input old new read h fits = absurd h
+Finishes-ends matrix (HeaderRefused fault) BadHeader input old new read h fits = (fits, rw read refl)
+Finishes-ends matrix (HeaderRefused fault) WriteFault input old new read h fits = fits
+Finishes-ends matrix (HeaderRefused fault) Done input old new read h fits = absurd h
+Finishes-ends matrix (HeaderRefused fault) OutOfMemory input old new read h fits = absurd h
+Finishes-ends matrix (HeaderRefused fault) TooLarge input old new read h fits = absurd h
+Finishes-ends matrix (HeaderRefused fault) ReadFault input old new read h fits = absurd h
 
 -- what was read is not written at an end of reading
 pub Finishes-silent : (read : Batch) (end : BatchEnd) (old new : Option (List ℕ)) → Finishes read end old new → (end ≡ TooLarge) ⊎ (end ≡ ReadFault) → ⊥
@@ -97,12 +98,12 @@ Finishes-flushed read end ended old now new h kept (inl is) = rw is (Finishes-ke
 Finishes-flushed read end ended old now new h kept (inr is) = rw is (Finishes-fault read end old new (Finishes-kept read end old now new h kept))
 
 -- where reading stopped, nothing was written
-pub reading-wrote : (known : Option (List ℕ)) (end : ReadEnd) (held : Option (List ℕ)) → IfSome known (λ input. Wrote (end_of_reading end) input held held)
-reading-wrote None end held = tt
-reading-wrote (Some input) ReadTooLarge held = Keeps-refl held
-reading-wrote (Some input) ReadFailed held = Keeps-refl held
-reading-wrote (Some input) ReadOutOfMemory held = without (input_listing input)
+pub reading-wrote : (matrix : Matrix) (known : Option (List ℕ)) (end : ReadEnd) (held : Option (List ℕ)) → IfSome known (λ input. Wrote matrix (end_of_reading end) input held held)
+reading-wrote matrix None end held = tt
+reading-wrote matrix (Some input) ReadTooLarge held = Keeps-refl held
+reading-wrote matrix (Some input) ReadFailed held = Keeps-refl held
+reading-wrote matrix (Some input) ReadOutOfMemory held = without (input_listing input)
   where
-    without : (listing : Result Names HeaderFault) → WroteForMemory listing (message_lines input) held held
+    without : (listing : Result Names HeaderFault) → WroteForMemory matrix listing (message_lines input) held held
     without (Ok names) = inl (Keeps-refl held)
     without (Err fault) = Keeps-refl held

@@ -3,6 +3,7 @@ use Rattle.std.proofs.Common.{◌≡◌, ◌+◌, ◌∷◌, ◌∙◌, [], ℕ,
 use Rattle.std.proofs.Common.{if◌then◌else◌}
 use Rattle.std.specs.Io.KnownBytes.{IsAtEnd}
 use Rattle.tape_types.specs.Names.{Names}
+use Rattle.sale_matrix.specs.declared.matrix.Matrix.{Matrix}
 use Rattle.batch.specs.Batch.{batch_tape, input_listing, message_lines}
 use Rattle.batch.specs.Day.{HasAnswered}
 use Rattle.batch.specs.Header.{header_listing}
@@ -85,8 +86,8 @@ header_taken (Some x) (Some y) c t t1 t2 some1 some2 first second took1 none1 to
     took_lines x y t t1 false line took none = sym took.0 ∙ rw (none refl).0 refl
 
 -- the day of an input whose header gives a listing, and whose other lines were answered
-pub ReadsBatch-day : (a c : Option (List ℕ)) (t t2 : ℕ) (first second : List ℕ) (names : Names) (day : Day)
+pub ReadsBatch-day : (matrix : Matrix) (a c : Option (List ℕ)) (t t2 : ℕ) (first second : List ℕ) (names : Names) (day : Day)
     → IfSome a (HeaderTaken c t t2 first second) → header_listing first second ≡ Ok names
-    → IfSome c (λ bytes. HasAnswered (batch_tape names) (lines_of bytes) day) → IfSome a (ReadsBatch (Answered day))
-ReadsBatch-day None c t t2 first second names day header is answered = tt
-ReadsBatch-day (Some x) c t t2 first second names day header is answered = (names, header.listing ∙ is, rw header.lines (rw header.known at answered))
+    → IfSome c (λ bytes. HasAnswered (batch_tape matrix names) (lines_of bytes) day) → IfSome a (ReadsBatch matrix (Answered day))
+ReadsBatch-day matrix None c t t2 first second names day header is answered = tt
+ReadsBatch-day matrix (Some x) c t t2 first second names day header is answered = (names, header.listing ∙ is, rw header.lines (rw header.known at answered))

@@ -7,12 +7,12 @@ use Rattle.reports.specs.Messages.{header_of}
 use Rattle.reports.specs.Reading.{message_at}
 use Rattle.reports.specs.declared.fault.MessageFault.{MessageFault}
 use Rattle.reports.specs.declared.message.Message.{Message}
-use Rattle.reports.specs.declared.message.Message.TheVariants.{Report, Cancel, Correct}
+use Rattle.reports.specs.declared.message.Message.TheVariants.{Report, Cancel, Correct, Reinstate}
 use Rattle.tape_types.specs.Names.{first_fault}
 use Rattle.tape_core.specs.Standing.{NumberedMessage, named_report}
 use Rattle.tape_core.specs.Tape.{TapeState, message_faults, messages_of, refusal, target_faults}
 use Rattle.tape_core.specs.declared.refusal.Refusal.{Refusal}
-use Rattle.tape_core.specs.declared.refusal.Refusal.TheVariants.{Closed, Full, OutOfMemory, Stale, UnknownParticipant, UnknownSymbol}
+use Rattle.tape_core.specs.declared.refusal.Refusal.TheVariants.{Closed, Full, NotInMatrix, OutOfMemory, Stale, UnknownParticipant, UnknownSymbol}
 use Rattle.batch.specs.Batch.{line_answer, tape_after_line}
 use Rattle.batch.specs.MessageLine.{from_bytes, hex_bytes, line_message, line_parts, message_of_parts, spelled_message, whole_message}
 use Rattle.batch.specs.declared.batch_refusal.BatchRefusal.TheVariants.{Refused}
@@ -26,16 +26,17 @@ first_fault-other x ((true, f) ∷ cases) all = λ e. all.0 cc
 first_fault-other x ((false, f) ∷ cases) all = first_fault-other x cases all.1
 
 -- no fault of a target is out of memory
-target_faults-other : (tape : List NumberedMessage) (symbol : List ℕ) (named : Option NumberedMessage)
-    → AllByRecursion (λ c. c.1 ≢ OutOfMemory) (target_faults tape symbol named)
-target_faults-other tape symbol None = (λ e. cc, tt)
-target_faults-other tape symbol (Some report) = (λ e. cc, (λ e. cc, tt))
+target_faults-other : (tape : List NumberedMessage) (symbol : List ℕ) (reinstated : Bool) (named : Option NumberedMessage)
+    → AllByRecursion (λ c. c.1 ≢ OutOfMemory) (target_faults tape symbol reinstated named)
+target_faults-other tape symbol reinstated None = (λ e. cc, tt)
+target_faults-other tape symbol reinstated (Some report) = (λ e. cc, (λ e. cc, (λ e. cc, tt)))
 
 -- no fault of what a message names is out of memory
 message_faults-other : (tape : List NumberedMessage) (m : Message) → AllByRecursion (λ c. c.1 ≢ OutOfMemory) (message_faults tape m)
 message_faults-other tape (Report header content) = tt
-message_faults-other tape (Cancel header target) = target_faults-other tape header.symbol (named_report tape header.participant target)
-message_faults-other tape (Correct header target content) = target_faults-other tape header.symbol (named_report tape header.participant target)
+message_faults-other tape (Cancel header target) = target_faults-other tape header.symbol false (named_report tape header.participant target)
+message_faults-other tape (Correct header target content) = target_faults-other tape header.symbol false (named_report tape header.participant target)
+message_faults-other tape (Reinstate header target) = target_faults-other tape header.symbol true (named_report tape header.participant target)
 
 -- one case more in front
 first-other : {F : Type 0} (x f : F) (test : Bool) (rest : Option F) → f ≢ x → rest ≢ Some x → cond test (Some f) rest ≢ Some x
@@ -48,7 +49,8 @@ refusal-other t m =
     let targets = first_fault-other OutOfMemory (message_faults (messages_of t.entries) m) (message_faults-other (messages_of t.entries) m) in
     first-other _ Closed _ _ (λ e. cc)
     (first-other _ Full _ _ (λ e. cc)
-    (first-other _ UnknownParticipant _ _ (λ e. cc) (first-other _ Stale _ _ (λ e. cc) (first-other _ UnknownSymbol _ _ (λ e. cc) targets))))
+    (first-other _ UnknownParticipant _ _ (λ e. cc) (first-other _ Stale _ _ (λ e. cc)
+    (first-other _ UnknownSymbol _ _ (λ e. cc) (first-other _ NotInMatrix _ _ (λ e. cc) targets)))))
 
 -- a message that is read from bytes is not refused as out of memory
 whole_message-other : (letter len : ℕ) (read : Result (Message × ℕ) MessageFault) → whole_message letter len (from_bytes read) ≢ Err (Refused OutOfMemory)

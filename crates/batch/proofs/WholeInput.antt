@@ -3,6 +3,7 @@ use Rattle.std.proofs.Common.{◌≡◌, ◌≤◌, ◌<◌, ◌+◌, ◌==◌, 
 use Rattle.std.proofs.Common.{if◌then◌else◌}
 use Rattle.std.specs.Io.KnownBytes.{prepend_known}
 use Rattle.std.specs.Option.{option_map}
+use Rattle.sale_matrix.specs.declared.matrix.Matrix.{Matrix}
 use Rattle.batch.specs.Batch.{INPUT_MOST}
 use Rattle.batch.specs.BatchEnds.{EndsAt}
 use Rattle.batch.specs.Ends.{end_of_reading}
@@ -28,11 +29,11 @@ left_known most known inner buffer capacity limit room none is same = rw (room, 
     at (Some x) = refl
 
 -- what was read of all that was left was read of the input
-pub read_whole : (most : ℕ) (known left : Option (List ℕ)) (read : Batch) → left ≡ option_map (take most) known → INPUT_MOST < most
-    → IfSome left (λ bytes. 0 + length bytes ≤ INPUT_MOST) → IfSome left (ReadsBatch read)
-    → IfSome known (λ input. (length input ≤ INPUT_MOST) × ReadsBatch read input)
-read_whole most None left read is beyond fits reads = tt
-read_whole most (Some x) left read is beyond fits reads =
+pub read_whole : (matrix : Matrix) (most : ℕ) (known left : Option (List ℕ)) (read : Batch) → left ≡ option_map (take most) known → INPUT_MOST < most
+    → IfSome left (λ bytes. 0 + length bytes ≤ INPUT_MOST) → IfSome left (ReadsBatch matrix read)
+    → IfSome known (λ input. (length input ≤ INPUT_MOST) × ReadsBatch matrix read input)
+read_whole matrix most None left read is beyond fits reads = tt
+read_whole matrix most (Some x) left read is beyond fits reads =
     let known : 0 + length (take most x) ≤ INPUT_MOST = rw is at fits in
     let fits_now : length (take most x) ≤ INPUT_MOST = omega (arith, known) in
     let same = whole most x beyond fits_now in

@@ -3,6 +3,7 @@ use Rattle.std.proofs.Common.{◌≡◌, ◌++◌, inl, inr, ℕ, List, Bool, tr
 use Rattle.std.specs.Io.KnownBytes.{Appends}
 use Rattle.std.specs.List.{flat_map}
 use Rattle.tape_types.specs.Names.{Names}
+use Rattle.sale_matrix.specs.declared.matrix.Matrix.{Matrix}
 use Rattle.tape_core.specs.Tape.{TapeState}
 use Rattle.batch.specs.Batch.{StopsForMemory, answer_line, answer_lines, batch_text, batch_tape, input_listing, message_lines}
 use Rattle.batch.specs.Batch.{tape_after_lines, tape_report}
@@ -31,22 +32,22 @@ AnswersLines-stop t lines false now answers old new h written = inr (inr (Append
 AnswersLines-stop t lines true now answers old new h written = inr (inl (flat_map answer_line answers, (answers, h, refl), written))
 
 -- the text of a day is one that may be written for its lines
-AnswersLines-may : (names : Names) (lines : List (List ℕ)) (stopped : Bool) (now : TapeState) (answers : List (Result ℕ BatchRefusal))
-    → AnswersLines (batch_tape names) lines stopped now answers
-    → IsTextUnder (Ok names) lines (flat_map answer_line answers ++ report_unless stopped now)
-AnswersLines-may names lines false now answers h = inl (AnswersLines-text (batch_tape names) lines now answers h)
-AnswersLines-may names lines true now answers h = inr (answers, h, append-nil (flat_map answer_line answers))
+AnswersLines-may : (matrix : Matrix) (names : Names) (lines : List (List ℕ)) (stopped : Bool) (now : TapeState) (answers : List (Result ℕ BatchRefusal))
+    → AnswersLines (batch_tape matrix names) lines stopped now answers
+    → IsTextUnder matrix (Ok names) lines (flat_map answer_line answers ++ report_unless stopped now)
+AnswersLines-may matrix names lines false now answers h = inl (AnswersLines-text (batch_tape matrix names) lines now answers h)
+AnswersLines-may matrix names lines true now answers h = inr (answers, h, append-nil (flat_map answer_line answers))
 
 -- the text of a batch of which a day was read that goes on
-pub ReadsBatch-text : (day : Day) (input : List ℕ) → day.is_stopped ≡ false → ReadsBatch (Answered day) input → day_text day ≡ batch_text input
-ReadsBatch-text day input on read = rw (on, read.1) (AnswersLines-text (batch_tape read.0) (message_lines input) day.tape day.answers.items (rw on at read.2))
+pub ReadsBatch-text : (matrix : Matrix) (day : Day) (input : List ℕ) → day.is_stopped ≡ false → ReadsBatch matrix (Answered day) input → day_text day ≡ batch_text matrix input
+ReadsBatch-text matrix day input on read = rw (on, read.1) (AnswersLines-text (batch_tape matrix read.0) (message_lines input) day.tape day.answers.items (rw on at read.2))
 
 -- the text of a day that was read is one that may be written for its input
-pub ReadsBatch-may : (day : Day) (input : List ℕ) → ReadsBatch (Answered day) input → IsTextUnder (input_listing input) (message_lines input) (day_text day)
-ReadsBatch-may day input read = rw read.1 (AnswersLines-may read.0 (message_lines input) day.is_stopped day.tape day.answers.items read.2)
+pub ReadsBatch-may : (matrix : Matrix) (day : Day) (input : List ℕ) → ReadsBatch matrix (Answered day) input → IsTextUnder matrix (input_listing input) (message_lines input) (day_text day)
+ReadsBatch-may matrix day input read = rw read.1 (AnswersLines-may matrix read.0 (message_lines input) day.is_stopped day.tape day.answers.items read.2)
 
 -- a batch of which a day was read stops out of memory
-pub ReadsBatch-stop : (day : Day) (input : List ℕ) (old new : Option (List ℕ)) → ReadsBatch (Answered day) input
-    → Appends old new (flat_map answer_line day.answers.items) → WroteForMemory (input_listing input) (message_lines input) old new
-ReadsBatch-stop day input old new read stop =
-    rw read.1 (AnswersLines-stop (batch_tape read.0) (message_lines input) day.is_stopped day.tape day.answers.items old new read.2 stop)
+pub ReadsBatch-stop : (matrix : Matrix) (day : Day) (input : List ℕ) (old new : Option (List ℕ)) → ReadsBatch matrix (Answered day) input
+    → Appends old new (flat_map answer_line day.answers.items) → WroteForMemory matrix (input_listing input) (message_lines input) old new
+ReadsBatch-stop matrix day input old new read stop =
+    rw read.1 (AnswersLines-stop (batch_tape matrix read.0) (message_lines input) day.is_stopped day.tape day.answers.items old new read.2 stop)

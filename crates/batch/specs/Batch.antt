@@ -4,6 +4,7 @@ use Rattle.std.specs.Prelude.{decimal, codes}
 use Rattle.std.specs.Io.KnownBytes.{Appends, Keeps}
 use Rattle.std.specs.List.{flat_map}
 use Rattle.tape_types.specs.Names.{Names}
+use Rattle.sale_matrix.specs.declared.matrix.Matrix.{Matrix}
 use Rattle.reports.specs.declared.message.Message.{Message}
 use Rattle.tape_core.specs.Tape.{TapeState, empty_tape, refusal, with_message}
 use Rattle.tape_core.specs.declared.refusal.Refusal.{Refusal}
@@ -84,26 +85,27 @@ answer_line answer = line_answer_text answer ++ 10 ∷ []
 unfoldable pub answer_lines : TapeState → List (List ℕ) → List ℕ
 answer_lines t lines = flat_map answer_line (line_answers t lines)
 
--- the open tape of a listing before its first message
-abbrev pub batch_tape : Names → TapeState
-batch_tape names = empty_tape names BATCH_TAPE_MOST
+-- the open tape of a listing before its first message, by a matrix
+abbrev pub batch_tape : Matrix → Names → TapeState
+batch_tape matrix names = empty_tape names BATCH_TAPE_MOST matrix
 
 -- the text of the report of a tape
 abbrev pub tape_report : TapeState → List ℕ
 tape_report t = report_text (report_rows t)
 
 -- the answers to the message lines, and the report of the tape that they leave
-abbrev pub body_text : Names → List (List ℕ) → List ℕ
-body_text names lines = answer_lines (batch_tape names) lines ++ tape_report (tape_after_lines (batch_tape names) lines)
+abbrev pub body_text : Matrix → Names → List (List ℕ) → List ℕ
+body_text matrix names lines =
+    answer_lines (batch_tape matrix names) lines ++ tape_report (tape_after_lines (batch_tape matrix names) lines)
 
 -- a refused header on its line
 abbrev pub fault_line : HeaderFault → List ℕ
 fault_line fault = refusal_text (header_fault_code fault) (header_fault_name fault) ++ 10 ∷ []
 
 -- the text of a batch by its header: the refusal alone, or the body
-abbrev pub text_under : Result Names HeaderFault → List (List ℕ) → List ℕ
-text_under (Ok names) lines = body_text names lines
-text_under (Err fault) lines = fault_line fault
+abbrev pub text_under : Matrix → Result Names HeaderFault → List (List ℕ) → List ℕ
+text_under matrix (Ok names) lines = body_text matrix names lines
+text_under matrix (Err fault) lines = fault_line fault
 
 -- the line at this position, of no bytes where it is absent
 abbrev pub line_at : List ℕ → ℕ → List ℕ
@@ -117,9 +119,9 @@ input_listing input = header_listing (line_at input 0) (line_at input 1)
 abbrev pub message_lines : List ℕ → List (List ℕ)
 message_lines input = drop 2 (lines_of input)
 
--- the whole output for a whole input
-abbrev pub batch_text : List ℕ → List ℕ
-batch_text input = text_under (input_listing input) (message_lines input)
+-- the whole output for a whole input, by a matrix
+abbrev pub batch_text : Matrix → List ℕ → List ℕ
+batch_text matrix input = text_under matrix (input_listing input) (message_lines input)
 
 -- ## Out of memory
 

@@ -2,6 +2,7 @@
 use Rattle.std.specs.Prelude.{◌≡◌, ◌≤◌, ◌<◌, ◌⊎◌, ℕ, List, length, Option, Result, IsOk, IsErr, Ok, Err}
 use Rattle.std.specs.Io.KnownBytes.{Appends, Keeps}
 use Rattle.tape_types.specs.Names.{Names}
+use Rattle.sale_matrix.specs.declared.matrix.Matrix.{Matrix}
 use Rattle.batch.specs.Batch.{INPUT_MOST, IsStopText, StopsForMemory, batch_text, body_text, batch_tape, fault_line, input_listing, message_lines}
 use Rattle.row_reads.specs.Writing.{WritesPrefix}
 use Rattle.batch.specs.declared.batch_end.BatchEnd.{BatchEnd}
@@ -9,27 +10,27 @@ use Rattle.batch.specs.declared.batch_end.BatchEnd.TheVariants.{Done, BadHeader,
 use Rattle.batch.specs.declared.header_fault.HeaderFault.{HeaderFault}
 
 -- what was written under a header where memory ran out
-abbrev pub WroteForMemory : Result Names HeaderFault → List (List ℕ) → Option (List ℕ) → Option (List ℕ) → Type 0
-WroteForMemory (Ok names) lines old new = StopsForMemory (batch_tape names) lines old new
-WroteForMemory (Err fault) lines old new = Keeps old new
+abbrev pub WroteForMemory : Matrix → Result Names HeaderFault → List (List ℕ) → Option (List ℕ) → Option (List ℕ) → Type 0
+WroteForMemory matrix (Ok names) lines old new = StopsForMemory (batch_tape matrix names) lines old new
+WroteForMemory matrix (Err fault) lines old new = Keeps old new
 
 -- a text that is written under a header where no write fails: the batch's, or the answers up to a refusal out of memory
-abbrev pub IsTextUnder : Result Names HeaderFault → List (List ℕ) → List ℕ → Type 0
-IsTextUnder (Ok names) lines text = (text ≡ body_text names lines) ⊎ IsStopText (batch_tape names) lines text
-IsTextUnder (Err fault) lines text = text ≡ fault_line fault
+abbrev pub IsTextUnder : Matrix → Result Names HeaderFault → List (List ℕ) → List ℕ → Type 0
+IsTextUnder matrix (Ok names) lines text = (text ≡ body_text matrix names lines) ⊎ IsStopText (batch_tape matrix names) lines text
+IsTextUnder matrix (Err fault) lines text = text ≡ fault_line fault
 
 -- what was written where a write failed: a prefix of such a text, and nothing else
-abbrev pub WroteToFault : List ℕ → Option (List ℕ) → Option (List ℕ) → Type 0
-WroteToFault input old new = (text : List ℕ) × IsTextUnder (input_listing input) (message_lines input) text × WritesPrefix text old new
+abbrev pub WroteToFault : Matrix → List ℕ → Option (List ℕ) → Option (List ℕ) → Type 0
+WroteToFault matrix input old new = (text : List ℕ) × IsTextUnder matrix (input_listing input) (message_lines input) text × WritesPrefix text old new
 
--- what was written at this end
-abbrev pub Wrote : BatchEnd → List ℕ → Option (List ℕ) → Option (List ℕ) → Type 0
-Wrote Done input old new = Appends old new (batch_text input)
-Wrote BadHeader input old new = Appends old new (batch_text input)
-Wrote TooLarge input old new = Keeps old new
-Wrote ReadFault input old new = Keeps old new
-Wrote WriteFault input old new = WroteToFault input old new
-Wrote OutOfMemory input old new = WroteForMemory (input_listing input) (message_lines input) old new
+-- what was written at this end, by a matrix
+abbrev pub Wrote : Matrix → BatchEnd → List ℕ → Option (List ℕ) → Option (List ℕ) → Type 0
+Wrote matrix Done input old new = Appends old new (batch_text matrix input)
+Wrote matrix BadHeader input old new = Appends old new (batch_text matrix input)
+Wrote matrix TooLarge input old new = Keeps old new
+Wrote matrix ReadFault input old new = Keeps old new
+Wrote matrix WriteFault input old new = WroteToFault matrix input old new
+Wrote matrix OutOfMemory input old new = WroteForMemory matrix (input_listing input) (message_lines input) old new
 
 -- the inputs at which this end comes
 abbrev pub EndsAt : BatchEnd → List ℕ → Type 0

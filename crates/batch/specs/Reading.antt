@@ -1,6 +1,7 @@
 -- What reading a whole input gives, or ends with before that.
 use Rattle.std.specs.Prelude.{◌≡◌, ◌≤◌, ◌<◌, ◌+◌, ℕ, List, length, Option, IfSome, Ok, Err}
 use Rattle.tape_types.specs.Names.{Names}
+use Rattle.sale_matrix.specs.declared.matrix.Matrix.{Matrix}
 use Rattle.batch.specs.Batch.{INPUT_MOST, batch_tape, input_listing, message_lines}
 use Rattle.batch.specs.Day.{HasAnswered}
 use Rattle.batch.specs.declared.read_end.ReadEnd.{ReadEnd}
@@ -9,9 +10,9 @@ use Rattle.batch.specs.declared.reading.Batch.{Batch}
 use Rattle.batch.specs.declared.reading.Batch.TheVariants.{Answered, HeaderRefused}
 
 -- what was read of a whole input: the day that its lines left, or what is wrong with its header
-abbrev pub ReadsBatch : Batch → List ℕ → Type 0
-ReadsBatch (Answered day) input = (names : Names) × (input_listing input ≡ Ok names) × HasAnswered (batch_tape names) (message_lines input) day
-ReadsBatch (HeaderRefused fault) input = input_listing input ≡ Err fault
+abbrev pub ReadsBatch : Matrix → Batch → List ℕ → Type 0
+ReadsBatch matrix (Answered day) input = (names : Names) × (input_listing input ≡ Ok names) × HasAnswered (batch_tape matrix names) (message_lines input) day
+ReadsBatch matrix (HeaderRefused fault) input = input_listing input ≡ Err fault
 
 -- the lengths of input at which reading ends so
 abbrev pub IsReadEnd : ReadEnd → ℕ → Type 0

@@ -21,6 +21,7 @@ use crate::reading::{Batch, read_batch};
 use crate::stop::Stop;
 use day_report::{ReportFault, Row, rows, write_report};
 use row_reads::{WriteFault, write_text};
+use sale_matrix::Matrix;
 use std::alloc::{AllocError, Global};
 use std::io::{BufReader, Read, Take, Write};
 use std::mem;
@@ -165,10 +166,11 @@ fn limited<R: Read>(reader: &mut R) -> Take<&mut R>
 fn batch_kept<T: Threads + Sync, R: Read, W: Write>(
     rt: &T,
     alloc: Global,
+    matrix: Matrix,
     reader: &mut R,
     writer: &mut W,
 ) -> (BatchEnd, Option<Batch>)
-    ensures wrote { IfSome (R.remaining reader.old) (λ input. Wrote result.0 input (W.contents writer.old) (W.contents writer.new)) }
+    ensures wrote { IfSome (R.remaining reader.old) (λ input. Wrote matrix result.0 input (W.contents writer.old) (W.contents writer.new)) }
     ensures ends { IfSome (R.remaining reader.old) (EndsAt result.0) }
     ensures silent { (result.0 ≡ TooLarge) ⊎ (result.0 ≡ ReadFault) → writer.new ≡ writer.old }
 {
@@ -179,7 +181,7 @@ fn batch_kept<T: Threads + Sync, R: Read, W: Write>(
     let Ok(mut gathered) = Gathered::new(alloc) else {
         return (BatchEnd::OutOfMemory, None);
     };
-    match read_batch(alloc, &mut Input::new(left)) {
+    match read_batch(alloc, matrix, &mut Input::new(left)) {
         Ok(read) => (
             finish_batch(rt, alloc, &read, &mut gathered, writer),
             Some(read),
@@ -188,16 +190,17 @@ fn batch_kept<T: Threads + Sync, R: Read, W: Write>(
     }
 }
 
-/// Reads a batch whole, and writes its answers and its report, in large pieces that are flushed once at the end. `BatchEnd`
+/// Reads a batch whole, and writes its answers and its report by the matrix, in large pieces that are flushed once at the end. `BatchEnd`
 /// says how it ended and what was written.
 pub fn batch_over<T: Threads + Sync, R: Read, W: Write>(
     rt: &T,
     alloc: Global,
+    matrix: Matrix,
     reader: &mut R,
     writer: &mut W,
 ) -> BatchEnd
     // What was written is the text of the whole input and nothing else, or what the end says.
-    ensures wrote { IfSome (R.remaining reader.old) (λ input. Wrote result input (W.contents writer.old) (W.contents writer.new)) }
+    ensures wrote { IfSome (R.remaining reader.old) (λ input. Wrote matrix result input (W.contents writer.old) (W.contents writer.new)) }
 
     // Which end it is.
     ensures ends { IfSome (R.remaining reader.old) (EndsAt result) }
@@ -205,7 +208,7 @@ pub fn batch_over<T: Threads + Sync, R: Read, W: Write>(
     // These ends leave the writer alone, whatever the reader.
     ensures silent { (result ≡ TooLarge) ⊎ (result ≡ ReadFault) → writer.new ≡ writer.old }
 {
-    let (end, _) = batch_kept(rt, alloc, reader, writer);
+    let (end, _) = batch_kept(rt, alloc, matrix, reader, writer);
     end
 }
 
@@ -214,14 +217,15 @@ pub fn batch_over<T: Threads + Sync, R: Read, W: Write>(
 pub fn last_batch<T: Threads + Sync, R: Read, W: Write>(
     rt: &T,
     alloc: Global,
+    matrix: Matrix,
     reader: &mut R,
     writer: &mut W,
 ) -> BatchEnd
-    ensures wrote { IfSome (R.remaining reader.old) (λ input. Wrote result input (W.contents writer.old) (W.contents writer.new)) }
+    ensures wrote { IfSome (R.remaining reader.old) (λ input. Wrote matrix result input (W.contents writer.old) (W.contents writer.new)) }
     ensures ends { IfSome (R.remaining reader.old) (EndsAt result) }
     ensures silent { (result ≡ TooLarge) ⊎ (result ≡ ReadFault) → writer.new ≡ writer.old }
 {
-    let (end, read) = batch_kept(rt, alloc, reader, writer);
+    let (end, read) = batch_kept(rt, alloc, matrix, reader, writer);
     mem::forget(read);
     end
 }

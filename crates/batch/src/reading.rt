@@ -11,6 +11,7 @@ use crate::day_tape::DayTape;
 use crate::header::read_header;
 use crate::input::Input;
 use crate::read_end::ReadEnd;
+use sale_matrix::Matrix;
 use std::alloc::Global;
 use std::io::BufRead;
 use tape_types::{Listing, ListingFault};
@@ -31,14 +32,15 @@ pub enum Batch {
 fn read_day<B: BufRead>(
     alloc: Global,
     listing: Listing,
+    matrix: Matrix,
     input: &mut Input<B>,
     line: &mut Vec<u8>,
 ) -> Result<Day, ReadEnd>
-    ensures day { IfOk result (λ day. IfSome (B.remaining input.old.left) (λ bytes. HasAnswered (batch_tape listing) (lines_of bytes) day)) }
+    ensures day { IfOk result (λ day. IfSome (B.remaining input.old.left) (λ bytes. HasAnswered (batch_tape matrix listing) (lines_of bytes) day)) }
     ensures fits { OnOk result (Fits (B.remaining input.old.left) input.old.taken) }
     ensures err { IfErr result (EndsReading (B.remaining input.old.left) input.old.taken) }
 {
-    let Ok(tape) = DayTape::new(alloc, listing, BATCH_TAPE_MOST) else {
+    let Ok(tape) = DayTape::new(alloc, listing, BATCH_TAPE_MOST, matrix) else {
         return Err(ReadEnd::OutOfMemory);
     };
     let mut day = Day::new(alloc, tape);
@@ -47,8 +49,12 @@ fn read_day<B: BufRead>(
 }
 
 /// Reads a whole input, and answers its lines: the day that they leave, or what is wrong with the header.
-pub fn read_batch<B: BufRead>(alloc: Global, input: &mut Input<B>) -> Result<Batch, ReadEnd>
-    ensures read { IfOk result (λ read. IfSome (B.remaining input.old.left) (ReadsBatch read)) }
+pub fn read_batch<B: BufRead>(
+    alloc: Global,
+    matrix: Matrix,
+    input: &mut Input<B>,
+) -> Result<Batch, ReadEnd>
+    ensures read { IfOk result (λ read. IfSome (B.remaining input.old.left) (ReadsBatch matrix read)) }
     ensures fits { OnOk result (Fits (B.remaining input.old.left) input.old.taken) }
     ensures err { IfErr result (EndsReading (B.remaining input.old.left) input.old.taken) }
 {
@@ -59,7 +65,7 @@ pub fn read_batch<B: BufRead>(alloc: Global, input: &mut Input<B>) -> Result<Bat
     match read_header(alloc, &first, &second) {
         Ok(listing) => {
             // The first line's room serves for those between two pieces.
-            let day = read_day(alloc, listing, input, &mut first)?;
+            let day = read_day(alloc, listing, matrix, input, &mut first)?;
             Ok(Batch::Answered(day))
         }
         Err(HeaderFault::BadListing(ListingFault::OutOfMemory)) => Err(ReadEnd::OutOfMemory),

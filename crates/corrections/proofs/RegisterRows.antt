@@ -11,9 +11,9 @@ use Rattle.corrections.specs.declared.target.Target.{Target}
 use Rattle.corrections.specs.Lemmas.Keyed.{tied-same, tied-other}
 use Rattle.tape_types.specs.Pairs.{pair_cmp}
 use Rattle.tape_types.specs.Lemmas.Pairs.{pair_total, pair_exact}
-use Rattle.corrections.specs.RegisterState.{RegisterState, targets_of}
+use Rattle.corrections.specs.RegisterState.{RegisterState, row_of, targets_of}
 use Rattle.corrections.specs.TargetRows.{ReportRow, empty_row, row_entries, targets_of_rows}
-use Rattle.tape_types.specs.Ranges.{FIRST_PARTICIPANT}
+use Rattle.tape_types.specs.Ranges.{FIRST_PARTICIPANT, row_index}
 
 -- a row's entries under its participant
 abbrev tagged : ℕ → List (ℕ × Target) → List ((ℕ × ℕ) × Target)
@@ -60,6 +60,12 @@ get-row rows w n i d at inside =
 pub get-seen : (rows : List ReportRow) (last_numbers : List ℕ) (register : RegisterState) → record { rows = rows; last_numbers = last_numbers } ≡ register
     → (w n i : ℕ) (d : ReportRow) → i + FIRST_PARTICIPANT ≡ w → i < length rows → map.get (targets_of register) (w, n) ≡ map.get (get_or rows i d).values n
 get-seen rows last_numbers register is w n i d at inside = ap (λ r. map.get (targets_of r) (w, n)) (sym is) ∙ get-row rows w n i d at inside
+
+-- a participant's row in the register that has these rows
+pub row-seen : (rows : List ReportRow) (last_numbers : List ℕ) (register : RegisterState) → record { rows = rows; last_numbers = last_numbers } ≡ register
+    → (w i : ℕ) (d : ReportRow) → i ≡ row_index w → i < length rows → row_of register w ≡ get_or rows i d
+row-seen rows last_numbers register is w i d at inside =
+    ap (λ r. row_of r w) (sym is) ∙ ap (λ n. get_or rows n empty_row) (sym at) ∙ get_or_default rows i empty_row d inside
 
 -- or nothing, where it has none
 get-else : (rows : List ReportRow) (w n i : ℕ) → FIRST_PARTICIPANT + i ≡ w → map.get (targets_of_rows rows) (w, n) ≡ map.get (get_or rows i empty_row).values n

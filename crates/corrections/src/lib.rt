@@ -1,4 +1,4 @@
-//! The register of a day's reports: what a cancel or a correction names, and each participant's last message number.
+//! The register of a day's reports: what a cancel, a correction or a reinstatement names, and each participant's last message number.
 #![tactic(auto)]
 
 mod register;
@@ -6,5 +6,6 @@ mod target;
 mod target_fault;
 
 pub use register::Register;
+pub use sale_matrix::Content;
 pub use target::{Located, Standing, Target};
 pub use target_fault::TargetFault;

@@ -1,12 +1,13 @@
 //! Which report a participant's message number names, and how far each participant has numbered.
-ghost use Rattle.std.specs.Prelude.{◌≡◌, ◌<◌, ℕ, IfOk, OnOk, OnErr, None, if◌then◌else◌, ◌==◌};
+ghost use Rattle.std.specs.Prelude.{◌≡◌, ◌<◌, ℕ, IfOk, IfSome, OnOk, OnErr, MatchOption, Some, None, if◌then◌else◌, ◌==◌};
 ghost use Rattle.std.specs.FinMap as map;
 ghost use Rattle.tape_types.specs.Ranges.{IsParticipant};
 ghost use Rattle.tape_types.specs.RisingEntries.{StandsIn};
-ghost use Rattle.corrections.specs.Targets.{IsStanding, located_place, standing_target, target_answer, targets_after_cancel};
+ghost use Rattle.corrections.specs.Targets.{IsCancelled, IsStanding, answered_place, cancelled_answer, located_found, located_report, named_answer};
+ghost use Rattle.corrections.specs.Targets.{cancelled_target, corrected_target, reinstated_target, standing_target, target_answer, targets_changed};
 ghost use Rattle.corrections.specs.RegisterState.{last_number_of, row_of, targets_of};
 
-use crate::{Located, Standing, Target, TargetFault};
+use crate::{Content, Located, Standing, Target, TargetFault};
 use std::alloc::{AllocError, Global};
 use std::array;
 use std::marker::Model;
@@ -48,17 +49,19 @@ impl Register {
         }
     }
 
-    /// Notes a report that stands, at the place of its admission. It fails only out of memory, which it asks for only where the
-    /// vector of the participant's reports is full, and then the register is unchanged.
+    /// Notes a report that stands, at the place of its admission and with its content. It fails only out of memory, which it asks
+    /// for only where the vector of the participant's reports is full, and then the register is unchanged.
     pub fn record(
         &mut self,
         who: Participant,
         number: MsgNumber,
         symbol: Symbol,
         place: TapeNumber,
+        content: &Content,
     ) -> Result<(), AllocError>
         requires vacant { map.get (targets_of self.old) (who, number) ≡ None }
-        ensures ok { OnOk result (targets_of self.new ≡ map.insert (targets_of self.old) (who, number) (standing_target symbol place)) }
+        ensures ok { OnOk result (targets_of self.new
+            ≡ map.insert (targets_of self.old) (who, number) (standing_target symbol place content.now)) }
         ensures last_numbers { self.new.last_numbers ≡ self.old.last_numbers }
         ensures err { OnErr result (self.new ≡ self.old) }
         ensures full { OnErr result ((row_of self.old who).spare ≡ 0) }
@@ -67,36 +70,88 @@ impl Register {
             symbol,
             place,
             standing: Standing::Standing,
+            content: *content,
         };
         self.rows[who.row_index()].insert(number, target)
     }
 
-    /// The place of the report that a participant's target names, where it is of the symbol and stands.
+    /// The place of the report that the target of a cancel or a correction names, where it is of the symbol and stands.
     ///
     /// Refused, the first that applies: `NoSuchReport` where no report of the participant has the number, `OtherSymbol`
-    /// where the report is of another symbol, and `Cancelled` where it was cancelled.
+    /// where the report is of another symbol, and `Cancelled` where it is cancelled.
     pub fn find(
         &self,
         who: Participant,
         target: MsgNumber,
         symbol: Symbol,
     ) -> Result<TapeNumber, TargetFault>
-        ensures answer { result ≡ target_answer symbol (map.get (targets_of self.now) (who, target)) }
+        ensures answer { result ≡ answered_place (target_answer symbol (map.get (targets_of self.now) (who, target))) }
     {
         let located = self.locate(who, target, symbol)?;
         Ok(located.place)
     }
 
-    /// Where the report is that a participant's target names, and where it lies among the participant's reports. The refusals
-    /// are those of `find`.
+    /// The place and the latest content of the report that the target of a reinstatement names, where it is of the symbol and
+    /// cancelled.
+    ///
+    /// Refused, the first that applies: `NoSuchReport` and `OtherSymbol` as in `find`, and `Standing` where the report stands.
+    pub fn find_cancelled(
+        &self,
+        who: Participant,
+        target: MsgNumber,
+        symbol: Symbol,
+    ) -> Result<(TapeNumber, Content), TargetFault>
+        ensures answer { result ≡ cancelled_answer symbol (map.get (targets_of self.now) (who, target)) }
+    {
+        let located = self.locate_cancelled(who, target, symbol)?;
+        Ok((located.place, located.content))
+    }
+
+    /// The report that the target of a cancel or a correction names, and where it lies among the participant's reports. The
+    /// refusals are those of `find`.
     pub fn locate(
         &self,
         who: Participant,
         target: MsgNumber,
         symbol: Symbol,
     ) -> Result<Located, TargetFault>
-        ensures answer { located_place result ≡ target_answer symbol (map.get (targets_of self.now) (who, target)) }
+        ensures answer { located_report result ≡ target_answer symbol (map.get (targets_of self.now) (who, target)) }
         ensures index { IfOk result (λ located. StandsIn target (map.entries (row_of self.now who).values) located.index) }
+    {
+        let (located, standing) = self.named(who, target, symbol)?;
+        match standing {
+            Standing::Standing => Ok(located),
+            Standing::Cancelled => Err(TargetFault::Cancelled),
+        }
+    }
+
+    /// The report that the target of a reinstatement names, and where it lies among the participant's reports. The refusals are
+    /// those of `find_cancelled`.
+    pub fn locate_cancelled(
+        &self,
+        who: Participant,
+        target: MsgNumber,
+        symbol: Symbol,
+    ) -> Result<Located, TargetFault>
+        ensures answer { located_report result ≡ cancelled_answer symbol (map.get (targets_of self.now) (who, target)) }
+        ensures index { IfOk result (λ located. StandsIn target (map.entries (row_of self.now who).values) located.index) }
+    {
+        let (located, standing) = self.named(who, target, symbol)?;
+        match standing {
+            Standing::Standing => Err(TargetFault::Standing),
+            Standing::Cancelled => Ok(located),
+        }
+    }
+
+    /// The report that a target names, where it is of the symbol, and whether it stands.
+    fn named(
+        &self,
+        who: Participant,
+        target: MsgNumber,
+        symbol: Symbol,
+    ) -> Result<(Located, Standing), TargetFault>
+        ensures answer { located_found result ≡ named_answer symbol (map.get (targets_of self.now) (who, target)) }
+        ensures index { IfOk result (λ found. StandsIn target (map.entries (row_of self.now who).values) found.0.index) }
     {
         let row = &self.rows[who.row_index()];
         let Some(index) = row.position(target) else {
@@ -106,24 +161,21 @@ impl Register {
         if symbol != held.symbol {
             return Err(TargetFault::OtherSymbol);
         }
-        match held.standing {
-            Standing::Standing => Ok(Located {
-                place: held.place,
-                index,
-            }),
-            Standing::Cancelled => Err(TargetFault::Cancelled),
-        }
+        let located = Located {
+            place: held.place,
+            content: held.content,
+            index,
+        };
+        Ok((located, held.standing))
     }
 
     /// Notes that a standing report is cancelled. It takes no memory.
     pub fn cancel(&mut self, who: Participant, target: MsgNumber)
         requires standing { IsStanding (map.get (targets_of self.old) (who, target)) }
-        ensures cancelled { targets_of self.new ≡ targets_after_cancel (targets_of self.old) (who, target) }
+        ensures cancelled { targets_of self.new ≡ targets_changed cancelled_target (targets_of self.old) (who, target) }
         ensures last_numbers { self.new.last_numbers ≡ self.old.last_numbers }
     {
-        if let Some(index) = self.rows[who.row_index()].position(target) {
-            self.cancel_at(who, target, index);
-        }
+        self.cancel_at(who, target, 0);
     }
 
     /// Notes that a standing report is cancelled, as `cancel` does. It looks at the index first, and searches only where another
@@ -131,18 +183,103 @@ impl Register {
     /// takes no memory.
     pub fn cancel_at(&mut self, who: Participant, target: MsgNumber, index: usize)
         requires standing { IsStanding (map.get (targets_of self.old) (who, target)) }
-        ensures cancelled { targets_of self.new ≡ targets_after_cancel (targets_of self.old) (who, target) }
+        ensures cancelled { targets_of self.new ≡ targets_changed cancelled_target (targets_of self.old) (who, target) }
         ensures last_numbers { self.new.last_numbers ≡ self.old.last_numbers }
     {
-        let row = &mut self.rows[who.row_index()];
-        if let Some(index) = row.position_near(target, index) {
-            let (_, held) = row.entries()[index];
+        if let Some((index, held)) = self.held_near(who, target, index) {
             let cancelled = Target {
                 standing: Standing::Cancelled,
                 ..held
             };
-            row.set_at(index, cancelled);
+            self.set_at(who, target, index, cancelled);
         }
+    }
+
+    /// Notes the content that a standing report is given. It takes no memory.
+    pub fn correct(&mut self, who: Participant, target: MsgNumber, content: &Content)
+        requires standing { IsStanding (map.get (targets_of self.old) (who, target)) }
+        ensures corrected { targets_of self.new
+            ≡ targets_changed (corrected_target content.now) (targets_of self.old) (who, target) }
+        ensures last_numbers { self.new.last_numbers ≡ self.old.last_numbers }
+    {
+        self.correct_at(who, target, 0, content);
+    }
+
+    /// Notes the content that a standing report is given, as `correct` does. It looks at the index first, as `cancel_at` does. It
+    /// takes no memory.
+    pub fn correct_at(
+        &mut self,
+        who: Participant,
+        target: MsgNumber,
+        index: usize,
+        content: &Content,
+    )
+        requires standing { IsStanding (map.get (targets_of self.old) (who, target)) }
+        ensures corrected { targets_of self.new
+            ≡ targets_changed (corrected_target content.now) (targets_of self.old) (who, target) }
+        ensures last_numbers { self.new.last_numbers ≡ self.old.last_numbers }
+    {
+        if let Some((index, held)) = self.held_near(who, target, index) {
+            let corrected = Target {
+                content: *content,
+                ..held
+            };
+            self.set_at(who, target, index, corrected);
+        }
+    }
+
+    /// Notes that a cancelled report stands again, with the content that it has. It takes no memory.
+    pub fn reinstate(&mut self, who: Participant, target: MsgNumber)
+        requires cancelled { IsCancelled (map.get (targets_of self.old) (who, target)) }
+        ensures reinstated { targets_of self.new ≡ targets_changed reinstated_target (targets_of self.old) (who, target) }
+        ensures last_numbers { self.new.last_numbers ≡ self.old.last_numbers }
+    {
+        self.reinstate_at(who, target, 0);
+    }
+
+    /// Notes that a cancelled report stands again, as `reinstate` does. It looks at the index first, as `cancel_at` does. It takes
+    /// no memory.
+    pub fn reinstate_at(&mut self, who: Participant, target: MsgNumber, index: usize)
+        requires cancelled { IsCancelled (map.get (targets_of self.old) (who, target)) }
+        ensures reinstated { targets_of self.new ≡ targets_changed reinstated_target (targets_of self.old) (who, target) }
+        ensures last_numbers { self.new.last_numbers ≡ self.old.last_numbers }
+    {
+        if let Some((index, held)) = self.held_near(who, target, index) {
+            let reinstated = Target {
+                standing: Standing::Standing,
+                ..held
+            };
+            self.set_at(who, target, index, reinstated);
+        }
+    }
+
+    /// The report that a participant's number names and its index among the participant's reports, if there is one. It looks at the
+    /// index first, and searches only where another report is there.
+    #[inline(always)]
+    fn held_near(
+        &self,
+        who: Participant,
+        target: MsgNumber,
+        index: usize,
+    ) -> Option<(usize, Target)>
+        ensures held { MatchOption result (map.get (targets_of self.now) (who, target) ≡ None)
+            (λ found. map.get (targets_of self.now) (who, target) ≡ Some found.1) }
+        ensures index { IfSome result (λ found. StandsIn target (map.entries (row_of self.now who).values) found.0) }
+    {
+        let row = &self.rows[who.row_index()];
+        let index = row.position_near(target, index)?;
+        let (_, held) = row.entries()[index];
+        Some((index, held))
+    }
+
+    /// Puts another note of a report in the place of the one at this index.
+    #[inline(always)]
+    fn set_at(&mut self, who: Participant, target: MsgNumber, index: usize, report: Target)
+        requires index { StandsIn target (map.entries (row_of self.old who).values) index }
+        ensures set { targets_of self.new ≡ map.insert (targets_of self.old) (who, target) report }
+        ensures last_numbers { self.new.last_numbers ≡ self.old.last_numbers }
+    {
+        self.rows[who.row_index()].set_at(index, report);
     }
 
     /// Notes a participant's newest message number. It takes no memory.

@@ -1,5 +1,6 @@
-//! A report as a cancel or a correction finds it.
+//! A report as a message that names it finds it.
 
+use sale_matrix::Content;
 use tape_types::{Symbol, TapeNumber};
 
 /// Whether a report stands.
@@ -7,11 +8,11 @@ use tape_types::{Symbol, TapeNumber};
 pub enum Standing {
     /// The report counts in the summaries.
     Standing,
-    /// A cancel took the report out.
+    /// A cancel took the report out, and nothing has reinstated it.
     Cancelled,
 }
 
-/// A report that a cancel or a correction can name.
+/// A report that a cancel, a correction or a reinstatement can name.
 #[derive(Clone, Copy, Debug, PartialEq, Eq)]
 pub struct Target {
     /// The symbol of the report.
@@ -20,6 +21,8 @@ pub struct Target {
     pub place: TapeNumber,
     /// Whether the report stands.
     pub standing: Standing,
+    /// Its latest content: as it was reported, or as it was last corrected. A cancelled report keeps it.
+    pub content: Content,
 }
 
 /// Where a report is that a target names.
@@ -27,6 +30,8 @@ pub struct Target {
 pub struct Located {
     /// The tape number of the report's admission.
     pub place: TapeNumber,
+    /// The report's latest content.
+    pub content: Content,
     /// The index of the report among its participant's reports by rising message number. A report recorded below it moves it, so
     /// it only tells where to look first.
     pub index: usize,

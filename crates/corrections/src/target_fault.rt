@@ -1,19 +1,21 @@
-//! Why a target cannot be cancelled or corrected.
+//! Why a target cannot be cancelled, corrected or reinstated.
 ghost use Rattle.std.specs.Prelude.{◌≡◌, Some};
 ghost use Rattle.corrections.specs.TargetFaults.{target_fault_code, target_fault_name};
 
 use std::fmt;
 use thiserror::Error;
 
-/// Why a target names no report that can be cancelled or corrected. The first that applies is answered.
+/// Why a target names no report that can be cancelled, corrected or reinstated. The first that applies is answered.
 #[derive(Clone, Copy, Debug, PartialEq, Eq, Error)]
 pub enum TargetFault {
     /// No report of the participant has the target's number.
     NoSuchReport = 37,
     /// The target is a report of another symbol.
     OtherSymbol = 38,
-    /// The target is cancelled.
+    /// The target is cancelled, so it can neither be cancelled nor corrected.
     Cancelled = 39,
+    /// The target stands, so it cannot be reinstated.
+    Standing = 43,
 }
 
 impl TargetFault {
@@ -32,6 +34,7 @@ impl TargetFault {
             TargetFault::NoSuchReport => "NoSuchReport",
             TargetFault::OtherSymbol => "OtherSymbol",
             TargetFault::Cancelled => "Cancelled",
+            TargetFault::Standing => "Standing",
         }
     }
 }

@@ -22,15 +22,15 @@ list_any-filter p (x ∷ xs) = elim (cases_Bool (p x)) [
 
 -- the trades of a participant's summary are its reports that stand
 participant_summary-trades : (t : TapeState) (symbol : List ℕ) (who : ℕ)
-    → (participant_summary (messages_of t.entries) symbol who).trades ≡ length (filter (λ r. r.who == who) (standing_reports (messages_of t.entries) symbol))
+    → (participant_summary t.matrix (messages_of t.entries) symbol who).trades ≡ length (filter (λ r. r.who == who) (standing_reports (messages_of t.entries) symbol))
 participant_summary-trades t symbol who =
     let own = filter (λ r. r.who == who) (standing_reports (messages_of t.entries) symbol) in
-    trades-from empty_summary (map placed_participant own) ∙ zero-add _ ∙ length-map own placed_participant
+    trades-from empty_summary (map (placed_participant t.matrix) own) ∙ zero-add _ ∙ length-map own (placed_participant t.matrix)
 
 -- a summary that is there is the participant's
 summary_there : (t : TapeState) (index : ℕ) (symbol : List ℕ) (who : ℕ) (z : Summary)
     → slice_get t.listing.symbols index ≡ Some symbol → lists_participant t.listing who ≡ true → participant_summary_at_index t index who ≡ Some z
-    → participant_summary (messages_of t.entries) symbol who ≡ z
+    → participant_summary t.matrix (messages_of t.entries) symbol who ≡ z
 summary_there t index symbol who z at_index has_participant is = cc (rw (at_index, has_participant) at is)
 
 -- a participant without trades has no row

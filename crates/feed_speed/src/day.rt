@@ -3,11 +3,15 @@
 use anyhow::Context;
 use bstr::ByteSlice;
 use reports::{LONGEST_MESSAGE, Message, decode};
+use sale_matrix::Matrix;
 use std::alloc::{AllocError, Global};
 use subscriber::Subscriber;
 use summaries::IndexStore;
 use tape_core::Tape;
-use tape_types::{Listing, Participant, Symbol, TAPE_MOST};
+use tape_types::{Listing, Participant, Symbol};
+
+/// The limit of a measured day's tapes, in entries, whatever other tapes may have: a shared tape has a cell for each.
+const DAY_TAPE_MOST: u32 = 1_048_576;
 
 /// The session under which the tape is sent.
 pub const SESSION: u64 = 1;
@@ -116,10 +120,16 @@ fn messages_of(alloc: Global, listing: &Listing, input: &[u8]) -> Result<Vec<Mes
 
 /// The tape of a day before its first message.
 pub fn empty_tape(alloc: Global, input: &[u8]) -> anyhow::Result<Tape<IndexStore>> {
-    Ok(Tape::new(alloc, read_listing(alloc, input)?, TAPE_MOST)?)
+    Ok(Tape::new(alloc, read_listing(alloc, input)?, DAY_TAPE_MOST, Matrix::One)?)
 }
 
 /// A subscriber to the tape of a day.
 pub fn new_subscriber(alloc: Global, input: &[u8]) -> anyhow::Result<Subscriber> {
-    Ok(Subscriber::new(alloc, read_listing(alloc, input)?, TAPE_MOST, SESSION)?)
+    Ok(Subscriber::new(
+        alloc,
+        read_listing(alloc, input)?,
+        DAY_TAPE_MOST,
+        SESSION,
+        Matrix::One,
+    )?)
 }

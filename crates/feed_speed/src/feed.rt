@@ -11,7 +11,7 @@ use subscriber::{DeliveryFault, Subscriber};
 use summaries::IndexStore;
 use tape_core::Tape;
 use tape_frames::{
-    ENTRIES_MOST, EntryCount, Packet, Request, SliceSource, Source, cut, write_packet,
+    ENTRIES_MOST, EntryCount, Packet, Request, SliceSource, Source, Version, cut, write_packet,
     write_request,
 };
 
@@ -30,7 +30,7 @@ pub fn send_all(
     let packets = published.div_ceil(PACKET_ENTRIES);
     let mut text = Vec::new(alloc);
     for place in 0..packets {
-        let packet = cut(SESSION, PACKET_ENTRIES * place + 1, &source);
+        let packet = cut(Version::Two, SESSION, PACKET_ENTRIES * place + 1, &source);
         send_packet(alloc, tape, subscriber, place + 1, &packet, &mut text)?;
     }
     send_end(alloc, tape, subscriber, &mut text)?;
@@ -67,7 +67,9 @@ fn send_end(
 
 /// The end of a tape of this many entries.
 fn end_after(published: u32) -> anyhow::Result<Packet> {
-    let count = EntryCount::try_new(published).context("a tape has at most 1,048,576 entries")?;
+    let count = EntryCount::try_new(Version::Two, published).context(
+        "a tape has at most 16,777,216 entries",
+    )?;
     Ok(Packet::End {
         session: SESSION,
         count,
@@ -138,6 +140,7 @@ fn retransmitted(
         alloc,
         &mut SliceSource::of(tape),
         SESSION,
+        Version::Two,
         &mut requests,
         &mut answer,
     );

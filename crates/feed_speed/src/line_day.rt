@@ -137,6 +137,7 @@ fn run_named_day<D: DayName + Send + Sync, R: Clock + Threads + Wait + Sync>(
     requires name { prepared.blank.name ≡ D.name }
     requires parts { prepared.blank.parts ≡ D.parts }
     requires listing { prepared.tape.listing ≡ D.listing }
+    requires matrix { prepared.tape.matrix ≡ D.matrix }
 {
     let Ok((shared, seats)) = SharedTape::<D>::open(prepared) else {
         return None;

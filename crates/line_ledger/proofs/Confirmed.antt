@@ -5,6 +5,7 @@ use Rattle.std.proofs.lemmas.List.{length-map}
 use Rattle.std.proofs.lemmas.Option.{none-some, same_Some}
 use Rattle.tape_core.specs.declared.entry.Entry.{Entry}
 use Rattle.tape_core.specs.Tape.{TapeState}
+use Rattle.tape_frames.specs.declared.version.Version.{Version}
 use Rattle.tape_frames.specs.Sources.{BeginsWith, cut_of}
 use Rattle.line_ledger.specs.Cells.{TokenState, FirstTokens, HaveAll, shown}
 use Rattle.tape_frames.specs.Cuts.{IsPartOf}
@@ -29,9 +30,9 @@ prefix names tokens entries first all = begins tokens entries (λ i d low.
     subst (λ n. slice_get entries n ≡ Some (slice_index_or tokens i d).entry) place (all i d low))
 
 -- what is cut from the entries that are shown is a part of the tape
-pub data_cut : (names : List ℕ) (tokens : List TokenState) (t : TapeState) (from : ℕ) → FirstTokens names tokens → HaveAll t.entries tokens
-    → IsPartOf (cut_of (shown tokens) from) t.entries
-data_cut names tokens t from first all = cut_is_part (shown tokens) t.entries from (prefix names tokens t.entries first all)
+pub data_cut : (version : Version) (names : List ℕ) (tokens : List TokenState) (t : TapeState) (from : ℕ) → FirstTokens names tokens → HaveAll t.entries tokens
+    → IsPartOf (cut_of version (shown tokens) from) t.entries
+data_cut version names tokens t from first all = cut_is_part version (shown tokens) t.entries from (prefix names tokens t.entries first all)
 
 -- there are no more tokens than entries
 pub as_many : (names : List ℕ) (tokens : List TokenState) (t : TapeState) (last : ℕ) → FirstTokens names tokens → HaveAll t.entries tokens

@@ -3,7 +3,7 @@ use Rattle.std.proofs.Common.{◌≡◌, ℕ, ◌+◌, ◌<◌, List, [], ◌∷
 use Rattle.std.proofs.Math.Nat.{eq-or-lt_of_le}
 use Rattle.std.proofs.lemmas.List.{append-nil, append_assoc, get_or_append_left, get_or_push, get_or-take, length-take, length-map, map-append, take-map}
 use Rattle.tape_core.specs.declared.entry.Entry.{Entry}
-use Rattle.tape_frames.specs.EntryRows.{Carries}
+use Rattle.tape_frames.specs.EntryRows.{Carries, HasNoLaterPlaces}
 use Rattle.tape_frames.specs.Sources.{BeginsWith, IsPublished}
 use Rattle.tape_frames.specs.Lemmas.GrowingRows.{IsNumberedFrom-push}
 use Rattle.tape_frames.specs.Lemmas.Sources.{IsPublished-take}
@@ -48,19 +48,20 @@ first_push names ts ts' t each number of pushed = rw pushed (each_push (λ i t. 
 pub first_take : (names : List ℕ) (ts ts' : List TokenState) (n : ℕ) → FirstTokens names ts → ts' ≡ take n ts → FirstTokens names ts'
 first_take names ts ts' n each cut = rw cut (each_take (λ i t. IsTokenOf names t × (t.number ≡ i + 1)) ts n each)
 
--- a source's list may go on with the entry of the next number that carries what its kind does
-list_push : (es : List Entry) (e : Entry) → IsPublished es → e.number ≡ length es + 1 → Carries e → IsPublished (es ++ e ∷ [])
-list_push es e list number carries = record {
+-- a source's list may go on with the entry of the next number that carries what its kind does and names no later place
+list_push : (es : List Entry) (e : Entry) → IsPublished es → e.number ≡ length es + 1 → Carries e → HasNoLaterPlaces e → IsPublished (es ++ e ∷ [])
+list_push es e list number carries places = record {
   numbered = IsNumberedFrom-push 1 es e list.numbered (omega (arith, number));
   carries = each_push (λ i x. Carries x) es e list.carries carries;
+  places = each_push (λ i x. HasNoLaterPlaces x) es e list.places places;
 }
 
 -- and so may what tokens show
 pub published_push : (ts ts' : List TokenState) (t : TokenState) → IsPublished (shown ts) → t.entry.number ≡ t.number → t.number ≡ length ts + 1
-    → Carries t.entry → ts' ≡ ts ++ t ∷ [] → IsPublished (shown ts')
-published_push ts ts' t list same number carries pushed =
+    → Carries t.entry → HasNoLaterPlaces t.entry → ts' ≡ ts ++ t ∷ [] → IsPublished (shown ts')
+published_push ts ts' t list same number carries places pushed =
     rw (pushed, map-append (λ (t : TokenState). t.entry) ts (t ∷ []))
-    (list_push (shown ts) t.entry list (omega (arith, same, number, length-map ts (λ (t : TokenState). t.entry))) carries)
+    (list_push (shown ts) t.entry list (omega (arith, same, number, length-map ts (λ (t : TokenState). t.entry))) carries places)
 
 -- what the first of the tokens show is a source's list
 pub published_take : (ts ts' : List TokenState) (n : ℕ) → IsPublished (shown ts) → ts' ≡ take n ts → IsPublished (shown ts')

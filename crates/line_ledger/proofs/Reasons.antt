@@ -1,18 +1,19 @@
 -- What a refusal under the lock tells the seat's holder.
-use Rattle.std.proofs.Common.{◌≡◌, ◌≢◌, ◌≤◌, ◌==◌, ℕ, Bool, true, false, not, nat_le, List, [], ◌∷◌, length, refl, ap, subst, ◌∙◌, sym, arith, Option, Some}
+use Rattle.std.proofs.Common.{◌≡◌, ◌≢◌, ◌<◌, ◌≤◌, ◌==◌, ℕ, Bool, true, false, not, nat_le, List, [], ◌∷◌, length, refl, ap, subst, ◌∙◌, sym, arith, Option, Some}
 use Rattle.std.proofs.Common.{None, unwrap_or, true≢false}
 use Rattle.std.specs.Option.{option_map}
 use Rattle.std.proofs.lemmas.Bool.Decides.{nat_tests}
 use Rattle.std.proofs.lemmas.Option.{none-some, same_Some}
 use Rattle.reports.specs.declared.message.Message.{Message}
-use Rattle.reports.specs.declared.message.Message.TheVariants.{Report, Cancel, Correct}
+use Rattle.reports.specs.declared.message.Message.TheVariants.{Report, Cancel, Correct, Reinstate}
 use Rattle.reports.specs.Messages.{header_of}
 use Rattle.tape_types.specs.Names.{Names, first_fault}
+use Rattle.sale_matrix.specs.declared.matrix.Matrix.{Matrix}
 use Rattle.tape_core.specs.declared.refusal.Refusal.{Refusal}
-use Rattle.tape_core.specs.declared.refusal.Refusal.TheVariants.{Closed, Full, WrongLine, UnknownParticipant, Stale, UnknownSymbol, OutOfMemory}
+use Rattle.tape_core.specs.declared.refusal.Refusal.TheVariants.{Closed, Full, WrongLine, UnknownParticipant, Stale, UnknownSymbol, OutOfMemory, NotInMatrix}
 use Rattle.tape_core.specs.Refusals.{refusal_code}
 use Rattle.tape_core.specs.Standing.{NumberedMessage, named_report, last_number}
-use Rattle.tape_core.specs.Tape.{TapeState, refusal, messages_of, message_faults, target_faults, lists_participant, lists_symbol}
+use Rattle.tape_core.specs.Tape.{TapeState, refusal, messages_of, message_faults, target_faults, lists_participant, lists_symbol, is_in_matrix}
 use Rattle.line_ledger.specs.declared.line_refusal.LineRefusal.{LineRefusal}
 use Rattle.line_ledger.specs.declared.line_refusal.LineRefusal.TheVariants.{Behind, Refused}
 use Rattle.line_ledger.specs.Faults.{line_refusal_code}
@@ -27,6 +28,7 @@ pub record Says (t : TapeState) (m : Message) (r : Refusal) : Type 0 where
   pub unknown : refusal_code r ≡ 34 → not (lists_participant t.listing (header_of m).participant) ≡ true
   pub stale : refusal_code r ≡ 35 → nat_le (header_of m).number (last_number (messages_of t.entries) (header_of m).participant) ≡ true
   pub unlisted : refusal_code r ≡ 36 → not (lists_symbol t.listing (header_of m).symbol) ≡ true
+  pub not_within : refusal_code r ≡ 44 → not (is_in_matrix t.matrix m) ≡ true
 
 module _ (t : TapeState) (m : Message) where
   -- each case says so where its test holds
@@ -41,25 +43,29 @@ module _ (t : TapeState) (m : Message) where
   first-says ((false, x) ∷ cases) r all is = first-says cases r all.1 is
 
   -- a refusal of another number says nothing
-  other-says : (r : Refusal) → 37 ≤ refusal_code r → Says t m r
-  other-says r high = record {
+  other-says : (r : Refusal) → 37 ≤ refusal_code r → refusal_code r < 44 → Says t m r
+  other-says r high low = record {
     wrong_line = λ e. omega arith;
     closed = λ e. absurd (omega arith);
     unknown = λ e. absurd (omega arith);
     stale = λ e. absurd (omega arith);
     unlisted = λ e. absurd (omega arith);
+    not_within = λ e. absurd (omega arith);
   }
 
   -- each fault of a target says so
-  targets-say : (tape : List NumberedMessage) (symbol : List ℕ) (o : Option NumberedMessage) → AllSay (target_faults tape symbol o)
-  targets-say tape symbol None = (λ _. other-says _ (omega arith), tt)
-  targets-say tape symbol (Some report) = (λ _. other-says _ (omega arith), (λ _. other-says _ (omega arith), tt))
+  targets-say : (tape : List NumberedMessage) (symbol : List ℕ) (reinstated : Bool) (o : Option NumberedMessage)
+      → AllSay (target_faults tape symbol reinstated o)
+  targets-say tape symbol reinstated None = (λ _. other-says _ (omega arith) (omega arith), tt)
+  targets-say tape symbol reinstated (Some report) =
+      (λ _. other-says _ (omega arith) (omega arith), (λ _. other-says _ (omega arith) (omega arith), (λ _. other-says _ (omega arith) (omega arith), tt)))
 
   -- each fault of what a message names says so
   message-says : (tape : List NumberedMessage) (x : Message) → AllSay (message_faults tape x)
   message-says tape (Report header content) = tt
-  message-says tape (Cancel header target) = targets-say tape header.symbol (named_report tape header.participant target)
-  message-says tape (Correct header target content) = targets-say tape header.symbol (named_report tape header.participant target)
+  message-says tape (Cancel header target) = targets-say tape header.symbol false (named_report tape header.participant target)
+  message-says tape (Correct header target content) = targets-say tape header.symbol false (named_report tape header.participant target)
+  message-says tape (Reinstate header target) = targets-say tape header.symbol true (named_report tape header.participant target)
 
   -- a refusal by the tape says so
   refusal-says : (r : Refusal) → refusal t m ≡ Some r → Says t m r
@@ -69,7 +75,7 @@ module _ (t : TapeState) (m : Message) where
       let cases : List (Bool × Refusal) =
       (t.closed, Closed) ∷ (length t.entries == t.limit, Full) ∷ (not (lists_participant t.listing who), UnknownParticipant)
       ∷ (nat_le (header_of m).number (last_number tape who), Stale) ∷ (not (lists_symbol t.listing (header_of m).symbol), UnknownSymbol) ∷
-      message_faults tape m in
+      (not (is_in_matrix t.matrix m), NotInMatrix) ∷ message_faults tape m in
       let all : AllSay cases = (
         (λ b. record {
           wrong_line = λ e. omega arith;
@@ -77,6 +83,7 @@ module _ (t : TapeState) (m : Message) where
           unknown = λ e. absurd (omega arith);
           stale = λ e. absurd (omega arith);
           unlisted = λ e. absurd (omega arith);
+          not_within = λ e. absurd (omega arith);
         }),
         (
           (λ b. record {
@@ -85,6 +92,7 @@ module _ (t : TapeState) (m : Message) where
             unknown = λ e. absurd (omega arith);
             stale = λ e. absurd (omega arith);
             unlisted = λ e. absurd (omega arith);
+            not_within = λ e. absurd (omega arith);
           }),
           (
             (λ b. record {
@@ -93,6 +101,7 @@ module _ (t : TapeState) (m : Message) where
               unknown = λ e. b;
               stale = λ e. absurd (omega arith);
               unlisted = λ e. absurd (omega arith);
+              not_within = λ e. absurd (omega arith);
             }),
             (
               (λ b. record {
@@ -101,6 +110,7 @@ module _ (t : TapeState) (m : Message) where
                 unknown = λ e. absurd (omega arith);
                 stale = λ e. b;
                 unlisted = λ e. absurd (omega arith);
+                not_within = λ e. absurd (omega arith);
               }),
               (
                 (λ b. record {
@@ -109,8 +119,19 @@ module _ (t : TapeState) (m : Message) where
                   unknown = λ e. absurd (omega arith);
                   stale = λ e. absurd (omega arith);
                   unlisted = λ e. b;
+                  not_within = λ e. absurd (omega arith);
                 }),
-                message-says tape m,
+                (
+                  (λ b. record {
+                    wrong_line = λ e. omega arith;
+                    closed = λ e. absurd (omega arith);
+                    unknown = λ e. absurd (omega arith);
+                    stale = λ e. absurd (omega arith);
+                    unlisted = λ e. absurd (omega arith);
+                    not_within = λ e. b;
+                  }),
+                  message-says tape m,
+                ),
               ),
             ),
           ),
@@ -120,7 +141,7 @@ module _ (t : TapeState) (m : Message) where
 
   -- the answer of the tape, out of memory included
   answer-says : (o : Option Refusal) → refusal t m ≡ o → Says t m (unwrap_or o OutOfMemory)
-  answer-says None is = other-says OutOfMemory (omega arith)
+  answer-says None is = other-says OutOfMemory (omega arith) (omega arith)
   answer-says (Some r) is = refusal-says r is
 
 -- the last number that a seat was told is the last on a tape that agrees with it
@@ -166,10 +187,11 @@ why_as_tape t s m r own same is =
     ap Refused is ∙ sym (ap (λ o. unwrap_or o (Refused OutOfMemory)) (refuses_as_tape t s m own same) ∙ unwrap-map (refusal t m))
 
 -- what each reason is, by its number
-pub record Learns (listing : Names) (s : SeatState) (m : Message) (code : ℕ) : Type 0 where
+pub record Learns (listing : Names) (matrix : Matrix) (s : SeatState) (m : Message) (code : ℕ) : Type 0 where
   pub wrong_line : code ≡ 33 → (header_of m).participant ≢ s.who
   pub stale : code ≡ 35 → (header_of m).number ≤ last_told 0 s.told
   pub unlisted : code ≡ 36 → lists_symbol listing (header_of m).symbol ≡ false
+  pub not_within : code ≡ 44 → is_in_matrix matrix m ≡ false
   pub never_closed : code ≡ 31 → ⊥
   pub never_unknown : code ≡ 34 → ⊥
 
@@ -179,12 +201,12 @@ not-true true is = absurd (true≢false (sym is))
 not-true false is = refl
 
 -- on a tape of the day, the number of a reason tells a listed seat's holder what is wrong
-learns : (listing : Names) (t : TapeState) (s : SeatState) (m : Message) (why : LineRefusal) → IsDay listing t → lists_participant listing s.who ≡ true
-    → IsWhy t s m why → Learns listing s m (line_refusal_code why)
-learns listing t s m why day listed reasons = elim ((header_of m).participant == s.who) as
-    (λ b. ((header_of m).participant == s.who) ≡ b → Learns listing s m (line_refusal_code why)) [
+learns : (listing : Names) (matrix : Matrix) (t : TapeState) (s : SeatState) (m : Message) (why : LineRefusal) → IsDay listing matrix t → lists_participant listing s.who ≡ true
+    → IsWhy t s m why → Learns listing matrix s m (line_refusal_code why)
+learns listing matrix t s m why day listed reasons = elim ((header_of m).participant == s.who) as
+    (λ b. ((header_of m).participant == s.who) ≡ b → Learns listing matrix s m (line_refusal_code why)) [
       | false ↦ λ e. other (neq e)
-      | true ↦ λ e. elim (agrees t s) as (λ b. agrees t s ≡ b → Learns listing s m (line_refusal_code why)) [
+      | true ↦ λ e. elim (agrees t s) as (λ b. agrees t s ≡ b → Learns listing matrix s m (line_refusal_code why)) [
         | false ↦ λ late. behind (eq e) late
         | true ↦ λ same. tape (eq e) same
       ] refl
@@ -196,39 +218,42 @@ learns listing t s m why day listed reasons = elim ((header_of m).participant ==
     eq : ((header_of m).participant == s.who) ≡ true → (header_of m).participant ≡ s.who
     eq e = grind (arith, nat_tests, e)
 
-    other : (header_of m).participant ≢ s.who → Learns listing s m (line_refusal_code why)
-    other not_own = subst (λ x. Learns listing s m (line_refusal_code x)) (sym (reasons.wrong_line not_own))
+    other : (header_of m).participant ≢ s.who → Learns listing matrix s m (line_refusal_code why)
+    other not_own = subst (λ x. Learns listing matrix s m (line_refusal_code x)) (sym (reasons.wrong_line not_own))
         (record {
           wrong_line = λ e. not_own;
           stale = λ e. omega arith;
           unlisted = λ e. absurd (omega arith);
+          not_within = λ e. absurd (omega arith);
           never_closed = λ e. omega arith;
           never_unknown = λ e. omega arith;
         })
 
-    behind : (header_of m).participant ≡ s.who → agrees t s ≡ false → Learns listing s m (line_refusal_code why)
-    behind own late = subst (λ x. Learns listing s m (line_refusal_code x)) (sym (reasons.behind own late))
+    behind : (header_of m).participant ≡ s.who → agrees t s ≡ false → Learns listing matrix s m (line_refusal_code why)
+    behind own late = subst (λ x. Learns listing matrix s m (line_refusal_code x)) (sym (reasons.behind own late))
         (record {
           wrong_line = λ e. absurd (omega arith);
           stale = λ e. omega arith;
           unlisted = λ e. absurd (omega arith);
+          not_within = λ e. absurd (omega arith);
           never_closed = λ e. omega
               arith;
           never_unknown = λ e. omega arith;
         })
 
-    tape : (header_of m).participant ≡ s.who → agrees t s ≡ true → Learns listing s m (line_refusal_code why)
+    tape : (header_of m).participant ≡ s.who → agrees t s ≡ true → Learns listing matrix s m (line_refusal_code why)
     tape own same =
         let says = answer-says t m (refusal t m) refl in
         let last : last_number (messages_of t.entries) (header_of m).participant ≡ last_told 0 s.told = ap (last_number (messages_of t.entries)) own
         ∙ agrees-last t s same in
         let known : lists_participant t.listing (header_of m).participant ≡ true = ap (lists_participant t.listing) own ∙ ap
         (λ l. lists_participant l s.who) day.listed ∙ listed in
-        subst (λ x. Learns listing s m (line_refusal_code x)) (sym (reasons.tape own same))
+        subst (λ x. Learns listing matrix s m (line_refusal_code x)) (sym (reasons.tape own same))
         (record {
           wrong_line = λ e. absurd (says.wrong_line e);
           stale = λ e. subst (λ n. (header_of m).number ≤ n) last (le (says.stale e));
           unlisted = λ e. ap (λ l. lists_symbol l (header_of m).symbol) (sym day.listed) ∙ not-true _ (says.unlisted e);
+          not_within = λ e. ap (λ x. is_in_matrix x m) (sym day.by_matrix) ∙ not-true _ (says.not_within e);
           never_closed = λ e. true≢false (sym (says.closed e) ∙ day.unclosed);
           never_unknown = λ e. true≢false (sym known ∙ not-true _ (says.unknown e));
         })
@@ -237,16 +262,17 @@ learns listing t s m why day listed reasons = elim ((header_of m).participant ==
         le {a} {b} h = grind (arith, nat_tests, h)
 
 -- a refusal under the lock tells a listed seat's holder why
-pub tells_why : (listing : Names) (t : TapeState) (s : SeatState) (m : Message) (why : LineRefusal) (t' : TapeState) (s' : SeatState)
-    → IsDay listing t → lists_participant listing s.who ≡ true → Refuses t s m why t' s' → TellsWhy listing s m why s'
-tells_why listing t s m why t' s' day listed refuses =
+pub tells_why : (listing : Names) (matrix : Matrix) (t : TapeState) (s : SeatState) (m : Message) (why : LineRefusal) (t' : TapeState) (s' : SeatState)
+    → IsDay listing matrix t → lists_participant listing s.who ≡ true → Refuses t s m why t' s' → TellsWhy listing matrix s m why s'
+tells_why listing matrix t s m why t' s' day listed refuses =
     let reasons = is_why t s m why refuses.why_is in
-    let said = learns listing t s m why day listed reasons in
+    let said = learns listing matrix t s m why day listed reasons in
     record {
       seat = refuses.seat;
       wrong_line = (λ e. said.wrong_line (ap line_refusal_code e), reasons.wrong_line);
       stale = λ e. said.stale (ap line_refusal_code e);
       unlisted = λ e. said.unlisted (ap line_refusal_code e);
+      not_within = λ e. said.not_within (ap line_refusal_code e);
       never_closed = λ e. said.never_closed (ap line_refusal_code e);
       never_unknown = λ e. said.never_unknown (ap line_refusal_code e);
     }

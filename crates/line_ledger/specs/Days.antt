@@ -1,14 +1,16 @@
 -- A day's tape, as it lies behind the lock.
 use Rattle.std.specs.Prelude.{◌≡◌, ℕ, ◌==◌, Bool, false, ◌&&◌, List}
 use Rattle.tape_types.specs.Names.{Names}
+use Rattle.sale_matrix.specs.declared.matrix.Matrix.{Matrix}
 use Rattle.tape_core.specs.Standing.{count_of, sizes_of, last_number}
 use Rattle.tape_core.specs.Tape.{TapeState, IsTape, messages_of}
 
--- an open legal tape of this listing
-pub record IsDay (listing : Names) (t : TapeState) : Type 0 where
+-- an open legal tape of this listing and matrix
+pub record IsDay (listing : Names) (matrix : Matrix) (t : TapeState) : Type 0 where
   pub tape : IsTape t
   pub unclosed : t.closed ≡ false
   pub listed : t.listing ≡ listing
+  pub by_matrix : t.matrix ≡ matrix
 
 -- whether the tape's count, sizes and last number of a participant are these
 abbrev pub has_figures : TapeState → ℕ → ℕ → ℕ → ℕ → Bool

@@ -3,6 +3,8 @@ ghost use Rattle.std.specs.Prelude.{◌≡◌, ◌≤◌, ◌↔◌, ℕ, IsTrue
 ghost use Rattle.tape_core.specs.declared.entry.Entry.{Entry};
 ghost use Rattle.tape_core.specs.Tape.{TapeState};
 ghost use Rattle.tape_frames.specs.declared.packet.Packet.TheVariants.{Data, Beat};
+ghost use Rattle.tape_frames.specs.declared.version.Version.{Version};
+ghost use Rattle.tape_frames.specs.EntryRows.{CountState};
 ghost use Rattle.tape_frames.specs.Sources.{BeginsWith, cut_of};
 ghost use Rattle.line_ledger.specs.declared.told.Told.{Told};
 ghost use Rattle.line_ledger.specs.Cells.{TokenState, FirstTokens, HaveAll, shown};
@@ -67,8 +69,9 @@ pub fn disagreement()
 pub fn confirmed()
     ensures prefix { (names : List ℕ) (tokens : List TokenState) (entries : List Entry)
         → FirstTokens names tokens → HaveAll entries tokens → BeginsWith (shown tokens) entries }
-    ensures data { (names : List ℕ) (tokens : List TokenState) (t : TapeState) (session from : ℕ)
-        → FirstTokens names tokens → HaveAll t.entries tokens → IsCutOf session t (Data session (cut_of (shown tokens) from)) }
-    ensures beat { (names : List ℕ) (tokens : List TokenState) (t : TapeState) (session last : ℕ)
-        → FirstTokens names tokens → HaveAll t.entries tokens → last ≤ length tokens → IsCutOf session t (Beat session last) }
+    ensures data { (names : List ℕ) (tokens : List TokenState) (t : TapeState) (session from : ℕ) (version : Version)
+        → FirstTokens names tokens → HaveAll t.entries tokens
+        → IsCutOf session t (Data session (record { version = version; entries = cut_of version (shown tokens) from })) }
+    ensures beat { (names : List ℕ) (tokens : List TokenState) (t : TapeState) (session : ℕ) (last : CountState)
+        → FirstTokens names tokens → HaveAll t.entries tokens → last.count ≤ length tokens → IsCutOf session t (Beat session last) }
 {}

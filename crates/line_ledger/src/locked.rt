@@ -53,7 +53,7 @@ impl<D: DayName> Model for Locked<D> {
 
     ghost view = { λ l. record { tape = l.tape; set = l.set } };
 
-    ghost invariant = { λ l. IsDay D.listing l.tape × (l.book.total ≡ length l.tape.entries)
+    ghost invariant = { λ l. IsDay D.listing D.matrix l.tape × (l.book.total ≡ length l.tape.entries)
         × (l.rest.parts ≡ 0) × (l.rest.amount ≡ 0) × (D.parts ≡ length D.listing.participants)
         × (l.set ≤ length l.tape.entries) × (l.room.items ≡ []) × (l.tape.limit ≤ vec_capacity l.room) };
 }
@@ -296,6 +296,7 @@ impl<D: DayName> Locked<D> {
         requires name { prepared.blank.name ≡ D.name }
         requires parts { prepared.blank.parts ≡ D.parts }
         requires listing { prepared.tape.listing ≡ D.listing }
+        requires matrix { prepared.tape.matrix ≡ D.matrix }
         ensures locked { IfOk result (λ r. r.0 ≡ record { tape = prepared.tape; set = 0 }) }
         ensures cells { IfOk result (λ r. length r.1 ≡ prepared.tape.limit) }
         ensures seats { IfOk result (λ r. r.2.items ≡ map untold prepared.tape.listing.participants) }
@@ -335,7 +336,7 @@ impl<D: DayName> Locked<D> {
     /// tape's count, sizes or last number of the participant is not the seat's.
     #[inline(always)]
     fn refusal_at_seat(&self, seat: &LineSeat<D>, message: &Message) -> Option<LineRefusal>
-        ensures day { IsDay D.listing self.now.tape }
+        ensures day { IsDay D.listing D.matrix self.now.tape }
         ensures listed { lists_participant D.listing seat.now.who ≡ true }
         ensures some { IfSome result (λ why. line_refusal self.now.tape seat.now message.now ≡ Some why) }
         ensures own { IfNone result ((header_of message.now).participant ≡ seat.now.who) }
@@ -362,7 +363,7 @@ impl<D: DayName> Locked<D> {
         seat: &mut LineSeat<D>,
         message: Message,
     ) -> Result<Receipt, LineRefusal>
-        ensures day { IsDay D.listing self.old.tape }
+        ensures day { IsDay D.listing D.matrix self.old.tape }
         ensures listed { lists_participant D.listing seat.old.who ≡ true }
         ensures ok { IfOk result (λ r. Admits self.old.tape seat.old message r self.new.tape seat.new) }
         ensures err { IfErr result (λ why. Refuses self.old.tape seat.old message why self.new.tape seat.new) }
@@ -389,7 +390,7 @@ impl<D: DayName> Locked<D> {
     /// Refused: 36 UnknownSymbol where the symbol is not listed, then 94 Behind where the tape's count, sizes or last number
     /// of the participant is not the seat's.
     pub fn view(&self, seat: &LineSeat<D>, symbol: Symbol) -> Result<View, ViewFault>
-        ensures day { IsDay D.listing self.now.tape }
+        ensures day { IsDay D.listing D.matrix self.now.tape }
         ensures answer { MatchResult result (Shows self.now.tape seat.now symbol) (λ fault. view_fault self.now.tape seat.now symbol ≡ Some fault) }
         ensures told { IfOk result (λ view. length seat.now.told ≤ view.count) }
     {
@@ -474,7 +475,7 @@ impl<D: DayName> Locked<D> {
     /// in them. The seats are spent in each case.
     pub fn finish(self, row: CellRow, seats: Vec<LineSeat<D>>) -> Result<Day, Disagreement>
         requires { IsOneEach D.listing.participants seats.items }
-        ensures day { IsDay D.listing self.tape }
+        ensures day { IsDay D.listing D.matrix self.tape }
         ensures ok { IfOk result (λ day. day.tape ≡ record self.tape { closed = true }) }
         ensures cells { IfOk result (λ day. day.names ≡ row) }
         ensures told { OnOk result (FirstTold (length self.tape.listing.participants) self.tape.listing.participants self.tape.entries seats.items) }

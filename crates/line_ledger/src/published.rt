@@ -1,16 +1,19 @@
 //! The published entries, as a source of packets.
 ghost use Rattle.std.specs.Prelude.{◌≡◌, ◌≤◌, ◌↔◌, [], List, take, length, IfOk, IfErr, OnOk, OnErr, IsTrue};
 ghost use Rattle.tape_core.specs.declared.entry.Entry.{Entry as EntryState};
-ghost use Rattle.tape_frames.specs.EntryRows.{Carries};
+ghost use Rattle.scratch_fold.specs.Places.{HasPlacesUpTo, IsPlacedUpTo};
+ghost use Rattle.tape_frames.specs.EntryRows.{Carries, HasNoLaterPlaces};
 ghost use Rattle.tape_frames.specs.Sources.{BeginsWith, IsPublished};
 ghost use Rattle.line_ledger.specs.Cells.{FirstTokens, shown};
 ghost use Rattle.line_ledger.specs.Publishing.{GoesOn};
 
 use crate::{DayName, SharedTape, Token};
+use scratch_fold::{Mark, Summary};
 use std::alloc::AllocError;
 use std::marker::Model;
 use tape_core::Entry;
 use tape_frames::Source;
+use tape_types::TapeNumber;
 
 /// The entries that were found in a shared tape's cells, from the first on, as a source: it takes no lock, so it never waits
 /// for the lines.
@@ -92,12 +95,12 @@ impl<'a, D: DayName> Published<'a, D> {
     }
 }
 
-/// Whether a source may have the entry under this number: it has that number, and carries what its kind does. What a cell
-/// holds comes with no proof of it, so it is looked at.
+/// Whether a source may have the entry under this number: it has that number, carries what its kind does, and names no place
+/// after its own. What a cell holds comes with no proof of it, so it is looked at.
 fn can_follow(entry: &Entry, number: u32) -> bool
-    ensures { IsTrue result ↔ ((entry.now.number ≡ number) × Carries entry.now) }
+    ensures { IsTrue result ↔ ((entry.now.number ≡ number) × Carries entry.now × HasNoLaterPlaces entry.now) }
 {
-    entry.number.value() == number && carries(entry)
+    entry.number.value() == number && carries(entry) && has_no_later_places(entry)
 }
 
 /// Whether the entry carries a summary exactly where its kind does.
@@ -105,6 +108,36 @@ fn carries(entry: &Entry) -> bool
     ensures { IsTrue result ↔ Carries entry.now }
 {
     entry.message.target().is_some() == entry.after.is_some()
+}
+
+/// Whether no mark of what the entry carries has a place above the entry's number.
+fn has_no_later_places(entry: &Entry) -> bool
+    ensures { IsTrue result ↔ HasNoLaterPlaces entry.now }
+{
+    match &entry.after {
+        None => true,
+        Some(summary) => has_places_up_to(summary, entry.number),
+    }
+}
+
+/// Whether no mark of the summary has a place above this one.
+fn has_places_up_to(summary: &Summary, most: TapeNumber) -> bool
+    ensures { IsTrue result ↔ HasPlacesUpTo most summary.now }
+{
+    is_placed_up_to(&summary.opening, most)
+        && is_placed_up_to(&summary.high, most)
+        && is_placed_up_to(&summary.low, most)
+        && is_placed_up_to(&summary.last, most)
+}
+
+/// Whether a mark, where there is one, has no place above this one.
+fn is_placed_up_to(figure: &Option<Mark>, most: TapeNumber) -> bool
+    ensures { IsTrue result ↔ IsPlacedUpTo most figure.now }
+{
+    match figure {
+        None => true,
+        Some(mark) => mark.place.value() <= most.value(),
+    }
 }
 
 impl<D: DayName> Source for Published<'_, D> {

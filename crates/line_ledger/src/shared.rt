@@ -58,6 +58,7 @@ impl<D: DayName> SharedTape<D> {
         requires name { prepared.blank.name ≡ D.name }
         requires parts { prepared.blank.parts ≡ D.parts }
         requires listing { prepared.tape.listing ≡ D.listing }
+        requires matrix { prepared.tape.matrix ≡ D.matrix }
         ensures cells { IfOk result (λ r. length r.0 ≡ prepared.tape.limit) }
         ensures seats { IfOk result (λ r. r.1.items ≡ map untold prepared.tape.listing.participants) }
         ensures each { IfOk result (λ r. IsOneEach D.listing.participants r.1.items) }
@@ -96,7 +97,7 @@ impl<D: DayName> SharedTape<D> {
         message: Message,
     ) -> Result<Receipt, LineRefusal>
         ensures ok { IfOk result (λ r. Tells seat.old message r seat.new) }
-        ensures err { IfErr result (λ why. TellsWhy D.listing seat.old message why seat.new) }
+        ensures err { IfErr result (λ why. TellsWhy D.listing D.matrix seat.old message why seat.new) }
     {
         self.lock(rt).admit(seat, message)
     }
@@ -109,7 +110,7 @@ impl<D: DayName> SharedTape<D> {
         seat: &LineSeat<D>,
         symbol: Symbol,
     ) -> Result<View, ViewFault>
-        ensures ok { IfOk result (IsShown D.listing seat.now symbol) }
+        ensures ok { IfOk result (IsShown D.listing D.matrix seat.now symbol) }
         ensures told { IfOk result (λ view. length seat.now.told ≤ view.count) }
         ensures unlisted { (result ≡ Err UnknownSymbol) ↔ (lists_symbol D.listing symbol ≡ false) }
     {
@@ -170,11 +171,11 @@ impl<D: DayName> SharedTape<D> {
     /// shared tape has joined every thread that borrowed it. It goes over the tape once for each participant, and once over the
     /// cells.
     pub fn end(self, seats: Vec<LineSeat<D>>) -> Result<Day, EndFault<D>>
-        ensures ok { IfOk result (λ day. IsEnd D.listing seats.items day.tape) }
+        ensures ok { IfOk result (λ day. IsEnd D.listing D.matrix seats.items day.tape) }
         ensures cells { IfOk result (λ day. day.names ≡ self) }
         ensures missing { (f : _) → result ≡ Err (MissingSeat f)
             → ¬ (IsOneEach D.listing.participants seats.items) × (f.seats.items ≡ seats.items) × (f.shared ≡ self) }
-        ensures disagrees { (d : _) → result ≡ Err (Disagrees d) → IsDispute D.listing seats.items d.participant d.at d.tape }
+        ensures disagrees { (d : _) → result ≡ Err (Disagrees d) → IsDispute D.listing D.matrix seats.items d.participant d.at d.tape }
     {
         let SharedTape { locked, row } = self;
         let locked = locked.into_inner();

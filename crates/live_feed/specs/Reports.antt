@@ -2,6 +2,7 @@
 use Rattle.std.specs.Prelude.{◌≡◌, ℕ, List, Option}
 use Rattle.std.specs.Io.KnownBytes.{Appends}
 use Rattle.tape_types.specs.Names.{Names}
+use Rattle.sale_matrix.specs.declared.matrix.Matrix.{Matrix}
 use Rattle.tape_core.specs.Tape.{TapeState, IsLegal}
 use Rattle.day_report.specs.ReportText.{report_text}
 use Rattle.day_report.specs.Rows.{report_rows}
@@ -10,6 +11,7 @@ use Rattle.day_report.specs.Rows.{report_rows}
 abbrev pub WritesOneReport : Option (List ℕ) → Option (List ℕ) → Type 0
 WritesOneReport old new = (t : TapeState) × IsLegal t × Appends old new (report_text (report_rows t))
 
--- the whole report of some legal tape of the listing was appended, and nothing else
-abbrev pub WritesItsReport : Names → Option (List ℕ) → Option (List ℕ) → Type 0
-WritesItsReport listing old new = (t : TapeState) × IsLegal t × (t.listing ≡ listing) × Appends old new (report_text (report_rows t))
+-- the whole report of some legal tape of the listing and the matrix was appended, and nothing else
+abbrev pub WritesItsReport : Names → Matrix → Option (List ℕ) → Option (List ℕ) → Type 0
+WritesItsReport listing matrix old new =
+    (t : TapeState) × IsLegal t × (t.listing ≡ listing) × (t.matrix ≡ matrix) × Appends old new (report_text (report_rows t))

@@ -8,6 +8,7 @@ use crate::starting::can_start;
 use crate::writing::write_day;
 use crate::{Fault, FollowSockets};
 use arbitration::Line;
+use sale_matrix::Matrix;
 use std::alloc::Global;
 use std::io::Write;
 use std::net::{Net, SocketAddr, TcpListener, TcpStream, UdpSocket};
@@ -114,6 +115,7 @@ pub fn follow_over<
     alloc: Global,
     listing: Listing,
     limit: u32,
+    matrix: Matrix,
     session: u64,
     sockets: FollowSockets,
     restart_after: Option<u32>,
@@ -127,6 +129,7 @@ pub fn follow_over<
         alloc,
         listing,
         limit,
+        matrix,
         session,
         sockets.retransmission,
         restart_after,

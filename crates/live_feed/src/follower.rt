@@ -9,6 +9,7 @@ use crate::starting::fault_of_tape;
 use crate::{Fault, here};
 use arbitration::Line;
 use retransmit::{AskFault, ask};
+use sale_matrix::Matrix;
 use std::alloc::Global;
 use std::mem;
 use std::net::{Net, TcpListener, TcpStream};
@@ -98,12 +99,13 @@ impl Follower {
         alloc: Global,
         listing: Listing,
         limit: u32,
+        matrix: Matrix,
         session: u64,
         retransmission: u16,
         restart_after: Option<u32>,
     ) -> Result<Follower, Fault> {
         let connection = dial(rt, retransmission)?;
-        let subscriber = match Subscriber::new(alloc, listing, limit, session) {
+        let subscriber = match Subscriber::new(alloc, listing, limit, session, matrix) {
             Ok(subscriber) => subscriber,
             Err(fault) => return Err(fault_of_tape(fault)),
         };
@@ -184,6 +186,7 @@ impl Follower {
             self.alloc,
             listing,
             tape.limit(),
+            tape.matrix(),
             self.session,
             self.retransmission,
             None,

@@ -16,6 +16,7 @@ use crate::starting::{accept_all, can_start, prepare_day};
 use crate::writing::write_day;
 use crate::{Fault, LiveSockets, Loss};
 use line_ledger::{Day, DayName, EndFault, LineSeat, Prepared, Published, SharedTape, Token};
+use sale_matrix::Matrix;
 use std::alloc::Global;
 use std::io::Write;
 use std::marker::Brand;
@@ -55,6 +56,7 @@ fn end_day<D: DayName>(shared: SharedTape<D>, seats: Vec<LineSeat<D>>) -> Result
     requires { IsOneEach D.listing.participants seats.items }
     ensures legal { IfOk result (λ day. IsLegal day.tape) }
     ensures listed { IfOk result (λ day. day.tape.listing ≡ D.listing) }
+    ensures by_matrix { IfOk result (λ day. day.tape.matrix ≡ D.matrix) }
     ensures cells { IfOk result (λ day. day.names ≡ shared) }
     ensures fault { IfErr result (λ fault. fault ≡ Disagrees) }
 {
@@ -109,6 +111,7 @@ fn finish_day<D: DayName>(
         ⊎ (joined.ran.fault ≡ Some fault) ⊎ (found.fault ≡ Some fault) ⊎ (fault ≡ Disagrees)) }
     ensures legal { IfOk result (λ day. IsLegal day.tape) }
     ensures listed { IfOk result (λ day. day.tape.listing ≡ D.listing) }
+    ensures by_matrix { IfOk result (λ day. day.tape.matrix ≡ D.matrix) }
     ensures sent { IfOk result (λ day. length day.tape.entries ≡ joined.sides.sent.number) }
 {
     let Joined {
@@ -141,9 +144,11 @@ fn run_named<D: DayName + Send + Sync, R: Threads + Wait + Clock + Sync, L: Loss
     requires name { prepared.blank.name ≡ D.name }
     requires parts { prepared.blank.parts ≡ D.parts }
     requires listing { prepared.tape.listing ≡ D.listing }
+    requires matrix { prepared.tape.matrix ≡ D.matrix }
     requires many { vec_len readers ≡ length D.listing.participants }
     ensures legal { IfOk result (λ day. IsLegal day.tape) }
     ensures listed { IfOk result (λ day. day.tape.listing ≡ D.listing) }
+    ensures by_matrix { IfOk result (λ day. day.tape.matrix ≡ D.matrix) }
 {
     let Ok(lines) = Vec::with_capacity(feed.alloc, readers.len()) else {
         drop(prepared);
@@ -180,6 +185,7 @@ fn run_day<R: Threads + Wait + Clock + Sync, L: Loss + Sync>(
     requires { vec_len readers ≡ length prepared.tape.listing.participants }
     ensures legal { IfOk result (λ day. IsLegal day.tape) }
     ensures listed { IfOk result (λ day. day.tape.listing ≡ prepared.tape.listing) }
+    ensures by_matrix { IfOk result (λ day. day.tape.matrix ≡ prepared.tape.matrix) }
 {
     run_named::<Brand, R, L>(rt, feed, prepared, readers, text)
 }
@@ -205,16 +211,18 @@ fn hold_day<R: Threads + Wait + Clock + Sync, L: Loss + Sync>(
     feed: &Feed<'_, L>,
     listing: Listing,
     limit: u32,
+    matrix: Matrix,
     sockets: &LiveSockets,
 ) -> Result<Day, Fault>
     ensures legal { IfOk result (λ day. IsLegal day.tape) }
     ensures listed { IfOk result (λ day. day.tape.listing ≡ listing) }
+    ensures by_matrix { IfOk result (λ day. day.tape.matrix ≡ matrix) }
 {
     if sockets.lines.len() != listing.participants().as_slice().len() {
         return Err(Fault::Read);
     }
     let mut text = room_for_a_packet(feed.alloc)?;
-    let prepared = prepare_day(feed.alloc, listing, limit)?;
+    let prepared = prepare_day(feed.alloc, listing, limit, matrix)?;
     let readers = match readers_of(rt, feed.alloc, &sockets.lines) {
         Ok(readers) => readers,
         Err(fault) => {
@@ -231,13 +239,14 @@ fn live<R: Threads + Wait + Clock + Sync, L: Loss + Sync, W: Write>(
     feed: &Feed<'_, L>,
     listing: Listing,
     limit: u32,
+    matrix: Matrix,
     sockets: &LiveSockets,
     writer: &mut W,
 ) -> Result<(), Fault>
     ensures report { OnOk result (WritesOneReport (W.contents writer.old) (W.contents writer.new)) }
-    ensures listed { OnOk result (WritesItsReport listing (W.contents writer.old) (W.contents writer.new)) }
+    ensures listed { OnOk result (WritesItsReport listing matrix (W.contents writer.old) (W.contents writer.new)) }
 {
-    let day = hold_day(rt, feed, listing, limit, sockets)?;
+    let day = hold_day(rt, feed, listing, limit, matrix, sockets)?;
     let written = write_day(rt, feed.alloc, day.tape(), writer);
     drop(day);
     written
@@ -261,6 +270,7 @@ pub fn live_over<R: Threads + Wait + Clock + Sync, L: Loss + Sync, W: Write>(
     alloc: Global,
     listing: Listing,
     limit: u32,
+    matrix: Matrix,
     session: u64,
     serves: u16,
     sockets: LiveSockets,
@@ -268,7 +278,7 @@ pub fn live_over<R: Threads + Wait + Clock + Sync, L: Loss + Sync, W: Write>(
     writer: &mut W,
 ) -> u8
     ensures report { result ≡ 0 → WritesOneReport (W.contents writer.old) (W.contents writer.new) }
-    ensures listed { result ≡ 0 → WritesItsReport listing (W.contents writer.old) (W.contents writer.new) }
+    ensures listed { result ≡ 0 → WritesItsReport listing matrix (W.contents writer.old) (W.contents writer.new) }
     ensures status { (result ≡ 0) ⊎ ((3 ≤ result) × (result ≤ 7)) }
 {
     let feed = Feed {
@@ -280,7 +290,7 @@ pub fn live_over<R: Threads + Wait + Clock + Sync, L: Loss + Sync, W: Write>(
         serves,
         alloc,
     };
-    match live(rt, &feed, listing, limit, &sockets, writer) {
+    match live(rt, &feed, listing, limit, matrix, &sockets, writer) {
         Ok(()) => 0,
         Err(fault) => fault.status(),
     }

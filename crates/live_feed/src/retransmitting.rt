@@ -7,6 +7,7 @@ use crate::Fault;
 use crate::feed::Feed;
 use line_ledger::{DayName, Published, SharedTape};
 use retransmit::{Ended, serve};
+use tape_frames::Version;
 
 /// The day's fault for the end of a connection. A peer that misbehaves ends its own connection alone.
 fn fault_of_serving(ended: Ended) -> Option<Fault>
@@ -33,6 +34,7 @@ fn serve_next<D: DayName, L>(feed: &Feed<'_, L>, shared: &SharedTape<D>) -> Opti
         feed.alloc,
         &mut published,
         feed.session,
+        Version::Two,
         &mut &stream,
         &mut &stream,
     );

@@ -14,10 +14,10 @@ use std::rt::Clock;
 use std::sync::Wait;
 use std::thread;
 use std::time::Duration;
-use tape_frames::{ENTRIES_MOST, EntryCount, LONGEST_PACKET, Packet, Source, cut, write_packet};
+use tape_frames::{EntryCount, LONGEST_PACKET, Packet, Source, Version, cut, write_packet};
 
-/// How many entries are published at once: as many as one packet takes.
-const PUBLISHED_AT_ONCE: u32 = ENTRIES_MOST as u32;
+/// How many entries are published at once, no more than a packet takes.
+const PUBLISHED_AT_ONCE: u32 = 8;
 
 /// After how many packets the sender rests, so that a reader's buffer does not run over.
 const PACKETS_BEFORE_REST: u32 = 16;
@@ -78,7 +78,7 @@ fn is_rest(packets: u32) -> bool
     packets % PACKETS_BEFORE_REST == 0
 }
 
-/// Publishes what the lines admitted, as many entries as one packet takes, and sends a packet of what is published after this
+/// Publishes what the lines admitted, so many entries at most, and sends a packet of what is published after this
 /// number: the last number that was sent then. The text is only room.
 fn send_next<D: DayName, R: Wait, L: Loss>(
     rt: &R,
@@ -103,7 +103,7 @@ fn send_next<D: DayName, R: Wait, L: Loss>(
             Ok(sent)
         };
     }
-    let packet = cut(feed.session, sent + 1, published);
+    let packet = cut(Version::Two, feed.session, sent + 1, published);
     text.clear();
     if write_packet(&packet, text).is_err() {
         return Err(Fault::Memory);
@@ -158,7 +158,7 @@ fn send_ends<R: Clock, L>(
     number: u32,
     text: &mut Vec<u8>,
 ) -> Option<Fault> {
-    let Some(count) = EntryCount::try_new(number) else {
+    let Some(count) = EntryCount::try_new(Version::Two, number) else {
         return Some(Fault::Disagrees);
     };
     text.clear();

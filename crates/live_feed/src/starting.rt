@@ -6,6 +6,7 @@ ghost use Rattle.tape_core.specs.declared.tape_fault.TapeFault.TheVariants.{BadL
 use crate::Fault;
 use crate::seated::Reader;
 use line_ledger::{Prepared, prepare};
+use sale_matrix::Matrix;
 use std::alloc::Global;
 use std::io::BufReader;
 use std::net::TcpListener;
@@ -37,11 +38,17 @@ pub(crate) fn fault_of_tape(fault: TapeFault) -> Fault
     }
 }
 
-/// An empty tape of the listing, and the memory that its day takes.
-pub(crate) fn prepare_day(alloc: Global, listing: Listing, limit: u32) -> Result<Prepared, Fault>
-    ensures { IfOk result (λ prepared. prepared.tape.listing ≡ listing) }
+/// An empty tape of the listing and the matrix, and the memory that its day takes.
+pub(crate) fn prepare_day(
+    alloc: Global,
+    listing: Listing,
+    limit: u32,
+    matrix: Matrix,
+) -> Result<Prepared, Fault>
+    ensures listed { IfOk result (λ prepared. prepared.tape.listing ≡ listing) }
+    ensures by_matrix { IfOk result (λ prepared. prepared.tape.matrix ≡ matrix) }
 {
-    let tape: Tape<IndexStore> = match Tape::new(alloc, listing, limit) {
+    let tape: Tape<IndexStore> = match Tape::new(alloc, listing, limit, matrix) {
         Ok(tape) => tape,
         Err(fault) => return Err(fault_of_tape(fault)),
     };

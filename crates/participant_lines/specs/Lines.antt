@@ -2,12 +2,13 @@
 use Rattle.std.specs.Prelude.{ℕ, List, Option, Some}
 use Rattle.line_ledger.specs.Seats.{SeatState}
 use Rattle.tape_types.specs.Names.{Names}
+use Rattle.sale_matrix.specs.declared.matrix.Matrix.{Matrix}
 use Rattle.participant_lines.specs.Runs.{Runs}
 use Rattle.participant_lines.specs.declared.line_end.Ended.{Ended}
 
 -- the line has run, and its reader is spent
-abbrev pub HasRun : Names → SeatState → Option (List ℕ) → ℕ → Ended → SeatState → Type 0
-HasRun listing s had refused ended s' = (rest : Option (List ℕ)) × Runs listing s had rest refused ended s'
+abbrev pub HasRun : Names → Matrix → SeatState → Option (List ℕ) → ℕ → Ended → SeatState → Type 0
+HasRun listing matrix s had refused ended s' = (rest : Option (List ℕ)) × Runs listing matrix s had rest refused ended s'
 
 -- a line whose reader is still held
 abbrev pub held : {S R : Type 0} → S × R → S × Option R

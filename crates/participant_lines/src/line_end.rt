@@ -26,8 +26,8 @@ pub enum Ended {
 pub struct LineEnd<D: DayName> {
     /// The line's seat, with what it was told.
     pub seat: LineSeat<D>,
-    /// How many frames were refused, from 0 to 2,097,152: those that spell no message (13 to 21), and those whose message the
-    /// tape does not take (32, 33 and 35 to 39).
+    /// How many frames were refused, from 0 to 33,554,432: those that spell no message (13 to 21), and those whose message the
+    /// tape does not take (32, 33, 35 to 39, 43 and 44).
     pub refused: u32,
     /// Why no more were done.
     pub ended: Ended,

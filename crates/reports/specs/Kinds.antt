@@ -13,6 +13,10 @@ CANCEL = 88
 abbrev pub CORRECTION : ℕ
 CORRECTION = 67
 
+-- the kind of a reinstatement: 'S'
+abbrev pub REINSTATEMENT : ℕ
+REINSTATEMENT = 83
+
 -- how many bytes the body of a report has
 abbrev pub REPORT_LENGTH : ℕ
 REPORT_LENGTH = 38
@@ -24,3 +28,7 @@ CANCEL_LENGTH = 26
 -- how many bytes the body of a correction has
 abbrev pub CORRECTION_LENGTH : ℕ
 CORRECTION_LENGTH = 42
+
+-- how many bytes the body of a reinstatement has
+abbrev pub REINSTATEMENT_LENGTH : ℕ
+REINSTATEMENT_LENGTH = 26

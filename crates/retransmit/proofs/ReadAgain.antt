@@ -12,10 +12,16 @@ use Rattle.tape_core.specs.declared.entry.Entry.{Entry}
 use Rattle.tape_frames.specs.declared.request.Request.{Request}
 use Rattle.tape_frames.specs.declared.request_fault.RequestFault.{RequestFault}
 use Rattle.tape_frames.specs.declared.request_fault.RequestFault.TheVariants as request
-use Rattle.tape_frames.specs.Limits.{IsSpan, LONGEST_SPAN, ENTRIES_MOST}
+use Rattle.tape_frames.specs.Limits.{IsSpan, LONGEST_SPAN, LONGEST_PACKET}
+use Rattle.tape_frames.specs.declared.version.Version.{Version}
+use Rattle.tape_frames.specs.declared.version.Version.TheVariants.{Two}
+use Rattle.tape_frames.specs.Sources.{sendable}
+use Rattle.tape_frames.specs.Spelling.{packet_text}
+use Rattle.tape_frames.specs.Versions.{entries_most, longest_packet, number_most}
+use Rattle.tape_frames.specs.Lemmas.Versions.{longest_packet-within}
 use Rattle.tape_frames.specs.Requests.{request_at, request_of}
 use Rattle.tape_frames.specs.Spelling.{IsEntry}
-use Rattle.retransmit.specs.Answers.{IsAnswer, answer_of, framed, given_text, packet_count, range_packets, range_text}
+use Rattle.retransmit.specs.Answers.{IsAnswer, answer_of, framed, given_text, last_sendable, packet_count, packet_cut, range_packets, range_text}
 use Rattle.retransmit.specs.Asking.{answer_at, answered_at, PACKETS_MOST}
 use Rattle.retransmit.specs.Faults.{refusal_code}
 use Rattle.retransmit.specs.Laws.{ArePackets, EachAnswerIsRead}
@@ -26,7 +32,7 @@ use Rattle.retransmit.specs.declared.reply.Answer.{Answer}
 use Rattle.retransmit.specs.declared.reply.Answer.TheVariants.{Refused, Range}
 use Rattle.retransmit.specs.declared.refusal.Refusal.{Refusal}
 use Rattle.retransmit.specs.declared.refusal.Refusal.TheVariants.{OtherSession, Beyond, BadSpan}
-use Rattle.retransmit.proofs.LawProofs.{answers_are_read}
+use Rattle.retransmit.proofs.LawProofs.{answers_are_read, packet_count-few}
 use Rattle.retransmit.proofs.PacketRuns.{ArePackets-short, length-packet_texts}
 use Rattle.tape_frames.specs.Lemmas.Lengths.{length-data_text}
 
@@ -54,34 +60,34 @@ refusal_is_read Beyond rest = after_first (refusal_code Beyond) rest (lit< tt)
 refusal_is_read BadSpan rest = after_first (refusal_code BadSpan) rest (lit< tt)
 
 -- the packets of an answer are as long as packets may be
-abbrev pub IsShort : List Entry → ℕ → Answer → Type 0
-IsShort es session (Refused refusal) = Unit {0}
-IsShort es session (Range from to) = ArePackets (range_packets es session from to)
+abbrev pub IsShort : List Entry → ℕ → Version → Answer → Type 0
+IsShort es session version (Refused refusal) = Unit {0}
+IsShort es session version (Range from to) = ArePackets (range_packets es session version from to)
 
 -- a range is read as its packets
-range_is_read : (es : List Entry) (session from to : ℕ) → from ≤ to → to < from + LONGEST_SPAN → ArePackets (range_packets es session from to) → (rest : List ℕ)
-    → answer_at (range_text es session from to ++ rest) ≡ Ok (range_packets es session from to, rest)
-range_is_read es session from to order few short rest =
-    let texts = range_packets es session from to in
-    let count : length texts ≡ packet_count from to = length-packet_texts (packet_count from to) session (take to es) from in
-    let below : packet_count from to ≤ PACKETS_MOST = omega (arith, few) in
+range_is_read : (es : List Entry) (session : ℕ) (version : Version) (from to : ℕ) → from ≤ to → to < from + LONGEST_SPAN → ArePackets (range_packets es session version from to) → (rest : List ℕ)
+    → answer_at (range_text es session version from to ++ rest) ≡ Ok (range_packets es session version from to, rest)
+range_is_read es session version from to order few short rest =
+    let texts = range_packets es session version from to in
+    let count : length texts ≡ packet_count version from to = length-packet_texts (packet_count version from to) session version (take to es) from in
+    let below = packet_count-few version from to order few in
     let read = answers_are_read texts rest (omega (arith, count)) (omega (arith, count, below)) short in
     ap (λ (n : ℕ). answer_at (0 ∷ n ∷ (flat_map framed texts ++ rest))) (sym count) ∙ read
 
 -- what is given is read again
-given_is_read : (es : List Entry) (session : ℕ) (a : Answer) → IsAnswer es a → IsShort es session a → (rest : List ℕ)
-    → Reads (given_packets es session a) rest (answer_at (given_text es session a ++ rest))
-given_is_read es session (Refused refusal) is short rest = refusal_is_read refusal rest
-given_is_read es session (Range from to) is short rest = range_is_read es session from to is.1 is.2 short rest
+given_is_read : (es : List Entry) (session : ℕ) (version : Version) (a : Answer) → IsAnswer version es a → IsShort es session version a → (rest : List ℕ)
+    → Reads (given_packets es session version a) rest (answer_at (given_text es session version a ++ rest))
+given_is_read es session version (Refused refusal) is short rest = refusal_is_read refusal rest
+given_is_read es session version (Range from to) is short rest = range_is_read es session version from to is.1 is.2 short rest
 
 -- the answer to a request is read again
-pub answer_is_read : (es : List Entry) (session : ℕ) (bytes : List ℕ) (r : Request) (a : Answer) → request_of bytes ≡ Ok r
-    → answer_of es session r ≡ a → IsAnswer es a → IsShort es session a → IsReadAgain es session bytes
-answer_is_read es session bytes r a read is within short rest = rw (read, is) (given_is_read es session a within short rest)
+pub answer_is_read : (es : List Entry) (session : ℕ) (version : Version) (bytes : List ℕ) (r : Request) (a : Answer) → request_of bytes ≡ Ok r
+    → answer_of es session version r ≡ a → IsAnswer version es a → IsShort es session version a → IsReadAgain es session version bytes
+answer_is_read es session version bytes r a read is within short rest = rw (read, is) (given_is_read es session version a within short rest)
 
 -- the answer to bytes that are no request is read again
-pub fault_is_read : (es : List Entry) (session : ℕ) (bytes : List ℕ) (bad : RequestFault) → request_of bytes ≡ Err bad → IsReadAgain es session bytes
-fault_is_read es session bytes request.BadSpan read rest = rw read (refusal_is_read BadSpan rest)
+pub fault_is_read : (es : List Entry) (session : ℕ) (version : Version) (bytes : List ℕ) (bad : RequestFault) → request_of bytes ≡ Err bad → IsReadAgain es session version bytes
+fault_is_read es session version bytes request.BadSpan read rest = rw read (refusal_is_read BadSpan rest)
 
 -- ---- over any entries whose fields are in their ranges
 
@@ -101,36 +107,46 @@ request_span bytes r read =
     (omega (arith, leb-true _ _ range.0, is), omega (arith, leb-true _ _ range.1, is))
 
 -- what is answered is an answer
-answer_within : (es : List Entry) (session : ℕ) (r : Request) → IsSpan r.count → IsAnswer es (answer_of es session r)
-answer_within es session r span = elim (cases_Bool (r.session == session)) [
-  | inl same ↦ elim (cases_Bool ((r.from == 0) || nat_lt (length es) r.from)) [
+answer_within : (es : List Entry) (session : ℕ) (version : Version) (r : Request) → IsSpan r.count → IsAnswer version es (answer_of es session version r)
+answer_within es session version r span = elim (cases_Bool (r.session == session)) [
+  | inl same ↦ elim (cases_Bool ((r.from == 0) || nat_lt (last_sendable version es) r.from)) [
     | inl beyond ↦ rw (same, beyond) tt
     | inr there ↦
-        let tests = or_parts (r.from == 0) (nat_lt (length es) r.from) there in
+        let tests = or_parts (r.from == 0) (nat_lt (last_sendable version es) r.from) there in
         let some : 1 ≤ r.from = omega (arith, eqb-false r.from 0 tests.0) in
-        let known : r.from ≤ length es = ltb-false _ _ tests.1 in
+        let known : r.from ≤ last_sendable version es = ltb-false _ _ tests.1 in
         rw (same, there) (some, omega (arith, span.0, known), omega (arith, span.1), omega arith)
   ]
   | inr other ↦ rw other tt
 ]
 
+-- a packet that is cut is as long as packets may be
+cut_short : (session : ℕ) (version : Version) (es : List Entry) (from : ℕ) → All (IsEntry Two) es
+    → length (packet_text (packet_cut session version es from)) ≤ LONGEST_PACKET
+cut_short session version es from all =
+    let left = drop (from - 1) (sendable version es) in
+    let many = entries_most version in
+    let cut : All (IsEntry Two) (take many left) =
+    All-take (IsEntry Two) many left (All-drop (IsEntry Two) (from - 1) (sendable version es) (All-take (IsEntry Two) (number_most version) es all)) in
+    let short : length (take many left) ≤ many = omega (arith, length-take many left) in
+    let long = length-data_text Two session (record { version = version; entries = take many left }) cut short in
+    omega (arith, long, longest_packet-within version)
+
 -- an answer's packets are as long as packets may be
-answer_short : (es : List Entry) (session : ℕ) (a : Answer) → All IsEntry es → IsShort es session a
-answer_short es session (Refused refusal) all = tt
-answer_short es session (Range from to) all =
-    ArePackets-short (packet_count from to) session (take to es) from
-    (λ k lt. length-data_text session (take ENTRIES_MOST (drop ((from + ENTRIES_MOST * k) - 1) (take to es)))
-    (All-take IsEntry ENTRIES_MOST _ (All-drop IsEntry ((from + ENTRIES_MOST * k) - 1) (take to es) (All-take IsEntry to es all)))
-    (omega (arith, length-take ENTRIES_MOST (drop ((from + ENTRIES_MOST * k) - 1) (take to es)))))
+answer_short : (es : List Entry) (session : ℕ) (version : Version) (a : Answer) → All (IsEntry Two) es → IsShort es session version a
+answer_short es session version (Refused refusal) all = tt
+answer_short es session version (Range from to) all =
+    ArePackets-short (packet_count version from to) session version (take to es) from (λ k lt. cut_short session version (take to es)
+    (from + entries_most version * k) (All-take (IsEntry Two) to es all))
 
 -- whatever was read of a request, the answer is read again
-read_cases : (es : List Entry) (session : ℕ) (bytes : List ℕ) (read : Result Request RequestFault) → request_of bytes ≡ read → All IsEntry es
-    → IsReadAgain es session bytes
-read_cases es session bytes (Ok r) is all =
-    let a = answer_of es session r in
-    answer_is_read es session bytes r a is refl (answer_within es session r (request_span bytes r is)) (answer_short es session a all)
-read_cases es session bytes (Err bad) is all = fault_is_read es session bytes bad is
+read_cases : (es : List Entry) (session : ℕ) (version : Version) (bytes : List ℕ) (read : Result Request RequestFault) → request_of bytes ≡ read → All (IsEntry Two) es
+    → IsReadAgain es session version bytes
+read_cases es session version bytes (Ok r) is all =
+    let a = answer_of es session version r in
+    answer_is_read es session version bytes r a is refl (answer_within es session version r (request_span bytes r is)) (answer_short es session version a all)
+read_cases es session version bytes (Err bad) is all = fault_is_read es session version bytes bad is
 
 -- the answer to any request is read again
 pub each_answer_is_read : EachAnswerIsRead
-each_answer_is_read es session bytes all = read_cases es session bytes (request_of bytes) refl all
+each_answer_is_read es session version bytes all = read_cases es session version bytes (request_of bytes) refl all

@@ -4,6 +4,7 @@ use Rattle.reports.specs.Fields.{Reads}
 use Rattle.tape_core.specs.declared.entry.Entry.{Entry}
 use Rattle.tape_frames.specs.declared.request.Request.{Request}
 use Rattle.tape_frames.specs.declared.request_fault.RequestFault.{RequestFault}
+use Rattle.tape_frames.specs.declared.version.Version.{Version}
 use Rattle.tape_frames.specs.Requests.{request_of}
 use Rattle.retransmit.specs.Answers.{answer_of, answer_text, range_packets}
 use Rattle.retransmit.specs.Asking.{answer_at}
@@ -14,19 +15,19 @@ use Rattle.retransmit.specs.declared.reply.Answer.TheVariants.{Refused, Range}
 use Rattle.retransmit.specs.declared.refusal.Refusal.TheVariants.{BadSpan}
 
 -- what is read of an answer: its packets' bytes, or the refusal
-abbrev pub given_packets : List Entry → ℕ → Answer → Result (List (List ℕ)) AskFault
-given_packets es session (Refused refusal) = Err (fault.Refused refusal)
-given_packets es session (Range from to) = Ok (range_packets es session from to)
+abbrev pub given_packets : List Entry → ℕ → Version → Answer → Result (List (List ℕ)) AskFault
+given_packets es session version (Refused refusal) = Err (fault.Refused refusal)
+given_packets es session version (Range from to) = Ok (range_packets es session version from to)
 
 -- what is read of the answer to what was read of a request
-abbrev pub reply_packets : List Entry → ℕ → Result Request RequestFault → Result (List (List ℕ)) AskFault
-reply_packets es session (Ok r) = given_packets es session (answer_of es session r)
-reply_packets es session (Err bad) = Err (fault.Refused BadSpan)
+abbrev pub reply_packets : List Entry → ℕ → Version → Result Request RequestFault → Result (List (List ℕ)) AskFault
+reply_packets es session version (Ok r) = given_packets es session version (answer_of es session version r)
+reply_packets es session version (Err bad) = Err (fault.Refused BadSpan)
 
 -- what is read of the answer to the request that the bytes are
-abbrev pub answer_packets : List Entry → ℕ → List ℕ → Result (List (List ℕ)) AskFault
-answer_packets es session bytes = reply_packets es session (request_of bytes)
+abbrev pub answer_packets : List Entry → ℕ → Version → List ℕ → Result (List (List ℕ)) AskFault
+answer_packets es session version bytes = reply_packets es session version (request_of bytes)
 
 -- an answer's bytes, whatever follows them, are read as that answer
-abbrev pub IsReadAgain : List Entry → ℕ → List ℕ → Type 0
-IsReadAgain es session bytes = (rest : List ℕ) → Reads (answer_packets es session bytes) rest (answer_at (answer_text es session bytes ++ rest))
+abbrev pub IsReadAgain : List Entry → ℕ → Version → List ℕ → Type 0
+IsReadAgain es session version bytes = (rest : List ℕ) → Reads (answer_packets es session version bytes) rest (answer_at (answer_text es session version bytes ++ rest))

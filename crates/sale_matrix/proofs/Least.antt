@@ -3,6 +3,7 @@ use Rattle.std.proofs.Common.{◌≡◌, ℕ, ◌==◌, Bool, true, false, ◌&&
 use Rattle.std.proofs.Common.{slice_index, min, refl, sym, ap, ◌∙◌}
 use Rattle.std.specs.Option.{option_map}
 use Rattle.sale_matrix.specs.declared.matrix.Cells.{Cells}
+use Rattle.sale_matrix.specs.declared.matrix.Matrix.{Matrix}
 use Rattle.sale_matrix.specs.declared.matrix.LastRule.{LastRule}
 use Rattle.sale_matrix.specs.declared.matrix.LastRule.TheVariants.{Always, SameMarket, FirstOnly, Never}
 use Rattle.sale_matrix.specs.Matrix.{rank_of, rule_of, is_yes, weaker, cells_in, cells_by, cells_of, cells_of_row, least_cells, first_rows, second_rows}
@@ -106,15 +107,15 @@ module _ (w x y z : ℕ) where
           ∙ sym (λ j. (((is_yes (p j) && is_yes (q j)) && is_yes (r j)) && is_yes (s j)))
 
 -- the rows of four codes, joined one after another, are the least in each column
-pub joined_cells : (codes : List ℕ) (a b c d : Cells)
+pub joined_cells : (matrix : Matrix) (codes : List ℕ) (a b c d : Cells)
     → Some a ≡ option_map cells_of_row (cells_in first_rows (slice_index codes 0))
     → Some b ≡ option_map cells_of_row (cells_in second_rows (slice_index codes 1))
     → Some c ≡ option_map cells_of_row (cells_in third_rows (slice_index codes 2))
-    → Some d ≡ option_map cells_of_row (cells_in fourth_rows (slice_index codes 3))
-    → least_cells (least_cells (least_cells a b) c) d ≡ cells_of codes
+    → Some d ≡ option_map cells_of_row (cells_in (fourth_rows matrix) (slice_index codes 3))
+    → least_cells (least_cells (least_cells a b) c) d ≡ cells_of matrix codes
 unfolding cells_of
-joined_cells codes a b c d = of (cells_in first_rows (slice_index codes 0)) (cells_in second_rows (slice_index codes 1))
-    (cells_in third_rows (slice_index codes 2)) (cells_in fourth_rows (slice_index codes 3))
+joined_cells matrix codes a b c d = of (cells_in first_rows (slice_index codes 0)) (cells_in second_rows (slice_index codes 1))
+    (cells_in third_rows (slice_index codes 2)) (cells_in (fourth_rows matrix) (slice_index codes 3))
   where
     of : (o p q r : Option (List ℕ)) → Some a ≡ option_map cells_of_row o → Some b ≡ option_map cells_of_row p → Some c ≡ option_map cells_of_row q
         → Some d ≡ option_map cells_of_row r

@@ -1,12 +1,15 @@
--- The sale condition matrix, as it is printed: for each of the four positions its rows, each with its codes
--- and its cells in the columns consolidated high/low, consolidated last, participant high/low, participant
--- last, volume. A space restricts nothing and is allowed after the first position.
+-- The sale condition matrices, as they are printed: for each of the four positions the rows of each matrix, each row
+-- with its codes and its cells in the columns consolidated high/low, consolidated last, participant high/low, participant
+-- last, volume. The two differ in the fourth position alone. A space restricts nothing and is allowed after the first
+-- position.
 use Rattle.std.specs.Prelude.{◌≡◌, ℕ, Bool, true, ◌==◌, nat_le, ◌&&◌, List, [], ◌∷◌, length, Option, Some, None, unwrap_or, is_some, min, fold, map}
 use Rattle.std.specs.Prelude.{if◌then◌else◌, codes, slice_index}
 use Rattle.std.specs.List.{list_any, list_all}
 use Rattle.sale_matrix.specs.declared.matrix.LastRule.{LastRule}
 use Rattle.sale_matrix.specs.declared.matrix.LastRule.TheVariants.{Always, SameMarket, FirstOnly, Never}
 use Rattle.sale_matrix.specs.declared.matrix.Cells.{Cells}
+use Rattle.sale_matrix.specs.declared.matrix.Matrix.{Matrix}
+use Rattle.sale_matrix.specs.declared.matrix.Matrix.TheVariants.{One, Two}
 
 -- a row: its codes, and its cells in the five columns
 abbrev pub MatrixRow : Type 0
@@ -36,12 +39,21 @@ third_rows =
     (codes "Z", codes "YFYFY") ∷ []
 
 -- the detail that a market asks for
-unfoldable pub fourth_rows : List MatrixRow
-fourth_rows =
+unfoldable pub fourth_rows : Matrix → List MatrixRow
+fourth_rows One =
     (codes " ", codes "YYYYY") ∷
     (codes "ABDSXY1", codes "YYYYY") ∷
     (codes "HIVW", codes "NNNNY") ∷
     (codes "PG", codes "YFYFY") ∷
+    (codes "M", codes "NNYYN") ∷
+    (codes "Q", codes "NNYNN") ∷ []
+fourth_rows Two =
+    (codes " ", codes "YYYYY") ∷
+    (codes "ABDSXY1", codes "YYYYY") ∷
+    (codes "HVW", codes "NNNNY") ∷
+    (codes "I", codes "YNYNY") ∷
+    (codes "2", codes "YSYSY") ∷
+    (codes "PG3", codes "YFYFY") ∷
     (codes "M", codes "NNYYN") ∷
     (codes "Q", codes "NNYNN") ∷ []
 
@@ -50,18 +62,22 @@ abbrev pub cells_in : List MatrixRow → ℕ → Option (List ℕ)
 cells_in [] code = None
 cells_in (row ∷ rows) code = if list_any (λ c. code == c) row.0 then Some row.1 else cells_in rows code
 
--- the cells of each code of a condition, in its own position
-abbrev pub cells_of_codes : List ℕ → List (Option (List ℕ))
-cells_of_codes condition =
+-- the cells of each code of a condition, in its own position of a matrix
+abbrev pub cells_of_codes : Matrix → List ℕ → List (Option (List ℕ))
+cells_of_codes matrix condition =
     cells_in first_rows (slice_index condition 0) ∷
     cells_in second_rows (slice_index condition 1) ∷
     cells_in third_rows (slice_index condition 2) ∷
-    cells_in fourth_rows (slice_index condition 3) ∷ []
+    cells_in (fourth_rows matrix) (slice_index condition 3) ∷ []
 
--- four codes, each one of its position's rows
+-- whether each code of a condition is one of its position's rows in a matrix
+unfoldable pub is_within : Matrix → List ℕ → Bool
+is_within matrix condition = list_all is_some (cells_of_codes matrix condition)
+
+-- four codes, each one of its position's rows in Matrix Two, which has every code of Matrix One
 pub record IsCondition (condition : List ℕ) : Type 0 where
   pub four : length condition ≡ 4
-  pub coded : list_all is_some (cells_of_codes condition) ≡ true
+  pub coded : is_within Two condition ≡ true
 
 -- N < F < S < Y
 abbrev pub rank_of : ℕ → ℕ
@@ -92,13 +108,13 @@ abbrev pub cells_of_row : List ℕ → Cells
 cells_of_row row = cells_by (λ column. rank_of (slice_index row column))
 
 -- the least cell of a column over the codes of a condition, by its rank
-abbrev pub least_in : List ℕ → ℕ → ℕ
-least_in condition column =
-    fold min 3 (map (λ row. rank_of (slice_index (unwrap_or row []) column)) (cells_of_codes condition))
+abbrev pub least_in : Matrix → List ℕ → ℕ → ℕ
+least_in matrix condition column =
+    fold min 3 (map (λ row. rank_of (slice_index (unwrap_or row []) column)) (cells_of_codes matrix condition))
 
--- the cells of a condition: the least over its codes, column by column
-unfoldable pub cells_of : List ℕ → Cells
-cells_of condition = cells_by (least_in condition)
+-- the cells of a condition in a matrix: the least over its codes, column by column
+unfoldable pub cells_of : Matrix → List ℕ → Cells
+cells_of matrix condition = cells_by (least_in matrix condition)
 
 -- the weaker of two rules: this and the next serve clauses of private functions, which join cells pair by pair
 abbrev pub weaker : LastRule → LastRule → LastRule

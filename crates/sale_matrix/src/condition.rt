@@ -1,13 +1,13 @@
 //! A sale condition.
-ghost use Rattle.std.specs.Prelude.{◌≡◌, true, ◌↔◌, IsSome, IfSome, is_some};
-ghost use Rattle.std.specs.List.{list_all};
-ghost use Rattle.sale_matrix.specs.Matrix.{cells_of_codes, cells_of, IsCondition};
+ghost use Rattle.std.specs.Prelude.{◌≡◌, true, ◌↔◌, IsSome, IfSome};
+ghost use Rattle.sale_matrix.specs.Matrix.{is_within, cells_of, IsCondition};
+ghost use Rattle.sale_matrix.specs.declared.matrix.Matrix.TheVariants.{Two};
 
-use crate::Cells;
 use crate::matrix::{first_position, fourth_position, second_position, third_position};
+use crate::{Cells, Matrix};
 use std::marker::Model;
 
-/// A sale condition: four codes, each one of its position's.
+/// A sale condition: four codes, each one of its position's in Matrix Two, which has every code of Matrix One.
 ///
 /// Position 1 is the settlement type and is never blank, position 2 the exemption, position 3 extended hours or sold,
 /// position 4 a detail of the market. A blank (a space) in positions 2 to 4 restricts nothing.
@@ -31,12 +31,12 @@ impl Model for Condition {
 }
 
 impl Condition {
-    /// The condition of four codes, or `None` where one is not in its position's rows of the matrix.
+    /// The condition of four codes, or `None` where one is not in its position's rows of Matrix Two.
     pub fn try_new(codes: [u8; 4]) -> Option<Self>
         ensures valid { IsSome result ↔ IsCondition codes }
         ensures value { IfSome result (λ c. c ≡ codes) }
     {
-        if have_rows(codes) {
+        if have_rows(Matrix::Two, codes) {
             Some(Condition { codes })
         } else {
             None
@@ -50,33 +50,44 @@ impl Condition {
     {
         self.codes
     }
+
+    /// Whether each code is one of the matrix's. Every condition is within Matrix Two.
+    pub fn within(self, matrix: Matrix) -> bool
+        ensures within { result ≡ is_within matrix self }
+        ensures widest { is_within Two self ≡ true }
+    {
+        have_rows(matrix, self.codes)
+    }
 }
 
-/// Whether each of the four codes has a row in its position. No cells are joined for it.
-fn have_rows(codes: [u8; 4]) -> bool
-    ensures { result ≡ list_all is_some (cells_of_codes codes) }
+/// Whether each of the four codes has a row in its position of a matrix. No cells are joined for it.
+#[tactic(auto, unfolding(crate::specs::Matrix::is_within))]
+fn have_rows(matrix: Matrix, codes: [u8; 4]) -> bool
+    ensures { result ≡ is_within matrix codes }
 {
     first_position(codes[0]).is_some()
         && second_position(codes[1]).is_some()
         && third_position(codes[2]).is_some()
-        && fourth_position(codes[3]).is_some()
+        && fourth_position(matrix, codes[3]).is_some()
 }
 
-/// The cells of the four codes joined, where each has a row.
-fn joined(codes: [u8; 4]) -> Option<Cells>
-    ensures found { IsSome result ↔ (list_all is_some (cells_of_codes codes) ≡ true) }
-    ensures cells { IfSome result (λ c. c ≡ cells_of codes) }
+/// The cells of the four codes in a matrix joined, where each has a row.
+#[tactic(auto, unfolding(crate::specs::Matrix::is_within))]
+fn joined(matrix: Matrix, codes: [u8; 4]) -> Option<Cells>
+    ensures found { IsSome result ↔ (is_within matrix codes ≡ true) }
+    ensures cells { IfSome result (λ c. c ≡ cells_of matrix codes) }
 {
     let first = first_position(codes[0])?;
     let second = second_position(codes[1])?;
     let third = third_position(codes[2])?;
-    let fourth = fourth_position(codes[3])?;
+    let fourth = fourth_position(matrix, codes[3])?;
     Some(first.and(second).and(third).and(fourth))
 }
 
-/// What a trade of this condition changes: the least cell in each column over its codes, with N < F < S < Y.
-pub fn cells(condition: &Condition) -> Cells
-    ensures cells { result ≡ cells_of condition.now }
+/// What a trade of this condition changes by a matrix: the least cell in each column over its codes, with N < F < S < Y.
+pub fn cells(matrix: Matrix, condition: &Condition) -> Cells
+    requires within { is_within matrix condition.now ≡ true }
+    ensures cells { result ≡ cells_of matrix condition.now }
 {
-    joined(condition.codes).unwrap()
+    joined(matrix, condition.codes).unwrap()
 }

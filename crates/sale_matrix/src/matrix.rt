@@ -2,6 +2,16 @@
 ghost use Rattle.std.specs.Prelude.{◌≡◌};
 ghost use Rattle.std.specs.Option.{option_map};
 ghost use Rattle.sale_matrix.specs.Matrix.{first_rows, second_rows, third_rows, fourth_rows, cells_in, cells_of_row, least_cells, weaker};
+ghost use Rattle.sale_matrix.specs.declared.matrix.Matrix.TheVariants.{One, Two};
+
+/// Which sale condition matrix a day goes by. Every code of One is one of Two.
+#[derive(Clone, Copy, Debug, PartialEq, Eq)]
+pub enum Matrix {
+    /// An odd lot counts for the volume alone.
+    One,
+    /// An odd lot counts for high and low too, and stopped stock may be sold last or out of sequence.
+    Two,
+}
 
 /// When a trade becomes the last one: what a last cell of the matrix says. The weakest rule comes first.
 #[derive(Clone, Copy, Debug, PartialEq, Eq, PartialOrd, Ord)]
@@ -37,6 +47,15 @@ const NEUTRAL: Cells = Cells {
     cl: LastRule::Always,
     ph: true,
     pl: LastRule::Always,
+    volume: true,
+};
+
+/// The trade counts for the high, the low and the volume, and is never the last.
+const HIGH_LOW_AND_VOLUME: Cells = Cells {
+    ch: true,
+    cl: LastRule::Never,
+    ph: true,
+    pl: LastRule::Never,
     volume: true,
 };
 
@@ -134,10 +153,20 @@ pub(crate) fn third_position(code: u8) -> Option<Cells>
     }
 }
 
-/// The cells of a code in the fourth position, where it is one of its codes.
+/// The cells of a code in the fourth position of a matrix, where it is one of its codes.
+pub(crate) fn fourth_position(matrix: Matrix, code: u8) -> Option<Cells>
+    ensures { result ≡ option_map cells_of_row (cells_in (fourth_rows matrix) code) }
+{
+    match matrix {
+        Matrix::One => fourth_of_one(code),
+        Matrix::Two => fourth_of_two(code),
+    }
+}
+
+/// The fourth position of Matrix One.
 #[tactic(auto, unfolding(crate::specs::Matrix::fourth_rows))]
-pub(crate) fn fourth_position(code: u8) -> Option<Cells>
-    ensures { result ≡ option_map cells_of_row (cells_in fourth_rows code) }
+fn fourth_of_one(code: u8) -> Option<Cells>
+    ensures { result ≡ option_map cells_of_row (cells_in (fourth_rows One) code) }
 {
     match code {
         b' ' | b'A' | b'B' | b'D' | b'S' | b'X' | b'Y' | b'1' => Some(NEUTRAL),
@@ -146,6 +175,19 @@ pub(crate) fn fourth_position(code: u8) -> Option<Cells>
         b'M' => Some(OFFICIAL_CLOSE),
         b'Q' => Some(OFFICIAL_OPEN),
         _ => None,
+    }
+}
+
+/// The fourth position of Matrix Two: an odd lot has other cells than in Matrix One, and stopped stock has two codes more.
+#[tactic(auto, unfolding(crate::specs::Matrix::fourth_rows))]
+fn fourth_of_two(code: u8) -> Option<Cells>
+    ensures { result ≡ option_map cells_of_row (cells_in (fourth_rows Two) code) }
+{
+    match code {
+        b'I' => Some(HIGH_LOW_AND_VOLUME),
+        b'2' => Some(SOLD_LAST),
+        b'3' => Some(OUT_OF_SEQUENCE),
+        _ => fourth_of_one(code),
     }
 }
 

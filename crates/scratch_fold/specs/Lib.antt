@@ -1,2 +1,4 @@
 pub mod Columns
 pub mod Fold
+pub mod Lemmas
+pub mod Places

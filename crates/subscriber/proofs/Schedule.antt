@@ -59,7 +59,7 @@ announced_run (Restarts ∷ events) w most h = announced_run events (world_after
 -- what a window has announced is what its packets told since the last restart
 pub announced_told : (events : List Event) (w : World) → LeadsTo events w → w.subscriber.window.announced ≡ announced_by 0 events
 announced_told events w h =
-    ap (λ (v : World). v.subscriber.window.announced) (sym h.ends) ∙ announced_run events (start h.listing h.tape_limit h.limit h.session) 0 refl
+    ap (λ (v : World). v.subscriber.window.announced) (sym h.ends) ∙ announced_run events (start h.listing h.matrix h.tape_limit h.limit h.session) 0 refl
 
 -- what holds of each value there holds of the option
 if_some : {A : Type 0} (o : Option A) (P : A → Type 0) → ((x : A) → o ≡ Some x → P x) → IfSome o P
@@ -222,15 +222,17 @@ honest_stop w fault after s h = subst (IsHonestStop fault.why) (sym h.state) (by
     by OtherSummary n is = absurd (is.3 (next_own (record w { subscriber = subscriber_after (n - 1) w.subscriber }) (drains (n - 1) w s)))
     by Failed n is = absurd (both_ways w.subscriber.failed s.running is.0)
 
--- a summary is one of the listing and the entries
-summary-same : (t u : TapeState) (symbol : List ℕ) → t.listing ≡ u.listing → t.entries ≡ u.entries → summary_at t symbol ≡ summary_at u symbol
-summary-same t u symbol listing entries = λ i. summary_at (record { listing = listing i; limit = t.limit; closed = t.closed; entries = entries i }) symbol
+-- a summary is one of the listing, the matrix and the entries
+summary-same : (t u : TapeState) (symbol : List ℕ) → t.listing ≡ u.listing → t.matrix ≡ u.matrix → t.entries ≡ u.entries
+    → summary_at t symbol ≡ summary_at u symbol
+summary-same t u symbol listing matrix entries =
+    λ i. summary_at (record { listing = listing i; matrix = matrix i; limit = t.limit; closed = t.closed; entries = entries i }) symbol
 
--- a participant's own summary is one of the listing and the entries
-own_summary-same : (t u : TapeState) (symbol : List ℕ) (who : ℕ) → t.listing ≡ u.listing → t.entries ≡ u.entries
+-- a participant's own summary is one of the listing, the matrix and the entries
+own_summary-same : (t u : TapeState) (symbol : List ℕ) (who : ℕ) → t.listing ≡ u.listing → t.matrix ≡ u.matrix → t.entries ≡ u.entries
     → participant_summary_at t symbol who ≡ participant_summary_at u symbol who
-own_summary-same t u symbol who listing entries =
-    λ i. participant_summary_at (record { listing = listing i; limit = t.limit; closed = t.closed; entries = entries i }) symbol who
+own_summary-same t u symbol who listing matrix entries =
+    λ i. participant_summary_at (record { listing = listing i; matrix = matrix i; limit = t.limit; closed = t.closed; entries = entries i }) symbol who
 
 -- what is held is the first of the tape
 held_first : (w : World) → IsSound w → w.subscriber.tape.entries ≡ take (length w.subscriber.tape.entries) w.tape.entries
@@ -240,9 +242,9 @@ held_first w s =
 
 -- the subscriber's summaries are those of the tape's first entries, as many as it holds
 pub prefix_summary : (w : World) (symbol : List ℕ) → IsSound w → summary_at w.subscriber.tape symbol ≡ summary_at (held_prefix w) symbol
-prefix_summary w symbol s = summary-same w.subscriber.tape (held_prefix w) symbol s.listing (held_first w s)
+prefix_summary w symbol s = summary-same w.subscriber.tape (held_prefix w) symbol s.listing s.matrix (held_first w s)
 
 -- and so are the participants' own summaries
 pub prefix_own_summary : (w : World) (symbol : List ℕ) (who : ℕ) → IsSound w
     → participant_summary_at w.subscriber.tape symbol who ≡ participant_summary_at (held_prefix w) symbol who
-prefix_own_summary w symbol who s = own_summary-same w.subscriber.tape (held_prefix w) symbol who s.listing (held_first w s)
+prefix_own_summary w symbol who s = own_summary-same w.subscriber.tape (held_prefix w) symbol who s.listing s.matrix (held_first w s)

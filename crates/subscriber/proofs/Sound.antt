@@ -8,6 +8,7 @@ use Rattle.std.proofs.Math.Seq.{take-append_seam}
 use Rattle.std.proofs.lemmas.Bool.{cond-true, cond-false, both_ways}
 use Rattle.std.proofs.lemmas.Option.{none-some, same_Some}
 use Rattle.tape_types.specs.Names.{Names}
+use Rattle.sale_matrix.specs.declared.matrix.Matrix.{Matrix}
 use Rattle.reports.specs.declared.message.Message.{Message}
 use Rattle.tape_core.specs.declared.entry.Entry.{Entry}
 use Rattle.tape_core.specs.declared.refusal.Refusal.{Refusal}
@@ -42,6 +43,7 @@ pub record IsSound (w : World) : Type 0 where
   pub legal : IsLegal w.tape
   pub tape : w.tape.entries ≡ w.subscriber.tape.entries ++ (due ++ later)
   pub listing : w.subscriber.tape.listing ≡ w.tape.listing
+  pub matrix : w.subscriber.tape.matrix ≡ w.tape.matrix
   pub limit : w.subscriber.tape.limit ≡ w.limit
   pub unclosed : w.subscriber.tape.closed ≡ false
   pub base : w.subscriber.window.base ≡ length w.subscriber.tape.entries
@@ -53,13 +55,14 @@ pub record IsSound (w : World) : Type 0 where
   pub running : w.subscriber.failed ≡ false
 
 -- with a new subscriber a world is sound: all entries of its tape are later
-restart-sound : (w : World) → IsLegal w.tape → IsSound (record w { subscriber = new_subscriber w.tape.listing w.limit w.session })
+restart-sound : (w : World) → IsLegal w.tape → IsSound (record w { subscriber = new_subscriber w.tape.listing w.limit w.session w.tape.matrix })
 restart-sound w legal = record {
   due = [];
   later = w.tape.entries;
   legal = legal;
   tape = refl;
   listing = refl;
+  matrix = refl;
   limit = refl;
   unclosed = refl;
   base = refl;
@@ -72,14 +75,15 @@ restart-sound w legal = record {
 }
 
 -- a new subscriber of an empty tape is sound
-pub start-sound : (listing : Names) (tape_limit limit session : ℕ) → IsSound (start listing tape_limit limit session)
-start-sound listing tape_limit limit session = restart-sound (start listing tape_limit limit session) (IsLegal-empty listing tape_limit)
+pub start-sound : (listing : Names) (matrix : Matrix) (tape_limit limit session : ℕ) → IsSound (start listing matrix tape_limit limit session)
+start-sound listing matrix tape_limit limit session =
+    restart-sound (start listing matrix tape_limit limit session) (IsLegal-empty listing tape_limit matrix)
 
 -- with a tape that goes on with these entries, or is closed, a world stays sound
 tape-sound : (w : World) (t : TapeState) (more : List Entry) → IsSound w → IsLegal t → t.entries ≡ w.tape.entries ++ more
-    → t.listing ≡ w.tape.listing → IfSome w.subscriber.window.ended (λ count. (t.closed ≡ true) × (count ≡ length t.entries))
+    → t.listing ≡ w.tape.listing → t.matrix ≡ w.tape.matrix → IfSome w.subscriber.window.ended (λ count. (t.closed ≡ true) × (count ≡ length t.entries))
     → IsSound (record w { tape = t })
-tape-sound w t more s legal entries listing ended = record {
+tape-sound w t more s legal entries listing matrix ended = record {
   due = s.due;
   later = s.later ++ more;
   legal = legal;
@@ -87,6 +91,7 @@ tape-sound w t more s legal entries listing ended = record {
       entries ∙ ap (λ l. l ++ more) s.tape ∙ append_assoc w.subscriber.tape.entries (s.due ++ s.later) more
       ∙ ap (λ l. w.subscriber.tape.entries ++ l) (append_assoc s.due s.later more);
   listing = s.listing ∙ sym listing;
+  matrix = s.matrix ∙ sym matrix;
   limit = s.limit;
   unclosed = s.unclosed;
   base = s.base;
@@ -101,11 +106,11 @@ tape-sound w t more s legal entries listing ended = record {
 -- a message is admitted, so the tape is open
 admits : (w : World) (m : Message) → IsSound w → refusal w.tape m ≡ None → IsSound (record w { tape = with_message w.tape m })
 admits w m s free =
-    tape-sound w (with_message w.tape m) (next_entry w.tape.entries m ∷ []) s (IsLegal-with_message w.tape m s.legal free) refl refl
+    tape-sound w (with_message w.tape m) (next_entry w.tape.matrix w.tape.entries m ∷ []) s (IsLegal-with_message w.tape m s.legal free) refl refl refl
     (not_ended w.subscriber.window.ended s.ended)
   where
     not_ended : (o : Option ℕ) → IfSome o (λ count. (w.tape.closed ≡ true) × (count ≡ length w.tape.entries))
-        → IfSome o (λ count. (w.tape.closed ≡ true) × (count ≡ length (w.tape.entries ++ next_entry w.tape.entries m ∷ [])))
+        → IfSome o (λ count. (w.tape.closed ≡ true) × (count ≡ length (w.tape.entries ++ next_entry w.tape.matrix w.tape.entries m ∷ [])))
     not_ended None h = tt
     not_ended (Some count) h = absurd (both_ways w.tape.closed (admissible w.tape m free).open_tape h.0)
 
@@ -132,15 +137,16 @@ pub record Tells (w : World) (packet : Packet) : Type 0 where
 pub tells : (w : World) (packet : Packet) → IsLegal w.tape → IsCut w packet → Tells w packet
 tells w (Data session row) legal cut =
     let numbers = (legal-IsPublished w.tape legal).numbered in
-    let last = part_last w.tape.entries row numbers cut.1 in
+    let es = row.entries in
+    let last = part_last w.tape.entries es numbers cut.1 in
     record {
       session = cut.0;
-      stands = part_stands w.tape.entries row numbers cut.1;
+      stands = part_stands w.tape.entries es numbers cut.1;
       part = λ m e found.
-          let place = find_place row (1 + m) e found in
-          let below : e.number ≤ last_number row = last.1 place.0 e place.1 in
+          let place = find_place es (1 + m) e found in
+          let below : e.number ≤ last_number es = last.1 place.0 e place.1 in
           let number : e.number ≡ 1 + m = place.2 in
-          (part_at w.tape.entries row numbers cut.1 m e found, omega arith);
+          (part_at w.tape.entries es numbers cut.1 m e found, omega arith);
       last = last.0;
       ended = tt;
     }
@@ -155,7 +161,7 @@ tells w (End session count) legal cut = record {
   session = cut.0;
   stands = λ k e found. absurd (none-some e found);
   part = λ m e found. absurd (none-some e found);
-  last = (let p : count ≡ length w.tape.entries = cut.2 in omega arith);
+  last = (let p : count.count ≡ length w.tape.entries = cut.2 in omega arith);
   ended = (cut.1, cut.2);
 }
 
@@ -186,6 +192,7 @@ comes w line packet s has =
       legal = s.legal;
       tape = tape;
       listing = s.listing;
+      matrix = s.matrix;
       limit = s.limit;
       unclosed = s.unclosed;
       base = s.base;
@@ -235,8 +242,8 @@ next_ready w e s next =
     ∙ slice_get-append-add held (e ∷ (first.0 ++ s.later)) 0 in
     let front : held ≡ take (length held) w.tape.entries = sym (ap (take (length held)) whole ∙ take-append_seam held (e ∷ (first.0 ++ s.later))) in
     record {
-      own = entry-next w.tape w.subscriber.tape (length held) e s.legal at front;
-      refused = refusal-next w.tape w.subscriber.tape (length held) e s.legal at s.listing front;
+      own = entry-next w.tape w.subscriber.tape (length held) e s.legal at s.matrix front;
+      refused = refusal-next w.tape w.subscriber.tape (length held) e s.legal at s.listing s.matrix front;
     }
 
 -- an entry that is taken out and replayed keeps a world sound
@@ -257,6 +264,7 @@ takes w e s next =
           s.tape ∙ ap (λ d. held ++ (d ++ s.later)) first.1 ∙ sym (append_assoc held (e ∷ []) (first.0 ++ s.later))
           ∙ ap (λ x. (held ++ x ∷ []) ++ (first.0 ++ s.later)) (sym own);
       listing = s.listing;
+      matrix = s.matrix;
       limit = s.limit;
       unclosed = s.unclosed;
       base = omega arith;
@@ -288,7 +296,7 @@ drains (suc n) w s = drains n (record w { subscriber = subscriber_after_entry (n
 pub keeps : (w : World) (event : Event) → IsSound w → IsAllowed w event → IsSound (world_after w event)
 keeps w (Admits message) s ok = sends w message s
 keeps w Closes s ok =
-    tape-sound w (record w.tape { closed = true }) [] s s.legal (sym (append-nil w.tape.entries)) refl (shut w.subscriber.window.ended s.ended)
+    tape-sound w (record w.tape { closed = true }) [] s s.legal (sym (append-nil w.tape.entries)) refl refl (shut w.subscriber.window.ended s.ended)
   where
     shut : (o : Option ℕ) → IfSome o (λ count. (w.tape.closed ≡ true) × (count ≡ length w.tape.entries))
         → IfSome o (λ count. (true ≡ true) × (count ≡ length w.tape.entries))
@@ -306,7 +314,7 @@ keeps_all (event ∷ events) w s ok = keeps_all events (world_after w event) (ke
 -- each world that a schedule leads to is sound
 pub sound : (events : List Event) (w : World) → LeadsTo events w → IsSound w
 sound events w h =
-    subst IsSound h.ends (keeps_all events (start h.listing h.tape_limit h.limit h.session) (start-sound h.listing h.tape_limit h.limit h.session) h.allowed)
+    subst IsSound h.ends (keeps_all events (start h.listing h.matrix h.tape_limit h.limit h.session) (start-sound h.listing h.matrix h.tape_limit h.limit h.session) h.allowed)
 
 -- the world after a drain that is Ok is sound
 pub after_drain : (w : World) (n : ℕ) (after : SubscriberState) → IsSound w → DrainsAll n w.subscriber after

@@ -1,6 +1,7 @@
 -- The schedules of a tape and a subscriber: messages are admitted, packets come, the subscriber drains and restarts.
 use Rattle.std.specs.Prelude.{◌≡◌, ℕ, Bool, true, false, if◌then◌else◌, List, [], ◌∷◌, length, max, is_some, ◌⊎◌}
 use Rattle.tape_types.specs.Names.{Names}
+use Rattle.sale_matrix.specs.declared.matrix.Matrix.{Matrix}
 use Rattle.reports.specs.declared.message.Message.{Message}
 use Rattle.tape_core.specs.Tape.{TapeState, empty_tape, refusal, tape_before, with_message}
 use Rattle.tape_frames.specs.declared.packet.Packet.{Packet}
@@ -17,13 +18,13 @@ pub record World : Type 0 where
   pub tape : TapeState
   pub subscriber : SubscriberState
 
--- an empty tape of the listing, and a new subscriber of the same listing and session
-abbrev pub start : Names → ℕ → ℕ → ℕ → World
-start listing tape_limit limit session = record {
+-- an empty tape of the listing and the matrix, and a new subscriber of the same listing, matrix and session
+abbrev pub start : Names → Matrix → ℕ → ℕ → ℕ → World
+start listing matrix tape_limit limit session = record {
   session = session;
   limit = limit;
-  tape = empty_tape listing tape_limit;
-  subscriber = new_subscriber listing limit session;
+  tape = empty_tape listing tape_limit matrix;
+  subscriber = new_subscriber listing limit session matrix;
 }
 
 -- what may happen next
@@ -49,7 +50,7 @@ world_after w (Admits message) = record w { tape = tape_after w.tape message }
 world_after w Closes = record w { tape = record w.tape { closed = true } }
 world_after w (Comes line packet) = record w { subscriber = record w.subscriber { window = window_after w.subscriber.window line packet } }
 world_after w (Drains count) = record w { subscriber = subscriber_after count w.subscriber }
-world_after w Restarts = record w { subscriber = new_subscriber w.tape.listing w.limit w.session }
+world_after w Restarts = record w { subscriber = new_subscriber w.tape.listing w.limit w.session w.tape.matrix }
 
 -- the world after the events
 abbrev pub run : World → List Event → World
@@ -80,19 +81,21 @@ IsSchedule w (event ∷ events) = IsAllowed w event × IsSchedule (world_after w
 -- a schedule of these events leads to this world
 pub record LeadsTo (events : List Event) (w : World) : Type 0 where
   pub listing : Names
+  pub matrix : Matrix
   pub tape_limit : ℕ
   pub limit : ℕ
   pub session : ℕ
-  pub allowed : IsSchedule (start listing tape_limit limit session) events
-  pub ends : run (start listing tape_limit limit session) events ≡ w
+  pub allowed : IsSchedule (start listing matrix tape_limit limit session) events
+  pub ends : run (start listing matrix tape_limit limit session) events ≡ w
 
 -- these events lead to this world, whatever comes
 pub record EndsIn (events : List Event) (w : World) : Type 0 where
   pub listing : Names
+  pub matrix : Matrix
   pub tape_limit : ℕ
   pub limit : ℕ
   pub session : ℕ
-  pub ends : run (start listing tape_limit limit session) events ≡ w
+  pub ends : run (start listing matrix tape_limit limit session) events ≡ w
 
 -- the greatest last number of the packets that came since the last restart
 abbrev pub announced_by : ℕ → List Event → ℕ

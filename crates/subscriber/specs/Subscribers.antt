@@ -1,6 +1,7 @@
 -- A subscriber as contracts see it, and what its next entry does to it.
 use Rattle.std.specs.Prelude.{◌≡◌, ℕ, zero, suc, Bool, false, not, nat_lt, ◌||◌, length, Option, None, Some, is_some, IfSome, if◌then◌else◌}
 use Rattle.tape_types.specs.Names.{Names}
+use Rattle.sale_matrix.specs.declared.matrix.Matrix.{Matrix}
 use Rattle.reports.specs.declared.message.Message.{Message}
 use Rattle.tape_core.specs.declared.entry.Entry.{Entry}
 use Rattle.tape_core.specs.Laws.{entry_eq}
@@ -14,12 +15,13 @@ pub record SubscriberState : Type 0 where
   pub failed : Bool
 
 -- a new subscriber
-abbrev pub new_subscriber : Names → ℕ → ℕ → SubscriberState
-new_subscriber listing limit session = record { window = empty_window session; tape = empty_tape listing limit; failed = false }
+abbrev pub new_subscriber : Names → ℕ → ℕ → Matrix → SubscriberState
+new_subscriber listing limit session matrix =
+    record { window = empty_window session; tape = empty_tape listing limit matrix; failed = false }
 
 -- the entry that its own tape makes of a message
 abbrev pub own_entry : SubscriberState → Message → Entry
-own_entry s m = next_entry s.tape.entries m
+own_entry s m = next_entry s.tape.matrix s.tape.entries m
 
 -- the next entry is taken out of the window, and its own tape's entry stands; it has failed where that is not the feed's
 abbrev pub with_entry : Entry → SubscriberState → SubscriberState

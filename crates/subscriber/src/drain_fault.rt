@@ -10,7 +10,7 @@ use thiserror::Error;
 #[derive(Clone, Copy, Debug, PartialEq, Eq, Error)]
 pub enum Stop {
     /// The subscriber's own tape refuses the next entry's message: the tape's refusal, 32 where the subscriber's limit is
-    /// reached, 34 to 39 by a feed that is no tape, 40 out of memory. The entry stays in the window, and the next drain
+    /// reached, 34 to 39 and 43 by a feed that is no tape, 40 out of memory. The entry stays in the window, and the next drain
     /// tries it again.
     Refused(Refusal),
     /// 42 OtherSummary: the subscriber's own entry is not the feed's. The own one is held and counted as drained, the

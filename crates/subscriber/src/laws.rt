@@ -7,6 +7,7 @@ ghost use Rattle.tape_core.specs.declared.refusal.Refusal.TheVariants.{OutOfMemo
 ghost use Rattle.tape_core.specs.Tape.{TapeState, Answers, IsLegal, refusal, summary_at, participant_summary_at};
 ghost use Rattle.tape_frames.specs.declared.packet.Packet.{Packet};
 ghost use Rattle.tape_frames.specs.declared.packet.Packet.TheVariants.{Data};
+ghost use Rattle.tape_frames.specs.declared.version.Version.{Version};
 ghost use Rattle.tape_frames.specs.Sources.{BeginsWith, cut_of};
 ghost use Rattle.tape_frames.specs.Spelling.{Spells};
 ghost use Rattle.arbitration.specs.declared.line.Line.{Line};
@@ -77,8 +78,9 @@ pub fn schedule()
     // A message that a tape answers is the event of that message, but for one that finds no memory: it changes nothing.
     ensures admits { (t after : TapeState) (m : Message) (answer : Result Entry Refusal) → Answers t m answer after
         → (after ≡ tape_after t m) ⊎ ((answer ≡ Err OutOfMemory) × (after ≡ t)) }
-    // What `cut` gives of the tape's entries is a packet that may come.
-    ensures cut { (w : World) (from : ℕ) → IsCut w (Data w.session (cut_of w.tape.entries from)) }
+    // What `cut` gives of the tape's entries in either version is a packet that may come.
+    ensures cut { (w : World) (version : Version) (from : ℕ)
+        → IsCut w (Data w.session (record { version = version; entries = cut_of version w.tape.entries from })) }
     // Bytes that are taken are the event of the packet that they spell.
     ensures comes { (w : World) (line : Line) (packet : Packet) (bytes : List ℕ) (taken : Taken) (after : SubscriberState) → Spells bytes packet
         → Delivers line bytes taken w.subscriber after → world_after w (Comes line packet) ≡ record w { subscriber = after } }

@@ -5,6 +5,7 @@ use Rattle.std.specs.Ordering.{nat_cmp}
 use Rattle.std.specs.FinMap as map
 use Rattle.sale_matrix.specs.Matrix.{cells_of}
 use Rattle.sale_matrix.specs.declared.content.Content.{Content}
+use Rattle.sale_matrix.specs.declared.matrix.Matrix.{Matrix}
 use Rattle.scratch_fold.specs.declared.summary.Effect.{Effect}
 use Rattle.scratch_fold.specs.declared.summary.Summary.{Summary}
 use Rattle.scratch_fold.specs.Columns.{consolidated_effect, participant_effect}
@@ -15,9 +16,10 @@ use Rattle.symbol_book.specs.declared.trade.Trade.{Trade}
 abbrev pub content_of : ℕ → ℕ → List ℕ → Content
 content_of price size condition = record { price = price; size = size; condition = condition }
 
--- the trade of a report
-abbrev pub reported_trade : ℕ → Content → Trade
-reported_trade who content = record { who = who; price = content.price; size = content.size; cells = cells_of content.condition }
+-- the trade of a report by a matrix
+abbrev pub reported_trade : Matrix → ℕ → Content → Trade
+reported_trade matrix who content =
+    record { who = who; price = content.price; size = content.size; cells = cells_of matrix content.condition }
 
 -- what it does to the consolidated summary
 abbrev pub consolidated_effect_of : Trade → Effect
@@ -49,10 +51,10 @@ own_effect_at who None = None
 own_effect_at who (Some t) = cond (is_trade_of who t) (Some (own_effect_of t)) None
 
 -- the map with another content for this trade, if there is one
-abbrev pub with_content : Trades → ℕ → Option Trade → Content → Trades
-with_content m place None content = m
-with_content m place (Some t) content = map.insert m place (reported_trade t.who content)
+abbrev pub with_content : Matrix → Trades → ℕ → Option Trade → Content → Trades
+with_content matrix m place None content = m
+with_content matrix m place (Some t) content = map.insert m place (reported_trade matrix t.who content)
 
 -- the map with another content at a place that has a trade
-abbrev pub trades_with_content : Trades → ℕ → Content → Trades
-trades_with_content m place content = with_content m place (map.get m place) content
+abbrev pub trades_with_content : Matrix → Trades → ℕ → Content → Trades
+trades_with_content matrix m place content = with_content matrix m place (map.get m place) content

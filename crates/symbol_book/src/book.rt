@@ -1,58 +1,61 @@
 //! A symbol's book.
-ghost use Rattle.std.specs.Prelude.{◌≡◌, OnOk, OnErr, IsSome, IsSomeAnd, None};
+ghost use Rattle.std.specs.Prelude.{◌≡◌, true, OnOk, OnErr, IsSome, IsSomeAnd, None};
 ghost use Rattle.std.specs.FinMap as map;
+ghost use Rattle.sale_matrix.specs.Matrix.{is_within};
+ghost use Rattle.symbol_book.specs.BookState.{empty_book};
 ghost use Rattle.symbol_book.specs.Columns.{content_of, reported_trade, consolidated_summary, own_summary, trades_with_content};
 
 use crate::{Trade, participant_stores};
 use price_index::Searches;
-use sale_matrix::{Condition, Content};
+use sale_matrix::{Condition, Content, Matrix};
 use scratch_fold::Summary;
 use std::alloc::{AllocError, Global};
 use std::marker::Model;
 use summaries::Store;
 use tape_types::{Participant, Price, Size, TapeNumber};
 
-/// The reports of a symbol that stand, by place: a store in the consolidated columns, and a row of stores in the
-/// participant columns, one for each letter, as far as a report has needed the row. Each call makes a counter of
+/// The reports of a symbol that stand, by place: a store in the consolidated columns of a matrix, and a row of stores in
+/// its participant columns, one for each letter, as far as a report has needed the row. Each call makes a counter of
 /// searches of its own.
 #[derive(Drop)]
 pub struct Book<S: Store> {
     alloc: Global,
+    matrix: Matrix,
     consolidated: S,
     /// The participants' own stores by letter, from `A`.
     own: Vec<S>,
 }
 
 impl<S: Store> Model for Book<S> {
-    ghost use Rattle.std.specs.FinMap as map;
-    ghost use Rattle.std.specs.Coded.{coded_ℕ};
+    ghost use Rattle.sale_matrix.specs.contracts.matrix.Matrix as matrices;
     ghost use Rattle.symbol_book.specs.contracts.trade.Trade as trade;
-    ghost use Rattle.symbol_book.specs.Columns.{Trades};
+    ghost use Rattle.symbol_book.specs.BookState.{BookState, book_code};
 
-    ghost Value = { Trades };
+    ghost Value = { BookState };
 
-    ghost coded = { map.code coded_ℕ trade.the_row.coded };
+    ghost coded = { book_code matrices.the_row.coded trade.the_row.coded };
 
     ghost use Rattle.symbol_book.specs.Stores.{book_trades, IsBook};
 
-    ghost view = { λ b. book_trades S.effects b.consolidated b.own.items };
+    ghost view = { λ b. record { matrix = b.matrix; trades = book_trades S.effects b.consolidated b.own.items } };
 
     ghost invariant = { λ b. IsBook S.effects S.staged_change b.consolidated b.own.items };
 }
 
 impl<S: Store> Book<S> {
-    /// An empty book. It takes no memory.
-    pub fn new(alloc: Global) -> Self
-        ensures empty { result ≡ map.empty }
+    /// An empty book, whose reports change the summaries by this matrix. It takes no memory.
+    pub fn new(alloc: Global, matrix: Matrix) -> Self
+        ensures empty { result ≡ empty_book matrix }
     {
         Book {
             alloc,
+            matrix,
             consolidated: S::empty(alloc),
             own: Vec::new(alloc),
         }
     }
 
-    /// Adds a report at a vacant place. Out of memory, what both of its stores hold is unchanged.
+    /// Adds a report at a vacant place. Its sale condition has to be one of the book's matrix. Out of memory, what both of its stores hold is unchanged.
     pub fn add(
         &mut self,
         place: TapeNumber,
@@ -61,9 +64,11 @@ impl<S: Store> Book<S> {
         size: Size,
         condition: &Condition,
     ) -> Result<(), AllocError>
-        requires vacant { map.get self.old place ≡ None }
-        ensures ok { OnOk result
-            (self.new ≡ map.insert self.old place (reported_trade who (content_of price size condition.now))) }
+        requires vacant { map.get self.old.trades place ≡ None }
+        requires within { is_within self.old.matrix condition.now ≡ true }
+        ensures ok { OnOk result (self.new ≡ record self.old {
+          trades = map.insert self.old.trades place (reported_trade self.old.matrix who (content_of price size condition.now));
+        }) }
         ensures err { OnErr result (self.new ≡ self.old) }
     {
         let content = Content {
@@ -71,7 +76,7 @@ impl<S: Store> Book<S> {
             size,
             condition: *condition,
         };
-        let trade = Trade::new(who, &content);
+        let trade = Trade::new(self.matrix, who, &content);
         let mut searches = Searches::new();
         participant_stores::put(
             &mut self.own,
@@ -93,7 +98,8 @@ impl<S: Store> Book<S> {
         }
     }
 
-    /// Gives the report at a place another content; its participant stays. Out of memory, both of its stores are
+    /// Gives the report at a place another content, whose sale condition has to be one of the book's matrix; its participant
+    /// stays. Out of memory, both of its stores are
     /// unchanged.
     pub fn replace(
         &mut self,
@@ -102,9 +108,11 @@ impl<S: Store> Book<S> {
         size: Size,
         condition: &Condition,
     ) -> Result<(), AllocError>
-        requires present { IsSome (map.get self.old place) }
-        ensures ok { OnOk result
-            (self.new ≡ trades_with_content self.old place (content_of price size condition.now)) }
+        requires present { IsSome (map.get self.old.trades place) }
+        requires within { is_within self.old.matrix condition.now ≡ true }
+        ensures ok { OnOk result (self.new ≡ record self.old {
+          trades = trades_with_content self.old.matrix self.old.trades place (content_of price size condition.now);
+        }) }
         ensures err { OnErr result (self.new ≡ self.old) }
     {
         let mut searches = Searches::new();
@@ -114,7 +122,7 @@ impl<S: Store> Book<S> {
             size,
             condition: *condition,
         };
-        let trade = Trade::new(effect.who, &content);
+        let trade = Trade::new(self.matrix, effect.who, &content);
         participant_stores::replace(
             &mut self.consolidated,
             &mut self.own,
@@ -133,11 +141,14 @@ impl<S: Store> Book<S> {
         who: Participant,
         content: &Content,
     ) -> Result<(), AllocError>
-        requires theirs { IsSomeAnd (map.get self.old place) (λ t. t.who ≡ who) }
-        ensures ok { OnOk result (self.new ≡ trades_with_content self.old place content.now) }
+        requires theirs { IsSomeAnd (map.get self.old.trades place) (λ t. t.who ≡ who) }
+        requires within { is_within self.old.matrix content.now.condition ≡ true }
+        ensures ok { OnOk result (self.new ≡ record self.old {
+          trades = trades_with_content self.old.matrix self.old.trades place content.now;
+        }) }
         ensures err { OnErr result (self.new ≡ self.old) }
     {
-        let trade = Trade::new(who, content);
+        let trade = Trade::new(self.matrix, who, content);
         participant_stores::replace(
             &mut self.consolidated,
             &mut self.own,
@@ -150,8 +161,8 @@ impl<S: Store> Book<S> {
 
     /// Takes the report at a place away. It takes no memory.
     pub fn remove(&mut self, place: TapeNumber)
-        requires present { IsSome (map.get self.old place) }
-        ensures removed { self.new ≡ map.remove self.old place }
+        requires present { IsSome (map.get self.old.trades place) }
+        ensures removed { self.new ≡ record self.old { trades = map.remove self.old.trades place } }
     {
         let mut searches = Searches::new();
         let effect = self.consolidated.take(place, &mut searches);
@@ -160,14 +171,14 @@ impl<S: Store> Book<S> {
 
     /// The consolidated summary of the reports by rising place. It takes no memory.
     pub fn consolidated(&self) -> Summary
-        ensures summary { result ≡ consolidated_summary self.now }
+        ensures summary { result ≡ consolidated_summary self.now.trades }
     {
         self.consolidated.summary(&mut Searches::new())
     }
 
     /// The participant's own summary of its reports by rising place, empty where it has none. It takes no memory.
     pub fn of(&self, who: Participant) -> Summary
-        ensures summary { result ≡ own_summary self.now who }
+        ensures summary { result ≡ own_summary self.now.trades who }
     {
         participant_stores::summary(&self.own, who)
     }

@@ -1,6 +1,6 @@
 //! A report as a book sees it.
 
-use sale_matrix::{Cells, Content, cells};
+use sale_matrix::{Cells, Content, Matrix, cells};
 use scratch_fold::Effect;
 use tape_types::{Participant, Price, Size};
 
@@ -13,24 +13,26 @@ pub struct Trade {
     pub size: Size,
     /// The participant that reported it.
     pub who: Participant,
-    /// The cells of its sale condition.
+    /// The cells of its sale condition, by the matrix of its book.
     pub cells: Cells,
 }
 
 impl Trade {
-    ghost use Rattle.std.specs.Prelude.{◌≡◌};
+    ghost use Rattle.std.specs.Prelude.{◌≡◌, true};
+    ghost use Rattle.sale_matrix.specs.Matrix.{is_within};
     ghost use Rattle.symbol_book.specs.Columns.{consolidated_effect_of, own_effect_of, reported_trade};
 
-    /// The trade of a report.
+    /// The trade of a report by a matrix.
     #[inline(always)]
-    pub(crate) fn new(who: Participant, content: &Content) -> Trade
-        ensures { result ≡ reported_trade who content.now }
+    pub(crate) fn new(matrix: Matrix, who: Participant, content: &Content) -> Trade
+        requires { is_within matrix content.now.condition ≡ true }
+        ensures { result ≡ reported_trade matrix who content.now }
     {
         Trade {
             price: content.price,
             size: content.size,
             who,
-            cells: cells(&content.condition),
+            cells: cells(matrix, &content.condition),
         }
     }
 

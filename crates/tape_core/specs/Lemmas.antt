@@ -1,4 +1,5 @@
 pub mod Equality
 pub mod LegalNext
 pub mod LegalPrefix
+pub mod Places
 pub mod WrongNumber

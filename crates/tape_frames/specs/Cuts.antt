@@ -9,8 +9,8 @@ use Rattle.tape_frames.specs.declared.packet.Packet.TheVariants.{Data, Beat, End
 abbrev pub IsPartOf : List Entry → List Entry → Type 0
 IsPartOf row tape = (before : List Entry) × (after : List Entry) × (tape ≡ before ++ (row ++ after))
 
--- a packet under this session that was cut from the tape: some of its entries, or its length at some time, or its length once it is closed
+-- a packet of any version under this session that was cut from the tape: some of its entries, or its length at some time, or its length once it is closed
 abbrev pub IsCutOf : ℕ → TapeState → Packet → Type 0
-IsCutOf own t (Data session row) = (session ≡ own) × IsPartOf row t.entries
-IsCutOf own t (Beat session last) = (session ≡ own) × (last ≤ length t.entries)
-IsCutOf own t (End session count) = (session ≡ own) × (t.closed ≡ true) × (count ≡ length t.entries)
+IsCutOf own t (Data session row) = (session ≡ own) × IsPartOf row.entries t.entries
+IsCutOf own t (Beat session last) = (session ≡ own) × (last.count ≤ length t.entries)
+IsCutOf own t (End session count) = (session ≡ own) × (t.closed ≡ true) × (count.count ≡ length t.entries)

@@ -7,3 +7,4 @@ pub mod Numbers
 pub mod Packets
 pub mod Sources
 mod Summaries
+pub mod Versions

@@ -1,12 +1,15 @@
-//! The limits of packets and requests, each once: a second version of the format begins here.
+//! The limits of packets and requests, each once.
 
 use reports::LONGEST_MESSAGE;
 
-/// The version of a packet, as its first byte.
-pub const VERSION: u8 = 1;
-
 /// How many entries a packet has at most.
-pub const ENTRIES_MOST: usize = 8;
+pub const ENTRIES_MOST: usize = 16;
+
+/// How many entries a packet of version 1 has at most.
+pub const ENTRIES_MOST_ONE: usize = 8;
+
+/// The greatest number in a packet of version 1: of an entry, a mark's place, a beat or an end.
+pub const NUMBER_MOST_ONE: u32 = 1_048_576;
 
 /// How many entries a request asks for at most.
 pub const LONGEST_SPAN: u16 = 64;
@@ -26,7 +29,7 @@ pub const SUMMARY_LENGTH: usize = 1 + 4 * MARK_LENGTH + 12;
 /// How many bytes an entry has at most: the number (4), message and summary of a correction.
 pub const LONGEST_ENTRY: usize = 4 + LONGEST_MESSAGE + SUMMARY_LENGTH;
 
-/// How many bytes a packet has at most: 919.
+/// How many bytes a packet has at most: 1,823.
 pub const LONGEST_PACKET: usize = HEADER_LENGTH + ENTRIES_MOST * LONGEST_ENTRY;
 
 /// How many bytes a request has: session 8, from 4, count 2.

@@ -3,13 +3,16 @@ ghost use Rattle.std.specs.Prelude.{◌≡◌, ◌+◌, ◌*◌, ◌≤◌, ◌+
 ghost use Rattle.std.specs.Int.{w8, w16, w32, w64, to_be_bytes};
 ghost use Rattle.reports.specs.ByteRows.{Puts};
 ghost use Rattle.tape_frames.specs.Limits.{ENTRIES_MOST, HEADER_LENGTH, MARK_LENGTH, SUMMARY_LENGTH, LONGEST_ENTRY, LONGEST_PACKET, ALL_MARKS};
-ghost use Rattle.tape_frames.specs.EntryRows.{Carries, IsRow, first_number};
+ghost use Rattle.scratch_fold.specs.Places.{HasPlacesUpTo, IsPlacedUpTo};
+ghost use Rattle.tape_frames.specs.EntryRows.{Carries, FitsIn, IsRow, first_number};
+ghost use Rattle.tape_frames.specs.Packets.{version_of};
+ghost use Rattle.tape_frames.specs.Versions.{longest_packet, number_most};
 ghost use Rattle.tape_frames.specs.Spelling.{IsEntry, IsFigure, IsMark, IsPacket, IsSummary, bit, carried_text, entry_text};
 ghost use Rattle.tape_frames.specs.Spelling.{figure_text, header_text, mark_text, packet_text, presence, summary_text};
 
 use crate::kinds::{BEAT, DATA, END};
-use crate::limits::{LONGEST_PACKET, MARK_LENGTH, VERSION};
-use crate::{EntryCount, EntryRow, Packet};
+use crate::limits::{LONGEST_PACKET, MARK_LENGTH};
+use crate::{EntryCount, EntryRow, Packet, Version};
 use reports::{LONGEST_MESSAGE, encode_into, put};
 use scratch_fold::{Mark, Summary};
 use std::alloc::AllocError;
@@ -21,7 +24,7 @@ pub fn write_packet(packet: &Packet, text: &mut Vec<u8>) -> Result<(), AllocErro
     ensures ok { OnOk result (text.new.items ≡ text.old.items ++ packet_text packet.now) }
     // With `ok`, what was written spells the packet.
     ensures valid { IsPacket packet.now }
-    ensures short { length (packet_text packet.now) ≤ LONGEST_PACKET }
+    ensures short { length (packet_text packet.now) ≤ longest_packet (version_of packet.now) }
     ensures err { OnErr result (text.new.items ≡ text.old.items) }
 {
     let mut row = [0; LONGEST_PACKET];
@@ -39,49 +42,63 @@ fn put_packet(row: &mut [u8], packet: &Packet) -> usize
 {
     match packet {
         Packet::Data { session, entries } => {
+            let version = entries.version();
             let entries = entries.entries();
             let first = entries[0].number.value();
-            let at = put_header(row, DATA, *session, first, entries.len() as u8);
-            put_entries(row, at, entries)
+            let at = put_header(row, version, DATA, *session, first, entries.len() as u8);
+            put_entries(row, at, version, entries)
         }
-        Packet::Beat { session, last } => put_header(row, BEAT, *session, last.value(), 0),
-        Packet::End { session, count } => put_header(row, END, *session, count.value(), 0),
+        Packet::Beat { session, last } => {
+            put_header(row, last.version(), BEAT, *session, last.value(), 0)
+        }
+        Packet::End { session, count } => {
+            put_header(row, count.version(), END, *session, count.value(), 0)
+        }
     }
 }
 
 /// Version, kind, session, number and count, at the front of the row.
-fn put_header(row: &mut [u8], kind: u8, session: u64, number: u32, count: u8) -> usize
+fn put_header(
+    row: &mut [u8],
+    version: Version,
+    kind: u8,
+    session: u64,
+    number: u32,
+    count: u8,
+) -> usize
     requires { HEADER_LENGTH ≤ length row.old }
-    ensures puts { Puts 0 (header_text kind session number count) row.old row.new result }
+    ensures puts { Puts 0 (header_text version kind session number count) row.old row.new result }
 {
-    let at = put(row, 0, &[VERSION, kind]);
+    let at = put(row, 0, &[version.byte(), kind]);
     let at = put(row, at, &session.to_be_bytes());
     let at = put(row, at, &number.to_be_bytes());
     put(row, at, &[count])
 }
 
-/// The entries, one after the other.
-fn put_entries(row: &mut [u8], at: usize, entries: &[Entry]) -> usize
+/// The entries, one after the other, which a packet of the version can have.
+fn put_entries(row: &mut [u8], at: usize, version: Version, entries: &[Entry]) -> usize
     requires few { length entries.now ≤ ENTRIES_MOST }
     requires carry { All Carries entries.now }
+    requires fit { All (FitsIn version) entries.now }
     requires room { at + ENTRIES_MOST * LONGEST_ENTRY ≤ length row.old }
     ensures puts { Puts at (flat_map entry_text entries.now) row.old row.new result }
-    ensures valid { All IsEntry entries.now }
+    ensures valid { All (IsEntry version) entries.now }
 {
     let mut at = at;
     for entry in entries {
-        at = put_entry(row, at, entry);
+        at = put_entry(row, at, version, entry);
     }
     at
 }
 
 /// An entry: its number, its message, and what it carries.
-fn put_entry(row: &mut [u8], at: usize, entry: &Entry) -> usize
+fn put_entry(row: &mut [u8], at: usize, version: Version, entry: &Entry) -> usize
     requires room { at + LONGEST_ENTRY ≤ length row.old }
     requires carries { Carries entry.now }
+    requires fits { FitsIn version entry.now }
     ensures puts { Puts at (entry_text entry.now) row.old row.new result }
     ensures within { result ≤ at + LONGEST_ENTRY }
-    ensures valid { IsEntry entry.now }
+    ensures valid { IsEntry version entry.now }
 {
     let at = put(row, at, &entry.number.value().to_be_bytes());
     let mut text = [0; LONGEST_MESSAGE];
@@ -89,22 +106,23 @@ fn put_entry(row: &mut [u8], at: usize, entry: &Entry) -> usize
     let at = put(row, at, &text[..len]);
     match &entry.after {
         None => at,
-        Some(summary) => put_summary(row, at, summary),
+        Some(summary) => put_summary(row, at, version, summary),
     }
 }
 
 /// A summary: which marks are there, the marks, and the two sums.
-fn put_summary(row: &mut [u8], at: usize, summary: &Summary) -> usize
-    requires { at + SUMMARY_LENGTH ≤ length row.old }
+fn put_summary(row: &mut [u8], at: usize, version: Version, summary: &Summary) -> usize
+    requires room { at + SUMMARY_LENGTH ≤ length row.old }
+    requires places { HasPlacesUpTo (number_most version) summary.now }
     ensures puts { Puts at (summary_text summary.now) row.old row.new result }
     ensures len { result ≡ at + SUMMARY_LENGTH }
-    ensures valid { IsSummary summary.now }
+    ensures valid { IsSummary version summary.now }
 {
     let at = put(row, at, &[presence(summary)]);
-    let at = put_figure(row, at, &summary.opening);
-    let at = put_figure(row, at, &summary.high);
-    let at = put_figure(row, at, &summary.low);
-    let at = put_figure(row, at, &summary.last);
+    let at = put_figure(row, at, version, &summary.opening);
+    let at = put_figure(row, at, version, &summary.high);
+    let at = put_figure(row, at, version, &summary.low);
+    let at = put_figure(row, at, version, &summary.last);
     let at = put(row, at, &summary.volume.to_be_bytes());
     put(row, at, &summary.trades.to_be_bytes())
 }
@@ -121,24 +139,26 @@ fn presence(summary: &Summary) -> u8
 }
 
 /// A mark that is there, or zeros.
-fn put_figure(row: &mut [u8], at: usize, figure: &Option<Mark>) -> usize
-    requires { at + MARK_LENGTH ≤ length row.old }
+fn put_figure(row: &mut [u8], at: usize, version: Version, figure: &Option<Mark>) -> usize
+    requires room { at + MARK_LENGTH ≤ length row.old }
+    requires place { IsPlacedUpTo (number_most version) figure.now }
     ensures puts { Puts at (figure_text figure.now) row.old row.new result }
     ensures len { result ≡ at + MARK_LENGTH }
-    ensures valid { IsFigure figure.now }
+    ensures valid { IsFigure version figure.now }
 {
     match figure {
         None => put(row, at, &[0; MARK_LENGTH]),
-        Some(mark) => put_mark(row, at, mark),
+        Some(mark) => put_mark(row, at, version, mark),
     }
 }
 
 /// The mark of a report.
-fn put_mark(row: &mut [u8], at: usize, mark: &Mark) -> usize
-    requires { at + MARK_LENGTH ≤ length row.old }
+fn put_mark(row: &mut [u8], at: usize, version: Version, mark: &Mark) -> usize
+    requires room { at + MARK_LENGTH ≤ length row.old }
+    requires place { mark.now.place ≤ number_most version }
     ensures puts { Puts at (mark_text mark.now) row.old row.new result }
     ensures len { result ≡ at + MARK_LENGTH }
-    ensures valid { IsMark mark.now }
+    ensures valid { IsMark version mark.now }
 {
     let at = put(row, at, &mark.price.value().to_be_bytes());
     let at = put(row, at, &mark.place.value().to_be_bytes());

@@ -4,6 +4,7 @@ use Rattle.std.specs.Ordering.{nat_cmp}
 use Rattle.std.specs.Cmp.{nat_cmp_total}
 use Rattle.std.specs.FinMap as map
 use Rattle.sale_matrix.specs.declared.content.Content.{Content}
+use Rattle.sale_matrix.specs.declared.matrix.Matrix.{Matrix}
 use Rattle.symbol_book.specs.declared.trade.Trade.{Trade}
 use Rattle.symbol_book.specs.Columns.{Trades, with_content, trades_with_content, reported_trade}
 use Rattle.tape_types.specs.Lemmas.NumberMaps.{key_itself, other_key}
@@ -19,9 +20,9 @@ other-kept m n k q v is apart = ap (λ (x : Trades). map.get x q) is ∙ map.get
     ∙ ap (λ b. cond b (Some v) (map.get m q)) (other_key q k (λ same. apart (sym same)))
 
 -- a trade with another content is still there
-pub has-replaced : (m n : Trades) (k : ℕ) (content : Content) → n ≡ trades_with_content m k content → IsSome (map.get m k) → IsSome (map.get n k)
-has-replaced m n k content is some = subst (λ (x : Trades). IsSome (map.get x k)) (sym is)
-    (elim (map.get m k) as (λ o. IsSome o → IsSome (map.get (with_content m k o content) k)) [
+pub has-replaced : (matrix : Matrix) (m n : Trades) (k : ℕ) (content : Content) → n ≡ trades_with_content matrix m k content → IsSome (map.get m k) → IsSome (map.get n k)
+has-replaced matrix m n k content is some = subst (λ (x : Trades). IsSome (map.get x k)) (sym is)
+    (elim (map.get m k) as (λ o. IsSome o → IsSome (map.get (with_content matrix m k o content) k)) [
       | None ↦ λ there. absurd (cc)
-      | Some t ↦ λ _. has-put m (map.insert m k (reported_trade t.who content)) k (reported_trade t.who content) refl
+      | Some t ↦ λ _. has-put m (map.insert m k (reported_trade matrix t.who content)) k (reported_trade matrix t.who content) refl
     ] some)

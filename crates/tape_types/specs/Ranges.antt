@@ -15,7 +15,7 @@ NUMBER_MOST = 4294967295
 
 -- the greatest tape number, which is how many entries a tape has at most
 abbrev pub TAPE_MOST : ℕ
-TAPE_MOST = 1048576
+TAPE_MOST = 16777216
 
 -- how many symbols a listing has at most
 abbrev pub SYMBOLS_MOST : ℕ

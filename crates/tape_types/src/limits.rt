@@ -7,7 +7,7 @@ pub const PRICE_MOST: u64 = 999_999_999_999;
 pub const SIZE_MOST: u32 = 99_999_999;
 
 /// The greatest tape number, which is how many entries a tape has at most.
-pub const TAPE_MOST: u32 = 1_048_576;
+pub const TAPE_MOST: u32 = 16_777_216;
 
 /// How many symbols a listing has at most.
 pub const SYMBOLS_MOST: usize = 4_096;

@@ -1,17 +1,24 @@
 //! What the program's arguments ask for.
-ghost use Rattle.std.specs.Prelude.{◌≡◌, ◌⊎◌, IfOk, Ok, Err, length, true};
+ghost use Rattle.std.specs.Prelude.{◌≡◌, ◌⊎◌, IfOk, IfSome, Ok, Err, length, true};
 ghost use Rattle.std.specs.Iterator.{at_most};
-ghost use Rattle.tapebox.specs.Program.{AsksFor, asks_follow, asks_live, batch_words};
+ghost use Rattle.tapebox.specs.Program.{AsksFor, asks_follow, asks_live, batch_matrix};
 ghost use Rattle.tapebox.specs.declared.command.Command.TheVariants.{Batch};
 ghost use Rattle.tapebox.specs.declared.command.CommandFault.TheVariants.{OutOfMemory};
 
 use batch::Named;
+use sale_matrix::Matrix;
 use std::alloc::Global;
 use std::str;
 use tape_types::{Listing, ListingFault, PARTICIPANTS_MOST, Participant, SYMBOLS_MOST, Symbol};
 
-/// The arguments of a batch.
+/// The arguments of a batch by Matrix One.
 const BATCH: &[u8] = b"batch\0";
+
+/// The same with the matrix named.
+const BATCH_ONE: &[u8] = b"batch\01\0";
+
+/// The arguments of a batch by Matrix Two.
+const BATCH_TWO: &[u8] = b"batch\02\0";
 
 /// The first argument for a tape that is made from lines.
 const LIVE: &[u8] = b"live\0";
@@ -25,8 +32,8 @@ const PORTS: usize = 65_536;
 /// What the program is asked for.
 #[derive(Drop)]
 pub enum Command {
-    /// A batch.
-    Batch,
+    /// A batch by a matrix.
+    Batch(Matrix),
     /// A tape that is made from lines and sent.
     Live(LiveWords),
     /// A tape that is followed.
@@ -104,11 +111,15 @@ impl<'a> Words<'a> {
         Ok(([self.port()?, self.port()?], self.port()?))
     }
 
-    /// The last argument as a session. Refused where another one follows.
-    fn session(&mut self) -> Result<u64, CommandFault> {
-        let session = self.number()?;
+    /// The last argument, if one is left, as a matrix: Matrix One where none is. Refused where another one follows.
+    fn matrix(&mut self) -> Result<Matrix, CommandFault> {
+        let matrix = match self.next() {
+            None | Some(b"1") => Matrix::One,
+            Some(b"2") => Matrix::Two,
+            Some(_) => return Err(CommandFault::BadArguments),
+        };
         self.end()?;
-        Ok(session)
+        Ok(matrix)
     }
 
     /// Refused where an argument is left.
@@ -190,6 +201,8 @@ pub struct LiveWords {
     pub serves: u16,
     /// The session of the tape's packets.
     pub session: u64,
+    /// The matrix of the tape.
+    pub matrix: Matrix,
 }
 
 impl LiveWords {
@@ -201,7 +214,8 @@ impl LiveWords {
         let first_port = words.port()?;
         let (ports, retransmission) = words.feed_ports()?;
         let serves = words.short()?;
-        let session = words.session()?;
+        let session = words.number()?;
+        let matrix = words.matrix()?;
         let most = (PORTS - usize::from(first_port)).min(PARTICIPANTS_MOST);
         let listing = listing(alloc, symbols, participants, most)?;
         Ok(LiveWords {
@@ -211,6 +225,7 @@ impl LiveWords {
             retransmission,
             serves,
             session,
+            matrix,
         })
     }
 }
@@ -226,6 +241,8 @@ pub struct FollowWords {
     pub retransmission: u16,
     /// The session of the tape's packets.
     pub session: u64,
+    /// The matrix of the tape.
+    pub matrix: Matrix,
 }
 
 impl FollowWords {
@@ -234,26 +251,41 @@ impl FollowWords {
         let mut words = Words { rest: words };
         let (symbols, participants) = words.names()?;
         let (ports, retransmission) = words.feed_ports()?;
-        let session = words.session()?;
+        let session = words.number()?;
+        let matrix = words.matrix()?;
         let listing = listing(alloc, symbols, participants, PARTICIPANTS_MOST)?;
         Ok(FollowWords {
             listing,
             ports,
             retransmission,
             session,
+            matrix,
         })
+    }
+}
+
+/// The matrix that the arguments of a batch ask for, or `None` for other arguments.
+fn batch_matrix(words: &[u8]) -> Option<Matrix>
+    ensures { result ≡ batch_matrix words.now }
+{
+    if words == BATCH || words == BATCH_ONE {
+        Some(Matrix::One)
+    } else if words == BATCH_TWO {
+        Some(Matrix::Two)
+    } else {
+        None
     }
 }
 
 /// What arguments ask for, each ended by a zero byte, or why they ask for nothing: `BadArguments`, or `OutOfMemory` for the
 /// names of `live` or `follow`.
 pub fn read_command(alloc: Global, words: &[u8]) -> Result<Command, CommandFault>
-    ensures batch { words.now ≡ batch_words → result ≡ Ok Batch }
+    ensures batch { IfSome (batch_matrix words.now) (λ matrix. result ≡ Ok (Batch matrix)) }
     ensures asked { IfOk result (λ command. AsksFor command words.now) }
     ensures memory { result ≡ Err OutOfMemory → (asks_live words.now ≡ true) ⊎ (asks_follow words.now ≡ true) }
 {
-    if words == BATCH {
-        Ok(Command::Batch)
+    if let Some(matrix) = batch_matrix(words) {
+        Ok(Command::Batch(matrix))
     } else if words.starts_with(LIVE) {
         Ok(Command::Live(LiveWords::read(alloc, &words[LIVE.len()..])?))
     } else if words.starts_with(FOLLOW) {

@@ -77,9 +77,10 @@ row_numbers (e ∷ es) h = (
 -- the numbers of a packet's entries are at most its last number
 pub packet_numbers : (q : Packet) → HasNumbers q → (n : ℕ) (e : Entry) → entry_numbered n (entries_of q) ≡ Some e → (e.number ≡ n) × (n ≤ last_of q)
 packet_numbers (Data session row) h n e found =
-    let place = find_place row n e found in
-    let number = number_at_place (first_number row) row place.0 e h.consecutive place.1 in
-    let within = slice_get_within row place.0 e place.1 in
+    let es = row.entries in
+    let place = find_place es n e found in
+    let number = number_at_place (first_number es) es place.0 e h.consecutive place.1 in
+    let within = slice_get_within es place.0 e place.1 in
     (place.2, (let same : e.number ≡ n = place.2 in omega arith))
 packet_numbers (Beat session last) h n e found = absurd (cc)
 packet_numbers (End session count) h n e found = absurd (cc)

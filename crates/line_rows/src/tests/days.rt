@@ -3,6 +3,7 @@ ghost use Rattle.std.specs.Prelude.{◌≡◌, IfSome};
 ghost use Rattle.line_ledger.specs.Cells.{FirstTokens};
 
 use line_ledger::{Day, DayName, EndFault, LineSeat, Prepared, SharedTape, Token, prepare};
+use sale_matrix::Matrix;
 use std::alloc::Global;
 use std::process::Abort;
 use summaries::IndexStore;
@@ -49,7 +50,7 @@ pub(super) fn joined(alloc: Global, reports: &[[u8; 40]]) -> Option<Vec<u8>> {
 fn day_of(alloc: Global, participants: &[Participant]) -> Option<Prepared> {
     let symbols = [Symbol::try_new(*b"AB      ")?];
     let listing = Listing::new(alloc, &symbols, participants).ok()?;
-    let tape: Tape<IndexStore> = Tape::new(alloc, listing, 10).ok()?;
+    let tape: Tape<IndexStore> = Tape::new(alloc, listing, 10, Matrix::One).ok()?;
     prepare(alloc, tape).ok()
 }
 

@@ -48,6 +48,7 @@ fn figures<D: DayName, R: BufRead, G: Gate, W: Wait + Abort>(
     requires name { prepared.blank.name ≡ D.name }
     requires parts { prepared.blank.parts ≡ D.parts }
     requires listing { prepared.tape.listing ≡ D.listing }
+    requires matrix { prepared.tape.matrix ≡ D.matrix }
 {
     let Ok((shared, mut seats)) = SharedTape::<D>::open(prepared) else {
         return None;

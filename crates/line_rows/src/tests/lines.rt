@@ -165,6 +165,7 @@ fn day_after<D: DayName + Send + Sync, G: Gate + Sync, T: Threads + Wait + Abort
     requires name { prepared.blank.name ≡ D.name }
     requires parts { prepared.blank.parts ≡ D.parts }
     requires listing { prepared.tape.listing ≡ D.listing }
+    requires matrix { prepared.tape.matrix ≡ D.matrix }
 {
     let Ok((shared, seats)) = SharedTape::<D>::open(prepared) else {
         return None;

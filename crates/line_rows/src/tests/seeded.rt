@@ -8,7 +8,7 @@ use super::lines::{LineFigures, run_inputs};
 use line_ledger::{Day, DayName, LineSeat, Prepared, Published, SharedTape, Token, prepare};
 use participant_lines::Ended;
 use reports::{Content, Header, LONGEST_MESSAGE, Message, Moment, encode_into};
-use sale_matrix::Condition;
+use sale_matrix::{Condition, Matrix};
 use std::alloc::Global;
 use std::marker::Brand;
 use std::process::Abort;
@@ -176,7 +176,7 @@ fn listing(alloc: Global) -> Option<Listing> {
 
 /// The day's tape, which is empty.
 fn empty_tape(alloc: Global) -> Option<Tape<IndexStore>> {
-    Tape::new(alloc, listing(alloc)?, LINES * MESSAGES).ok()
+    Tape::new(alloc, listing(alloc)?, LINES * MESSAGES, Matrix::One).ok()
 }
 
 /// The day, which is empty.
@@ -308,6 +308,7 @@ fn lines_of_a_day<D: DayName + Send + Sync, T: Threads + Wait + Abort + Sync>(
     requires name { prepared.blank.name ≡ D.name }
     requires parts { prepared.blank.parts ≡ D.parts }
     requires listing { prepared.tape.listing ≡ D.listing }
+    requires matrix { prepared.tape.matrix ≡ D.matrix }
 {
     let Ok((shared, seats)) = SharedTape::<D>::open(prepared) else {
         return None;

@@ -10,7 +10,7 @@ use std::alloc::Global;
 use std::marker::Brand;
 use std::process::Abort;
 use std::sync::Wait;
-use tape_frames::{SliceSource, Source};
+use tape_frames::{SliceSource, Source, Version};
 
 /// A request of session 7 for 64 entries from 1.
 const REQUEST: [u8; 14] = [
@@ -27,7 +27,7 @@ type Set = [Result<u32, PublishFault>; 3];
 fn answered<S: Source>(alloc: Global, source: &mut S) -> Vec<u8> {
     let mut reader = REQUEST.as_slice();
     let mut output = Vec::new(alloc);
-    let _ = serve(alloc, source, 7, &mut reader, &mut output);
+    let _ = serve(alloc, source, 7, Version::One, &mut reader, &mut output);
     output
 }
 
@@ -90,6 +90,7 @@ fn served<D: DayName, W: Wait + Abort>(
     requires name { prepared.blank.name ≡ D.name }
     requires parts { prepared.blank.parts ≡ D.parts }
     requires listing { prepared.tape.listing ≡ D.listing }
+    requires matrix { prepared.tape.matrix ≡ D.matrix }
 {
     let Ok((shared, mut seats)) = SharedTape::<D>::open(prepared) else {
         return None;

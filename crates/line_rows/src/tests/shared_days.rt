@@ -2,7 +2,7 @@
 use super::days::ended_day;
 use line_ledger::{DayName, LineSeat, Prepared, SharedTape, prepare};
 use reports::{Content, Header, Message, Moment};
-use sale_matrix::Condition;
+use sale_matrix::{Condition, Matrix};
 use std::alloc::Global;
 use std::process::Abort;
 use summaries::IndexStore;
@@ -30,6 +30,8 @@ pub(super) enum Sent {
     CancelUnder(&'static [u8; 8], u8, u32, u32),
     /// A correction of a target to a price.
     Correct(u8, u32, u32, u64),
+    /// A reinstatement of a target.
+    Reinstate(u8, u32, u32),
 }
 
 fn header(who: u8, number: u32, symbol: &[u8; 8]) -> Option<Header> {
@@ -76,6 +78,13 @@ fn correction(header: Option<Header>, target: u32, content: Option<Content>) -> 
     })
 }
 
+fn reinstatement(header: Option<Header>, target: u32) -> Option<Message> {
+    Some(Message::Reinstate {
+        header: header?,
+        target: MsgNumber::try_new(target)?,
+    })
+}
+
 pub(super) fn message(sent: Sent) -> Option<Message> {
     match sent {
         Sent::Report(who, number, price) => report(header(who, number, AB), regular(price)),
@@ -92,6 +101,7 @@ pub(super) fn message(sent: Sent) -> Option<Message> {
         Sent::Correct(who, number, target, price) => {
             correction(header(who, number, AB), target, regular(price))
         }
+        Sent::Reinstate(who, number, target) => reinstatement(header(who, number, AB), target),
     }
 }
 
@@ -113,7 +123,7 @@ pub(super) fn tape(alloc: Global) -> Option<Tape<IndexStore>> {
 
 /// The same of at most so many entries.
 fn tape_of(alloc: Global, limit: u32) -> Option<Tape<IndexStore>> {
-    Tape::new(alloc, listing(alloc)?, limit).ok()
+    Tape::new(alloc, listing(alloc)?, limit, Matrix::One).ok()
 }
 
 /// The day, which is empty.

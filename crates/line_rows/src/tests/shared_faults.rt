@@ -4,6 +4,7 @@ use super::shared_days::{Sent, listing, message, tape};
 use line_ledger::laws::first_difference;
 use line_ledger::{OpenFault, Told, prepare};
 use reports::Message;
+use sale_matrix::Matrix;
 use scratch_fold::Mark;
 use std::alloc::Global;
 use summaries::IndexStore;
@@ -76,7 +77,7 @@ fn lists_first_differ_where_one_has_another_or_none(rt: HostRuntime) {
 
 /// What is answered to a tape's limit.
 fn limited(alloc: Global, limit: u32) -> Option<Result<(), TapeFault>> {
-    match Tape::<IndexStore>::new(alloc, listing(alloc)?, limit) {
+    match Tape::<IndexStore>::new(alloc, listing(alloc)?, limit, Matrix::One) {
         Ok(tape) => {
             drop(tape);
             Some(Ok(()))
@@ -86,16 +87,20 @@ fn limited(alloc: Global, limit: u32) -> Option<Result<(), TapeFault>> {
 }
 
 #[test]
-fn a_tape_has_a_limit_of_one_to_1048576_entries(rt: HostRuntime) {
+fn a_tape_has_a_limit_of_one_to_16777216_entries(rt: HostRuntime) {
     let alloc = rt.alloc();
     let answers = [
         limited(alloc, 0),
         limited(alloc, 1),
-        limited(alloc, 1_048_576),
         limited(alloc, 1_048_577),
+        limited(alloc, 16_777_216),
+        limited(alloc, 16_777_217),
     ];
     let bad = Some(Err(TapeFault::BadLimit));
-    assert_eq!(rt; answers, [bad, Some(Ok(())), Some(Ok(())), bad]);
+    assert_eq!(rt;
+        answers,
+        [bad, Some(Ok(())), Some(Ok(())), Some(Ok(())), bad]
+    );
 }
 
 /// The price of the last report, once the tape has admitted this one.

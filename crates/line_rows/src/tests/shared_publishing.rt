@@ -124,6 +124,7 @@ fn five_published<D: DayName + Send + Sync, R: Threads + Wait + Abort + Sync>(
     requires name { prepared.blank.name ≡ D.name }
     requires parts { prepared.blank.parts ≡ D.parts }
     requires listing { prepared.tape.listing ≡ D.listing }
+    requires matrix { prepared.tape.matrix ≡ D.matrix }
 {
     let Ok((shared, mut seats)) = SharedTape::<D>::open(prepared) else {
         return None;
@@ -179,6 +180,7 @@ fn set_in_two_rows<D: DayName>(prepared: Prepared, short: &CellRow) -> Option<Se
     requires name { prepared.blank.name ≡ D.name }
     requires parts { prepared.blank.parts ≡ D.parts }
     requires listing { prepared.tape.listing ≡ D.listing }
+    requires matrix { prepared.tape.matrix ≡ D.matrix }
 {
     let Ok((mut locked, row, mut seats)) = Locked::<D>::start(prepared) else {
         return None;
@@ -195,6 +197,7 @@ fn set_beside<D: DayName>(alloc: Global, one: Prepared) -> Option<SetInTwo>
     requires name { one.blank.name ≡ D.name }
     requires parts { one.blank.parts ≡ D.parts }
     requires listing { one.tape.listing ≡ D.listing }
+    requires matrix { one.tape.matrix ≡ D.matrix }
 {
     let Ok((locked, short, seats)) = Locked::<D>::start(one) else {
         return None;

@@ -1,7 +1,9 @@
 //! The worked rows of a tape, each through a shared one.
 ghost use Rattle.std.specs.Prelude.{◌≡◌};
 
-use super::shared_days::Sent::{Cancel, CancelUnder, Correct, Report, ReportOf, SoldLast};
+use super::shared_days::Sent::{
+    Cancel, CancelUnder, Correct, Reinstate, Report, ReportOf, SoldLast,
+};
 use super::shared_days::{AB, CD, EF, Sent, ended_len, message, prepared};
 use Answer::{Number, Refused, Shown};
 use Step::{Admit, Show};
@@ -132,6 +134,33 @@ const TARGETS_OF_EVERY_KIND: [(usize, Step, Answer); 9] = [
     (0, Show(CD), Shown(3, 3, NOTHING)),
 ];
 
+const A_REINSTATEMENT_BRINGS_THE_LATEST_BACK: [(usize, Step, Answer); 9] = [
+    (0, Admit(Report(b'N', 1, 100_000)), Number(1)),
+    (0, Admit(Report(b'N', 2, 101_000)), Number(2)),
+    (0, Admit(Correct(b'N', 3, 1, 102_000)), Number(3)),
+    (0, Admit(Cancel(b'N', 4, 1)), Number(4)),
+    (0, Admit(Reinstate(b'N', 5, 3)), Refused(37)),
+    (0, Admit(Reinstate(b'N', 5, 2)), Refused(43)),
+    (0, Admit(Reinstate(b'N', 5, 1)), Number(5)),
+    (0, Admit(Reinstate(b'N', 6, 1)), Refused(43)),
+    (
+        0,
+        Show(AB),
+        Shown(
+            5,
+            5,
+            (
+                (102_000, 1),
+                (102_000, 1),
+                (101_000, 2),
+                (101_000, 2),
+                200,
+                2,
+            ),
+        ),
+    ),
+];
+
 const A_REFUSED_NUMBER_IS_USED_AGAIN: [(usize, Step, Answer); 8] = [
     (0, Admit(Report(b'N', 1, 100_000)), Number(1)),
     (0, Admit(Report(b'N', 1, 100_000)), Refused(35)),
@@ -228,6 +257,7 @@ fn played<D: DayName, R: Wait + Abort>(
     requires name { prepared.blank.name ≡ D.name }
     requires parts { prepared.blank.parts ≡ D.parts }
     requires listing { prepared.tape.listing ≡ D.listing }
+    requires matrix { prepared.tape.matrix ≡ D.matrix }
 {
     let Ok((shared, mut seats)) = SharedTape::<D>::open(prepared) else {
         return None;
@@ -253,6 +283,10 @@ fn targets_of_every_kind<R: Wait + Abort>(rt: &R, alloc: Global) -> Played {
     row(rt, alloc, &TARGETS_OF_EVERY_KIND)
 }
 
+fn a_reinstatement_brings_the_latest_back<R: Wait + Abort>(rt: &R, alloc: Global) -> Played {
+    row(rt, alloc, &A_REINSTATEMENT_BRINGS_THE_LATEST_BACK)
+}
+
 fn a_refused_number_is_used_again<R: Wait + Abort>(rt: &R, alloc: Global) -> Played {
     row(rt, alloc, &A_REFUSED_NUMBER_IS_USED_AGAIN)
 }
@@ -264,10 +298,17 @@ fn a_shared_tape_answers_the_worked_rows(rt: HostRuntime) {
         a_cancel_gives_the_last_back(&rt, alloc),
         a_correction_keeps_its_place(&rt, alloc),
         targets_of_every_kind(&rt, alloc),
+        a_reinstatement_brings_the_latest_back(&rt, alloc),
         a_refused_number_is_used_again(&rt, alloc),
     ];
     assert_eq!(rt;
         played,
-        [Some((6, 4)), Some((6, 4)), Some((9, 3)), Some((8, 2))]
+        [
+            Some((6, 4)),
+            Some((6, 4)),
+            Some((9, 3)),
+            Some((9, 5)),
+            Some((8, 2)),
+        ]
     );
 }

@@ -15,14 +15,15 @@ use Rattle.reports.specs.declared.fault.MessageFault.TheVariants.{BadCondition}
 use Rattle.reports.specs.declared.message.Header.{Header}
 use Rattle.sale_matrix.specs.declared.content.Content.{Content}
 use Rattle.reports.specs.declared.message.Message.{Message}
-use Rattle.reports.specs.declared.message.Message.TheVariants.{Report, Cancel, Correct}
+use Rattle.reports.specs.declared.message.Message.TheVariants.{Report, Cancel, Correct, Reinstate}
 use Rattle.reports.specs.Fields.{◌>>=◌, bytes_at, number_at, ranged_at, text_at}
 use Rattle.reports.specs.Texts.{is_condition, is_symbol}
 use Rattle.reports.specs.Spelling.{IsHeader, IsContent, IsMessage, OneSpelling, Spells, body, content_text, fields_text, header_text, kind_byte, spelling}
 use Rattle.reports.specs.Spelling.{target_text}
 use Rattle.reports.specs.Reading.{announced_length, body_message, cancel_at, content_at, correction_at, fields_at, header_at, message_at, report_at, target_at}
+use Rattle.reports.specs.Reading.{reinstatement_at}
 use Rattle.reports.specs.Reading.{LONGEST_BODY, fields_of_length}
-use Rattle.reports.specs.Kinds.{REPORT, CANCEL, CORRECTION, REPORT_LENGTH, CANCEL_LENGTH, CORRECTION_LENGTH}
+use Rattle.reports.specs.Kinds.{REPORT, CANCEL, CORRECTION, REINSTATEMENT, REPORT_LENGTH, CANCEL_LENGTH, CORRECTION_LENGTH, REINSTATEMENT_LENGTH}
 use Rattle.reports.specs.Lemmas.Fields.{AreBytes, AreBytes-drop, AreBytes-take, IsReader, Takes, Takes-then, bind_ok, first_taken, number_reader, ok_is, passed}
 use Rattle.reports.specs.Lemmas.Fields.{ranged_reader, text_reader, wide8, wide16, wide32, wide64}
 use Rattle.reports.specs.Lemmas.Texts.{condition_decided, symbol_decided}
@@ -142,6 +143,17 @@ correction_takes bytes x fits e =
     subst (λ (y : Message × List ℕ). Takes bytes (fields_text y.0) y.1 × IsOfKind CORRECTION y.0) {x = made} (ok_is Short made x c.3)
     (Takes-then h.1 (Takes-then t.1 c.1), ((h.2, (t.2, c.2)), refl))
 
+-- a reinstatement's fields that are read were spelled so
+reinstatement_takes : (bytes : List ℕ) (x : Message × List ℕ) → AreBytes bytes → reinstatement_at bytes ≡ Ok x
+    → Takes bytes (fields_text x.0) x.1 × IsOfKind REINSTATEMENT x.0
+unfolding reinstatement_at
+reinstatement_takes bytes x fits e =
+    let h = first_taken header_reader bytes _ x fits e in
+    let t = first_taken target_reader h.0.1 _ x h.1.rest_fits h.3 in
+    let made : Message × List ℕ = (Reinstate h.0.0 t.0.0, t.0.1) in
+    subst (λ (y : Message × List ℕ). Takes bytes (fields_text y.0) y.1 × IsOfKind REINSTATEMENT y.0) {x = made} (ok_is Short made x t.3)
+    (Takes-then h.1 t.1, ((h.2, t.2), refl))
+
 -- a report's fields that are spelled are read again
 report_again : (h : Header) (c : Content) → IsHeader h → IsContent c
     → report_at (header_text h ++ content_text c) ≡ Ok (Report h c, [])
@@ -165,11 +177,20 @@ correction_again h n c header target content =
       ap content_at (sym (append-nil (content_text c))) ∙ content_reader.again c [] content,
     ) refl
 
+-- a reinstatement's fields that are spelled are read again
+reinstatement_again : (h : Header) (n : ℕ) → IsHeader h → IsMessageNumber n → reinstatement_at (header_text h ++ target_text n) ≡ Ok (Reinstate h n, [])
+unfolding reinstatement_at
+reinstatement_again h n header target = rw (header_reader.again h (target_text n) header, target_reader.again n [] target) refl
+
 -- ---- the length of a kind, and its fields
 
 -- how long a body of the kind is
 abbrev pub body_length : ℕ → ℕ
-body_length kind = if kind == REPORT then REPORT_LENGTH else if kind == CANCEL then CANCEL_LENGTH else CORRECTION_LENGTH
+body_length kind =
+    if kind == REPORT then REPORT_LENGTH
+    else if kind == CANCEL then CANCEL_LENGTH
+    else if kind == CORRECTION then CORRECTION_LENGTH
+    else REINSTATEMENT_LENGTH
 
 -- a header has 21 bytes
 length-header : (h : Header) → IsHeader h → length (header_text h) ≡ 21
@@ -186,6 +207,7 @@ length-body (Report h c) fits =
 length-body (Cancel h n) fits = omega (arith, length-append (header_text h) (target_text n), length-header h fits.0)
 length-body (Correct h n c) fits =
     omega (arith, length-append (header_text h) (target_text n ++ content_text c), length-header h fits.0, length-content c fits.1.1)
+length-body (Reinstate h n) fits = omega (arith, length-append (header_text h) (target_text n), length-header h fits.0)
 
 -- a message has as many bytes as its kind asks for: those of its body, and two for their number
 pub length-spelling : (m : Message) → IsMessage m → length (spelling m) ≡ 2 + body_length (kind_byte m)
@@ -229,7 +251,12 @@ fields_take kind len bytes x fits size e = elim (cases_Bool (kind == REPORT)) [
       | inl correct ↦
           let r = length_is_due CORRECTION_LENGTH len (correction_at bytes) x (rw (no_report, no_cancel, correct) at e) in
           rw (eqb-true kind CORRECTION correct) (all_taken CORRECTION bytes x (size ∙ r.0) (correction_takes bytes x fits r.1))
-      | inr no_correct ↦ absurd (cc (rw (no_report, no_cancel, no_correct) at e))
+      | inr no_correct ↦ elim (cases_Bool (kind == REINSTATEMENT)) [
+        | inl reinstate ↦
+            let r = length_is_due REINSTATEMENT_LENGTH len (reinstatement_at bytes) x (rw (no_report, no_cancel, no_correct, reinstate) at e) in
+            rw (eqb-true kind REINSTATEMENT reinstate) (all_taken REINSTATEMENT bytes x (size ∙ r.0) (reinstatement_takes bytes x fits r.1))
+        | inr no_kind ↦ absurd (cc (rw (no_report, no_cancel, no_correct, no_kind) at e))
+      ]
     ]
   ]
 ]
@@ -240,6 +267,7 @@ unfolding fields_at
 fields_again (Report h c) fits = report_again h c fits.0 fits.1
 fields_again (Cancel h n) fits = cancel_again h n fits.0 fits.1
 fields_again (Correct h n c) fits = correction_again h n c fits.0 fits.1.0 fits.1.1
+fields_again (Reinstate h n) fits = reinstatement_again h n fits.0 fits.1
 
 -- ---- the body
 
@@ -261,6 +289,7 @@ kind_again : (m : Message) → number_at Short w8 (body m) ≡ Ok (kind_byte m, 
 kind_again (Report h c) = (number_reader Short wide8).again REPORT (fields_text (Report h c)) (lit< tt)
 kind_again (Cancel h n) = (number_reader Short wide8).again CANCEL (fields_text (Cancel h n)) (lit< tt)
 kind_again (Correct h n c) = (number_reader Short wide8).again CORRECTION (fields_text (Correct h n c)) (lit< tt)
+kind_again (Reinstate h n) = (number_reader Short wide8).again REINSTATEMENT (fields_text (Reinstate h n)) (lit< tt)
 
 -- a body that is spelled is read again
 body_again : (m : Message) → IsMessage m → body_message (body m) ≡ Ok m
@@ -335,6 +364,7 @@ body_length-le : (m : Message) → body_length (kind_byte m) ≤ CORRECTION_LENG
 body_length-le (Report h c) = omega arith
 body_length-le (Cancel h n) = omega arith
 body_length-le (Correct h n c) = omega arith
+body_length-le (Reinstate h n) = omega arith
 
 -- what is spelled is read, whatever follows it
 pub message_at-spelling : (m : Message) (rest : List ℕ) → IsMessage m → message_at (spelling m ++ rest) ≡ Ok (m, length (spelling m))

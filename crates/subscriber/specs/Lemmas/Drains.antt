@@ -87,7 +87,7 @@ turn n s window tape failed e so_far next is_window base =
 
 -- the state after a turn whose message is admitted
 pub after_turn : (n : ℕ) (s : SubscriberState) (window window' : WindowState) (tape tape' : TapeState) (failed failed' : Bool) (e own : Entry)
-    → IsTurn n s window tape failed e → failed ≡ false → replay_refusal tape e.number e.message ≡ None → own ≡ next_entry tape.entries e.message
+    → IsTurn n s window tape failed e → failed ≡ false → replay_refusal tape e.number e.message ≡ None → own ≡ next_entry tape.matrix tape.entries e.message
     → tape' ≡ with_message tape e.message → window' ≡ window_past 1 window → failed' ≡ not (entry_eq own e)
     → ◌≡◌ {A = SubscriberState} (record { window = window'; tape = tape'; failed = failed' }) (subscriber_after (n + 1) s)
 after_turn n s window window' tape tape' failed failed' e own is running free is_own pushed taken fails =
@@ -113,7 +113,7 @@ stops_refused n s window tape failed e why running own is refused =
 
 -- a stop at an entry that is not the own one
 pub stops_other : (n : ℕ) (s : SubscriberState) (window : WindowState) (tape : TapeState) (failed : Bool) (e own : Entry)
-    → s.failed ≡ false → OwnFor n s → IsTurn n s window tape failed e → own ≡ next_entry tape.entries e.message → (own ≡ e → ⊥)
+    → s.failed ≡ false → OwnFor n s → IsTurn n s window tape failed e → own ≡ next_entry tape.matrix tape.entries e.message → (own ≡ e → ⊥)
     → StopsFor OtherSummary (n + 1) s
 stops_other n s window tape failed e own running own_so_far is is_own differs =
     let back : n ≡ n + 1 - 1 = omega arith in

@@ -5,6 +5,7 @@ use Rattle.tape_core.specs.declared.entry.Entry.{Entry}
 use Rattle.tape_core.specs.Laws.{entry_eq}
 use Rattle.tape_core.specs.Tape.{IsLegal, empty_tape, refusal}
 use Rattle.tape_types.specs.Names.{Names}
+use Rattle.sale_matrix.specs.declared.matrix.Matrix.{Matrix}
 use Rattle.tape_core.specs.Lemmas.LegalNext.{IsLegal-with_message}
 use Rattle.tape_core.specs.Lemmas.Equality.{entry-Decides}
 use Rattle.arbitration.specs.Windows.{next_of}
@@ -13,8 +14,8 @@ use Rattle.subscriber.specs.Schedules.{World, Event, Admits, Closes, Comes, Drai
 use Rattle.subscriber.specs.Lemmas.Turns.{after_entry-keeps, after_entry-admitted}
 
 -- an empty tape is legal
-pub IsLegal-empty : (listing : Names) (limit : ℕ) → IsLegal (empty_tape listing limit)
-IsLegal-empty listing limit k e at = absurd (cc)
+pub IsLegal-empty : (listing : Names) (limit : ℕ) (matrix : Matrix) → IsLegal (empty_tape listing limit matrix)
+IsLegal-empty listing limit matrix k e at = absurd (cc)
 
 -- a drain keeps the own tape legal
 legal-after : (n : ℕ) (s : SubscriberState) → IsLegal s.tape → IsLegal (subscriber_after n s).tape
@@ -29,7 +30,7 @@ legal-event w (Admits message) legal = legal
 legal-event w Closes legal = legal
 legal-event w (Comes line packet) legal = legal
 legal-event w (Drains count) legal = legal-after count w.subscriber legal
-legal-event w Restarts legal = IsLegal-empty w.tape.listing w.limit
+legal-event w Restarts legal = IsLegal-empty w.tape.listing w.limit w.tape.matrix
 
 -- all the events keep the own tape legal
 legal-run : (events : List Event) (w : World) → IsLegal w.subscriber.tape → IsLegal (run w events).subscriber.tape
@@ -39,7 +40,7 @@ legal-run (event ∷ events) w legal = legal-run events (world_after w event) (l
 -- whatever comes, the own tape is legal
 pub legal : (events : List Event) (w : World) → EndsIn events w → IsLegal w.subscriber.tape
 legal events w h = subst (λ v. IsLegal v.subscriber.tape) h.ends
-    (legal-run events (start h.listing h.tape_limit h.limit h.session) (IsLegal-empty h.listing h.limit))
+    (legal-run events (start h.listing h.matrix h.tape_limit h.limit h.session) (IsLegal-empty h.listing h.limit h.matrix))
 
 -- one replay fails exactly where the own entry is another
 pub fails_by_other : (s : SubscriberState) (e : Entry) → s.failed ≡ false → refusal s.tape e.message ≡ None

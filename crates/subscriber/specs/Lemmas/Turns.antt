@@ -42,4 +42,4 @@ own_runs s e own = not_from_true _ ((entry-Decides (own_entry s e.message) e).1 
 
 -- an entry that stands is one more
 pub length-with_entry : (s : SubscriberState) (e : Entry) → length (with_entry e s).tape.entries ≡ length s.tape.entries + 1
-length-with_entry s e = length_push s.tape.entries (next_entry s.tape.entries e.message)
+length-with_entry s e = length_push s.tape.entries (next_entry s.tape.matrix s.tape.entries e.message)

@@ -8,7 +8,7 @@ use std::alloc::{AllocError, Global};
 use std::io;
 use std::io::{ErrorKind, Read, Write};
 use tape_core::Entry;
-use tape_frames::{SliceSource, Source};
+use tape_frames::{SliceSource, Source, Version};
 
 /// A reader that gives one byte at a time, is interrupted before each, and fails once it gave a number of them.
 #[derive(Drop)]
@@ -244,7 +244,14 @@ fn serve_growing(
         len: 0,
     };
     let mut reader = input;
-    serve(alloc, &mut source, SESSION, &mut reader, output)
+    serve(
+        alloc,
+        &mut source,
+        SESSION,
+        Version::One,
+        &mut reader,
+        output,
+    )
 }
 
 /// The same over three entries.
@@ -376,7 +383,14 @@ fn a_request_that_is_not_written_is_a_write_fault(rt: HostRuntime) {
 fn serve_exhausted(alloc: Global, entries: &SliceSource<'_>, output: &mut Vec<u8>) -> ServeEnd {
     let mut source = Exhausted { source: entries };
     let mut reader = REQUEST.as_slice();
-    serve(alloc, &mut source, SESSION, &mut reader, output)
+    serve(
+        alloc,
+        &mut source,
+        SESSION,
+        Version::One,
+        &mut reader,
+        output,
+    )
 }
 
 /// The same over three entries.

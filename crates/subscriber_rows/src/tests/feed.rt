@@ -1,12 +1,15 @@
 //! A tape that is sent, and the bytes of its packets.
 
 use reports::{Content, Header, Message, Moment};
-use sale_matrix::Condition;
+use sale_matrix::{Condition, Matrix};
 use std::alloc::Global;
 use summaries::IndexStore;
 use tape_core::Tape;
-use tape_frames::{EntryCount, Packet, SliceSource, cut, write_packet};
+use tape_frames::{EntryCount, Packet, SliceSource, Version, cut, write_packet};
 use tape_types::{Listing, MsgNumber, Participant, Price, Size, Symbol};
+
+/// The versions in which the rows are played.
+pub(super) const VERSIONS: [Version; 2] = [Version::One, Version::Two];
 
 /// The session under which the tapes are sent.
 pub(super) const SESSION: u64 = 7;
@@ -24,13 +27,18 @@ pub(super) fn participant() -> Option<Participant> {
 
 pub(super) fn listing(alloc: Global) -> Option<Listing> {
     let symbols = [symbol()?];
-    let participants = [participant()?];
+    let participants = [participant()?, Participant::try_new(b'Q')?];
     Listing::new(alloc, &symbols, &participants).ok()
 }
 
 pub(super) fn header(number: u32) -> Option<Header> {
+    header_of(b'N', number)
+}
+
+/// The header of a participant's message.
+fn header_of(letter: u8, number: u32) -> Option<Header> {
     Some(Header {
-        participant: participant()?,
+        participant: Participant::try_new(letter)?,
         number: MsgNumber::try_new(number)?,
         moment: Moment::new(0),
         symbol: symbol()?,
@@ -68,8 +76,26 @@ pub(super) fn correction(number: u32, target: u32, price: u64) -> Option<Message
     })
 }
 
+/// A report of Q of a hundred shares.
+fn report_of_q(number: u32, condition: &[u8; 4], price: u64) -> Option<Message> {
+    Some(Message::Report {
+        header: header_of(b'Q', number)?,
+        content: Content {
+            condition: Condition::try_new(*condition)?,
+            ..content(price)?
+        },
+    })
+}
+
+fn reinstatement(number: u32, target: u32) -> Option<Message> {
+    Some(Message::Reinstate {
+        header: header(number)?,
+        target: MsgNumber::try_new(target)?,
+    })
+}
+
 pub(super) fn feed(alloc: Global, limit: u32) -> Option<Feed> {
-    Tape::new(alloc, listing(alloc)?, limit).ok()
+    Tape::new(alloc, listing(alloc)?, limit, Matrix::One).ok()
 }
 
 /// Admits a message, and tells whether the tape took it.
@@ -123,6 +149,20 @@ pub(super) fn corrected(alloc: Global) -> Option<Feed> {
     admits_a_correction(&mut tape).then_some(tape)
 }
 
+fn admits_a_reinstatement(tape: &mut Feed) -> bool {
+    admits(tape, report_of_q(1, b"@   ", 100_000))
+        && admits(tape, report(1, 101_000))
+        && admits(tape, report_of_q(2, b"@ L ", 100_500))
+        && admits(tape, cancel(2, 1))
+        && admits(tape, reinstatement(3, 1))
+}
+
+/// Three reports, of which N's was cancelled and reinstated.
+pub(super) fn reinstated(alloc: Global) -> Option<Feed> {
+    let mut tape = feed(alloc, 100)?;
+    admits_a_reinstatement(&mut tape).then_some(tape)
+}
+
 /// Admits 71 corrections of report 1, each at a hundredth of a cent more than the one before.
 fn admits_corrections(tape: &mut Feed, price: u64) -> bool {
     for number in 2..=72 {
@@ -147,17 +187,23 @@ fn bytes_of(alloc: Global, packet: &Packet) -> Option<Vec<u8>> {
     write_packet(packet, &mut text).is_ok().then_some(text)
 }
 
-/// The bytes of the packet that is cut from the tape from a number on: eight entries at most.
-pub(super) fn packet(alloc: Global, tape: &Feed, session: u64, from: u32) -> Option<Vec<u8>> {
-    if from == 0 || from as usize > tape.entries().len() {
+/// The bytes of the packet of a version that is cut from the tape from a number on.
+pub(super) fn packet(
+    alloc: Global,
+    version: Version,
+    tape: &Feed,
+    session: u64,
+    from: u32,
+) -> Option<Vec<u8>> {
+    if from == 0 || from as usize > tape.entries().len() || !version.can_begin(from) {
         return None;
     }
-    bytes_of(alloc, &cut(session, from, &SliceSource::of(tape)))
+    bytes_of(alloc, &cut(version, session, from, &SliceSource::of(tape)))
 }
 
 /// The bytes of a beat that gives a number.
-pub(super) fn beat(alloc: Global, last: u32) -> Option<Vec<u8>> {
-    let last = EntryCount::try_new(last)?;
+pub(super) fn beat(alloc: Global, version: Version, last: u32) -> Option<Vec<u8>> {
+    let last = EntryCount::try_new(version, last)?;
     bytes_of(
         alloc,
         &Packet::Beat {
@@ -168,8 +214,8 @@ pub(super) fn beat(alloc: Global, last: u32) -> Option<Vec<u8>> {
 }
 
 /// The bytes of an end that gives a number.
-pub(super) fn end(alloc: Global, count: u32) -> Option<Vec<u8>> {
-    let count = EntryCount::try_new(count)?;
+pub(super) fn end(alloc: Global, version: Version, count: u32) -> Option<Vec<u8>> {
+    let count = EntryCount::try_new(version, count)?;
     bytes_of(
         alloc,
         &Packet::End {

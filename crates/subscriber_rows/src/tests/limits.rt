@@ -1,7 +1,7 @@
 //! The longest answer, and a drain as long as the window.
 
 use super::failing::Calls;
-use super::feed::{self, Feed, SESSION};
+use super::feed::{self, Feed, SESSION, VERSIONS};
 use super::steps::Sent::Reports;
 use super::steps::Told::{Drained, Took};
 use super::steps::{
@@ -10,7 +10,7 @@ use super::steps::{
 use arbitration::Line::A;
 use std::alloc::Global;
 use subscriber::Subscriber;
-use tape_frames::{Request, Span};
+use tape_frames::{Request, Span, Version};
 
 /// A request for 64 entries from 2.
 fn most_asked() -> Option<Request> {
@@ -22,44 +22,63 @@ fn most_asked() -> Option<Request> {
 }
 
 /// Whether a request is answered over the tape, and how many writes, flushes and bytes that takes.
-fn calls_over(alloc: Global, tape: &Feed, asked: &Request) -> (bool, u32, u32, usize) {
+fn calls_over(
+    alloc: Global,
+    version: Version,
+    tape: &Feed,
+    asked: &Request,
+) -> (bool, u32, u32, usize) {
     let mut writer = Calls::new();
-    let is_answered = is_served(alloc, tape, asked, &mut writer);
+    let is_answered = is_served(alloc, version, tape, asked, &mut writer);
     (is_answered, writer.writes, writer.flushes, writer.bytes)
 }
 
 /// The same of the most entries, each of which is a correction.
-fn calls_of_the_longest(alloc: Global) -> Option<(bool, u32, u32, usize)> {
+fn calls_of_the_longest(alloc: Global, version: Version) -> Option<(bool, u32, u32, usize)> {
     let asked = most_asked()?;
     let tape = feed::corrected_often(alloc)?;
-    Some(calls_over(alloc, &tape, &asked))
+    Some(calls_over(alloc, version, &tape, &asked))
 }
 
 #[test]
 fn the_longest_answer_is_one_write_and_one_flush(rt: HostRuntime) {
-    assert_eq!(rt; calls_of_the_longest(rt.alloc()), Some((true, 1, 1, 7_370)));
+    for (version, bytes) in [(Version::One, 7_370), (Version::Two, 7_302)] {
+        assert_eq!(rt;
+            calls_of_the_longest(rt.alloc(), version),
+            Some((true, 1, 1, bytes))
+        );
+    }
 }
 
-/// Whether there are eight packets of 919 bytes.
-fn are_longest(packets: &[Vec<u8>]) -> bool {
+/// How many packets of how many bytes carry 64 corrections in a version.
+fn longest(version: Version) -> (usize, usize) {
+    match version {
+        Version::One => (8, 919),
+        Version::Two => (4, 1_823),
+    }
+}
+
+/// Whether there are as many packets, of as many bytes.
+fn are_longest(version: Version, packets: &[Vec<u8>]) -> bool {
+    let (count, bytes) = longest(version);
     for packet in packets.iter() {
-        if packet.len() != 919 {
+        if packet.len() != bytes {
             return false;
         }
     }
-    packets.len() == 8
+    packets.len() == count
 }
 
 /// What is told of entry 1 by A, of these packets by R, and of a drain.
 fn told_of(alloc: Global, subscriber: &mut Subscriber, packets: &[Vec<u8>]) -> Option<[Told; 3]> {
-    let first = brings(alloc, subscriber, A, Reports(1, 1))?;
+    let first = brings(alloc, Version::One, subscriber, A, Reports(1, 1))?;
     let rest = deliver_all(subscriber, packets);
     Some([first, rest, drain(subscriber)])
 }
 
 /// The same of a new subscriber, if the packets are the longest.
-fn told_of_longest(alloc: Global, packets: &[Vec<u8>]) -> Option<[Told; 3]> {
-    if !are_longest(packets) {
+fn told_of_longest(alloc: Global, version: Version, packets: &[Vec<u8>]) -> Option<[Told; 3]> {
+    if !are_longest(version, packets) {
         return None;
     }
     let mut subscriber = subscriber(alloc, 100)?;
@@ -67,28 +86,30 @@ fn told_of_longest(alloc: Global, packets: &[Vec<u8>]) -> Option<[Told; 3]> {
 }
 
 /// The same of the packets that answer a request over the tape.
-fn told_over(alloc: Global, tape: &Feed, asked: &Request) -> Option<[Told; 3]> {
-    let packets = answered(alloc, tape, asked)?;
-    told_of_longest(alloc, &packets)
+fn told_over(alloc: Global, version: Version, tape: &Feed, asked: &Request) -> Option<[Told; 3]> {
+    let packets = answered(alloc, version, tape, asked)?;
+    told_of_longest(alloc, version, &packets)
 }
 
 /// The same of the most entries, each of which is a correction.
-fn told_of_the_most(alloc: Global) -> Option<[Told; 3]> {
+fn told_of_the_most(alloc: Global, version: Version) -> Option<[Told; 3]> {
     let asked = most_asked()?;
     let tape = feed::corrected_often(alloc)?;
-    told_over(alloc, &tape, &asked)
+    told_over(alloc, version, &tape, &asked)
 }
 
 #[test]
 fn the_longest_packets_are_read_taken_and_drained(rt: HostRuntime) {
     let told = [Took(1, 0, 0), Took(64, 0, 0), Drained(65, 0)];
-    assert!(rt; told_of_the_most(rt.alloc()) == Some(told));
+    for version in VERSIONS {
+        assert!(rt; told_of_the_most(rt.alloc(), version) == Some(told));
+    }
 }
 
 /// Whether A brings the tape's packet of this place, and its eight entries are fresh.
 fn comes(alloc: Global, subscriber: &mut Subscriber, tape: &Feed, place: u32) -> Option<bool> {
     let from = place.wrapping_mul(8).wrapping_add(1);
-    let text = feed::packet(alloc, tape, SESSION, from)?;
+    let text = feed::packet(alloc, Version::One, tape, SESSION, from)?;
     Some(deliver(subscriber, A, text.as_slice()) == Took(8, 0, 0))
 }
 

@@ -12,6 +12,7 @@ use arbitration::Line::A;
 use std::alloc::Global;
 use subscriber::{DrainFault, Stop, Subscriber};
 use tape_core::Refusal;
+use tape_frames::Version;
 
 /// Three entries are held, and three are ready.
 const THREE_ARE_READY: [(Step, Told); 3] = [
@@ -55,7 +56,7 @@ fn drained_after(
     steps: &[(Step, Told)],
     tape: &Feed,
 ) -> Option<(u32, u32)> {
-    if told_so(alloc, subscriber, steps) != steps.len() {
+    if told_so(alloc, Version::One, subscriber, steps) != steps.len() {
         return None;
     }
     let drained = drained_in_two(subscriber);

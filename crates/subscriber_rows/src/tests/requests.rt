@@ -2,12 +2,12 @@
 ghost use Rattle.std.specs.Prelude.{◌≡◌};
 ghost use Rattle.tape_frames.specs.Sources.{IsPublished};
 
-use super::feed::{Feed, SESSION, equal_reports};
+use super::feed::{Feed, SESSION, VERSIONS, equal_reports};
 use retransmit::{Answer, AskFault, Ended, Refusal, ServeEnd, answer, ask, serve};
 use std::alloc::{AllocError, Global};
 use std::io;
 use std::io::{Read, Write};
-use tape_frames::{Packet, Request, SliceSource, Span, decode_packet};
+use tape_frames::{Packet, Request, SliceSource, Span, Version, decode_packet};
 
 /// A request of session 7 for 64 entries from 3.
 pub(super) const REQUEST: [u8; 14] = [
@@ -78,27 +78,44 @@ pub(super) fn end(served: u32, ended: Ended) -> Option<ServeEnd> {
     Some(ServeEnd { served, ended })
 }
 
-/// How serving requests over this many entries ends.
+/// How serving requests over this many entries in version 1 ends.
 pub(super) fn served<R: Read, W: Write>(
     alloc: Global,
     count: u32,
     reader: &mut R,
     writer: &mut W,
 ) -> Option<ServeEnd> {
-    let tape = equal_reports(alloc, count)?;
-    let mut source = source_of(&tape);
-    Some(serve(alloc, &mut source, SESSION, reader, writer))
+    served_in(alloc, Version::One, count, reader, writer)
 }
 
-/// What serving these requests over this many entries answers, if it ends so.
-fn answers(alloc: Global, count: u32, input: &[u8], end: Option<ServeEnd>) -> Option<Vec<u8>> {
+/// The same in a version.
+fn served_in<R: Read, W: Write>(
+    alloc: Global,
+    version: Version,
+    count: u32,
+    reader: &mut R,
+    writer: &mut W,
+) -> Option<ServeEnd> {
+    let tape = equal_reports(alloc, count)?;
+    let mut source = source_of(&tape);
+    Some(serve(alloc, &mut source, SESSION, version, reader, writer))
+}
+
+/// What serving these requests over this many entries in a version answers, if it ends so.
+fn answers(
+    alloc: Global,
+    version: Version,
+    count: u32,
+    input: &[u8],
+    end: Option<ServeEnd>,
+) -> Option<Vec<u8>> {
     let mut reader = input;
     let mut output = Vec::new(alloc);
-    let is_end = served(alloc, count, &mut reader, &mut output) == end;
+    let is_end = served_in(alloc, version, count, &mut reader, &mut output) == end;
     is_end.then_some(output)
 }
 
-/// Whether serving these requests over this many entries ends so, and answers these bytes.
+/// Whether serving these requests over this many entries in version 1 ends so, and answers these bytes.
 fn is_answered(
     alloc: Global,
     count: u32,
@@ -106,20 +123,26 @@ fn is_answered(
     end: Option<ServeEnd>,
     bytes: &[u8],
 ) -> Option<bool> {
-    let output = answers(alloc, count, input, end)?;
+    let output = answers(alloc, Version::One, count, input, end)?;
     Some(output.as_slice() == bytes)
 }
 
-/// What is answered to a request over a tape.
-fn answer_over(tape: &Feed, session: u64, asked: &Request) -> Answer {
-    answer(&source_of(tape), session, asked)
+/// What is answered to a request over a tape in a version.
+fn answer_over(tape: &Feed, session: u64, version: Version, asked: &Request) -> Answer {
+    answer(&source_of(tape), session, version, asked)
 }
 
-/// What is answered to a request of these fields over four entries.
-fn answer_to(alloc: Global, session: u64, from: u32, count: u16) -> Option<Answer> {
+/// What is answered in a version to a request of these fields over four entries.
+fn answer_to(
+    alloc: Global,
+    session: u64,
+    version: Version,
+    from: u32,
+    count: u16,
+) -> Option<Answer> {
     let asked = request(from, count)?;
     let tape = equal_reports(alloc, 4)?;
-    Some(answer_over(&tape, session, &asked))
+    Some(answer_over(&tape, session, version, &asked))
 }
 
 /// How many packets asking for 64 entries from 3 brings, or the fault that it tells.
@@ -202,10 +225,10 @@ fn numbers_brought(alloc: Global, bytes: &[u8]) -> Option<Vec<u32>> {
     numbers_of(alloc, &packets)
 }
 
-/// The numbers that come back to that request from a tape of twelve.
-fn numbers_read_again(alloc: Global) -> Option<Vec<u32>> {
+/// The numbers that come back to that request in a version from a tape of twelve.
+fn numbers_read_again(alloc: Global, version: Version) -> Option<Vec<u32>> {
     let input = requests(alloc, &[(SESSION, 2, 10)])?;
-    let output = answers(alloc, 12, &input, end(1, Ended::Clean))?;
+    let output = answers(alloc, version, 12, &input, end(1, Ended::Clean))?;
     numbers_brought(alloc, &output)
 }
 
@@ -218,7 +241,12 @@ fn a_request_is_answered_by_what_is_published(rt: HostRuntime) {
         (7, 0, 1, Answer::Refused(Refusal::Beyond)),
         (8, 0, 1, Answer::Refused(Refusal::OtherSession)),
     ] {
-        assert_eq!(rt; answer_to(rt.alloc(), session, from, count), Some(wanted));
+        for version in VERSIONS {
+            assert_eq!(rt;
+                answer_to(rt.alloc(), session, version, from, count),
+                Some(wanted)
+            );
+        }
     }
 }
 
@@ -251,14 +279,16 @@ fn a_refused_request_is_answered_and_the_next_one_is_read(rt: HostRuntime) {
 }
 
 /// Whether the numbers from 2 to 11 come back.
-fn reads_a_range_again(alloc: Global) -> Option<bool> {
-    let numbers = numbers_read_again(alloc)?;
+fn reads_a_range_again(alloc: Global, version: Version) -> Option<bool> {
+    let numbers = numbers_read_again(alloc, version)?;
     Some(numbers.as_slice() == [2, 3, 4, 5, 6, 7, 8, 9, 10, 11].as_slice())
 }
 
 #[test]
-fn a_range_of_two_packets_is_read_again(rt: HostRuntime) {
-    assert_eq!(rt; reads_a_range_again(rt.alloc()), Some(true));
+fn a_range_is_read_again_in_each_version(rt: HostRuntime) {
+    for version in VERSIONS {
+        assert_eq!(rt; reads_a_range_again(rt.alloc(), version), Some(true));
+    }
 }
 
 /// Whether serving the first of fourteen zeros ends so, and answers these bytes.
@@ -312,7 +342,7 @@ fn bytes_that_are_no_answer_are_told(rt: HostRuntime) {
         &[0x00, 0x00],
         &[0x00, 0x09],
         &[0x00, 0x01, 0x00, 0x00],
-        &[0x00, 0x01, 0x03, 0x98],
+        &[0x00, 0x01, 0x07, 0x20],
     ];
     for bytes in cases {
         assert!(rt;
@@ -324,7 +354,13 @@ fn bytes_that_are_no_answer_are_told(rt: HostRuntime) {
 
 #[test]
 fn an_answer_that_ends_too_early_is_a_read_fault(rt: HostRuntime) {
-    let cases: [&[u8]; 3] = [&[], &[0x00], &[0x00, 0x01, 0x00, 0x67]];
+    let cases: [&[u8]; 5] = [
+        &[],
+        &[0x00],
+        &[0x00, 0x01, 0x00, 0x67],
+        &[0x00, 0x01, 0x03, 0x98],
+        &[0x00, 0x01, 0x07, 0x1f],
+    ];
     for bytes in cases {
         assert!(rt;
             is_told(rt.alloc(), bytes, Err(AskFault::ReadFault)),

@@ -1,16 +1,17 @@
 //! The worked rows of a subscriber.
 
-use super::feed::{self, SESSION};
+use super::feed::{self, SESSION, VERSIONS};
 use super::packets::CORRECTION_PACKET;
 use super::steps::Sent::{
     Beat, End, Front, OtherPrices, OtherSession, OtherVolume, Reports, UnknownTarget,
 };
 use super::steps::Step::{Announced, Asks, By, Drain, IsGapOpen, Missing};
 use super::steps::Told::{Drained, Gap, Is, Number, Refused, Took};
-use super::steps::{Step, Told, deliver, holds, subscriber, told_so};
+use super::steps::{Step, Told, deliver, drain, holds, subscriber, told_so};
 use arbitration::Line::{A, B, R};
 use std::alloc::Global;
 use subscriber::Subscriber;
+use tape_frames::Version;
 
 /// What line A brings of eight entries, and line B backwards, twice.
 const TWO_LOSSY_LINES: [(Step, Told); 23] = [
@@ -121,19 +122,21 @@ const BYTES_THAT_ARE_NO_PACKET: [(Step, Told); 4] = [
 ];
 
 /// How many steps of a row a new subscriber with a limit answers as it has to.
-fn row(alloc: Global, limit: u32, steps: &[(Step, Told)]) -> Option<usize> {
+fn row(alloc: Global, version: Version, limit: u32, steps: &[(Step, Told)]) -> Option<usize> {
     let mut subscriber = subscriber(alloc, limit)?;
-    Some(told_so(alloc, &mut subscriber, steps))
+    Some(told_so(alloc, version, &mut subscriber, steps))
 }
 
 /// How many entries lines A, B and R brought, if the subscriber answers the steps as it has to, and then holds the whole tape.
 fn brought(
     alloc: Global,
+    version: Version,
     subscriber: &mut Subscriber,
     steps: &[(Step, Told)],
     tape: &feed::Feed,
 ) -> Option<(u32, u32, u32)> {
-    let is_so = told_so(alloc, subscriber, steps) == steps.len() && holds(subscriber, tape)?;
+    let is_so = told_so(alloc, version, subscriber, steps) == steps.len()
+        && holds(subscriber, tape)?;
     is_so.then_some((
         subscriber.brought(A),
         subscriber.brought(B),
@@ -144,86 +147,118 @@ fn brought(
 /// The same of a new subscriber.
 fn brought_anew(
     alloc: Global,
+    version: Version,
     steps: &[(Step, Told)],
     tape: &feed::Feed,
 ) -> Option<(u32, u32, u32)> {
     let mut subscriber = subscriber(alloc, 100)?;
-    brought(alloc, &mut subscriber, steps, tape)
+    brought(alloc, version, &mut subscriber, steps, tape)
 }
 
 /// How many entries each line brought in the row of two lossy lines.
-fn two_lossy_lines(alloc: Global) -> Option<(u32, u32, u32)> {
+fn two_lossy_lines(alloc: Global, version: Version) -> Option<(u32, u32, u32)> {
     let tape = feed::reports(alloc, 8, 100_000)?;
-    brought_anew(alloc, &TWO_LOSSY_LINES, &tape)
+    brought_anew(alloc, version, &TWO_LOSSY_LINES, &tape)
 }
 
 /// How many entries each line brought in a row of a gap.
-fn retransmitted(alloc: Global, steps: &[(Step, Told)]) -> Option<(u32, u32, u32)> {
+fn retransmitted(
+    alloc: Global,
+    version: Version,
+    steps: &[(Step, Told)],
+) -> Option<(u32, u32, u32)> {
     let tape = feed::reports(alloc, 4, 100_000)?;
-    brought_anew(alloc, steps, &tape)
+    brought_anew(alloc, version, steps, &tape)
 }
 
 /// How many entries each line brought in the row of another summary.
-fn another_summary(alloc: Global) -> Option<(u32, u32, u32)> {
+fn another_summary(alloc: Global, version: Version) -> Option<(u32, u32, u32)> {
     let tape = feed::cancelled(alloc, 1)?;
-    brought_anew(alloc, &ANOTHER_SUMMARY, &tape)
+    brought_anew(alloc, version, &ANOTHER_SUMMARY, &tape)
 }
 
 /// How many entries each line brought where the third is no entry of a tape.
-fn refused_entry(alloc: Global) -> Option<(u32, u32, u32)> {
+fn refused_entry(alloc: Global, version: Version) -> Option<(u32, u32, u32)> {
     let tape = feed::reports(alloc, 2, 100_000)?;
-    brought_anew(alloc, &WHAT_ITS_OWN_TAPE_REFUSES, &tape)
+    brought_anew(alloc, version, &WHAT_ITS_OWN_TAPE_REFUSES, &tape)
 }
 
 #[test]
 fn what_two_lossy_lines_bring_between_them_is_held(rt: HostRuntime) {
-    assert_eq!(rt; two_lossy_lines(rt.alloc()), Some((6, 2, 0)));
+    for version in VERSIONS {
+        assert_eq!(rt; two_lossy_lines(rt.alloc(), version), Some((6, 2, 0)));
+    }
 }
 
 #[test]
 fn a_gap_is_filled_by_its_retransmission(rt: HostRuntime) {
-    assert_eq!(rt;
-        retransmitted(rt.alloc(), &A_GAP_AND_ITS_RETRANSMISSION),
-        Some((2, 0, 2))
-    );
+    for version in VERSIONS {
+        assert_eq!(rt;
+            retransmitted(rt.alloc(), version, &A_GAP_AND_ITS_RETRANSMISSION),
+            Some((2, 0, 2))
+        );
+    }
 }
 
 #[test]
 fn a_gap_is_asked_for_and_answered_over_memory(rt: HostRuntime) {
-    assert_eq!(rt;
-        retransmitted(rt.alloc(), &A_GAP_THAT_IS_ASKED_FOR),
-        Some((2, 0, 2))
-    );
+    for version in VERSIONS {
+        assert_eq!(rt;
+            retransmitted(rt.alloc(), version, &A_GAP_THAT_IS_ASKED_FOR),
+            Some((2, 0, 2))
+        );
+    }
 }
 
 #[test]
 fn another_summary_is_not_believed(rt: HostRuntime) {
-    assert_eq!(rt; another_summary(rt.alloc()), Some((1, 1, 0)));
+    for version in VERSIONS {
+        assert_eq!(rt; another_summary(rt.alloc(), version), Some((1, 1, 0)));
+    }
 }
 
 #[test]
 fn an_entry_that_its_own_tape_refuses_waits(rt: HostRuntime) {
-    assert_eq!(rt; refused_entry(rt.alloc()), Some((2, 1, 0)));
+    for version in VERSIONS {
+        assert_eq!(rt; refused_entry(rt.alloc(), version), Some((2, 1, 0)));
+    }
 }
 
 #[test]
 fn conflicts_and_numbers_past_the_end_are_refused(rt: HostRuntime) {
-    assert_eq!(rt; row(rt.alloc(), 100, &CONFLICT_AND_PAST_THE_END), Some(9));
+    for version in VERSIONS {
+        assert_eq!(rt;
+            row(rt.alloc(), version, 100, &CONFLICT_AND_PAST_THE_END),
+            Some(9)
+        );
+    }
 }
 
 #[test]
 fn what_is_beyond_the_window_is_announced_alone(rt: HostRuntime) {
-    assert_eq!(rt; row(rt.alloc(), 2_000, &THE_EDGE_OF_THE_WINDOW), Some(6));
+    for version in VERSIONS {
+        assert_eq!(rt;
+            row(rt.alloc(), version, 2_000, &THE_EDGE_OF_THE_WINDOW),
+            Some(6)
+        );
+    }
 }
 
 #[test]
 fn bytes_that_are_no_packet_change_nothing(rt: HostRuntime) {
-    assert_eq!(rt; row(rt.alloc(), 100, &BYTES_THAT_ARE_NO_PACKET), Some(4));
+    for version in VERSIONS {
+        assert_eq!(rt;
+            row(rt.alloc(), version, 100, &BYTES_THAT_ARE_NO_PACKET),
+            Some(4)
+        );
+    }
 }
 
 #[test]
 fn a_drain_stops_at_the_subscribers_own_limit(rt: HostRuntime) {
-    assert_eq!(rt; row(rt.alloc(), 2, &ITS_OWN_LIMIT), Some(5));
+    for version in VERSIONS {
+        assert_eq!(rt; row(rt.alloc(), version, 2, &ITS_OWN_LIMIT), Some(5));
+    }
 }
 
 /// Whether the vector is taken before the packet of the three reports, and all four are drained.
@@ -235,14 +270,14 @@ fn takes_both(subscriber: &mut Subscriber, reports: &[u8]) -> bool {
 
 /// Whether the vector comes before the three reports, and all four are held.
 fn takes_the_vector(alloc: Global, subscriber: &mut Subscriber, tape: &feed::Feed) -> Option<bool> {
-    let text = feed::packet(alloc, tape, SESSION, 1)?;
+    let text = feed::packet(alloc, Version::One, tape, SESSION, 1)?;
     let is_taken = takes_both(subscriber, text.as_slice());
     Some(is_taken && holds(subscriber, tape)?)
 }
 
 /// Whether the subscriber's own tape gives the vector of entry 4.
 fn gives_the_vector(alloc: Global, subscriber: &Subscriber) -> Option<bool> {
-    let text = feed::packet(alloc, subscriber.tape(), SESSION, 4)?;
+    let text = feed::packet(alloc, Version::One, subscriber.tape(), SESSION, 4)?;
     Some(text.as_slice() == CORRECTION_PACKET.as_slice())
 }
 
@@ -262,4 +297,72 @@ fn correction_and_its_vector(alloc: Global) -> Option<(bool, bool)> {
 #[test]
 fn a_correction_is_read_and_written_as_its_vector(rt: HostRuntime) {
     assert_eq!(rt; correction_and_its_vector(rt.alloc()), Some((true, true)));
+}
+
+/// What the packets of sixteen reports have in bytes: the two of version 1, and the one of version 2.
+fn lengths(one: &[u8], other: &[u8], all: &[u8]) -> [usize; 3] {
+    [one.len(), other.len(), all.len()]
+}
+
+/// What a subscriber answers to these packets, one after the other, and how many entries it then drains.
+fn answers_to(subscriber: &mut Subscriber, one: &[u8], other: &[u8], all: &[u8]) -> [Told; 4] {
+    [
+        deliver(subscriber, A, one),
+        deliver(subscriber, B, other),
+        deliver(subscriber, A, all),
+        drain(subscriber),
+    ]
+}
+
+/// The same of a new subscriber, with the packets' lengths.
+fn sixteen_reports(alloc: Global) -> Option<([usize; 3], [Told; 4])> {
+    let tape = feed::reports(alloc, 16, 100_000)?;
+    let one = feed::packet(alloc, Version::One, &tape, SESSION, 1)?;
+    let other = feed::packet(alloc, Version::One, &tape, SESSION, 9)?;
+    let all = feed::packet(alloc, Version::Two, &tape, SESSION, 1)?;
+    let mut subscriber = subscriber(alloc, 100)?;
+    let told = answers_to(&mut subscriber, &one, &other, &all);
+    Some((lengths(&one, &other, &all), told))
+}
+
+#[test]
+fn a_packet_of_version_2_brings_what_two_of_version_1_brought(rt: HostRuntime) {
+    let told = [Took(8, 0, 0), Took(8, 0, 0), Took(0, 16, 0), Drained(16, 0)];
+    assert!(rt; sixteen_reports(rt.alloc()) == Some(([367, 367, 719], told)));
+}
+
+/// A subscriber that took the packet of a tape's entries, how many bytes the packet had, and what taking and draining it told.
+fn drained(alloc: Global, tape: &feed::Feed) -> Option<(Subscriber, usize, Told, Told)> {
+    let text = feed::packet(alloc, Version::One, tape, SESSION, 1)?;
+    let mut subscriber = subscriber(alloc, 100)?;
+    let taken = deliver(&mut subscriber, A, text.as_slice());
+    let told = drain(&mut subscriber);
+    Some((subscriber, text.len(), taken, told))
+}
+
+/// The place and the price of the last, the volume and the trades of the consolidated summary.
+fn figures(subscriber: &Subscriber) -> Option<(u32, u64, u64, u32)> {
+    let summary = subscriber.summary(feed::symbol()?)?;
+    let last = summary.last?;
+    Some((
+        last.place.value(),
+        last.price.value(),
+        summary.volume,
+        summary.trades,
+    ))
+}
+
+/// Whether a subscriber takes a reinstatement and then holds the tape, with the reinstated report as its last.
+fn holds_a_reinstatement(alloc: Global) -> Option<bool> {
+    let tape = feed::reinstated(alloc)?;
+    let (subscriber, length, taken, told) = drained(alloc, &tape)?;
+    // Three reports of 44 bytes, and a cancel and a reinstatement of 97, after a header of 15.
+    let is_so = length == 341 && taken == Took(5, 0, 0) && told == Drained(5, 0);
+    let shows = figures(&subscriber) == Some((2, 101_000, 300, 3));
+    Some(is_so && shows && holds(&subscriber, &tape)?)
+}
+
+#[test]
+fn a_reinstated_report_stands_again_at_a_subscriber(rt: HostRuntime) {
+    assert_eq!(rt; holds_a_reinstatement(rt.alloc()), Some(true));
 }

@@ -9,10 +9,19 @@ use reports::Message;
 use scratch_fold::Summary;
 use std::alloc::Global;
 use subscriber::{DeliveryFault, Subscriber};
-use tape_frames::PacketFault;
+use tape_frames::{PacketFault, Version};
 
 /// How many entries the tape of a schedule has at most.
 const LIMIT: u32 = 60;
+
+/// The version of a packet that tells of a number: the versions take turns.
+fn version_of(number: u32) -> Version {
+    if number % 2 == 0 {
+        Version::Two
+    } else {
+        Version::One
+    }
+}
 
 /// Numbers that look random, the same from the same seed.
 #[derive(Drop)]
@@ -183,7 +192,7 @@ impl Schedule {
             return Some(());
         }
         let from = 1 + self.dice.below(length);
-        let text = feed::packet(alloc, &self.tape, SESSION, from)?;
+        let text = feed::packet(alloc, version_of(from), &self.tape, SESSION, from)?;
         self.comes(text.as_slice())
     }
 
@@ -191,7 +200,7 @@ impl Schedule {
     fn beats(&mut self, alloc: Global) -> Option<()> {
         let length = self.length();
         let last = self.dice.below(length + 1);
-        let text = feed::beat(alloc, last)?;
+        let text = feed::beat(alloc, version_of(last), last)?;
         self.comes(text.as_slice())
     }
 
@@ -233,7 +242,13 @@ impl Schedule {
             None => return Some(false),
             Some(asked) => asked,
         };
-        let text = feed::packet(alloc, &self.tape, SESSION, asked.from)?;
+        let text = feed::packet(
+            alloc,
+            version_of(asked.from),
+            &self.tape,
+            SESSION,
+            asked.from,
+        )?;
         if !self.is_taken_by(Line::R, text.as_slice()) {
             return None;
         }
@@ -244,7 +259,7 @@ impl Schedule {
     /// The tape is closed, and its end comes.
     fn closes(&mut self, alloc: Global) -> Option<()> {
         self.tape.close();
-        let text = feed::end(alloc, self.length())?;
+        let text = feed::end(alloc, version_of(self.length()), self.length())?;
         if !self.is_taken_by(Line::B, text.as_slice()) {
             return None;
         }

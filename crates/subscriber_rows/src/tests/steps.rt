@@ -3,15 +3,16 @@
 use super::feed::{self, Feed, SESSION};
 use arbitration::{Line, Taken};
 use retransmit::{Ended, ServeEnd, ask, serve};
+use sale_matrix::Matrix;
 use std::alloc::Global;
 use std::io::Write;
 use subscriber::{DeliveryFault, DrainFault, Subscriber};
-use tape_frames::{Request, SliceSource, write_request};
+use tape_frames::{Request, SliceSource, Version, write_request};
 
 /// What a line brings: a packet of session 7 where nothing else is said.
 #[derive(Clone, Copy)]
 pub(super) enum Sent {
-    /// The reports from one number to another, eight at most.
+    /// The reports from one number to another, no more than a packet has.
     Reports(u32, u32),
     /// The same of a tape with other prices.
     OtherPrices(u32, u32),
@@ -112,29 +113,39 @@ fn front(text: Vec<u8>, length: u32) -> Vec<u8> {
 }
 
 /// The packet of the reports from one number to another.
-fn reports(alloc: Global, from: u32, to: u32, price: u64, session: u64) -> Option<Vec<u8>> {
+fn reports(
+    alloc: Global,
+    version: Version,
+    from: u32,
+    to: u32,
+    price: u64,
+    session: u64,
+) -> Option<Vec<u8>> {
     let tape = feed::reports(alloc, to, price)?;
-    feed::packet(alloc, &tape, session, from)
+    feed::packet(alloc, version, &tape, session, from)
 }
 
 /// The packet of the cancel of entry 1, after this many reports.
-fn cancelling(alloc: Global, count: u32) -> Option<Vec<u8>> {
+fn cancelling(alloc: Global, version: Version, count: u32) -> Option<Vec<u8>> {
     let number = count.checked_add(1)?;
     let tape = feed::cancelled(alloc, count)?;
-    feed::packet(alloc, &tape, SESSION, number)
+    feed::packet(alloc, version, &tape, SESSION, number)
 }
 
-/// The bytes of what a line brings.
-fn bytes(alloc: Global, sent: Sent) -> Option<Vec<u8>> {
+/// The bytes of what a line brings in a version.
+fn bytes(alloc: Global, version: Version, sent: Sent) -> Option<Vec<u8>> {
     match sent {
-        Sent::Reports(from, to) => reports(alloc, from, to, 100_000, SESSION),
-        Sent::OtherPrices(from, to) => reports(alloc, from, to, 200_000, SESSION),
-        Sent::OtherSession(number) => reports(alloc, number, number, 100_000, 8),
-        Sent::OtherVolume => Some(with_volume(cancelling(alloc, 1)?, 100)),
-        Sent::UnknownTarget => Some(with_target(cancelling(alloc, 2)?, 9)),
-        Sent::Beat(last) => feed::beat(alloc, last),
-        Sent::End(count) => feed::end(alloc, count),
-        Sent::Front(length) => Some(front(reports(alloc, 1, 1, 100_000, SESSION)?, length)),
+        Sent::Reports(from, to) => reports(alloc, version, from, to, 100_000, SESSION),
+        Sent::OtherPrices(from, to) => reports(alloc, version, from, to, 200_000, SESSION),
+        Sent::OtherSession(number) => reports(alloc, version, number, number, 100_000, 8),
+        Sent::OtherVolume => Some(with_volume(cancelling(alloc, version, 1)?, 100)),
+        Sent::UnknownTarget => Some(with_target(cancelling(alloc, version, 2)?, 9)),
+        Sent::Beat(last) => feed::beat(alloc, version, last),
+        Sent::End(count) => feed::end(alloc, version, count),
+        Sent::Front(length) => Some(front(
+            reports(alloc, version, 1, 1, 100_000, SESSION)?,
+            length,
+        )),
     }
 }
 
@@ -151,11 +162,12 @@ pub(super) fn drain(subscriber: &mut Subscriber) -> Told {
 /// A line brings something.
 pub(super) fn brings(
     alloc: Global,
+    version: Version,
     subscriber: &mut Subscriber,
     line: Line,
     sent: Sent,
 ) -> Option<Told> {
-    let text = bytes(alloc, sent)?;
+    let text = bytes(alloc, version, sent)?;
     Some(deliver(subscriber, line, text.as_slice()))
 }
 
@@ -177,9 +189,10 @@ pub(super) fn deliver_all(subscriber: &mut Subscriber, packets: &[Vec<u8>]) -> T
     Told::Took(fresh, repeated, beyond)
 }
 
-/// Whether this request alone is answered to the writer, over the tape.
+/// Whether this request alone is answered to the writer in a version, over the tape.
 pub(super) fn is_served<W: Write>(
     alloc: Global,
+    version: Version,
     tape: &Feed,
     asked: &Request,
     writer: &mut W,
@@ -187,7 +200,7 @@ pub(super) fn is_served<W: Write>(
     let text = write_request(asked);
     let mut reader = text.as_slice();
     let mut source = SliceSource::of(tape);
-    let end = serve(alloc, &mut source, SESSION, &mut reader, writer);
+    let end = serve(alloc, &mut source, SESSION, version, &mut reader, writer);
     end == ServeEnd {
         served: 1,
         ended: Ended::Clean,
@@ -195,9 +208,9 @@ pub(super) fn is_served<W: Write>(
 }
 
 /// The bytes that answer a request over the tape.
-fn served(alloc: Global, tape: &Feed, asked: &Request) -> Option<Vec<u8>> {
+fn served(alloc: Global, version: Version, tape: &Feed, asked: &Request) -> Option<Vec<u8>> {
     let mut text = Vec::new(alloc);
-    is_served(alloc, tape, asked, &mut text).then_some(text)
+    is_served(alloc, version, tape, asked, &mut text).then_some(text)
 }
 
 /// The packets that asking takes out of an answer.
@@ -208,28 +221,38 @@ fn packets_of(alloc: Global, asked: &Request, answer: &[u8]) -> Option<Vec<Vec<u
 }
 
 /// The packets that answer a request over the tape.
-pub(super) fn answered(alloc: Global, tape: &Feed, asked: &Request) -> Option<Vec<Vec<u8>>> {
-    let text = served(alloc, tape, asked)?;
+pub(super) fn answered(
+    alloc: Global,
+    version: Version,
+    tape: &Feed,
+    asked: &Request,
+) -> Option<Vec<Vec<u8>>> {
+    let text = served(alloc, version, tape, asked)?;
     packets_of(alloc, asked, &text)
 }
 
 /// The packets that answer a request over so many reports.
-fn answered_over(alloc: Global, count: u32, asked: &Request) -> Option<Vec<Vec<u8>>> {
+fn answered_over(
+    alloc: Global,
+    version: Version,
+    count: u32,
+    asked: &Request,
+) -> Option<Vec<Vec<u8>>> {
     let tape = feed::reports(alloc, count, 100_000)?;
-    answered(alloc, &tape, asked)
+    answered(alloc, version, &tape, asked)
 }
 
 /// What is missing is asked for over so many reports, and comes.
-fn asks(alloc: Global, subscriber: &mut Subscriber, count: u32) -> Option<Told> {
+fn asks(alloc: Global, version: Version, subscriber: &mut Subscriber, count: u32) -> Option<Told> {
     let asked = subscriber.missing()?;
-    let packets = answered_over(alloc, count, &asked)?;
+    let packets = answered_over(alloc, version, count, &asked)?;
     Some(deliver_all(subscriber, &packets))
 }
 
-fn take(alloc: Global, subscriber: &mut Subscriber, step: Step) -> Option<Told> {
+fn take(alloc: Global, version: Version, subscriber: &mut Subscriber, step: Step) -> Option<Told> {
     match step {
-        Step::By(line, sent) => brings(alloc, subscriber, line, sent),
-        Step::Asks(count) => asks(alloc, subscriber, count),
+        Step::By(line, sent) => brings(alloc, version, subscriber, line, sent),
+        Step::Asks(count) => asks(alloc, version, subscriber, count),
         Step::Drain => Some(drain(subscriber)),
         Step::Missing => Some(told_missing(subscriber.missing())),
         Step::IsGapOpen => Some(Told::Is(subscriber.open_gap())),
@@ -237,11 +260,17 @@ fn take(alloc: Global, subscriber: &mut Subscriber, step: Step) -> Option<Told> 
     }
 }
 
-/// Takes the steps up to the first whose answer is not the expected one, and returns how many were answered as expected.
-pub(super) fn told_so(alloc: Global, subscriber: &mut Subscriber, steps: &[(Step, Told)]) -> usize {
+/// Takes the steps, with packets of a version, up to the first whose answer is not the expected one, and returns how many were
+/// answered as expected.
+pub(super) fn told_so(
+    alloc: Global,
+    version: Version,
+    subscriber: &mut Subscriber,
+    steps: &[(Step, Told)],
+) -> usize {
     for at in 0..steps.len() {
         let (step, wanted) = steps[at];
-        if take(alloc, subscriber, step) != Some(wanted) {
+        if take(alloc, version, subscriber, step) != Some(wanted) {
             return at;
         }
     }
@@ -250,7 +279,7 @@ pub(super) fn told_so(alloc: Global, subscriber: &mut Subscriber, steps: &[(Step
 
 /// A subscriber of session 7 with a limit.
 pub(super) fn subscriber(alloc: Global, limit: u32) -> Option<Subscriber> {
-    Subscriber::new(alloc, feed::listing(alloc)?, limit, SESSION).ok()
+    Subscriber::new(alloc, feed::listing(alloc)?, limit, SESSION, Matrix::One).ok()
 }
 
 /// Whether the subscriber holds the whole tape, with its summaries.

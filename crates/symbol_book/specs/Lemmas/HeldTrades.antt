@@ -18,6 +18,7 @@ use Rattle.symbol_book.specs.Stores.{trade_of, trades_of, book_trades, HoldTrade
 use Rattle.symbol_book.specs.Stores.{OwnBecomes}
 use Rattle.symbol_book.specs.Lemmas.ParticipantStores.{participant_effects-none, OwnBecomes-here, OwnBecomes-then}
 use Rattle.sale_matrix.specs.declared.content.Content.{Content}
+use Rattle.sale_matrix.specs.declared.matrix.Matrix.{Matrix}
 
 -- a value at each key, made of the key and what stood there
 pub find-keyed : {X Y : Type 0} (f : ℕ → X → Y) (q : ℕ) (es : List (ℕ × X))
@@ -290,13 +291,15 @@ module _ {S : Type 0} (effects_in : S → Effects) (change_in : S → Change) wh
       )
 
   -- the trades with another content, from what the consolidated store holds
-  pub trades_with_content-is : (all : S) (stores : List S) (k : ℕ) (e : Effect) (content : Content) → map.get (effects_in all) k ≡ Some e
+  pub trades_with_content-is : (matrix : Matrix) (all : S) (stores : List S) (k : ℕ) (e : Effect) (content : Content)
+      → map.get (effects_in all) k ≡ Some e
       → IsBook effects_in change_in all stores
-      → trades_with_content (book_trades effects_in all stores) k content ≡ map.insert (book_trades effects_in all stores) k (reported_trade e.who content)
-  trades_with_content-is all stores k e content here b =
+      → trades_with_content matrix (book_trades effects_in all stores) k content
+      ≡ map.insert (book_trades effects_in all stores) k (reported_trade matrix e.who content)
+  trades_with_content-is matrix all stores k e content here b =
       let m : Trades = book_trades effects_in all stores in
       let at = trade_there m (effects_in all) (participant_effects effects_in stores) k e b.trades here in
-      ap (λ o. with_content m k o content) at.1 ∙ ap (λ (x : Effect). map.insert m k (reported_trade x.who content)) at.2
+      ap (λ o. with_content matrix m k o content) at.1 ∙ ap (λ (x : Effect). map.insert m k (reported_trade matrix x.who content)) at.2
 
 -- where a participant's trade is, its effect in the consolidated columns is the participant's too
 pub effect_of_theirs : (m : Trades) (all : Effects) (of_who : ℕ → Effects) (k who : ℕ) → HoldTrades m all of_who

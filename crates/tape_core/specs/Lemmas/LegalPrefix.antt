@@ -2,14 +2,15 @@
 use Rattle.std.proofs.Common.{◌≡◌, ℕ, suc, ◌<◌, ◌==◌, cond, not, nat_le, false, List, ◌∷◌, length, take, slice_get, Option, Some, None, ap, ◌∙◌, arith, sym}
 use Rattle.std.proofs.lemmas.Option.{slice_get_within}
 use Rattle.std.proofs.Math.ListN.{length-take}
+use Rattle.sale_matrix.specs.declared.matrix.Matrix.{Matrix}
 use Rattle.reports.specs.declared.message.Message.{Message}
 use Rattle.reports.specs.Messages.{header_of}
 use Rattle.tape_types.specs.Names.{Names, first_fault}
 use Rattle.tape_core.specs.declared.entry.Entry.{Entry}
 use Rattle.tape_core.specs.declared.refusal.Refusal.{Refusal}
-use Rattle.tape_core.specs.declared.refusal.Refusal.TheVariants.{Closed, Full, UnknownParticipant, Stale, UnknownSymbol}
+use Rattle.tape_core.specs.declared.refusal.Refusal.TheVariants.{Closed, Full, UnknownParticipant, Stale, UnknownSymbol, NotInMatrix}
 use Rattle.tape_core.specs.Standing.{last_number}
-use Rattle.tape_core.specs.Tape.{TapeState, IsLegal, refusal, next_entry, messages_of, lists_participant, lists_symbol, message_faults}
+use Rattle.tape_core.specs.Tape.{TapeState, IsLegal, refusal, next_entry, messages_of, lists_participant, lists_symbol, is_in_matrix, message_faults}
 use Rattle.tape_core.specs.Laws.{limit_refusal}
 use Rattle.tape_core.specs.Lemmas.LegalNext.{none_first}
 
@@ -20,24 +21,26 @@ number-of_position t k e legal at =
     ap (λ (x : Entry). x.number) (legal k e at).1 ∙ omega (arith, length-take k t.entries)
 
 -- why a message is refused, whether or not the tape is closed or full
-abbrev message_refusal : Names → List Entry → Message → Option Refusal
-message_refusal listing entries m = first_fault (
+abbrev message_refusal : Names → Matrix → List Entry → Message → Option Refusal
+message_refusal listing matrix entries m = first_fault (
     (not (lists_participant listing (header_of m).participant), UnknownParticipant) ∷
     (nat_le (header_of m).number (last_number (messages_of entries) (header_of m).participant), Stale) ∷
     (not (lists_symbol listing (header_of m).symbol), UnknownSymbol) ∷
+    (not (is_in_matrix matrix m), NotInMatrix) ∷
     message_faults (messages_of entries) m)
 
 -- a tape with the first entries of a legal one refuses the message of the next only for being closed or full itself
 pub refusal-next : (t own : TapeState) (k : ℕ) (e : Entry) → IsLegal t → slice_get t.entries k ≡ Some e
-    → own.listing ≡ t.listing → own.entries ≡ take k t.entries → refusal own e.message ≡ limit_refusal own
-refusal-next t own k e legal at listing entries =
+    → own.listing ≡ t.listing → own.matrix ≡ t.matrix → own.entries ≡ take k t.entries → refusal own e.message ≡ limit_refusal own
+refusal-next t own k e legal at listing matrix entries =
     let free = none_first false Closed _ (legal k e at).0 in
-    let rest : message_refusal t.listing (take k t.entries) e.message ≡ None = (none_first (length (take k t.entries) == t.limit) Full _ free.1).1 in
-    let here : message_refusal own.listing own.entries e.message ≡ None =
-    ap (λ l. message_refusal l own.entries e.message) listing ∙ ap (λ es. message_refusal t.listing es e.message) entries ∙ rest in
+    let rest : message_refusal t.listing t.matrix (take k t.entries) e.message ≡ None = (none_first (length (take k t.entries) == t.limit) Full _ free.1).1 in
+    let here : message_refusal own.listing own.matrix own.entries e.message ≡ None =
+    (λ i. message_refusal (listing i) (matrix i) (entries i) e.message) ∙ rest in
     ap (λ o. cond own.closed (Some Closed) (cond (length own.entries == own.limit) (Some Full) o)) here
 
 -- and makes that very entry of it
-pub entry-next : (t own : TapeState) (k : ℕ) (e : Entry) → IsLegal t → slice_get t.entries k ≡ Some e → own.entries ≡ take k t.entries
-    → next_entry own.entries e.message ≡ e
-entry-next t own k e legal at entries = ap (λ es. next_entry es e.message) entries ∙ sym (legal k e at).1
+pub entry-next : (t own : TapeState) (k : ℕ) (e : Entry) → IsLegal t → slice_get t.entries k ≡ Some e → own.matrix ≡ t.matrix
+    → own.entries ≡ take k t.entries
+    → next_entry own.matrix own.entries e.message ≡ e
+entry-next t own k e legal at matrix entries = (λ i. next_entry (matrix i) (entries i) e.message) ∙ sym (legal k e at).1

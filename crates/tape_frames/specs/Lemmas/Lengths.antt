@@ -1,9 +1,9 @@
 -- How long the spellings are.
-use Rattle.std.proofs.Common.{◌≡◌, ℕ, ◌+◌, ◌*◌, ◌≤◌, List, [], ◌∷◌, length, length-append, Option, Some, None, refl, arith}
+use Rattle.std.proofs.Common.{◌≡◌, ℕ, ◌+◌, ◌*◌, ◌≤◌, List, [], ◌∷◌, ◌++◌, length, length-append, Option, Some, None, refl, sym, subst, arith}
 use Rattle.std.specs.Prelude.{All, flat_map}
 use Rattle.std.proofs.lemmas.List.Elements.{All-head, All-tail}
 use Rattle.reports.specs.declared.message.Message.{Message}
-use Rattle.reports.specs.declared.message.Message.TheVariants.{Report, Cancel, Correct}
+use Rattle.reports.specs.declared.message.Message.TheVariants.{Report, Cancel, Correct, Reinstate}
 use Rattle.reports.specs.Messages.{named_target}
 use Rattle.reports.specs.Spelling.{kind_byte, spelling}
 use Rattle.reports.specs.Lemmas.Messages.{body_length, length-spelling}
@@ -11,9 +11,12 @@ use Rattle.scratch_fold.specs.declared.summary.Summary.{Summary}
 use Rattle.tape_core.specs.declared.entry.Entry.{Entry}
 use Rattle.tape_frames.specs.declared.packet.Packet.TheVariants.{Data, Beat, End}
 use Rattle.tape_frames.specs.Kinds.{DATA}
-use Rattle.tape_frames.specs.Limits.{ENTRIES_MOST, SUMMARY_LENGTH, LONGEST_ENTRY, LONGEST_PACKET}
+use Rattle.tape_frames.specs.declared.version.Version.{Version}
+use Rattle.tape_frames.specs.Limits.{HEADER_LENGTH, SUMMARY_LENGTH, LONGEST_ENTRY}
 use Rattle.tape_frames.specs.Lengths.{EntryLengths, PacketLengths, RequestLengths, entry_length}
-use Rattle.tape_frames.specs.EntryRows.{CarriesFor, first_number}
+use Rattle.tape_frames.specs.EntryRows.{CarriesFor, RowState, first_number}
+use Rattle.tape_frames.specs.Versions.{entries_most, longest_packet}
+use Rattle.tape_frames.specs.Lemmas.Versions.{entries_most-within}
 use Rattle.tape_frames.specs.Spelling as frames
 use Rattle.tape_frames.specs.Spelling.{IsEntry, carried_text, entry_text, packet_text}
 use Rattle.tape_frames.specs.Lemmas.Summaries.{length-summary_text}
@@ -38,10 +41,11 @@ entry_sum : (m : Message) → 4 + (2 + body_length (kind_byte m) + carried_lengt
 entry_sum (Report h c) = refl
 entry_sum (Cancel h n) = refl
 entry_sum (Correct h n c) = refl
+entry_sum (Reinstate h n) = refl
 
 -- each entry has as many bytes as its kind asks for
 pub entry_lengths : EntryLengths
-entry_lengths e is = omega (
+entry_lengths version e is = omega (
   arith,
   length-append (spelling e.message) (carried_text e.after),
   length-spelling e.message is.message,
@@ -54,33 +58,47 @@ entry_at_most : (m : Message) → entry_length m ≤ LONGEST_ENTRY
 entry_at_most (Report h c) = omega arith
 entry_at_most (Cancel h n) = omega arith
 entry_at_most (Correct h n c) = omega arith
+entry_at_most (Reinstate h n) = omega arith
 
 -- ---- packets
 
 -- entries are no longer than as many corrections
-length-entries : (es : List Entry) → All IsEntry es → length (flat_map entry_text es) ≤ LONGEST_ENTRY * length es
-length-entries [] all = omega arith
-length-entries (e ∷ es) all =
-    let first : IsEntry e = All-head IsEntry e es all in
+length-entries : (version : Version) (es : List Entry) → All (IsEntry version) es → length (flat_map entry_text es) ≤ LONGEST_ENTRY * length es
+length-entries version [] all = omega arith
+length-entries version (e ∷ es) all =
+    let first : IsEntry version e = All-head (IsEntry version) e es all in
     omega (
       arith,
       length-append (entry_text e) (flat_map entry_text es),
-      entry_lengths e first,
+      entry_lengths version e first,
       entry_at_most e.message,
-      length-entries es (All-tail IsEntry e es all),
+      length-entries version es (All-tail (IsEntry version) e es all),
     )
 
--- a data packet of no more entries than a packet has is no longer than the longest packet
-pub length-data_text : (session : ℕ) (es : List Entry) → All IsEntry es → length es ≤ ENTRIES_MOST
-    → length (packet_text (Data session es)) ≤ LONGEST_PACKET
-length-data_text session es all few =
-    omega (arith, length-append (frames.header_text DATA session (first_number es) (length es)) (flat_map entry_text es), length-entries es all, few)
+-- a data packet of so many entries is as long as that many corrections at most
+data_length : (header text most : ℕ) → header ≡ HEADER_LENGTH → (count : ℕ) → text ≤ LONGEST_ENTRY * count → count ≤ most
+    → header + text ≤ HEADER_LENGTH + most * LONGEST_ENTRY
+data_length header text most is count short few = omega (arith, is, short, few)
 
--- each packet has a header at least, and no packet is longer than the longest
+-- a data packet of no more entries than a packet of the version has is no longer than the longest one of the version, and the entries may
+-- be those of another version
+pub length-data_text : (version : Version) (session : ℕ) (row : RowState) → All (IsEntry version) row.entries → length row.entries ≤ entries_most row.version
+    → length (packet_text (Data session row)) ≤ longest_packet row.version
+length-data_text version session row all few =
+    let es = row.entries in
+    let header = frames.header_text row.version DATA session (first_number es) (length es) in
+    let whole : length (header ++ flat_map entry_text es) ≡ length header + length (flat_map entry_text es) = length-append header (flat_map entry_text es) in
+    subst (λ (n : ℕ). n ≤ longest_packet row.version) (sym whole)
+    (data_length (length header) (length (flat_map entry_text es)) (entries_most row.version) refl (length es) (length-entries version es all) few)
+
+-- each packet has a header at least, and no packet is longer than the longest of its version
 pub packet_lengths : PacketLengths
-packet_lengths (Data session es) is = (length-packet_text (Data session es), length-data_text session es is.1.1 is.1.0.few)
-packet_lengths (Beat session last) is = (length-packet_text (Beat session last), omega arith)
-packet_lengths (End session count) is = (length-packet_text (End session count), omega arith)
+packet_lengths (Data session row) is = (
+  length-packet_text (Data session row),
+  length-data_text row.version session row is.1.2 is.1.1.few,
+)
+packet_lengths (Beat session last) is = (length-packet_text (Beat session last), omega (arith, (entries_most-within last.version).0))
+packet_lengths (End session count) is = (length-packet_text (End session count), omega (arith, (entries_most-within count.version).0))
 
 -- all requests have the same length
 pub request_lengths : RequestLengths

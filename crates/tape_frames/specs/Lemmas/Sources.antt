@@ -1,15 +1,16 @@
 -- What a source gives, by its list, and what is cut from it.
-use Rattle.std.proofs.Common.{◌≡◌, ℕ, ◌+◌, ◌-◌, ◌<◌, ◌≤◌, List, [], ◌∷◌, ◌++◌, length, length-drop}
+use Rattle.std.proofs.Common.{◌≡◌, ℕ, ◌+◌, ◌-◌, ◌<◌, ◌≤◌, List, [], ◌∷◌, ◌++◌, length, length-drop, length-take}
 use Rattle.std.proofs.Common.{get_or, take, drop, Some, min, sym, ap, subst, ◌∙◌, arith, inl, inr}
 use Rattle.std.specs.Prelude.{All, slice_get}
 use Rattle.std.proofs.lemmas.Bool.{cases_lt}
-use Rattle.std.proofs.lemmas.List.{get_or-drop, take_all, take_more}
+use Rattle.std.proofs.lemmas.List.{get_or-drop, get_or-take, take_all, take_more}
 use Rattle.std.proofs.lemmas.List.Elements.{All-take}
-use Rattle.std.proofs.lemmas.Option.{get_or_from_slice_get, slice_get_within}
+use Rattle.std.proofs.lemmas.Option.{get_or_from_slice_get, slice_get-get_or, slice_get_within}
 use Rattle.tape_core.specs.declared.entry.Entry.{Entry}
-use Rattle.tape_frames.specs.Limits.{ENTRIES_MOST}
-use Rattle.tape_frames.specs.EntryRows.{Carries, IsNumberedFrom}
-use Rattle.tape_frames.specs.Sources.{IsPublished, cut_of}
+use Rattle.tape_frames.specs.declared.version.Version.{Version}
+use Rattle.tape_frames.specs.EntryRows.{Carries, HasNoLaterPlaces, IsNumberedFrom}
+use Rattle.tape_frames.specs.Sources.{IsPublished, cut_of, sendable}
+use Rattle.tape_frames.specs.Versions.{entries_most, number_most}
 use Rattle.tape_frames.specs.Lemmas.Numbers.{IsNumberedFrom-take, number_at_place}
 
 -- the first entries of what is published are published too
@@ -17,6 +18,7 @@ pub IsPublished-take : (len : ℕ) (es : List Entry) → IsPublished es → IsPu
 IsPublished-take len es published = record {
   numbered = IsNumberedFrom-take len 1 es published.numbered;
   carries = All-take Carries len es published.carries;
+  places = All-take HasNoLaterPlaces len es published.places;
 }
 
 -- the entry that is found under a number has it
@@ -26,6 +28,10 @@ listed_number es n e numbered some got = number_at_place 1 es (n - 1) e numbered
 -- and carries what its kind does
 pub listed_carries : (es : List Entry) (k : ℕ) (e : Entry) → All Carries es → slice_get es k ≡ Some e → Carries e
 listed_carries es k e all got = subst Carries (get_or_from_slice_get es k e e got) (all k e (slice_get_within es k e got))
+
+-- and names no place after its own
+pub listed_places : (es : List Entry) (k : ℕ) (e : Entry) → All HasNoLaterPlaces es → slice_get es k ≡ Some e → HasNoLaterPlaces e
+listed_places es k e all got = subst HasNoLaterPlaces (get_or_from_slice_get es k e e got) (all k e (slice_get_within es k e got))
 
 -- the last entry has the number of all
 pub last_number : (es : List Entry) (e : Entry) → IsNumberedFrom 1 es → slice_get es (length es - 1) ≡ Some e → e.number ≡ length es
@@ -51,13 +57,26 @@ cut_first es from e some got =
     let same : (from + 0) - 1 ≡ from - 1 = omega arith in
     sym (cut_more es from 0 e some (ap (λ (i : ℕ). slice_get es i) same ∙ got))
 
--- the entries from a number on, up to `ENTRIES_MOST` of them, are what is cut there
-pub cut_all : (es : List Entry) (from count : ℕ) → 1 ≤ from → from ≤ length es → count ≡ min ((length es - from) + 1) ENTRIES_MOST
-    → take count (drop (from - 1) es) ≡ cut_of es from
-cut_all es from count some within is = elim (cases_lt ((length es - from) + 1) ENTRIES_MOST) [
-  | inl few ↦
-      let long : length (drop (from - 1) es) ≤ count = omega (arith, length-drop (from - 1) es, is, few, some, within) in
-      let short : length (drop (from - 1) es) ≤ ENTRIES_MOST = omega (arith, length-drop (from - 1) es, few, some, within) in
-      take_all count (drop (from - 1) es) long ∙ sym (take_all ENTRIES_MOST (drop (from - 1) es) short)
-  | inr many ↦ let all : count ≡ ENTRIES_MOST = omega (arith, is, many) in ap (λ (n : ℕ). take n (drop (from - 1) es)) all
-]
+-- an entry whose number a version can tell of is found among those that it can send
+pub sendable_get : (version : Version) (es : List Entry) (k : ℕ) (e : Entry) → k < number_most version → slice_get es k ≡ Some e
+    → slice_get (sendable version es) k ≡ Some e
+sendable_get version es k e low got =
+    let most = number_most version in
+    let within : k < length es = slice_get_within es k e got in
+    let short : k < length (take most es) = omega (arith, length-take most es, low, within) in
+    let is : get_or (take most es) k e ≡ e = get_or-take most es k e low ∙ get_or_from_slice_get es k e e got in
+    slice_get-get_or (take most es) k e short ∙ ap Some is
+
+-- the entries from a number on, as many as a packet has or all that are left, are what is cut there
+pub cut_all : (version : Version) (es : List Entry) (from last count : ℕ) → 1 ≤ from → from ≤ last → last ≡ min (length es) (number_most version)
+    → count ≡ min ((last - from) + 1) (entries_most version) → take count (drop (from - 1) (sendable version es)) ≡ cut_of version es from
+cut_all version es from last count some within is many =
+    let list = sendable version es in
+    let size : length list ≡ last = omega (arith, length-take (number_most version) es, is) in
+    elim (cases_lt ((last - from) + 1) (entries_most version)) [
+      | inl few ↦
+          let long : length (drop (from - 1) list) ≤ count = omega (arith, length-drop (from - 1) list, size, many, few, some, within) in
+          let short : length (drop (from - 1) list) ≤ entries_most version = omega (arith, length-drop (from - 1) list, size, few, some, within) in
+          take_all count (drop (from - 1) list) long ∙ sym (take_all (entries_most version) (drop (from - 1) list) short)
+      | inr full ↦ let all : count ≡ entries_most version = omega (arith, many, full) in ap (λ (n : ℕ). take n (drop (from - 1) list)) all
+    ]

@@ -5,14 +5,17 @@ use Rattle.std.specs.Prelude.{is_some}
 use Rattle.std.specs.Int.{w8, w32, w64, to_be_bytes}
 use Rattle.std.proofs.lemmas.Bool.{cases_Bool, eqb-true, eqb-false, false≢true, le-ltb}
 use Rattle.std.proofs.lemmas.Slice.Eq.{bytes_eq-Decides}
-use Rattle.tape_types.specs.Ranges.{FIRST_PARTICIPANT, LAST_PARTICIPANT, IsParticipant, IsPrice, IsTapeNumber, PRICE_MOST, TAPE_MOST}
+use Rattle.tape_types.specs.Ranges.{FIRST_PARTICIPANT, LAST_PARTICIPANT, IsParticipant, IsPrice, PRICE_MOST}
 use Rattle.scratch_fold.specs.declared.summary.Mark.{Mark}
 use Rattle.scratch_fold.specs.declared.summary.Summary.{Summary}
 use Rattle.reports.specs.Fields.{number_at, ranged_at, text_at}
 use Rattle.reports.specs.Lemmas.Fields.{IsReader, Takes, Takes-then, first_taken, number_reader, ok_is, passed, ranged_reader, text_reader}
 use Rattle.reports.specs.Lemmas.Fields.{wide8, wide32, wide64}
 use Rattle.tape_frames.specs.declared.packet_fault.PacketFault.TheVariants.{Short, BadEntry}
+use Rattle.tape_frames.specs.declared.version.Version.{Version}
 use Rattle.tape_frames.specs.Limits.{MARK_LENGTH, ALL_MARKS, SUMMARY_LENGTH}
+use Rattle.tape_frames.specs.Versions.{IsNumberIn, number_most}
+use Rattle.tape_frames.specs.Lemmas.Versions.{number_most-within}
 use Rattle.tape_frames.specs.Spelling.{IsFigure, IsMark, IsSummary, bit, figure_text, mark_text, marks_text, no_mark_text, presence, summary_text}
 use Rattle.tape_frames.specs.Reading.{Marks, figure_at, figures_at, has_bit, is_no_mark, mark_at, marks_at, summary_field_at}
 
@@ -23,23 +26,23 @@ price_reader : IsReader (ranged_at BadEntry w64 1 PRICE_MOST BadEntry) (to_be_by
 price_reader = ranged_reader BadEntry wide64 1 PRICE_MOST BadEntry (lit< tt)
 
 -- the place of a mark
-place_reader : IsReader (ranged_at BadEntry w32 1 TAPE_MOST BadEntry) (to_be_bytes w32) IsTapeNumber
-place_reader = ranged_reader BadEntry wide32 1 TAPE_MOST BadEntry (lit< tt)
+place_reader : (version : Version) → IsReader (ranged_at BadEntry w32 1 (number_most version) BadEntry) (to_be_bytes w32) (IsNumberIn version)
+place_reader version = ranged_reader BadEntry wide32 1 (number_most version) BadEntry (omega (arith, number_most-within version))
 
 -- the participant of a mark
 who_reader : IsReader (ranged_at BadEntry w8 FIRST_PARTICIPANT LAST_PARTICIPANT BadEntry) (to_be_bytes w8) IsParticipant
 who_reader = ranged_reader BadEntry wide8 FIRST_PARTICIPANT LAST_PARTICIPANT BadEntry (lit< tt)
 
 -- a mark: its three fields in a row
-mark_reader : IsReader mark_at mark_text IsMark
+mark_reader : (version : Version) → IsReader (mark_at version) mark_text (IsMark version)
 unfolding mark_at
-mark_reader = record {
+mark_reader version = record {
   takes = λ bytes x fits e.
       let a = first_taken price_reader bytes _ x fits e in
-      let b = first_taken place_reader a.0.1 _ x a.1.rest_fits a.3 in
+      let b = first_taken (place_reader version) a.0.1 _ x a.1.rest_fits a.3 in
       let c = first_taken who_reader b.0.1 _ x b.1.rest_fits b.3 in
       let made : Mark × List ℕ = (record { price = a.0.0; place = b.0.0; who = c.0.0 }, c.0.1) in
-      subst (λ (y : Mark × List ℕ). Takes bytes (mark_text y.0) y.1 × IsMark y.0) {x = made} (ok_is BadEntry made x c.3)
+      subst (λ (y : Mark × List ℕ). Takes bytes (mark_text y.0) y.1 × IsMark version y.0) {x = made} (ok_is BadEntry made x c.3)
       (Takes-then a.1 (Takes-then b.1 c.1), record { price = a.2; place = b.2; who = c.2 });
   again = λ m rest fits.
       let p = to_be_bytes w64 m.price in
@@ -47,9 +50,9 @@ mark_reader = record {
       let w = to_be_bytes w8 m.who in
       let regrouped : mark_text m ++ rest ≡ p ++ (q ++ (w ++ rest)) = simp append_assoc in
       let first = price_reader.again m.price (q ++ (w ++ rest)) fits.price in
-      let second = place_reader.again m.place (w ++ rest) fits.place in
+      let second = (place_reader version).again m.place (w ++ rest) fits.place in
       let third = who_reader.again m.who rest fits.who in
-      ap mark_at regrouped ∙ rw (first, second, third) refl;
+      ap (mark_at version) regrouped ∙ rw (first, second, third) refl;
 }
 
 -- the zeros of a mark that is not there
@@ -59,40 +62,42 @@ no_mark_reader =
     (λ text is. ap length is)
 
 -- a mark that is there, or none
-abbrev IsFigureThere : Bool → Option Mark → Type 0
-IsFigureThere is_there figure = IsFigure figure × (is_some figure ≡ is_there)
+abbrev IsFigureThere : Version → Bool → Option Mark → Type 0
+IsFigureThere version is_there figure = IsFigure version figure × (is_some figure ≡ is_there)
 
 -- a mark that is there is read again
-figure_there : (figure : Option Mark) (rest : List ℕ) → IsFigureThere true figure → figure_at true (figure_text figure ++ rest) ≡ Ok (figure, rest)
+figure_there : (version : Version) (figure : Option Mark) (rest : List ℕ) → IsFigureThere version true figure
+    → figure_at version true (figure_text figure ++ rest) ≡ Ok (figure, rest)
 unfolding figure_at
-figure_there None rest fits = absurd (false≢true fits.1)
-figure_there (Some m) rest fits = rw (mark_reader.again m rest fits.0) refl
+figure_there version None rest fits = absurd (false≢true fits.1)
+figure_there version (Some m) rest fits = rw ((mark_reader version).again m rest fits.0) refl
 
 -- the zeros of a mark that is not there are read again
-figure_gone : (figure : Option Mark) (rest : List ℕ) → IsFigureThere false figure → figure_at false (figure_text figure ++ rest) ≡ Ok (figure, rest)
+figure_gone : (version : Version) (figure : Option Mark) (rest : List ℕ) → IsFigureThere version false figure
+    → figure_at version false (figure_text figure ++ rest) ≡ Ok (figure, rest)
 unfolding figure_at
-figure_gone None rest fits = rw (no_mark_reader.again no_mark_text rest refl) refl
-figure_gone (Some m) rest fits = absurd (false≢true (sym fits.1))
+figure_gone version None rest fits = rw (no_mark_reader.again no_mark_text rest refl) refl
+figure_gone version (Some m) rest fits = absurd (false≢true (sym fits.1))
 
 -- a mark where one is there, and zeros where none is
-figure_reader : (is_there : Bool) → IsReader (figure_at is_there) figure_text (IsFigureThere is_there)
+figure_reader : (version : Version) (is_there : Bool) → IsReader (figure_at version is_there) figure_text (IsFigureThere version is_there)
 unfolding figure_at
-figure_reader true = record {
+figure_reader version true = record {
   takes = λ bytes x fits e.
-      let a = first_taken mark_reader bytes _ x fits e in
+      let a = first_taken (mark_reader version) bytes _ x fits e in
       let made : Option Mark × List ℕ = (Some a.0.0, a.0.1) in
-      subst (λ (y : Option Mark × List ℕ). Takes bytes (figure_text y.0) y.1 × IsFigureThere true y.0) {x = made} (ok_is BadEntry made x a.3)
+      subst (λ (y : Option Mark × List ℕ). Takes bytes (figure_text y.0) y.1 × IsFigureThere version true y.0) {x = made} (ok_is BadEntry made x a.3)
       (a.1, (a.2, refl));
-  again = figure_there;
+  again = figure_there version;
 }
-figure_reader false = record {
+figure_reader version false = record {
   takes = λ bytes x fits e.
       let a = first_taken no_mark_reader bytes _ x fits e in
       let zeros : Takes bytes no_mark_text a.0.1 = subst (λ (t : List ℕ). Takes bytes t a.0.1) a.2 a.1 in
       let made : Option Mark × List ℕ = (None, a.0.1) in
-      subst (λ (y : Option Mark × List ℕ). Takes bytes (figure_text y.0) y.1 × IsFigureThere false y.0) {x = made} (ok_is BadEntry made x a.3)
+      subst (λ (y : Option Mark × List ℕ). Takes bytes (figure_text y.0) y.1 × IsFigureThere version false y.0) {x = made} (ok_is BadEntry made x a.3)
       (zeros, (tt, refl));
-  again = figure_gone;
+  again = figure_gone version;
 }
 
 -- ---- the presence byte
@@ -170,23 +175,23 @@ abbrev four_text : Marks → List ℕ
 four_text m = figure_text m.0 ++ (figure_text m.1 ++ (figure_text m.2 ++ figure_text m.3))
 
 -- each mark is there where the byte has its bit
-record AreThere (presence : ℕ) (m : Marks) : Type 0 where
-  opening : IsFigureThere (has_bit presence 1) m.0
-  high : IsFigureThere (has_bit presence 2) m.1
-  low : IsFigureThere (has_bit presence 4) m.2
-  last : IsFigureThere (has_bit presence 8) m.3
+record AreThere (version : Version) (presence : ℕ) (m : Marks) : Type 0 where
+  opening : IsFigureThere version (has_bit presence 1) m.0
+  high : IsFigureThere version (has_bit presence 2) m.1
+  low : IsFigureThere version (has_bit presence 4) m.2
+  last : IsFigureThere version (has_bit presence 8) m.3
 
 -- the four marks, each where the byte has its bit
-marks_reader : (presence : ℕ) → IsReader (marks_at presence) four_text (AreThere presence)
+marks_reader : (version : Version) (presence : ℕ) → IsReader (marks_at version presence) four_text (AreThere version presence)
 unfolding marks_at
-marks_reader presence = record {
+marks_reader version presence = record {
   takes = λ bytes x fits e.
-      let a = first_taken (figure_reader (has_bit presence 1)) bytes _ x fits e in
-      let b = first_taken (figure_reader (has_bit presence 2)) a.0.1 _ x a.1.rest_fits a.3 in
-      let c = first_taken (figure_reader (has_bit presence 4)) b.0.1 _ x b.1.rest_fits b.3 in
-      let d = first_taken (figure_reader (has_bit presence 8)) c.0.1 _ x c.1.rest_fits c.3 in
+      let a = first_taken (figure_reader version (has_bit presence 1)) bytes _ x fits e in
+      let b = first_taken (figure_reader version (has_bit presence 2)) a.0.1 _ x a.1.rest_fits a.3 in
+      let c = first_taken (figure_reader version (has_bit presence 4)) b.0.1 _ x b.1.rest_fits b.3 in
+      let d = first_taken (figure_reader version (has_bit presence 8)) c.0.1 _ x c.1.rest_fits c.3 in
       let made : Marks × List ℕ = ((a.0.0, b.0.0, c.0.0, d.0.0), d.0.1) in
-      subst (λ (y : Marks × List ℕ). Takes bytes (four_text y.0) y.1 × AreThere presence y.0) {x = made} (ok_is BadEntry made x d.3)
+      subst (λ (y : Marks × List ℕ). Takes bytes (four_text y.0) y.1 × AreThere version presence y.0) {x = made} (ok_is BadEntry made x d.3)
       (Takes-then a.1 (Takes-then b.1 (Takes-then c.1 d.1)), record { opening = a.2; high = b.2; low = c.2; last = d.2 });
   again = λ m rest fits.
       let a = figure_text m.0 in
@@ -194,20 +199,20 @@ marks_reader presence = record {
       let c = figure_text m.2 in
       let d = figure_text m.3 in
       let regrouped : four_text m ++ rest ≡ a ++ (b ++ (c ++ (d ++ rest))) = simp append_assoc in
-      let first = (figure_reader (has_bit presence 1)).again m.0 (b ++ (c ++ (d ++ rest))) fits.opening in
-      let second = (figure_reader (has_bit presence 2)).again m.1 (c ++ (d ++ rest)) fits.high in
-      let third = (figure_reader (has_bit presence 4)).again m.2 (d ++ rest) fits.low in
-      let fourth = (figure_reader (has_bit presence 8)).again m.3 rest fits.last in
-      ap (marks_at presence) regrouped ∙ rw (first, second, third, fourth) refl;
+      let first = (figure_reader version (has_bit presence 1)).again m.0 (b ++ (c ++ (d ++ rest))) fits.opening in
+      let second = (figure_reader version (has_bit presence 2)).again m.1 (c ++ (d ++ rest)) fits.high in
+      let third = (figure_reader version (has_bit presence 4)).again m.2 (d ++ rest) fits.low in
+      let fourth = (figure_reader version (has_bit presence 8)).again m.3 rest fits.last in
+      ap (marks_at version presence) regrouped ∙ rw (first, second, third, fourth) refl;
 }
 
 -- the byte of marks that are there by its bits
-presence_is : (p : ℕ) (m : Marks) → p ≤ ALL_MARKS → AreThere p m → presence_of (is_some m.0) (is_some m.1) (is_some m.2) (is_some m.3) ≡ p
-presence_is p m low there = rw (there.opening.1, there.high.1, there.low.1, there.last.1) (presence_read p low)
+presence_is : (version : Version) (p : ℕ) (m : Marks) → p ≤ ALL_MARKS → AreThere version p m → presence_of (is_some m.0) (is_some m.1) (is_some m.2) (is_some m.3) ≡ p
+presence_is version p m low there = rw (there.opening.1, there.high.1, there.low.1, there.last.1) (presence_read p low)
 
 -- the marks of a summary are there by the bits of its byte
-marks_there : (z : Summary) → IsSummary z → AreThere (presence z) (z.opening, z.high, z.low, z.last)
-marks_there z fits =
+marks_there : (version : Version) (z : Summary) → IsSummary version z → AreThere version (presence z) (z.opening, z.high, z.low, z.last)
+marks_there version z fits =
     let a = is_some z.opening in
     let b = is_some z.high in
     let c = is_some z.low in
@@ -220,19 +225,19 @@ marks_there z fits =
     }
 
 -- the fields of a summary in a row
-figures_reader : IsReader figures_at summary_text IsSummary
+figures_reader : (version : Version) → IsReader (figures_at version) summary_text (IsSummary version)
 unfolding figures_at
-figures_reader = record {
+figures_reader version = record {
   takes = λ bytes x fits e.
       let p = first_taken presence_reader bytes _ x fits e in
-      let m = first_taken (marks_reader p.0.0) p.0.1 _ x p.1.rest_fits p.3 in
+      let m = first_taken (marks_reader version p.0.0) p.0.1 _ x p.1.rest_fits p.3 in
       let v = first_taken volume_reader m.0.1 _ x m.1.rest_fits m.3 in
       let t = first_taken trades_reader v.0.1 _ x v.1.rest_fits v.3 in
       let made : Summary × List ℕ =
       (record { opening = m.0.0.0; high = m.0.0.1; low = m.0.0.2; last = m.0.0.3; volume = v.0.0; trades = t.0.0 }, t.0.1) in
-      let is = presence_is p.0.0 m.0.0 p.2.1 m.2 in
+      let is = presence_is version p.0.0 m.0.0 p.2.1 m.2 in
       let front : Takes bytes (to_be_bytes w8 (presence made.0)) p.0.1 = subst (λ (n : ℕ). Takes bytes (to_be_bytes w8 n) p.0.1) (sym is) p.1 in
-      subst (λ (y : Summary × List ℕ). Takes bytes (summary_text y.0) y.1 × IsSummary y.0) {x = made} (ok_is BadEntry made x t.3) (
+      subst (λ (y : Summary × List ℕ). Takes bytes (summary_text y.0) y.1 × IsSummary version y.0) {x = made} (ok_is BadEntry made x t.3) (
         Takes-then front (Takes-then m.1 (Takes-then v.1 t.1)),
         record { opening = m.2.opening.0; high = m.2.high.0; low = m.2.low.0; last = m.2.last.0; volume = v.2; trades = t.2 },
       );
@@ -245,10 +250,10 @@ figures_reader = record {
       append_assoc p (m ++ (v ++ t)) rest ∙ ap (λ (l : List ℕ). p ++ l) (append_assoc m (v ++ t) rest) in
       let low = presence-low (is_some z.opening) (is_some z.high) (is_some z.low) (is_some z.last) in
       let first = presence_reader.again (presence z) (m ++ (v ++ (t ++ rest))) (omega arith, low) in
-      let second = (marks_reader (presence z)).again (z.opening, z.high, z.low, z.last) (v ++ (t ++ rest)) (marks_there z fits) in
+      let second = (marks_reader version (presence z)).again (z.opening, z.high, z.low, z.last) (v ++ (t ++ rest)) (marks_there version z fits) in
       let third = volume_reader.again z.volume (t ++ rest) fits.volume in
       let fourth = trades_reader.again z.trades rest fits.trades in
-      ap figures_at regrouped ∙ rw (first, second, third, fourth) refl;
+      ap (figures_at version) regrouped ∙ rw (first, second, third, fourth) refl;
 }
 
 -- a mark has thirteen bytes, as its zeros have
@@ -276,12 +281,13 @@ length-summary_text z =
     )
 
 -- a summary is read from its spelling alone
-pub summary_reader : IsReader summary_field_at summary_text IsSummary
+pub summary_reader : (version : Version) → IsReader (summary_field_at version) summary_text (IsSummary version)
 unfolding summary_field_at
-summary_reader = record {
-  takes = λ bytes x fits e. let went = passed (ltb (length bytes) SUMMARY_LENGTH) Short (figures_at bytes) x e in figures_reader.takes bytes x fits went.1;
+summary_reader version = record {
+  takes = λ bytes x fits e. let went = passed (ltb (length bytes) SUMMARY_LENGTH) Short (figures_at version bytes) x e in
+      (figures_reader version).takes bytes x fits went.1;
   again = λ z rest fits.
       let long : ltb (length (summary_text z ++ rest)) SUMMARY_LENGTH ≡ false =
       le-ltb _ _ (omega (arith, length-append (summary_text z) rest, length-summary_text z)) in
-      rw long (figures_reader.again z rest fits);
+      rw long ((figures_reader version).again z rest fits);
 }

@@ -1,9 +1,11 @@
 //! A book alone, over each store: a report is added, replaced and removed. A tape corrects its books by another call.
-ghost use Rattle.std.specs.Prelude.{◌≢◌};
+ghost use Rattle.std.specs.Prelude.{◌≡◌, ◌≢◌, true, IfSome};
+ghost use Rattle.sale_matrix.specs.Matrix.{is_within};
+ghost use Rattle.sale_matrix.specs.declared.matrix.Matrix.TheVariants.{One};
 
 use super::steps::{Figures, Point, content, figures_of};
 use super::tape::{CORRECTED, EMPTY, OF_N_ALONE, OF_Q_ALONE};
-use sale_matrix::Content;
+use sale_matrix::{Content, Matrix};
 use std::alloc::{AllocError, Global};
 use summaries::{IndexStore, ScratchStore, Store};
 use symbol_book::Book;
@@ -52,14 +54,18 @@ fn changed<S: Store>(
     alloc: Global,
     first: TapeNumber,
     second: TapeNumber,
-    contents: &[Content; 3],
+    of_n: &Content,
+    of_q: &Content,
+    other: &Content,
     n: Participant,
     q: Participant,
 ) -> Result<[Shown; 3], AllocError>
     requires apart { first ≢ second }
+    requires of_n { is_within One of_n.now.condition ≡ true }
+    requires of_q { is_within One of_q.now.condition ≡ true }
+    requires other { is_within One other.now.condition ≡ true }
 {
-    let [of_n, of_q, other] = contents;
-    let mut book = Book::<S>::new(alloc);
+    let mut book = Book::<S>::new(alloc, Matrix::One);
     book.add(first, n, of_n.price, of_n.size, &of_n.condition)?;
     book.add(second, q, of_q.price, of_q.size, &of_q.condition)?;
     let added = shown(&book, n, q);
@@ -69,18 +75,27 @@ fn changed<S: Store>(
     Ok([added, replaced, shown(&book, n, q)])
 }
 
+/// The content, where its condition is one of Matrix One.
+fn of_matrix_one(content: Content) -> Option<Content>
+    ensures { IfSome result (λ c. is_within One c.condition ≡ true) }
+{
+    if content.condition.within(Matrix::One) {
+        Some(content)
+    } else {
+        None
+    }
+}
+
 /// The same at places 1 and 2, with the contents of the row.
 fn shown_in_turn<S: Store>(alloc: Global) -> Option<[Shown; 3]> {
-    let contents = [
-        content(b"@   ", 100_000, 100)?,
-        content(b"@ L ", 100_500, 100)?,
-        content(b"@ Z ", 99_000, 200)?,
-    ];
+    let of_n = of_matrix_one(content(b"@   ", 100_000, 100)?)?;
+    let of_q = of_matrix_one(content(b"@ L ", 100_500, 100)?)?;
+    let other = of_matrix_one(content(b"@ Z ", 99_000, 200)?)?;
     let first = TapeNumber::try_new(1)?;
     let second = TapeNumber::try_new(2)?;
     let n = Participant::try_new(b'N')?;
     let q = Participant::try_new(b'Q')?;
-    changed::<S>(alloc, first, second, &contents, n, q).ok()
+    changed::<S>(alloc, first, second, &of_n, &of_q, &other, n, q).ok()
 }
 
 #[test]

@@ -4,6 +4,7 @@ use super::steps::Kind::{Cancel, Correct, Report};
 use super::steps::Step::{Consolidated, Sends};
 use super::steps::Told::{Number, Shows};
 use super::steps::{Figures, Point, Step, Told, fills, indexed, participants, told_so};
+use sale_matrix::Matrix;
 use std::alloc::Global;
 use summaries::IndexStore;
 use tape_core::Tape;
@@ -35,7 +36,7 @@ fn listing(alloc: Global, count: usize) -> Option<Listing> {
 
 /// A tape of as many symbols and of every participant, over the indexes.
 fn tape(alloc: Global, count: usize) -> Option<Tape<IndexStore>> {
-    Tape::new(alloc, listing(alloc, count)?, 10).ok()
+    Tape::new(alloc, listing(alloc, count)?, 10, Matrix::One).ok()
 }
 
 /// Where the symbol after `at` others stands in a tape's listing, and how many symbols and participants that has.
@@ -123,7 +124,7 @@ fn filled(tape: &mut Tape<IndexStore>) -> (u32, usize) {
 
 /// The same of a new tape with the greatest limit.
 fn filled_anew(alloc: Global) -> Option<(u32, usize)> {
-    Some(filled(&mut indexed(alloc, 1_048_576)?))
+    Some(filled(&mut indexed(alloc, 1_048_576, Matrix::One)?))
 }
 
 #[test]

@@ -1,11 +1,14 @@
-//! The matrix against the profile's printed rows, written out here a second time.
+//! Both matrices against the profile's printed rows, written out here a second time.
 ghost use Rattle.std.specs.Prelude.{◌<◌};
 
-use sale_matrix::{Cells, Condition, LastRule, cells};
+use sale_matrix::{Cells, Condition, LastRule, Matrix, cells};
 use std::process::Abort;
 
 /// The codes of a position, from 0, and their cells as the profile prints them: CH, CL, PH, PL, V.
-const ROWS: [(usize, &[u8], &[u8; 5]); 17] = [
+type Row = (usize, &'static [u8], &'static [u8; 5]);
+
+/// The rows that both matrices have.
+const SHARED_ROWS: [Row; 15] = [
     (0, b"@", b"YYYYY"),
     (0, b"CNR", b"NNNNY"),
     (1, b" ", b"YYYYY"),
@@ -19,10 +22,19 @@ const ROWS: [(usize, &[u8], &[u8; 5]); 17] = [
     (2, b"Z", b"YFYFY"),
     (3, b" ", b"YYYYY"),
     (3, b"ABDSXY1", b"YYYYY"),
-    (3, b"HIVW", b"NNNNY"),
-    (3, b"PG", b"YFYFY"),
     (3, b"M", b"NNYYN"),
     (3, b"Q", b"NNYNN"),
+];
+
+/// The other rows of Matrix One.
+const ROWS_OF_ONE: [Row; 2] = [(3, b"HIVW", b"NNNNY"), (3, b"PG", b"YFYFY")];
+
+/// The other rows of Matrix Two.
+const ROWS_OF_TWO: [Row; 4] = [
+    (3, b"HVW", b"NNNNY"),
+    (3, b"I", b"YNYNY"),
+    (3, b"2", b"YSYSY"),
+    (3, b"PG3", b"YFYFY"),
 ];
 
 fn rule(letter: u8) -> LastRule {
@@ -44,32 +56,40 @@ fn row(letters: &[u8; 5]) -> Cells {
     }
 }
 
-fn expected(position: usize, code: u8) -> Option<Cells> {
-    for (at, codes, letters) in ROWS {
-        if at == position && codes.contains(&code) {
+fn cells_in(rows: &[Row], position: usize, code: u8) -> Option<Cells> {
+    for (at, codes, letters) in rows {
+        if *at == position && codes.contains(&code) {
             return Some(row(letters));
         }
     }
     None
 }
 
-fn answer(position: usize, code: u8) -> Option<Cells>
+fn expected(matrix: Matrix, position: usize, code: u8) -> Option<Cells> {
+    let own = match matrix {
+        Matrix::One => cells_in(&ROWS_OF_ONE, position, code),
+        Matrix::Two => cells_in(&ROWS_OF_TWO, position, code),
+    };
+    own.or(cells_in(&SHARED_ROWS, position, code))
+}
+
+fn answer(matrix: Matrix, position: usize, code: u8) -> Option<Cells>
     requires { position < 4 }
 {
     let mut codes = *b"@   ";
     codes[position] = code;
-    combined(codes)
+    combined(matrix, codes)
 }
 
-fn check_position(rt: &impl Abort, position: usize) -> u32
+fn check_position(rt: &impl Abort, matrix: Matrix, position: usize) -> u32
     requires { position < 4 }
 {
     let mut taken = 0u32;
     for code in 0..=255u8 {
-        let answer = answer(position, code);
+        let answer = answer(matrix, position, code);
         assert_eq!(rt;
             answer,
-            expected(position, code),
+            expected(matrix, position, code),
             "code {code} in position {position}"
         );
         if answer.is_some() {
@@ -81,26 +101,38 @@ fn check_position(rt: &impl Abort, position: usize) -> u32
 
 #[test]
 fn each_code_alone_has_the_cells_of_its_row(rt: HostRuntime) {
-    assert_eq!(rt; check_position(&rt, 0), 4);
-    assert_eq!(rt; check_position(&rt, 1), 8);
-    assert_eq!(rt; check_position(&rt, 2), 5);
-    assert_eq!(rt; check_position(&rt, 3), 16);
+    for matrix in [Matrix::One, Matrix::Two] {
+        assert_eq!(rt; check_position(&rt, matrix, 0), 4);
+        assert_eq!(rt; check_position(&rt, matrix, 1), 8);
+        assert_eq!(rt; check_position(&rt, matrix, 2), 5);
+    }
+    assert_eq!(rt; check_position(&rt, Matrix::One, 3), 16);
+    assert_eq!(rt; check_position(&rt, Matrix::Two, 3), 18);
 }
 
-fn combined(codes: [u8; 4]) -> Option<Cells> {
+/// The cells of a condition, or `None` where a code of it is not one of the matrix's.
+fn combined(matrix: Matrix, codes: [u8; 4]) -> Option<Cells> {
     let condition = Condition::try_new(codes)?;
-    Some(cells(&condition))
+    if !condition.within(matrix) {
+        return None;
+    }
+    Some(cells(matrix, &condition))
 }
 
 #[test]
 fn codes_combine_to_the_least_cell(rt: HostRuntime) {
-    for (codes, letters) in [
-        (b"@FTI", b"NNNNY"),
-        (b"@4  ", b"YFYFY"),
-        (b"@9 M", b"NNNNN"),
-        (b"@4L ", b"YFYFY"),
-        (b"@ LM", b"NNYSN"),
+    for (matrix, codes, letters) in [
+        (Matrix::One, b"@FTI", b"NNNNY"),
+        (Matrix::One, b"@4  ", b"YFYFY"),
+        (Matrix::One, b"@9 M", b"NNNNN"),
+        (Matrix::One, b"@4L ", b"YFYFY"),
+        (Matrix::One, b"@ LM", b"NNYSN"),
+        (Matrix::Two, b"@FTI", b"NNNNY"),
+        (Matrix::Two, b"@4 I", b"YNYNY"),
+        (Matrix::Two, b"@4 2", b"YFYFY"),
+        (Matrix::Two, b"@9 2", b"YSNNN"),
+        (Matrix::Two, b"@ L3", b"YFYFY"),
     ] {
-        assert_eq!(rt; combined(*codes), Some(row(letters)), "{codes:?}");
+        assert_eq!(rt; combined(matrix, *codes), Some(row(letters)), "{codes:?}");
     }
 }

@@ -6,6 +6,7 @@ use super::steps::Step::Sends;
 use super::steps::Told::Number;
 use super::steps::{Step, Told, listing_of, told_so};
 use day_report::{ReportFault, Row, rows, write_report};
+use sale_matrix::Matrix;
 use std::alloc::Global;
 use std::sync::atomic::{AtomicU32, Ordering};
 use std::thread::Threads;
@@ -69,7 +70,7 @@ fn listing(alloc: Global) -> Option<Listing> {
 
 /// A tape of five symbols without a report.
 fn empty(alloc: Global) -> Option<Tape<ScratchStore>> {
-    Tape::new(alloc, listing(alloc)?, 10).ok()
+    Tape::new(alloc, listing(alloc)?, 10, Matrix::One).ok()
 }
 
 /// The rows of a tape that takes the five reports, made by so many workers past a gate.
@@ -248,7 +249,7 @@ fn hundred(alloc: Global) -> Option<Tape<ScratchStore>> {
     }
     let participant = Participant::try_new(b'N')?;
     let listing = Listing::new(alloc, &symbols, &[participant]).ok()?;
-    Tape::new(alloc, listing, 1).ok()
+    Tape::new(alloc, listing, 1, Matrix::One).ok()
 }
 
 /// What `calls` tells of the tape of five symbols.

@@ -1,7 +1,7 @@
 //! The steps of a row: what a tape is sent or asked, and what it answers.
 
 use reports::{Content, Header, Message, Moment};
-use sale_matrix::Condition;
+use sale_matrix::{Condition, Matrix};
 use scratch_fold::{Mark, Summary};
 use std::alloc::Global;
 use summaries::{IndexStore, ScratchStore, Store};
@@ -19,6 +19,8 @@ pub(super) enum Kind {
     Cancel(u32),
     /// A correction of a message number: the condition, the price and the shares that it has from now on.
     Correct(u32, &'static [u8; 4], u64, u32),
+    /// A reinstatement of a message number.
+    Reinstate(u32),
 }
 
 /// What is done next. What is asked is asked of AB.
@@ -147,6 +149,10 @@ fn message(header: Header, kind: Kind) -> Option<Message> {
             target: MsgNumber::try_new(target)?,
             content: content(condition, price, shares)?,
         },
+        Kind::Reinstate(target) => Message::Reinstate {
+            header,
+            target: MsgNumber::try_new(target)?,
+        },
     })
 }
 
@@ -274,12 +280,12 @@ fn listing(alloc: Global) -> Option<Listing> {
     listing_of(alloc, &[b"AB      ", b"CD      "], b"NPQ")
 }
 
-/// An open tape of the symbols AB and CD and the participants N, P and Q, over the plain store.
-pub(super) fn plain(alloc: Global, limit: u32) -> Option<Tape<ScratchStore>> {
-    Tape::new(alloc, listing(alloc)?, limit).ok()
+/// An open tape of the symbols AB and CD and the participants N, P and Q, by a matrix, over the plain store.
+pub(super) fn plain(alloc: Global, limit: u32, matrix: Matrix) -> Option<Tape<ScratchStore>> {
+    Tape::new(alloc, listing(alloc)?, limit, matrix).ok()
 }
 
 /// The same over the indexes.
-pub(super) fn indexed(alloc: Global, limit: u32) -> Option<Tape<IndexStore>> {
-    Tape::new(alloc, listing(alloc)?, limit).ok()
+pub(super) fn indexed(alloc: Global, limit: u32, matrix: Matrix) -> Option<Tape<IndexStore>> {
+    Tape::new(alloc, listing(alloc)?, limit, matrix).ok()
 }

@@ -4,6 +4,7 @@
 use crate::{FollowSockets, LiveSockets, Loss, NoLoss, follow_over, live_over};
 use arbitration::Line;
 use live_feed::here;
+use sale_matrix::Matrix;
 use std::alloc::Global;
 use std::io::Write;
 use std::net::{Net, TcpListener, TcpStream, UdpSocket};
@@ -213,13 +214,23 @@ fn statuses<
     thread::join(
         rt,
         || live_over(
-            rt, alloc, listing, LIMIT, SESSION, *serves, live, loss, written,
+            rt,
+            alloc,
+            listing,
+            LIMIT,
+            Matrix::One,
+            SESSION,
+            *serves,
+            live,
+            loss,
+            written,
         ),
         || follow_over(
             rt,
             alloc,
             same,
             LIMIT,
+            Matrix::One,
             SESSION,
             follow,
             *restart_after,

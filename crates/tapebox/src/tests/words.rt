@@ -1,6 +1,7 @@
 //! The arguments of `live` and of `follow`: each number is the field of its place.
 
 use crate::command::{Command, FollowWords, LiveWords, read_command};
+use sale_matrix::Matrix;
 use std::alloc::Global;
 use tape_types::Listing;
 
@@ -75,4 +76,34 @@ fn no_connection_need_be_served(rt: HostRuntime) {
     let live = b"live\0AB\0N\01\02\03\04\00\00\0";
     let wanted = Some(([1, 1], [1, 2, 3, 4, 0], 0));
     assert!(rt; live_numbers(rt.alloc(), live) == wanted);
+}
+
+/// The matrix that arguments ask for, if they are those of a command.
+fn asked_matrix(alloc: Global, words: &[u8]) -> Option<Matrix> {
+    match read_command(alloc, words) {
+        Ok(Command::Batch(matrix)) => Some(matrix),
+        Ok(Command::Live(live)) => Some(live.matrix),
+        Ok(Command::Follow(follow)) => Some(follow.matrix),
+        Err(_) => None,
+    }
+}
+
+/// Arguments of each command, and the matrix that they ask for.
+const MATRICES: [(&[u8], Matrix); 9] = [
+    (b"batch\0", Matrix::One),
+    (b"batch\01\0", Matrix::One),
+    (b"batch\02\0", Matrix::Two),
+    (LIVE, Matrix::One),
+    (b"live\0AB\0N\01\02\03\04\00\00\01\0", Matrix::One),
+    (b"live\0AB\0N\01\02\03\04\00\00\02\0", Matrix::Two),
+    (FOLLOW, Matrix::One),
+    (b"follow\0AB\0N\01\02\03\00\01\0", Matrix::One),
+    (b"follow\0AB\0N\01\02\03\00\02\0", Matrix::Two),
+];
+
+#[test]
+fn the_matrix_is_the_last_word_or_one(rt: HostRuntime) {
+    for (words, matrix) in MATRICES {
+        assert!(rt; asked_matrix(rt.alloc(), words) == Some(matrix));
+    }
 }

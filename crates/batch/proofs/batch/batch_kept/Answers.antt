@@ -28,17 +28,17 @@ pub returns-in-Ok-read_batch-clause-wrote : goal.returns-in-Ok-read_batch-clause
 returns-in-Ok-read_batch-clause-wrote g c =
     let known = g.R.Read.remaining c.args.reader.now in
     let left = front_left g (goal.at.returns-in-Ok-read_batch-clause-wrote g c).After-new-2 in
-    IfSome_then known (read_whole (INPUT_MOST + 1) known _ c.in-Ok-read_batch.read left (omega arith)
+    IfSome_then known (read_whole c.args.matrix (INPUT_MOST + 1) known _ c.in-Ok-read_batch.read left (omega arith)
     (rw c.new-2.ensures.taken at c.in-Ok-read_batch.ensures.fits) c.in-Ok-read_batch.ensures.read)
-    (λ input read. Finishes-wrote c.in-Ok-read_batch.read _ input _ _ read.1 c.finish_batch.ensures.finishes)
+    (λ input read. Finishes-wrote c.args.matrix c.in-Ok-read_batch.read _ input _ _ read.1 c.finish_batch.ensures.finishes)
 
 pub returns-in-Ok-read_batch-clause-ends : goal.returns-in-Ok-read_batch-clause-ends
 returns-in-Ok-read_batch-clause-ends g c =
     let known = g.R.Read.remaining c.args.reader.now in
     let left = front_left g (goal.at.returns-in-Ok-read_batch-clause-ends g c).After-new-2 in
-    IfSome_then known (read_whole (INPUT_MOST + 1) known _ c.in-Ok-read_batch.read left (omega arith)
+    IfSome_then known (read_whole c.args.matrix (INPUT_MOST + 1) known _ c.in-Ok-read_batch.read left (omega arith)
     (rw c.new-2.ensures.taken at c.in-Ok-read_batch.ensures.fits) c.in-Ok-read_batch.ensures.read)
-    (λ input read. Finishes-ends c.in-Ok-read_batch.read _ input _ _ read.1 c.finish_batch.ensures.finishes read.0)
+    (λ input read. Finishes-ends c.args.matrix c.in-Ok-read_batch.read _ input _ _ read.1 c.finish_batch.ensures.finishes read.0)
 
 pub returns-in-Ok-read_batch-clause-silent : goal.returns-in-Ok-read_batch-clause-silent
 returns-in-Ok-read_batch-clause-silent g c = λ read_end. absurd (Finishes-silent c.in-Ok-read_batch.read _ _ _ c.finish_batch.ensures.finishes read_end)
@@ -53,4 +53,4 @@ returns-clause-ends g c =
 pub returns-clause-wrote : goal.returns-clause-wrote
 returns-clause-wrote g c =
     let end : c.from.result ≡ end_of_reading c.in-Err.end = search rules in
-    rw end (reading-wrote (g.R.Read.remaining c.args.reader.now) c.in-Err.end (g.W.Write.contents c.args.writer.now))
+    rw end (reading-wrote c.args.matrix (g.R.Read.remaining c.args.reader.now) c.in-Err.end (g.W.Write.contents c.args.writer.now))

@@ -9,5 +9,5 @@ returns-in-Ok-clause-read g c =
     (remaining c.next_line-2.new.self.left) _ _ _ _ _ c.next_line.new.line.items c.next_line-2.new.line.items
     c.in_ok-next_line.ensures.took (λ e. c.in_ok-next_line.ensures.end (ap Ok e)) c.in_ok-next_line-2.ensures.took
     (λ e. c.in_ok-next_line-2.ensures.end (ap Ok e)) in
-    ReadsBatch-day _ _ _ _ _ _ c.in-Ok.listing c.in_ok-day-in-Ok.day header
+    ReadsBatch-day c.args.matrix _ _ _ _ _ _ c.in-Ok.listing c.in_ok-day-in-Ok.day header
     (rw (c.deref.ensures.value, c.deref-2.ensures.value) at c.in-Ok.ensures.ok) c.in_ok-day-in-Ok.ensures.day

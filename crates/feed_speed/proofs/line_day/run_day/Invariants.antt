@@ -4,4 +4,4 @@ abbrev pub ghosts-run_named_day-D-Ledger : goal.ghosts-run_named_day-D-Ledger
 ghosts-run_named_day-D-Ledger g a = record { name = a.prepared.blank.name; parts = a.prepared.blank.parts }
 
 abbrev pub ghosts-run_named_day-D-DayName : goal.ghosts-run_named_day-D-DayName
-ghosts-run_named_day-D-DayName g a = record { listing = a.prepared.tape.listing }
+ghosts-run_named_day-D-DayName g a = record { listing = a.prepared.tape.listing; matrix = a.prepared.tape.matrix }

@@ -6,7 +6,7 @@ pub returns-clause-prefix : goal.returns-clause-prefix
 returns-clause-prefix c = prefix
 
 pub returns-clause-data : goal.returns-clause-data
-returns-clause-data c = λ names tokens t session from first all. (refl, data_cut names tokens t from first all)
+returns-clause-data c = λ names tokens t session from version first all. (refl, data_cut version names tokens t from first all)
 
 pub returns-clause-beat : goal.returns-clause-beat
-returns-clause-beat c = λ names tokens t session last first all low. (refl, as_many names tokens t last first all low)
+returns-clause-beat c = λ names tokens t session last first all low. (refl, as_many names tokens t last.count first all low)

@@ -4,4 +4,4 @@ abbrev pub ghosts-run_named-D-Ledger : goal.ghosts-run_named-D-Ledger
 ghosts-run_named-D-Ledger g a = record { name = a.prepared.blank.name; parts = a.prepared.blank.parts }
 
 abbrev pub ghosts-run_named-D-DayName : goal.ghosts-run_named-D-DayName
-ghosts-run_named-D-DayName g a = record { listing = a.prepared.tape.listing }
+ghosts-run_named-D-DayName g a = record { listing = a.prepared.tape.listing; matrix = a.prepared.tape.matrix }

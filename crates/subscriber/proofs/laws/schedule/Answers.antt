@@ -81,7 +81,7 @@ pub returns-clause-other : goal.returns-clause-other
 returns-clause-other c = fails_by_other
 
 pub returns-clause-cut : goal.returns-clause-cut
-returns-clause-cut c w from = (refl, cut_is_part w.tape.entries w.tape.entries from ([], sym (append-nil w.tape.entries)))
+returns-clause-cut c w version from = (refl, cut_is_part version w.tape.entries w.tape.entries from ([], sym (append-nil w.tape.entries)))
 
 pub returns-clause-comes : goal.returns-clause-comes
 returns-clause-comes c = bytes_come

@@ -19,5 +19,5 @@ returns-clause-ok c =
     let inside : c.row_index.result < length c.self.inside.rows = omega arith in
     on_ok_weaker c.insert.result (λ is.
     targets-insert c.self.inside.rows c.args.who c.args.number c.row_index.result c.index-self-row_index.result c.insert.new.self
-    (standing_target c.args.symbol c.args.place) c.row_index.ensures.letter inside is
-    ∙ ap (λ r. map.insert (targets_of r) (c.args.who, c.args.number) (standing_target c.args.symbol c.args.place)) c.self.view_is) c.insert.ensures.ok
+    (standing_target c.args.symbol c.args.place c.args.content.now) c.row_index.ensures.letter inside is
+    ∙ ap (λ r. map.insert (targets_of r) (c.args.who, c.args.number) (standing_target c.args.symbol c.args.place c.args.content.now)) c.self.view_is) c.insert.ensures.ok

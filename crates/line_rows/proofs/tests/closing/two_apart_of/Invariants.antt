@@ -4,4 +4,4 @@ abbrev pub ghosts-two_apart-D-Ledger : goal.ghosts-two_apart-D-Ledger
 ghosts-two_apart-D-Ledger g a = record { name = a.prepared.blank.name; parts = a.prepared.blank.parts }
 
 abbrev pub ghosts-two_apart-D-DayName : goal.ghosts-two_apart-D-DayName
-ghosts-two_apart-D-DayName g a = record { listing = a.prepared.tape.listing }
+ghosts-two_apart-D-DayName g a = record { listing = a.prepared.tape.listing; matrix = a.prepared.tape.matrix }

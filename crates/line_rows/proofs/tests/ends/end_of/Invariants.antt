@@ -4,4 +4,4 @@ abbrev pub ghosts-figures-D-Ledger : goal.ghosts-figures-D-Ledger
 ghosts-figures-D-Ledger g a = record { name = a.prepared.blank.name; parts = a.prepared.blank.parts }
 
 abbrev pub ghosts-figures-D-DayName : goal.ghosts-figures-D-DayName
-ghosts-figures-D-DayName g a = record { listing = a.prepared.tape.listing }
+ghosts-figures-D-DayName g a = record { listing = a.prepared.tape.listing; matrix = a.prepared.tape.matrix }

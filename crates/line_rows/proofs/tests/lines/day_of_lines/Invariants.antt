@@ -4,4 +4,4 @@ abbrev pub ghosts-day_after-D-Ledger : goal.ghosts-day_after-D-Ledger
 ghosts-day_after-D-Ledger g a = record { name = a.prepared.blank.name; parts = a.prepared.blank.parts }
 
 abbrev pub ghosts-day_after-D-DayName : goal.ghosts-day_after-D-DayName
-ghosts-day_after-D-DayName g a = record { listing = a.prepared.tape.listing }
+ghosts-day_after-D-DayName g a = record { listing = a.prepared.tape.listing; matrix = a.prepared.tape.matrix }

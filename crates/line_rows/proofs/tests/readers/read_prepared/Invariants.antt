@@ -4,4 +4,4 @@ abbrev pub ghosts-read_day-D-Ledger : goal.ghosts-read_day-D-Ledger
 ghosts-read_day-D-Ledger g a = record { name = a.prepared.blank.name; parts = a.prepared.blank.parts }
 
 abbrev pub ghosts-read_day-D-DayName : goal.ghosts-read_day-D-DayName
-ghosts-read_day-D-DayName g a = record { listing = a.prepared.tape.listing }
+ghosts-read_day-D-DayName g a = record { listing = a.prepared.tape.listing; matrix = a.prepared.tape.matrix }

@@ -4,4 +4,4 @@ abbrev pub ghosts-lines_of_a_day-D-Ledger : goal.ghosts-lines_of_a_day-D-Ledger
 ghosts-lines_of_a_day-D-Ledger g a = record { name = a.prepared.blank.name; parts = a.prepared.blank.parts }
 
 abbrev pub ghosts-lines_of_a_day-D-DayName : goal.ghosts-lines_of_a_day-D-DayName
-ghosts-lines_of_a_day-D-DayName g a = record { listing = a.prepared.tape.listing }
+ghosts-lines_of_a_day-D-DayName g a = record { listing = a.prepared.tape.listing; matrix = a.prepared.tape.matrix }

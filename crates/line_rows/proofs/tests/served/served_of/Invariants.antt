@@ -4,4 +4,4 @@ abbrev pub ghosts-served-D-Ledger : goal.ghosts-served-D-Ledger
 ghosts-served-D-Ledger g a = record { name = a.prepared.blank.name; parts = a.prepared.blank.parts }
 
 abbrev pub ghosts-served-D-DayName : goal.ghosts-served-D-DayName
-ghosts-served-D-DayName g a = record { listing = a.prepared.tape.listing }
+ghosts-served-D-DayName g a = record { listing = a.prepared.tape.listing; matrix = a.prepared.tape.matrix }

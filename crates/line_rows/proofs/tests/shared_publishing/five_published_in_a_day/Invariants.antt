@@ -4,4 +4,4 @@ abbrev pub ghosts-five_published-D-Ledger : goal.ghosts-five_published-D-Ledger
 ghosts-five_published-D-Ledger g a = record { name = a.prepared.blank.name; parts = a.prepared.blank.parts }
 
 abbrev pub ghosts-five_published-D-DayName : goal.ghosts-five_published-D-DayName
-ghosts-five_published-D-DayName g a = record { listing = a.prepared.tape.listing }
+ghosts-five_published-D-DayName g a = record { listing = a.prepared.tape.listing; matrix = a.prepared.tape.matrix }

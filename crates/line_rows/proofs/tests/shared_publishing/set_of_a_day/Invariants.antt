@@ -4,4 +4,4 @@ abbrev pub ghosts-set_in_two_rows-D-Ledger : goal.ghosts-set_in_two_rows-D-Ledge
 ghosts-set_in_two_rows-D-Ledger a = record { name = a.prepared.blank.name; parts = a.prepared.blank.parts }
 
 abbrev pub ghosts-set_in_two_rows-D-DayName : goal.ghosts-set_in_two_rows-D-DayName
-ghosts-set_in_two_rows-D-DayName a = record { listing = a.prepared.tape.listing }
+ghosts-set_in_two_rows-D-DayName a = record { listing = a.prepared.tape.listing; matrix = a.prepared.tape.matrix }

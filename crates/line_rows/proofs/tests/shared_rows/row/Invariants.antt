@@ -4,4 +4,4 @@ abbrev pub ghosts-played-D-Ledger : goal.ghosts-played-D-Ledger
 ghosts-played-D-Ledger g a = record { name = a.prepared.blank.name; parts = a.prepared.blank.parts }
 
 abbrev pub ghosts-played-D-DayName : goal.ghosts-played-D-DayName
-ghosts-played-D-DayName g a = record { listing = a.prepared.tape.listing }
+ghosts-played-D-DayName g a = record { listing = a.prepared.tape.listing; matrix = a.prepared.tape.matrix }

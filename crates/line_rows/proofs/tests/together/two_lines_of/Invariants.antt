@@ -4,4 +4,4 @@ abbrev pub ghosts-two_lines-D-Ledger : goal.ghosts-two_lines-D-Ledger
 ghosts-two_lines-D-Ledger g a = record { name = a.prepared.blank.name; parts = a.prepared.blank.parts }
 
 abbrev pub ghosts-two_lines-D-DayName : goal.ghosts-two_lines-D-DayName
-ghosts-two_lines-D-DayName g a = record { listing = a.prepared.tape.listing }
+ghosts-two_lines-D-DayName g a = record { listing = a.prepared.tape.listing; matrix = a.prepared.tape.matrix }

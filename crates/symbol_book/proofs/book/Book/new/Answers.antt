@@ -11,6 +11,7 @@ invariant_of-result g c =
 pub returns : goal.returns
 returns g c = record {
   empty =
-      trades-unique map.empty _ _
-      (HoldTrades-empty g.S.Store.effects g.S.Store.staged_change c.empty.result c.new.result.items c.empty.ensures.effects c.new.ensures.items);
+      let none = trades-unique map.empty _ _
+      (HoldTrades-empty g.S.Store.effects g.S.Store.staged_change c.empty.result c.new.result.items c.empty.ensures.effects c.new.ensures.items) in
+      λ i. record { matrix = c.args.matrix; trades = none i };
 }

@@ -8,7 +8,7 @@ use Rattle.tape_core.specs.Kept.{KeepsTape}
 use Rattle.tape_core.specs.Routes.{IsRoute}
 use Rattle.tape_core.specs.Tape.{refusal, next_entry, with_message}
 use Rattle.tape_core.proofs.Appending.{can-change, entry-next, KeepsTape-message}
-use Rattle.tape_core.proofs.Keeping.{register-above, with_message-pushed}
+use Rattle.tape_core.proofs.Keeping.{register-above, sizes-fit, count-fits, with_message-pushed}
 use Rattle.tape_core.proofs.tape.Tape.append.Given.{Over}
 use Rattle.tape_core.proofs.tape.Tape.append.Goals.{After-push_reserved}
 use Rattle.tape_core.proofs.tape.Tape.append.Goals as goal
@@ -30,10 +30,22 @@ advance-requires g c =
           (subst (λ h. IsParticipant h.participant) is (omega arith, omega arith))));
     }
 
+pub add-requires-clause-sizes : goal.add-requires-clause-sizes
+add-requires-clause-sizes g c =
+    let m = c.args.message.now in
+    sizes-fit _ _ _ _ c.self.invariant m (ap (λ t. refusal t m) c.self.view_is ∙ c.requires.none)
+    (subst (λ h. IsParticipant h.participant) c.header-header.ensures.header (omega arith, omega arith))
+
+pub add-requires-clause-count : goal.add-requires-clause-count
+add-requires-clause-count g c =
+    let m = c.args.message.now in
+    count-fits _ _ _ _ c.self.invariant m (ap (λ t. refusal t m) c.self.view_is ∙ c.requires.none)
+    (subst (λ h. IsParticipant h.participant) c.header-header.ensures.header (omega arith, omega arith))
+
 -- the entry that is pushed is the next one
 pushed-next : (g : Over) (c : After-push_reserved g)
     → ◌≡◌ {A = Entry} (record { number = c.args.route.number; message = c.args.message.now; after = c.in_ok-after.after })
-    (next_entry c.self.inside.entries.items c.args.message.now)
+    (next_entry c.self.inside.matrix c.self.inside.entries.items c.args.message.now)
 pushed-next g c =
     let m = c.args.message.now in
     entry-next _ _ _ _ c.self.invariant c.args.route _ c.index_mut-book.ensures.value m (ap (λ t. refusal t m) c.self.view_is ∙ c.requires.none)
@@ -55,7 +67,7 @@ invariant_of-self-2 g c =
     c.add.ensures.size c.add.ensures.totals)
 
 pub returns-clause-entry : goal.returns-clause-entry
-returns-clause-entry g c = pushed-next g c ∙ ap (λ t. next_entry t.entries c.args.message.now) c.self.view_is
+returns-clause-entry g c = pushed-next g c ∙ ap (λ t. next_entry t.matrix t.entries c.args.message.now) c.self.view_is
 
 pub returns-clause-ok : goal.returns-clause-ok
 returns-clause-ok g c =
