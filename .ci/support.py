@@ -1,0 +1,142 @@
+"""What the cases share: the built programs and how they ended, ports, peers of a running day, and messages' bytes."""
+
+import contextlib
+import os
+import socket
+import subprocess
+import sys
+import time
+import unittest
+from dataclasses import dataclass
+from pathlib import Path
+
+ROOT = Path(__file__).resolve().parent.parent
+SAMPLES = ROOT / "samples"
+BENCH = ROOT / "bench"
+CRATES = ROOT / "crates"
+TAPEBOX = CRATES / "tapebox" / "out" / "tapebox"
+FEED_SPEED = CRATES / "feed_speed" / "out" / "feed_speed"
+HOST = "127.0.0.1"
+# Seconds until a program must have ended, unless a case says otherwise.
+LIMIT = 60
+HEADINGS = "symbol,who,open,open_at,high,high_at,low,low_at,last,last_at,volume,trades"
+
+sys.dont_write_bytecode = True
+sys.path.insert(0, str(SAMPLES))
+
+import encode_day
+
+
+@dataclass(frozen=True)
+class Ended:
+    """How a program ended: its status, and what it wrote and said."""
+
+    status: int
+    written: bytes
+    said: bytes
+
+
+BAD_ARGUMENTS = (2, b"tapebox: bad arguments\n")
+READ_FAULT = (3, b"tapebox: read fault\n")
+WRITE_FAULT = (4, b"tapebox: write fault\n")
+OUT_OF_MEMORY = (5, b"tapebox: out of memory\n")
+NO_WORKER = (6, b"tapebox: worker not started\n")
+DISAGREES = (7, b"tapebox: tape disagrees\n")
+
+
+class Case(unittest.TestCase):
+    """A case about the built programs."""
+
+    def assert_fault(self, ended, fault):
+        """The program ended by a fault, its status and its text, and wrote nothing."""
+        self.assertEqual(ended, Ended(fault[0], b"", fault[1]))
+
+    def assert_writes(self, ended, written):
+        """The program ended well, wrote this and said nothing."""
+        self.assertEqual((ended.status, ended.said), (0, b""))
+        if ended.written != written:
+            pairs = enumerate(zip(ended.written.split(b"\n"), written.split(b"\n")), 1)
+            self.fail(next((f"line {at}: {got}, not {wanted}" for at, (got, wanted) in pairs if got != wanted), "another length"))
+
+
+def run(words, given=b"", program=TAPEBOX, limit=LIMIT, **options):
+    """Runs a program on what it is given: bytes, or an open file."""
+    source = {"input": given} if isinstance(given, bytes) else {"stdin": given}
+    options.setdefault("stdout", subprocess.PIPE)
+    done = subprocess.run([program, *map(str_or_bytes, words)], stderr=subprocess.PIPE, timeout=limit, check=False, **source, **options)
+    return Ended(done.returncode, done.stdout or b"", done.stderr)
+
+
+def str_or_bytes(word):
+    """An argument as the system takes it."""
+    return word if isinstance(word, (bytes, str)) else str(word)
+
+
+@contextlib.contextmanager
+def started(words, program=TAPEBOX, **options):
+    """A program that runs beside the case, and is killed where it still runs after it."""
+    options.setdefault("stdout", subprocess.PIPE)
+    running = subprocess.Popen([program, *map(str_or_bytes, words)], stderr=subprocess.PIPE, **options)
+    try:
+        yield running
+    finally:
+        running.kill()
+        running.communicate()
+
+
+def ended(running, limit=LIMIT):
+    """How a started program ended."""
+    written, said = running.communicate(timeout=limit)
+    return Ended(running.returncode, written or b"", said)
+
+
+def free_ports(count):
+    """The first of so many ports in a row that are free."""
+    return int(subprocess.check_output([SAMPLES / "free_ports.py", str(count)]))
+
+
+def connect(port):
+    """A connection to the port, once the program listens there."""
+    until = time.monotonic() + LIMIT
+    while True:
+        try:
+            return socket.create_connection((HOST, port), timeout=LIMIT)
+        except ConnectionRefusedError:
+            if time.monotonic() > until:
+                raise
+            time.sleep(0.02)
+
+
+def is_bound(port):
+    """Whether a socket receives packets on the port."""
+    rows = Path("/proc/net/udp").read_text(encoding="ascii").splitlines()[1:]
+    return any(row.split()[1].endswith(f":{port:04X}") for row in rows)
+
+
+def wait_bound(*ports):
+    """Waits until packets are received on the ports."""
+    until = time.monotonic() + LIMIT
+    while not all(map(is_bound, ports)):
+        if time.monotonic() > until:
+            raise TimeoutError(f"nobody receives on {ports}")
+        time.sleep(0.02)
+
+
+def message(**row):
+    """The bytes of a message, by the columns of a table."""
+    return encode_day.message({"target": "", **{column: str(value) for column, value in row.items()}})
+
+
+def report(who, number, symbol="AB", price="10.00"):
+    """A report of 100 shares as bytes."""
+    return message(kind="report", participant=who, number=number, symbol=symbol, price=price, size=100, condition="@___")
+
+
+def batch_line(text):
+    """A batch's line of a message."""
+    return f"{chr(text[3])} {text.hex()}\n".encode()
+
+
+def batch_of(table):
+    """A batch's input, by a readable table."""
+    return subprocess.check_output([SAMPLES / "encode_day.py", table])

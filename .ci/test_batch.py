@@ -1,0 +1,92 @@
+"""Batches, as the built program runs them."""
+
+import itertools
+import os
+import string
+import unittest
+from pathlib import Path
+
+from support import HEADINGS, READ_FAULT, SAMPLES, WRITE_FAULT, Case, batch_line, batch_of, report, run
+
+SYMBOLS = ["AB", *(f"S{at}" for at in range(1, 4_096))]
+PARTICIPANTS = string.ascii_uppercase
+
+
+class Samples(Case):
+    def test_stored_days(self):
+        """PROFILE, "A batch": the stored days have the stored answers and reports."""
+        for name in ("first-day", "stored-day"):
+            with self.subTest(name):
+                day = (SAMPLES / f"{name}.txt").read_bytes()
+                self.assert_writes(run(["batch"], day), (SAMPLES / f"{name}.out").read_bytes())
+
+    def test_corrected_day(self):
+        """README, "A day": the table's day has the rows that README shows."""
+        ended = run(["batch"], batch_of(SAMPLES / "corrections.csv"))
+        rows = "AB,ALL,99500,1,100500,3,99500,1,99500,1,250,2\nAB,N,99500,1,100500,3,99500,1,99500,1,250,2\n"
+        self.assert_writes(ended, f"1\n2\n3\n4\n5\n{HEADINGS}\n{rows}".encode())
+
+
+class Headers(Case):
+    def test_repeated_name(self):
+        """PROFILE, "A batch": a refused header is the only line, and the status is 2."""
+        ended = run(["batch"], b"AB AB\nN\n")
+        self.assertEqual((ended.status, ended.written, ended.said), (2, b"refused 3 Repeated\n", b""))
+
+    def test_too_many_names(self):
+        """PROFILE, "A batch": too many symbols are refused as such, however many they are."""
+        ended = run(["batch"], " ".join(["AB"] * 30_000).encode() + b"\nN\n")
+        self.assertEqual((ended.status, ended.written, ended.said), (2, b"refused 2 TooMany\n", b""))
+
+
+class Faults(Case):
+    @unittest.skipUnless(Path("/dev/full").is_char_device(), "no /dev/full")
+    def test_full_output(self):
+        """PROFILE, "Statuses": an output that is full is a write fault."""
+        with open("/dev/full", "wb") as full:
+            ended = run(["batch"], (SAMPLES / "first-day.txt").read_bytes(), stdout=full)
+        self.assert_fault(ended, WRITE_FAULT)
+
+    def test_input_that_is_no_file(self):
+        """PROFILE, "Statuses": an input that cannot be read is a read fault."""
+        folder = os.open(SAMPLES, os.O_RDONLY)
+        try:
+            self.assert_fault(run(["batch"], folder), READ_FAULT)
+        finally:
+            os.close(folder)
+
+
+class WideDay(Case):
+    """A report of each of 26 participants in each of 4,096 symbols: the report of the day has 110,592 rows, and places go beyond 65,536. In
+    each symbol the participants' prices differ, so the least and the greatest are all that the expected rows need."""
+
+    @staticmethod
+    def price(who, at):
+        """The price, in ten-thousandths of a dollar, at which a participant reports in the symbol at this index."""
+        return 100_000 + 7 * at + (11 * who + at) % 26
+
+    def line(self, who, at):
+        """The batch's line of the participant's report in the symbol, its next message."""
+        price = f"{self.price(who, at) / 10_000:.4f}"
+        return batch_line(report(PARTICIPANTS[who], at + 1, SYMBOLS[at], price))
+
+    @staticmethod
+    def row(at, who, trades):
+        """The row of so many trades, each its price and its place, in the order of places."""
+        marks = (trades[0], max(trades), min(trades), trades[-1])
+        return ",".join([SYMBOLS[at], who, *(str(value) for mark in marks for value in mark), str(100 * len(trades)), str(len(trades))])
+
+    def rows(self):
+        """The rows of the day."""
+        for at in range(len(SYMBOLS)):
+            trades = [(self.price(who, at), who * len(SYMBOLS) + at + 1) for who in range(len(PARTICIPANTS))]
+            yield self.row(at, "ALL", trades)
+            yield from (self.row(at, PARTICIPANTS[who], [trade]) for who, trade in enumerate(trades))
+
+    def test_greatest_listing_and_a_long_line(self):
+        """PROFILE, "A batch": a line with 140,000 digits too many is ExtraBytes, and a report of the greatest listing is whole."""
+        lines = [self.line(who, at) for who, at in itertools.product(range(len(PARTICIPANTS)), range(len(SYMBOLS)))]
+        header = f"{' '.join(SYMBOLS)}\n{' '.join(PARTICIPANTS)}\n".encode()
+        day = header + lines[0].rstrip() + 140_000 * b"0" + b"\n" + b"".join(lines)
+        wanted = ["refused 23 ExtraBytes", *map(str, range(1, len(lines) + 1)), HEADINGS, *self.rows(), ""]
+        self.assert_writes(run(["batch"], day), "\n".join(wanted).encode())
