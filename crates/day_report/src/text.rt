@@ -3,6 +3,7 @@ ghost use Rattle.std.specs.Prelude.{◌≡◌, ◌≢◌, ◌++◌, ◌∷◌, �
 ghost use Rattle.std.specs.Io.KnownBytes.{Appends};
 ghost use Rattle.csv.specs.Records.{fields_of, partial_of};
 ghost use Rattle.csv.specs.Writing.{default_writer, row_text};
+ghost use Rattle.row_reads.specs.Writing.{WritesPrefix};
 ghost use Rattle.tape_types.specs.Ranges.{IsParticipant, name_of};
 ghost use Rattle.day_report.specs.CsvLines.{IsAtLineStart, lines_text};
 ghost use Rattle.day_report.specs.ReportText.{line_of, mark_fields, report_text, row_fields, summary_fields, who_field};
@@ -11,6 +12,7 @@ ghost use Rattle.day_report.specs.declared.report_fault.ReportFault.TheVariants.
 use crate::{ReportFault, Row};
 use csv::{ByteRecord, Writer, WriterBuilder};
 use itoa::Buffer;
+use row_reads::write_text;
 use scratch_fold::{Mark, Summary};
 use std::alloc::{AllocError, Global};
 use std::io::Write;
@@ -143,11 +145,10 @@ fn text_of(alloc: Global, rows: &[Row]) -> Result<Vec<u8>, AllocError>
     into_text(writer)
 }
 
-/// Writes the text of these rows and nothing else, with a single call of `write_all`: the names of the columns, and a line for each
-/// row.
+/// Writes the text of these rows and nothing else: the names of the columns, and a line for each row.
 ///
-/// Refused: `OutOfMemory` before anything is written, and then the writer is as it was; `WriteFault` where the writer fails,
-/// and then a part of the text may have been written. The writer is not flushed.
+/// Refused: `OutOfMemory` before anything is written, and then the writer is as it was; `WriteFault` where a write fails or takes
+/// no byte, and then a prefix of the text has been written and nothing else. The writer is not flushed.
 pub fn write_report<W: Write>(
     alloc: Global,
     rows: &[Row],
@@ -155,10 +156,11 @@ pub fn write_report<W: Write>(
 ) -> Result<(), ReportFault>
     ensures written { OnOk result (Appends (W.contents writer.old) (W.contents writer.new) (report_text rows.now)) }
     ensures memory { result ≡ Err OutOfMemory → writer.new ≡ writer.old }
+    ensures prefix { result ≡ Err WriteFault → WritesPrefix (report_text rows.now) (W.contents writer.old) (W.contents writer.new) }
     ensures faults { IfErr result (λ fault. (fault ≡ OutOfMemory) ⊎ (fault ≡ WriteFault)) }
 {
     let text = text_of(alloc, rows)?;
-    match writer.write_all(&text) {
+    match write_text(writer, &text) {
         Ok(()) => Ok(()),
         Err(_) => Err(ReportFault::WriteFault),
     }
