@@ -165,7 +165,7 @@ impl<D: DayName> LineSeat<D> {
         told.len() as u32
     }
 
-    /// The sizes of the reports that it was told of, added up, each as it was reported: cancels and corrections add none.
+    /// The sizes of the reports that it was told of, added up, each as it was reported: no other message adds any.
     pub fn sizes(&self) -> u64
         ensures sizes { result ≡ sizes_told self.now.told }
     {
@@ -342,7 +342,7 @@ impl<D: DayName> Locked<D> {
         ensures own { IfNone result ((header_of message.now).participant ≡ seat.now.who) }
         ensures agrees { IfNone result (agrees self.now.tape seat.now ≡ true) }
     {
-        // For the proof alone: what the tape's type keeps is known once the tape is used.
+        // For the proof alone: this value's own invariant is known once a field is looked at.
         let _ = &self.tape;
         if message.header().participant != seat.who {
             return Some(LineRefusal::Refused(Refusal::WrongLine));
@@ -394,7 +394,7 @@ impl<D: DayName> Locked<D> {
         ensures answer { MatchResult result (Shows self.now.tape seat.now symbol) (λ fault. view_fault self.now.tape seat.now symbol ≡ Some fault) }
         ensures told { IfOk result (λ view. length seat.now.told ≤ view.count) }
     {
-        // For the proof alone: what the tape's type keeps is known once the tape is used.
+        // For the proof alone: this value's own invariant is known once a field is looked at.
         let _ = &self.tape;
         let Some(summary) = self.tape.summary(symbol) else {
             return Err(ViewFault::UnknownSymbol);
@@ -464,7 +464,7 @@ impl<D: DayName> Locked<D> {
     pub(crate) fn is_each(&self, seats: &[LineSeat<D>]) -> bool
         ensures { IsTrue result ↔ IsOneEach D.listing.participants seats.now }
     {
-        // For the proof alone: what the tape's type keeps is known once the tape is used.
+        // For the proof alone: this value's own invariant is known once a field is looked at.
         let _ = &self.tape;
         is_one_each(self.tape.listing().participants().as_slice(), seats)
     }

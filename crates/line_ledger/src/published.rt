@@ -151,6 +151,7 @@ impl<D: DayName> Source for Published<'_, D> {
         ensures tokens { OnOk result (GoesOn self.old.tokens self.new.tokens) }
         ensures ok { OnOk result (BeginsWith (shown self.old.tokens) (shown self.new.tokens)) }
         ensures err { OnErr result (shown self.new.tokens ≡ shown self.old.tokens) }
+        ensures unchanged { OnErr result (self.new ≡ self.old) }
     {
         let before = self.count;
         for _ in before..self.shared.cells() {

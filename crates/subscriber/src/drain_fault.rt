@@ -23,7 +23,7 @@ pub enum Stop {
 /// A drain that stopped: the entries that it counts are held, and the rest stays in the window.
 #[derive(Clone, Copy, Debug, PartialEq, Eq, Error)]
 pub struct DrainFault {
-    /// How many entries this drain has put on the subscriber's own tape, from 0 to `TAPE_MOST`.
+    /// How many entries this drain has put on the subscriber's own tape, from 0 to `REACH`.
     pub drained: u32,
     /// Why it stopped.
     pub why: Stop,

@@ -46,7 +46,8 @@ pub fn schedule()
         → Accepts w.subscriber.window w.subscriber.tape.entries packet }
     ensures never_refused { (events : List Event) (w : World) → LeadsTo events w → (packet : Packet) → IsCut w packet
         → (bytes : List ℕ) → Spells bytes packet → (fault : DeliveryFault) → ¬ (RefusesDelivery w.subscriber bytes fault) }
-    // It has not failed, and its next entry is its own, so a drain stops out of memory or at its own limit alone.
+    // It has not failed, and its own tape makes the next ready entry of that entry's message, so a drain stops out of memory or
+    // at its own limit alone.
     ensures running { (events : List Event) (w : World) → LeadsTo events w → w.subscriber.failed ≡ false }
     ensures own { (events : List Event) (w : World) → LeadsTo events w → NextIsOwn w.subscriber }
     ensures stops { (events : List Event) (w : World) → LeadsTo events w → (fault : DrainFault) (after : SubscriberState)

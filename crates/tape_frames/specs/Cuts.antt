@@ -9,7 +9,8 @@ use Rattle.tape_frames.specs.declared.packet.Packet.TheVariants.{Data, Beat, End
 abbrev pub IsPartOf : List Entry → List Entry → Type 0
 IsPartOf row tape = (before : List Entry) × (after : List Entry) × (tape ≡ before ++ (row ++ after))
 
--- a packet of any version under this session that was cut from the tape: some of its entries, or its length at some time, or its length once it is closed
+-- a packet of any version under this session that was cut from the tape: consecutive entries, of which the packet's type says how many, or at most the
+-- tape's length, or the length of the closed tape
 abbrev pub IsCutOf : ℕ → TapeState → Packet → Type 0
 IsCutOf own t (Data session row) = (session ≡ own) × IsPartOf row.entries t.entries
 IsCutOf own t (Beat session last) = (session ≡ own) × (last.count ≤ length t.entries)
