@@ -1,5 +1,5 @@
 //! The rows of a report, made by pieces of the listing.
-ghost use Rattle.std.specs.Prelude.{◌≡◌, ◌≢◌, ◌++◌, ◌+◌, ◌*◌, ◌^◌, ◌<◌, ◌≤◌, List, Err, Some, None, IfErr, IfOk, IfSome, OnOk, length, slice_get, take, drop};
+ghost use Rattle.std.specs.Prelude.{◌≡◌, ◌≢◌, ◌++◌, ◌+◌, ◌*◌, ◌^◌, ◌<◌, ◌≤◌, Err, Some, None, IfErr, IfOk, IfSome, OnOk, length, slice_get, take, drop};
 ghost use Rattle.std.specs.List.{flat_map};
 ghost use Rattle.day_report.specs.Pieces.{IsPieceAt, AreMade, AreFrom, WORKERS_MOST};
 ghost use denote.Param.Send.{IsSync};

@@ -1,6 +1,5 @@
 //! The published entries, as a source of packets.
-ghost use Rattle.std.specs.Prelude.{◌≡◌, ◌≤◌, ◌↔◌, [], List, take, length, IfOk, IfErr, OnOk, OnErr, IsTrue};
-ghost use Rattle.tape_core.specs.declared.entry.Entry.{Entry as EntryState};
+ghost use Rattle.std.specs.Prelude.{◌≡◌, ◌≤◌, ◌↔◌, [], take, length, OnOk, OnErr, IsTrue};
 ghost use Rattle.scratch_fold.specs.Places.{HasPlacesUpTo, IsPlacedUpTo};
 ghost use Rattle.tape_frames.specs.EntryRows.{Carries, HasNoLaterPlaces};
 ghost use Rattle.tape_frames.specs.Sources.{BeginsWith, IsPublished};

@@ -17,12 +17,12 @@ use Rattle.tape_frames.specs.declared.version.Version.{Version}
 use Rattle.tape_frames.specs.declared.version.Version.TheVariants.{Two}
 use Rattle.tape_frames.specs.Sources.{sendable}
 use Rattle.tape_frames.specs.Spelling.{packet_text}
-use Rattle.tape_frames.specs.Versions.{entries_most, longest_packet, number_most}
+use Rattle.tape_frames.specs.Versions.{entries_most, number_most}
 use Rattle.tape_frames.specs.Lemmas.Versions.{longest_packet-within}
 use Rattle.tape_frames.specs.Requests.{request_at, request_of}
 use Rattle.tape_frames.specs.Spelling.{IsEntry}
 use Rattle.retransmit.specs.Answers.{IsAnswer, answer_of, framed, given_text, last_sendable, packet_count, packet_cut, range_packets, range_text}
-use Rattle.retransmit.specs.Asking.{answer_at, answered_at, PACKETS_MOST}
+use Rattle.retransmit.specs.Asking.{answer_at, answered_at}
 use Rattle.retransmit.specs.Faults.{refusal_code}
 use Rattle.retransmit.specs.Laws.{ArePackets, EachAnswerIsRead}
 use Rattle.retransmit.specs.Replies.{IsReadAgain, given_packets}

@@ -1,5 +1,5 @@
 //! What holds over every schedule.
-ghost use Rattle.std.specs.Prelude.{◌≡◌, ℕ, ◌+◌, ◌≤◌, ◌<◌, ◌↔◌, ◌⊎◌, length, List, IsTrue, None, Some, Option, Result, Err, false};
+ghost use Rattle.std.specs.Prelude.{◌≡◌, ℕ, ◌+◌, ◌≤◌, ◌<◌, ◌↔◌, ◌⊎◌, length, List, IsTrue, None, Some, Result, Err, false};
 ghost use Rattle.reports.specs.declared.message.Message.{Message};
 ghost use Rattle.tape_core.specs.declared.entry.Entry.{Entry};
 ghost use Rattle.tape_core.specs.declared.refusal.Refusal.{Refusal};

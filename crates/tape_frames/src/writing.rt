@@ -1,18 +1,17 @@
 //! A packet written as its spelling.
-ghost use Rattle.std.specs.Prelude.{◌≡◌, ◌+◌, ◌*◌, ◌≤◌, ◌++◌, ◌∷◌, [], All, length, take, drop, OnOk, OnErr, IfSome, List, flat_map, is_some};
-ghost use Rattle.std.specs.Int.{w8, w16, w32, w64, to_be_bytes};
+ghost use Rattle.std.specs.Prelude.{◌≡◌, ◌+◌, ◌*◌, ◌≤◌, ◌++◌, ◌∷◌, [], All, length, OnOk, OnErr, flat_map};
 ghost use Rattle.reports.specs.ByteRows.{Puts};
 ghost use Rattle.tape_frames.specs.Limits.{ENTRIES_MOST, HEADER_LENGTH, MARK_LENGTH, SUMMARY_LENGTH, LONGEST_ENTRY, LONGEST_PACKET, ALL_MARKS};
 ghost use Rattle.scratch_fold.specs.Places.{HasPlacesUpTo, IsPlacedUpTo};
-ghost use Rattle.tape_frames.specs.EntryRows.{Carries, FitsIn, IsRow, first_number};
+ghost use Rattle.tape_frames.specs.EntryRows.{Carries, FitsIn};
 ghost use Rattle.tape_frames.specs.Packets.{version_of};
 ghost use Rattle.tape_frames.specs.Versions.{longest_packet, number_most};
-ghost use Rattle.tape_frames.specs.Spelling.{IsEntry, IsFigure, IsMark, IsPacket, IsSummary, bit, carried_text, entry_text};
+ghost use Rattle.tape_frames.specs.Spelling.{IsEntry, IsFigure, IsMark, IsPacket, IsSummary, bit, entry_text};
 ghost use Rattle.tape_frames.specs.Spelling.{figure_text, header_text, mark_text, packet_text, presence, summary_text};
 
 use crate::kinds::{BEAT, DATA, END};
 use crate::limits::{LONGEST_PACKET, MARK_LENGTH};
-use crate::{EntryCount, EntryRow, Packet, Version};
+use crate::{Packet, Version};
 use reports::{LONGEST_MESSAGE, encode_into, put};
 use scratch_fold::{Mark, Summary};
 use std::alloc::AllocError;

@@ -1,6 +1,6 @@
 -- A fold names no place but those of its reports.
 use Rattle.std.proofs.Common.{ℕ, ◌≤◌, Bool, true, false, List, [], ◌∷◌, Option, Some, None, if◌then◌else◌, arith}
-use Rattle.std.specs.Prelude.{All, IfSome, fold, is_none, ◌&&◌}
+use Rattle.std.specs.Prelude.{All, fold, is_none, ◌&&◌}
 use Rattle.std.proofs.lemmas.List.Elements.{All-head, All-tail}
 use Rattle.scratch_fold.specs.declared.summary.Mark.{Mark}
 use Rattle.scratch_fold.specs.declared.summary.Summary.{Summary}

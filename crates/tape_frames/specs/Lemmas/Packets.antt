@@ -7,9 +7,9 @@ use Rattle.std.specs.Int.{w8, w32, w64, to_be_bytes}
 use Rattle.std.proofs.lemmas.Bool.{and_parts, cases_Bool, eqb-true, le-leb, le-ltb, leb-true}
 use Rattle.std.proofs.lemmas.List.{nil_from_length}
 use Rattle.std.proofs.lemmas.List.Elements.{All-cons, All-head, All-nil, All-tail}
-use Rattle.reports.specs.Fields.{◌>>=◌, number_at, ranged_at}
+use Rattle.reports.specs.Fields.{◌>>=◌, number_at}
 use Rattle.reports.specs.Lemmas.Fields.{AreBytes, IsReader, Takes, Takes-then, bind_ok, chosen, first_taken}
-use Rattle.reports.specs.Lemmas.Fields.{number_reader, ok_is, one_value, passed, picked, ranged_reader, wide8, wide32, wide64}
+use Rattle.reports.specs.Lemmas.Fields.{number_reader, ok_is, one_value, passed, picked, wide8, wide32, wide64}
 use Rattle.scratch_fold.specs.Places.{HasPlacesUpTo, IsPlacedUpTo}
 use Rattle.scratch_fold.specs.declared.summary.Mark.{Mark}
 use Rattle.scratch_fold.specs.declared.summary.Summary.{Summary}
@@ -21,7 +21,7 @@ use Rattle.tape_frames.specs.declared.packet_fault.PacketFault.TheVariants.{Shor
 use Rattle.tape_frames.specs.Kinds.{DATA, BEAT, END}
 use Rattle.tape_frames.specs.declared.version.Version.{Version}
 use Rattle.tape_frames.specs.declared.version.Version.TheVariants.{One, Two}
-use Rattle.tape_frames.specs.Limits.{ENTRIES_MOST, HEADER_LENGTH}
+use Rattle.tape_frames.specs.Limits.{HEADER_LENGTH}
 use Rattle.tape_types.specs.Ranges.{TAPE_MOST}
 use Rattle.tape_frames.specs.EntryRows.{Carries, CountState, FitsIn, IsNumberedFrom, IsRow, RowFits, RowState, first_number}
 use Rattle.tape_frames.specs.Versions.{entries_most, number_most, version_byte, version_of_byte}

@@ -1,5 +1,5 @@
 -- What holds of each version.
-use Rattle.std.proofs.Common.{◌≡◌, ◌≢◌, ℕ, ◌^◌, ◌<◌, ◌≤◌, ◌==◌, Option, Some, None, Result, Ok, Err, refl, lit<, arith}
+use Rattle.std.proofs.Common.{◌≡◌, ◌≢◌, ℕ, ◌^◌, ◌<◌, ◌≤◌, ◌==◌, Option, Some, None, lit<, arith}
 use Rattle.scratch_fold.specs.Lemmas.Places.{HasPlacesUpTo-more}
 use Rattle.scratch_fold.specs.Places.{HasPlacesUpTo}
 use Rattle.scratch_fold.specs.declared.summary.Summary.{Summary}
@@ -10,7 +10,7 @@ use Rattle.tape_frames.specs.declared.version.Version.TheVariants.{One, Two}
 use Rattle.tape_frames.specs.EntryRows.{FitsIn, HasNoLaterPlaces}
 use Rattle.tape_frames.specs.Limits.{ENTRIES_MOST, LONGEST_PACKET}
 use Rattle.tape_frames.specs.Versions.{CanBegin, entries_most, longest_packet, number_most, version_byte}
-use Rattle.tape_types.specs.Ranges.{IsTapeNumber, TAPE_MOST}
+use Rattle.tape_types.specs.Ranges.{TAPE_MOST}
 
 -- each number that a packet can tell of is one of a tape
 pub number_most-within : (version : Version) → number_most version ≤ TAPE_MOST

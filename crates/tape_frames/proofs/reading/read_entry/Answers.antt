@@ -1,7 +1,6 @@
 use Rattle.std.proofs.Common.{◌≤◌, subst}
 use Rattle.std.specs.Int.{w32}
 use Rattle.tape_frames.specs.declared.packet_fault.PacketFault.TheVariants.{Short, BadEntry}
-use Rattle.tape_frames.specs.Versions.{number_most}
 use Rattle.tape_frames.proofs.RangedFields.{ranged_within}
 use Rattle.tape_frames.proofs.reading.read_entry.Goals as goal
 
