@@ -1,9 +1,9 @@
-//! The greatest listing, and a tape that is filled to the greatest limit.
+//! The greatest listing, and a tape that is filled to its limit of a million entries.
 
 use super::steps::Kind::{Cancel, Correct, Report};
 use super::steps::Step::{Consolidated, Sends};
 use super::steps::Told::{Number, Shows};
-use super::steps::{Figures, Point, Step, Told, fills, indexed, participants, told_so};
+use super::steps::{AB, Figures, Point, Step, Told, fills, indexed, participants, told_so};
 use sale_matrix::Matrix;
 use std::alloc::Global;
 use summaries::IndexStore;
@@ -64,8 +64,6 @@ fn the_greatest_listing_makes_a_tape(rt: HostRuntime) {
     assert_eq!(rt; sizes_of_new(rt.alloc(), 4_097, 0), None);
 }
 
-const AB: &[u8; 8] = b"AB      ";
-
 /// How many reports stand on the tape before its first and its last one are corrected.
 const REPORTS: u32 = 1_048_571;
 
@@ -122,7 +120,7 @@ fn filled(tape: &mut Tape<IndexStore>) -> (u32, usize) {
     (taken, told_so(tape, &TO_THE_LIMIT))
 }
 
-/// The same of a new tape with the greatest limit.
+/// The same of a new tape whose limit is the last step's place.
 fn filled_anew(alloc: Global) -> Option<(u32, usize)> {
     Some(filled(&mut indexed(alloc, 1_048_576, Matrix::One)?))
 }

@@ -111,7 +111,7 @@ fn each_code_alone_has_the_cells_of_its_row(rt: HostRuntime) {
 }
 
 /// The cells of a condition, or `None` where a code of it is not one of the matrix's.
-fn combined(matrix: Matrix, codes: [u8; 4]) -> Option<Cells> {
+pub(super) fn combined(matrix: Matrix, codes: [u8; 4]) -> Option<Cells> {
     let condition = Condition::try_new(codes)?;
     if !condition.within(matrix) {
         return None;
@@ -135,4 +135,39 @@ fn codes_combine_to_the_least_cell(rt: HostRuntime) {
     ] {
         assert_eq!(rt; combined(matrix, *codes), Some(row(letters)), "{codes:?}");
     }
+}
+
+/// The codes of the first position.
+const FIRST: [u8; 4] = *b"@CNR";
+
+/// The codes of the second position, blank among them.
+const SECOND: [u8; 8] = *b" FO56479";
+
+/// The codes of the third position, blank among them.
+const THIRD: [u8; 5] = *b" TULZ";
+
+/// The codes that the fourth position has in either matrix, blank among them.
+const FOURTH: [u8; 18] = *b" ABDSXY1HIVWPGMQ23";
+
+/// How many of the conditions that these codes make are within a matrix.
+fn count_within(matrix: Matrix) -> u32 {
+    let mut count = 0u32;
+    for n in 0..2_880usize {
+        let codes = [
+            FIRST[n % 4],
+            SECOND[n / 4 % 8],
+            THIRD[n / 32 % 5],
+            FOURTH[n / 160 % 18],
+        ];
+        if combined(matrix, codes).is_some() {
+            count = count.saturating_add(1);
+        }
+    }
+    count
+}
+
+#[test]
+fn matrix_one_has_2560_conditions_and_matrix_two_2880(rt: HostRuntime) {
+    assert_eq!(rt; count_within(Matrix::One), 2_560);
+    assert_eq!(rt; count_within(Matrix::Two), 2_880);
 }

@@ -8,6 +8,13 @@ use summaries::{IndexStore, ScratchStore, Store};
 use tape_core::{Entry, Refusal, Tape};
 use tape_types::{Listing, MsgNumber, Participant, Price, Size, Symbol};
 
+pub(super) const AB: &[u8; 8] = b"AB      ";
+
+pub(super) const CD: &[u8; 8] = b"CD      ";
+
+/// A symbol that is not listed.
+pub(super) const EF: &[u8; 8] = b"EF      ";
+
 /// What a message says.
 #[derive(Clone, Copy)]
 pub(super) enum Kind {
@@ -194,11 +201,11 @@ fn admits<S: Store>(tape: &mut Tape<S>, message: Option<Message>) -> Told {
 }
 
 fn consolidated<S: Store>(tape: &Tape<S>) -> Option<Summary> {
-    tape.summary(Symbol::try_new(*b"AB      ")?)
+    tape.summary(Symbol::try_new(*AB)?)
 }
 
 fn own<S: Store>(tape: &Tape<S>, who: u8) -> Option<Summary> {
-    tape.summary_of(Symbol::try_new(*b"AB      ")?, Participant::try_new(who)?)
+    tape.summary_of(Symbol::try_new(*AB)?, Participant::try_new(who)?)
 }
 
 fn carried<S: Store>(tape: &Tape<S>, index: usize) -> Option<Summary> {
@@ -217,7 +224,8 @@ fn close<S: Store>(tape: &mut Tape<S>) -> Told {
     Told::Nothing
 }
 
-fn take<S: Store>(tape: &mut Tape<S>, step: Step) -> Told {
+/// Sends a step's message or asks for what it shows, and tells the answer.
+pub(super) fn take<S: Store>(tape: &mut Tape<S>, step: Step) -> Told {
     match step {
         Step::Sends(..) => admits(tape, sent(step)),
         Step::Closes => close(tape),
@@ -244,7 +252,7 @@ pub(super) fn told_so<S: Store>(tape: &mut Tape<S>, steps: &[(Step, Told)]) -> u
 pub(super) fn fills<S: Store>(tape: &mut Tape<S>, count: u32) -> u32 {
     for before in 0..count {
         let number = before + 1;
-        let step = Step::Sends(b'N', number, b"AB      ", Kind::Report(b"@   ", 100_000));
+        let step = Step::Sends(b'N', number, AB, Kind::Report(b"@   ", 100_000));
         if take(tape, step) != Told::Number(number) {
             return before;
         }
@@ -277,7 +285,7 @@ pub(super) fn listing_of(alloc: Global, names: &[&[u8; 8]], letters: &[u8]) -> O
 }
 
 fn listing(alloc: Global) -> Option<Listing> {
-    listing_of(alloc, &[b"AB      ", b"CD      "], b"NPQ")
+    listing_of(alloc, &[AB, CD], b"NPQ")
 }
 
 /// An open tape of the symbols AB and CD and the participants N, P and Q, by a matrix, over the plain store.

@@ -1,6 +1,7 @@
 //! Both stores are told the same, and come to the same summary after each change.
 ghost use Rattle.std.specs.Prelude.{◌<◌};
 
+use super::super::dice::{Dice, letter};
 use super::{Kind, Settled, effect};
 use sale_matrix::LastRule;
 use scratch_fold::{Effect, Summary};
@@ -96,7 +97,7 @@ impl Both {
     fn follow_dice(&mut self, count: u32, last: u32) -> u32
         requires { 0 < last }
     {
-        let mut dice = Dice { state: 7 };
+        let mut dice = Dice::of(7);
         let mut well = 0_u32;
         for _ in 0..count {
             if self.roll(&mut dice, last) == Some(true) {
@@ -114,15 +115,6 @@ impl Both {
             }
         }
         self.indexed.summary() == Summary::empty()
-    }
-}
-
-/// The letter of the n-th of three participants.
-fn letter(n: u32) -> u8 {
-    match n % 3 {
-        0 => b'N',
-        1 => b'P',
-        _ => b'Q',
     }
 }
 
@@ -151,25 +143,7 @@ fn both_stores_agree_while_508_effects_come_and_each_third_goes(rt: HostRuntime)
     assert_eq!(rt; both.indexed.summary().trades, 339);
 }
 
-/// Numbers that look random, and come in the same order in each run.
-#[derive(Drop)]
-struct Dice {
-    state: u32,
-}
-
 impl Dice {
-    /// A number below `sides`.
-    fn roll(&mut self, sides: u32) -> u32
-        requires { 0 < sides }
-        ensures { result < sides }
-    {
-        self.state = self
-            .state
-            .wrapping_mul(1_664_525)
-            .wrapping_add(1_013_904_223);
-        (self.state >> 8) % sides
-    }
-
     /// An effect whose size is not yet the one that it is to have.
     fn part(&mut self) -> Option<Effect> {
         let who = letter(self.roll(3));

@@ -1,4 +1,4 @@
-//! Worked days, whose summaries were found by hand, on each store.
+//! A worked row, whose summaries were found by hand, on each store. The rows of a tape run over both stores too.
 
 use super::super::steps::{Figures, Point, figures_of};
 use super::Kind::{self, Abort, Commit, Put, Swap, Take};
@@ -24,59 +24,6 @@ enum Step {
 
 use Step::{Does, Shows};
 
-const Q_FIRST: Report = Report(1, b'Q', Always, 100_000);
-
-const N_HIGHEST: Report = Report(2, b'N', Always, 101_000);
-
-const Q_AGAIN: Report = Report(3, b'Q', SameMarket, 100_500);
-
-const A_CANCEL: [Step; 6] = [
-    Does(Put, Q_FIRST),
-    Does(Put, N_HIGHEST),
-    Does(Put, Q_AGAIN),
-    Shows([Q_FIRST, N_HIGHEST, Q_FIRST, N_HIGHEST], 3),
-    Does(Take, N_HIGHEST),
-    Shows([Q_FIRST, Q_AGAIN, Q_FIRST, Q_AGAIN], 2),
-];
-
-const N_OPENS: Report = Report(1, b'N', FirstOnly, 100_000);
-
-const Q_SECOND: Report = Report(2, b'Q', SameMarket, 101_000);
-
-const P_HIGHEST: Report = Report(3, b'P', Always, 102_000);
-
-const Q_LAST: Report = Report(4, b'Q', SameMarket, 100_500);
-
-const TWO_CANCELS: [Step; 9] = [
-    Does(Put, N_OPENS),
-    Does(Put, Q_SECOND),
-    Does(Put, P_HIGHEST),
-    Does(Put, Q_LAST),
-    Shows([N_OPENS, P_HIGHEST, N_OPENS, P_HIGHEST], 4),
-    Does(Take, P_HIGHEST),
-    Shows([N_OPENS, Q_SECOND, N_OPENS, N_OPENS], 3),
-    Does(Take, N_OPENS),
-    Shows([Q_SECOND, Q_SECOND, Q_LAST, Q_LAST], 2),
-];
-
-const N_LOW: Report = Report(1, b'N', Always, 100_000);
-
-const N_HIGH: Report = Report(2, b'N', Always, 102_000);
-
-const N_HIGH_AGAIN: Report = Report(3, b'N', Always, 102_000);
-
-/// The second report, corrected.
-const N_CORRECTED: Report = Report(2, b'N', Always, 99_000);
-
-const A_CORRECTION: [Step; 6] = [
-    Does(Put, N_LOW),
-    Does(Put, N_HIGH),
-    Does(Put, N_HIGH_AGAIN),
-    Shows([N_LOW, N_HIGH, N_LOW, N_HIGH_AGAIN], 3),
-    Does(Commit, N_CORRECTED),
-    Shows([N_LOW, N_HIGH_AGAIN, N_CORRECTED, N_HIGH_AGAIN], 3),
-];
-
 const N_AT_NINE: Report = Report(9, b'N', Always, 100_000);
 
 const Q_AT_TWO: Report = Report(2, b'Q', SameMarket, 101_000);
@@ -89,7 +36,10 @@ const SWAPPED: Report = Report(2, b'Q', FirstOnly, 101_000);
 /// The report at place 5 with another rule.
 const GIVEN_UP: Report = Report(5, b'N', Always, 100_500);
 
-const EVERY_CALL: [Step; 12] = [
+/// The report at place 5 with another price.
+const COMMITTED: Report = Report(5, b'N', SameMarket, 99_000);
+
+const EVERY_CALL: [Step; 14] = [
     Does(Put, N_AT_NINE),
     Does(Put, Q_AT_TWO),
     Does(Put, N_AT_FIVE),
@@ -102,6 +52,8 @@ const EVERY_CALL: [Step; 12] = [
     Shows([Q_AT_TWO, Q_AT_TWO, N_AT_FIVE, Q_AT_TWO], 2),
     Does(Take, Q_AT_TWO),
     Shows([N_AT_FIVE, N_AT_FIVE, N_AT_FIVE, N_AT_FIVE], 1),
+    Does(Commit, COMMITTED),
+    Shows([COMMITTED, COMMITTED, COMMITTED, COMMITTED], 1),
 ];
 
 fn point_of(report: Report) -> Point {
@@ -156,21 +108,6 @@ fn played_on_both(alloc: Global, steps: &[Step]) -> (usize, usize) {
 }
 
 #[test]
-fn a_cancel_brings_the_former_last_back(rt: HostRuntime) {
-    assert_eq!(rt; played_on_both(rt.alloc(), &A_CANCEL), (6, 6));
-}
-
-#[test]
-fn two_cancels_bring_back_an_open_and_two_lasts(rt: HostRuntime) {
-    assert_eq!(rt; played_on_both(rt.alloc(), &TWO_CANCELS), (9, 9));
-}
-
-#[test]
-fn a_correction_keeps_its_place_and_gives_up_the_high(rt: HostRuntime) {
-    assert_eq!(rt; played_on_both(rt.alloc(), &A_CORRECTION), (6, 6));
-}
-
-#[test]
 fn each_call_shows_in_the_summary_and_an_aborted_one_does_not(rt: HostRuntime) {
-    assert_eq!(rt; played_on_both(rt.alloc(), &EVERY_CALL), (12, 12));
+    assert_eq!(rt; played_on_both(rt.alloc(), &EVERY_CALL), (14, 14));
 }
