@@ -1,69 +1,49 @@
 //! A follower of a day: it reads both lines, asks for what is missing, and reports the tape that it comes to hold.
-ghost use Rattle.std.specs.Prelude.{◌≡◌, ◌⊎◌, ◌≤◌, OnOk};
+ghost use Rattle.std.specs.Prelude.{◌≡◌, ◌≢◌, ◌⊎◌, ◌≤◌, IfErr, OnOk};
 ghost use Rattle.live_feed.specs.Reports.{WritesOneReport};
+ghost use Rattle.live_feed.specs.declared.fault.Fault.TheVariants.{Write as WriteFault};
 
+use crate::asking::Asker;
 use crate::follower::Follower;
-use crate::following::{FollowedLine, follow_lines};
-use crate::starting::can_start;
+use crate::following::{Run, follow_at_once};
 use crate::writing::write_day;
 use crate::{Fault, FollowSockets};
-use arbitration::Line;
 use sale_matrix::Matrix;
 use std::alloc::Global;
 use std::io::Write;
-use std::net::{Net, SocketAddr, TcpListener, TcpStream, UdpSocket};
-use std::sync::{Mutex, Wait};
+use std::net::{Net, TcpListener, TcpStream};
+use std::sync::Wait;
 use std::thread::Threads;
 use subscriber::Subscriber;
 use tape_types::Listing;
 
-/// Where a socket is bound.
-fn address_of(socket: &UdpSocket) -> Result<SocketAddr, Fault> {
-    match socket.local_addr() {
-        Ok(address) => Ok(address),
-        Err(_) => Err(Fault::Read),
-    }
-}
-
-/// The two lines, each with where the other is read. There are none where no thread can be started.
-fn followed_lines<'a, R: Threads>(
+/// Connects, and makes the follower that holds nothing yet. It connects before it takes memory, so that a day that awaits it
+/// is not kept waiting where there is none.
+fn start<R: Net<Listener = TcpListener, Stream = TcpStream>>(
     rt: &R,
-    sockets: &'a FollowSockets,
-) -> Result<(FollowedLine<'a>, FollowedLine<'a>), Fault> {
-    let a = FollowedLine {
-        line: Line::A,
-        socket: &sockets.a,
-        other: address_of(&sockets.b)?,
-    };
-    let b = FollowedLine {
-        line: Line::B,
-        socket: &sockets.b,
-        other: address_of(&sockets.a)?,
-    };
-    if can_start(rt) {
-        Ok((a, b))
-    } else {
-        Err(Fault::Worker)
-    }
+    alloc: Global,
+    listing: Listing,
+    limit: u32,
+    matrix: Matrix,
+    session: u64,
+    retransmission: u16,
+    restart_after: Option<u32>,
+) -> Result<(Asker, Follower), Fault> {
+    let asker = Asker::new(rt, alloc, retransmission)?;
+    let follower = Follower::new(alloc, listing, limit, matrix, session, restart_after)?;
+    Ok((asker, follower))
 }
 
-/// Reads both lines until all is held: the subscriber that holds it. The connection is closed then. Where no thread can be
-/// started, nothing is read.
+/// Reads both lines and asks for what they lack until all is held: the subscriber that holds it. The connection is closed then.
 fn follow_to_end<R: Threads + Wait + Net<Listener = TcpListener, Stream = TcpStream> + Sync>(
     rt: &R,
     sockets: &FollowSockets,
+    asker: Asker,
     follower: Follower,
 ) -> Result<Subscriber, Fault> {
-    let (a, b) = match followed_lines(rt, sockets) {
-        Ok(lines) => lines,
-        Err(fault) => {
-            drop(follower);
-            return Err(fault);
-        }
-    };
-    let follower = Mutex::new(follower);
-    follow_lines(rt, &follower, &a, &b);
-    follower.into_inner().into_subscriber()
+    let run = Run::new(follower, sockets)?;
+    follow_at_once(rt, &run, asker);
+    run.into_follower().into_subscriber()
 }
 
 /// Writes the report of what a subscriber holds.
@@ -73,7 +53,8 @@ fn report<R: Threads + Sync, W: Write>(
     subscriber: &Subscriber,
     writer: &mut W,
 ) -> Result<(), Fault>
-    ensures { OnOk result (WritesOneReport (W.contents writer.old) (W.contents writer.new)) }
+    ensures report { OnOk result (WritesOneReport (W.contents writer.old) (W.contents writer.new)) }
+    ensures unwritten { IfErr result (λ fault. fault ≢ WriteFault → writer.new ≡ writer.old) }
 {
     // What it holds is a legal tape, whatever came: the clauses of `held` say so.
     let _held = subscriber.held();
@@ -85,12 +66,14 @@ fn follow<R: Threads + Wait + Net<Listener = TcpListener, Stream = TcpStream> + 
     rt: &R,
     alloc: Global,
     sockets: &FollowSockets,
-    follower: Result<Follower, Fault>,
+    started: Result<(Asker, Follower), Fault>,
     writer: &mut W,
 ) -> Result<(), Fault>
-    ensures { OnOk result (WritesOneReport (W.contents writer.old) (W.contents writer.new)) }
+    ensures report { OnOk result (WritesOneReport (W.contents writer.old) (W.contents writer.new)) }
+    ensures unwritten { IfErr result (λ fault. fault ≢ WriteFault → writer.new ≡ writer.old) }
 {
-    let subscriber = follow_to_end(rt, sockets, follower?)?;
+    let (asker, follower) = started?;
+    let subscriber = follow_to_end(rt, sockets, asker, follower)?;
     let written = report(rt, alloc, &subscriber, writer);
     drop(subscriber);
     written
@@ -98,8 +81,8 @@ fn follow<R: Threads + Wait + Net<Listener = TcpListener, Stream = TcpStream> + 
 
 /// Follows a day over sockets until its end is known and all of it is held, and writes the report of what is held to `writer`.
 ///
-/// It connects to the retransmission, reads lines A and B at once, and asks for what is missing after each packet. Bytes
-/// that are no packet of the day are dropped. With `restart_after` the first subscriber is given up once it holds so many
+/// It connects to the retransmission, reads lines A and B, and asks beside that for what is missing, so that both lines are
+/// read on while an answer is awaited. Bytes that are no packet of the day are dropped. With `restart_after` the first subscriber is given up once it holds so many
 /// entries or more, which is looked at before the end is: its connection is closed, and a new one starts with nothing, on a
 /// connection of its own. That the run ends is not claimed: it does not where both lines lose all that is left.
 ///
@@ -122,9 +105,10 @@ pub fn follow_over<
     writer: &mut W,
 ) -> u8
     ensures report { result ≡ 0 → WritesOneReport (W.contents writer.old) (W.contents writer.new) }
+    ensures unwritten { result ≢ 0 → result ≢ 4 → writer.new ≡ writer.old }
     ensures status { (result ≡ 0) ⊎ ((3 ≤ result) × (result ≤ 7)) }
 {
-    let follower = Follower::new(
+    let started = start(
         rt,
         alloc,
         listing,
@@ -134,7 +118,7 @@ pub fn follow_over<
         sockets.retransmission,
         restart_after,
     );
-    match follow(rt, alloc, &sockets, follower, writer) {
+    match follow(rt, alloc, &sockets, started, writer) {
         Ok(()) => 0,
         Err(fault) => fault.status(),
     }

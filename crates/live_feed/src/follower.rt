@@ -1,46 +1,42 @@
-//! What both lines of a follower share: its subscriber and the connection on which that asks.
+//! What a follower comes to hold, which its lines and what asks for it share.
 ghost use Rattle.std.specs.Prelude.{◌≡◌, ◌≢◌, ◌↔◌, ◌≤◌, IsSomeAnd, true};
-ghost use Rattle.live_feed.specs.declared.fault.Fault.TheVariants.{Disagrees, Memory, Read, Write};
-ghost use Rattle.retransmit.specs.declared.ask_fault.AskFault.TheVariants.{OutOfMemory as AskOutOfMemory, ReadFault, WriteFault};
+ghost use Rattle.live_feed.specs.declared.fault.Fault.TheVariants.{Disagrees, Memory};
 ghost use Rattle.subscriber.specs.declared.drain_fault.Stop.TheVariants.{Refused};
 ghost use Rattle.tape_core.specs.declared.refusal.Refusal.TheVariants.{OutOfMemory};
 
+use crate::Fault;
 use crate::starting::fault_of_tape;
-use crate::{Fault, here};
 use arbitration::Line;
-use retransmit::{AskFault, ask};
 use sale_matrix::Matrix;
 use std::alloc::Global;
 use std::mem;
-use std::net::{Net, TcpListener, TcpStream};
 use subscriber::{DeliveryFault, DrainFault, Stop, Subscriber};
 use tape_core::Refusal;
 use tape_frames::Request;
 use tape_types::Listing;
 
-/// A subscriber, its connection, and whether the run is over.
+/// What a run waits for, or what is to be done in it.
+#[derive(Clone, Copy)]
+pub(crate) enum Next {
+    /// Packets have to come by the lines.
+    Read,
+    /// This is missing.
+    Ask(Request),
+    /// The subscriber is a new one, which asks on a connection of its own.
+    Connect,
+    /// The run is over.
+    End,
+}
+
+/// A subscriber, whether it has yet to be connected, and whether the run is over.
 #[derive(Drop)]
 pub(crate) struct Follower {
     alloc: Global,
     subscriber: Subscriber,
-    connection: TcpStream,
     session: u64,
-    retransmission: u16,
     restart_after: Option<u32>,
+    has_restarted: bool,
     over: Option<Result<(), Fault>>,
-}
-
-/// Connects to the retransmission at a port of this machine.
-fn dial<R: Net<Listener = TcpListener, Stream = TcpStream>>(
-    rt: &R,
-    port: u16,
-) -> Result<TcpStream, Fault> {
-    let Ok(stream) = TcpStream::connect(rt, here(port)) else {
-        return Err(Fault::Read);
-    };
-    // Each request is one write, which need not wait for the one before to be acknowledged.
-    let _ = stream.set_nodelay(true);
-    Ok(stream)
 }
 
 /// The run's fault for a drain that stopped.
@@ -54,18 +50,17 @@ fn fault_of_drain(fault: DrainFault) -> Fault
     }
 }
 
-/// The run's fault for a request that brought no packets.
-fn fault_of_ask(fault: AskFault) -> Fault
-    ensures read { fault ≡ ReadFault → result ≡ Read }
-    ensures write { fault ≡ WriteFault → result ≡ Write }
-    ensures memory { fault ≡ AskOutOfMemory → result ≡ Memory }
-    ensures other { fault ≢ ReadFault → fault ≢ WriteFault → fault ≢ AskOutOfMemory → result ≡ Disagrees }
-{
-    match fault {
-        AskFault::ReadFault => Fault::Read,
-        AskFault::WriteFault => Fault::Write,
-        AskFault::OutOfMemory => Fault::Memory,
-        AskFault::BadAnswer | AskFault::Refused(_) => Fault::Disagrees,
+/// A subscriber that holds nothing.
+fn subscribe(
+    alloc: Global,
+    listing: Listing,
+    limit: u32,
+    matrix: Matrix,
+    session: u64,
+) -> Result<Subscriber, Fault> {
+    match Subscriber::new(alloc, listing, limit, session, matrix) {
+        Ok(subscriber) => Ok(subscriber),
+        Err(fault) => Err(fault_of_tape(fault)),
     }
 }
 
@@ -92,30 +87,22 @@ fn is_given_up(restart_after: Option<u32>, held: usize) -> bool
 }
 
 impl Follower {
-    /// A follower that holds nothing, with a connection of its own. It connects before it takes memory, so that a day that
-    /// awaits it is not kept waiting where there is none.
-    pub(crate) fn new<R: Net<Listener = TcpListener, Stream = TcpStream>>(
-        rt: &R,
+    /// A follower that holds nothing.
+    pub(crate) fn new(
         alloc: Global,
         listing: Listing,
         limit: u32,
         matrix: Matrix,
         session: u64,
-        retransmission: u16,
         restart_after: Option<u32>,
     ) -> Result<Follower, Fault> {
-        let connection = dial(rt, retransmission)?;
-        let subscriber = match Subscriber::new(alloc, listing, limit, session, matrix) {
-            Ok(subscriber) => subscriber,
-            Err(fault) => return Err(fault_of_tape(fault)),
-        };
+        let subscriber = subscribe(alloc, listing, limit, matrix, session)?;
         Ok(Follower {
             alloc,
             subscriber,
-            connection,
             session,
-            retransmission,
             restart_after,
+            has_restarted: false,
             over: None,
         })
     }
@@ -132,67 +119,35 @@ impl Follower {
         }
     }
 
-    /// Takes packets that were asked for.
-    fn take_all(&mut self, packets: &[Vec<u8>]) -> Result<(), Fault> {
+    /// Takes packets that were asked for. The first number that was asked for has to be held then, by these or by what a line
+    /// brought meanwhile, so that each request makes progress.
+    fn take_all(&mut self, request: &Request, packets: &[Vec<u8>]) -> Result<(), Fault> {
         for packet in packets {
             self.take(Line::R, packet)?;
         }
-        Ok(())
-    }
-
-    /// Asks for what is missing, and takes the answer. It has to bring the first number that was asked for, so that each
-    /// request makes progress.
-    fn ask_for(&mut self, request: &Request) -> Result<(), Fault> {
-        let asked = ask(
-            self.alloc,
-            request,
-            &mut &self.connection,
-            &mut &self.connection,
-        );
-        let taken = match asked {
-            Ok(packets) => self.take_all(&packets),
-            Err(fault) => Err(fault_of_ask(fault)),
-        };
-        if taken.is_ok() && self.subscriber.held().len() < request.from as usize {
+        if self.subscriber.held().len() < request.from as usize {
             return Err(Fault::Disagrees);
         }
-        taken
-    }
-
-    /// Takes what came by a line, and asks while something is missing.
-    fn deliver(&mut self, line: Line, bytes: &[u8]) -> Result<(), Fault> {
-        self.take(line, bytes)?;
-        for _ in 0..u64::MAX {
-            let Some(request) = self.subscriber.missing() else {
-                break;
-            };
-            self.ask_for(&request)?;
-        }
         Ok(())
     }
 
-    /// Gives the first subscriber up for a new one, with a connection of its own, where it holds enough.
-    fn restart<R: Net<Listener = TcpListener, Stream = TcpStream>>(
-        &mut self,
-        rt: &R,
-    ) -> Result<(), Fault> {
+    /// Gives the first subscriber up for a new one where it holds enough.
+    fn restart(&mut self) -> Result<(), Fault> {
         if !is_given_up(self.restart_after, self.subscriber.held().len()) {
             return Ok(());
         }
         let tape = self.subscriber.tape();
         let listing = copy_of(self.alloc, tape.listing())?;
-        let next = Follower::new(
-            rt,
+        let next = subscribe(
             self.alloc,
             listing,
             tape.limit(),
             tape.matrix(),
             self.session,
-            self.retransmission,
-            None,
         )?;
-        // The connection of the one that is given up is closed.
-        drop(mem::replace(self, next));
+        drop(mem::replace(&mut self.subscriber, next));
+        self.restart_after = None;
+        self.has_restarted = true;
         Ok(())
     }
 
@@ -204,28 +159,56 @@ impl Follower {
         }
     }
 
-    /// Takes what came by a line, unless the run is over, and tells whether it is over then. Whether to restart is looked at
-    /// before the end is.
-    pub(crate) fn step<R: Net<Listener = TcpListener, Stream = TcpStream>>(
-        &mut self,
-        rt: &R,
-        line: Line,
-        bytes: &[u8],
-    ) -> bool {
-        if self.over.is_some() {
-            return true;
-        }
-        let stepped = match self.deliver(line, bytes) {
-            Ok(()) => self.restart(rt),
+    /// Ends the run where what came was a fault, or where all is held. Whether to restart is looked at before that.
+    fn settle(&mut self, taken: Result<(), Fault>) {
+        let settled = match taken {
+            Ok(()) => self.restart(),
             Err(fault) => Err(fault),
         };
-        match stepped {
-            Ok(()) if !self.has_all() => false,
-            ended => {
-                self.over = Some(ended);
-                true
-            }
+        match settled {
+            Ok(()) if !self.has_all() => {}
+            ended => self.over = Some(ended),
         }
+    }
+
+    /// Takes what came by a line, unless the run is over, and tells what is next.
+    pub(crate) fn deliver(&mut self, line: Line, bytes: &[u8]) -> Next {
+        if self.over.is_none() {
+            let taken = self.take(line, bytes);
+            self.settle(taken);
+        }
+        self.next()
+    }
+
+    /// Takes what a request brought, unless the run is over, or the subscriber that lacked it was given up meanwhile.
+    pub(crate) fn answer(&mut self, request: &Request, brought: Result<Vec<Vec<u8>>, Fault>) {
+        if self.over.is_some() || self.has_restarted {
+            return;
+        }
+        let taken = match brought {
+            Ok(packets) => self.take_all(request, &packets),
+            Err(fault) => Err(fault),
+        };
+        self.settle(taken);
+    }
+
+    /// What is next.
+    pub(crate) fn next(&self) -> Next {
+        if self.over.is_some() {
+            return Next::End;
+        }
+        if self.has_restarted {
+            return Next::Connect;
+        }
+        match self.subscriber.missing() {
+            Some(request) => Next::Ask(request),
+            None => Next::Read,
+        }
+    }
+
+    /// Takes note that the new subscriber has its connection.
+    pub(crate) fn connected(&mut self) {
+        self.has_restarted = false;
     }
 
     /// Ends the run by a fault, unless it is over.
@@ -235,7 +218,7 @@ impl Follower {
         }
     }
 
-    /// The subscriber of a run that is over, or the fault that ended it. The connection is closed.
+    /// The subscriber of a run that is over, or the fault that ended it.
     pub(crate) fn into_subscriber(self) -> Result<Subscriber, Fault> {
         let over = self.over.unwrap_or(Err(Fault::Read));
         over.and(Ok(self.subscriber))

@@ -1,69 +1,125 @@
-//! The two lines of a follower, each read until the run is over.
+//! A follower's lines, each read until the run is over, beside what asks for what they lack.
 
-use crate::Fault;
-use crate::follower::Follower;
+use crate::asking::Asker;
+use crate::follower::{Follower, Next};
+use crate::{Fault, FollowSockets};
 use arbitration::Line;
 use std::io::ErrorKind;
 use std::net::{Net, SocketAddr, TcpListener, TcpStream, UdpSocket};
 use std::sync::{Mutex, Wait};
-use std::thread::{Threads, join};
+use std::thread;
+use std::thread::{Parker, Threads};
 use tape_frames::LONGEST_PACKET;
 
 /// Room for a datagram: more than the longest packet has, so that none longer is taken for one.
 const ROOM: usize = LONGEST_PACKET + 1;
 
-/// A line of the follower, and where the other one's read is ended.
+/// A line of the follower.
 #[derive(Drop)]
-pub(crate) struct FollowedLine<'a> {
-    /// Which line it is.
-    pub(crate) line: Line,
-    /// What it is read from.
-    pub(crate) socket: &'a UdpSocket,
-    /// Where the other line is read.
-    pub(crate) other: SocketAddr,
+struct FollowedLine<'a> {
+    line: Line,
+    socket: &'a UdpSocket,
+    /// Where the socket is bound.
+    address: SocketAddr,
 }
 
-/// Reads a datagram of a line, and has the follower take it: whether the run is over then. A read that fails ends it, and one
-/// that was interrupted brings nothing.
-fn follow_on<R: Net<Listener = TcpListener, Stream = TcpStream> + Wait>(
-    rt: &R,
-    follower: &Mutex<Follower>,
-    followed: &FollowedLine<'_>,
-    room: &mut [u8],
-) -> bool {
-    match followed.socket.recv_from(room) {
-        Ok((len, _)) => follower.lock(rt).step(rt, followed.line, &room[..len]),
-        Err(error) if error.kind() == ErrorKind::Interrupted => false,
-        Err(_) => {
-            follower.lock(rt).fail(Fault::Read);
-            true
+/// What the lines of a follower and what asks for it share.
+#[derive(Drop)]
+pub(crate) struct Run<'a> {
+    follower: Mutex<Follower>,
+    /// Wakes what asks.
+    bell: Parker,
+    a: FollowedLine<'a>,
+    b: FollowedLine<'a>,
+}
+
+/// A line that is read from a socket.
+fn followed_line(line: Line, socket: &UdpSocket) -> Result<FollowedLine<'_>, Fault> {
+    match socket.local_addr() {
+        Ok(address) => Ok(FollowedLine {
+            line,
+            socket,
+            address,
+        }),
+        Err(_) => Err(Fault::Read),
+    }
+}
+
+impl FollowedLine<'_> {
+    /// Lets the read of the line return: an empty datagram is no packet.
+    fn wake(&self) {
+        let _ = self.socket.send_to(&[], self.address);
+    }
+
+    /// Reads a datagram, and has the follower take it: what is next then. A read that fails ends the run, and one that was
+    /// interrupted brings nothing.
+    fn read<R: Wait>(&self, rt: &R, follower: &Mutex<Follower>, room: &mut [u8]) -> Next {
+        match self.socket.recv_from(room) {
+            Ok((len, _)) => follower.lock(rt).deliver(self.line, &room[..len]),
+            Err(error) if error.kind() == ErrorKind::Interrupted => Next::Read,
+            Err(_) => {
+                follower.lock(rt).fail(Fault::Read);
+                Next::End
+            }
         }
     }
 }
 
-/// Reads a line until the run is over, and then lets the other line's read return: an empty datagram is no packet.
-fn follow_line<R: Net<Listener = TcpListener, Stream = TcpStream> + Wait>(
-    rt: &R,
-    follower: &Mutex<Follower>,
-    followed: &FollowedLine<'_>,
-) {
-    let mut room = [0u8; ROOM];
-    for _ in rt.forever() {
-        if follow_on(rt, follower, followed, &mut room) {
-            break;
-        }
+impl<'a> Run<'a> {
+    /// A run over these sockets.
+    pub(crate) fn new(follower: Follower, sockets: &'a FollowSockets) -> Result<Run<'a>, Fault> {
+        let a = followed_line(Line::A, &sockets.a);
+        let b = followed_line(Line::B, &sockets.b);
+        let (Ok(a), Ok(b)) = (a, b) else {
+            drop(follower);
+            return Err(Fault::Read);
+        };
+        Ok(Run {
+            follower: Mutex::new(follower),
+            bell: Parker::new(),
+            a,
+            b,
+        })
     }
-    let _ = followed.socket.send_to(&[], followed.other);
+
+    /// Wakes the lines and what asks. Each sees then that the run is over.
+    fn end(&self) {
+        self.a.wake();
+        self.b.wake();
+        self.bell.unpark();
+    }
+
+    /// Reads a line until the run is over, and rings where something is to be asked for.
+    fn read_line<R: Wait>(&self, rt: &R, followed: &FollowedLine<'_>) {
+        let mut room = [0u8; ROOM];
+        for _ in rt.forever() {
+            match followed.read(rt, &self.follower, &mut room) {
+                Next::Read => {}
+                Next::Ask(_) | Next::Connect => self.bell.unpark(),
+                Next::End => break,
+            }
+        }
+        self.end();
+    }
+
+    /// The follower of a run that is over.
+    pub(crate) fn into_follower(self) -> Follower {
+        self.follower.into_inner()
+    }
 }
 
-/// Reads both lines at once until the run is over. Where no thread can be started, line B is read to the end, and what it
-/// lacks is asked for.
-pub(crate) fn follow_lines<
+/// Reads both lines, each in a thread of its own, and asks beside them, until the run is over. Where a thread can't be started
+/// that ends the run.
+pub(crate) fn follow_at_once<
     R: Threads + Wait + Net<Listener = TcpListener, Stream = TcpStream> + Sync,
->(rt: &R, follower: &Mutex<Follower>, a: &FollowedLine<'_>, b: &FollowedLine<'_>) {
-    let ((), ()) = join(
-        rt,
-        || follow_line(rt, follower, a),
-        || follow_line(rt, follower, b),
-    );
+>(rt: &R, run: &Run<'_>, asker: Asker) {
+    thread::scope(thread::scope_env(), rt, move |scope| {
+        let a = scope.spawn(move || run.read_line(rt, &run.a));
+        let b = scope.spawn(move || run.read_line(rt, &run.b));
+        if a.is_err() || b.is_err() {
+            run.follower.lock(rt).fail(Fault::Worker);
+        }
+        asker.run(rt, &run.follower, &run.bell);
+        run.end();
+    });
 }

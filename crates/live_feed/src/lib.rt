@@ -2,6 +2,7 @@
 //! day at the other end.
 #![tactic(auto)]
 
+mod asking;
 mod bell;
 mod fault;
 mod feed;

@@ -1,11 +1,11 @@
 //! A live day: it accepts the participants' lines, sends the tape that they make, and reports it.
-ghost use Rattle.std.specs.Prelude.{◌≡◌, ◌⊎◌, ◌≤◌, IfErr, IfOk, None, OnOk, Some, length, true, vec_len};
+ghost use Rattle.std.specs.Prelude.{◌≡◌, ◌≢◌, ◌⊎◌, ◌≤◌, IfErr, IfOk, None, OnOk, Some, length, true, vec_len};
 ghost use Rattle.tape_core.specs.Tape.{IsLegal};
 ghost use Rattle.line_ledger.specs.Cells.{FirstTokens, HaveAll};
 ghost use Rattle.line_ledger.specs.Ends.{IsOneEach};
 ghost use Rattle.live_feed.specs.Faults.{NoneBefore};
 ghost use Rattle.live_feed.specs.Reports.{WritesItsReport, WritesOneReport};
-ghost use Rattle.live_feed.specs.declared.fault.Fault.TheVariants.{Disagrees};
+ghost use Rattle.live_feed.specs.declared.fault.Fault.TheVariants.{Disagrees, Write as WriteFault};
 
 use crate::bell::Bell;
 use crate::feed::Feed;
@@ -194,9 +194,9 @@ fn run_day<R: Threads + Wait + Clock + Sync, L: Loss + Sync>(
 fn readers_of<R: Threads>(
     rt: &R,
     alloc: Global,
-    lines: &[TcpListener],
+    lines: Vec<TcpListener>,
 ) -> Result<Vec<Reader>, Fault>
-    ensures { IfOk result (λ readers. vec_len readers ≡ length lines.now) }
+    ensures { IfOk result (λ readers. vec_len readers ≡ vec_len lines) }
 {
     let readers = accept_all(alloc, lines)?;
     if !can_start(rt) {
@@ -212,18 +212,18 @@ fn hold_day<R: Threads + Wait + Clock + Sync, L: Loss + Sync>(
     listing: Listing,
     limit: u32,
     matrix: Matrix,
-    sockets: &LiveSockets,
+    lines: Vec<TcpListener>,
 ) -> Result<Day, Fault>
     ensures legal { IfOk result (λ day. IsLegal day.tape) }
     ensures listed { IfOk result (λ day. day.tape.listing ≡ listing) }
     ensures by_matrix { IfOk result (λ day. day.tape.matrix ≡ matrix) }
 {
-    if sockets.lines.len() != listing.participants().as_slice().len() {
+    if lines.len() != listing.participants().as_slice().len() {
         return Err(Fault::Read);
     }
     let mut text = room_for_a_packet(feed.alloc)?;
     let prepared = prepare_day(feed.alloc, listing, limit, matrix)?;
-    let readers = match readers_of(rt, feed.alloc, &sockets.lines) {
+    let readers = match readers_of(rt, feed.alloc, lines) {
         Ok(readers) => readers,
         Err(fault) => {
             drop(prepared);
@@ -240,13 +240,14 @@ fn live<R: Threads + Wait + Clock + Sync, L: Loss + Sync, W: Write>(
     listing: Listing,
     limit: u32,
     matrix: Matrix,
-    sockets: &LiveSockets,
+    lines: Vec<TcpListener>,
     writer: &mut W,
 ) -> Result<(), Fault>
     ensures report { OnOk result (WritesOneReport (W.contents writer.old) (W.contents writer.new)) }
     ensures listed { OnOk result (WritesItsReport listing matrix (W.contents writer.old) (W.contents writer.new)) }
+    ensures unwritten { IfErr result (λ fault. fault ≢ WriteFault → writer.new ≡ writer.old) }
 {
-    let day = hold_day(rt, feed, listing, limit, matrix, sockets)?;
+    let day = hold_day(rt, feed, listing, limit, matrix, lines)?;
     let written = write_day(rt, feed.alloc, day.tape(), writer);
     drop(day);
     written
@@ -254,7 +255,8 @@ fn live<R: Threads + Wait + Clock + Sync, L: Loss + Sync, W: Write>(
 
 /// Runs a day over sockets, and writes its report to `writer`.
 ///
-/// It waits for one connection of each participant, in listing order, and runs the lines at once. What they admit is
+/// It waits for one connection of each participant, in listing order, closes the listener at which it came, and runs the lines
+/// at once. What they admit is
 /// published up to eight entries at a time, and each publication is sent as one packet on lines A and B, unless `loss` drops it.
 /// Once the lines have ended, the end is sent three times on each. Beside that `serves` retransmission connections are served,
 /// one after the other; with 0 of them none is awaited. After all are joined the day is ended, each entry that was published is
@@ -279,18 +281,25 @@ pub fn live_over<R: Threads + Wait + Clock + Sync, L: Loss + Sync, W: Write>(
 ) -> u8
     ensures report { result ≡ 0 → WritesOneReport (W.contents writer.old) (W.contents writer.new) }
     ensures listed { result ≡ 0 → WritesItsReport listing matrix (W.contents writer.old) (W.contents writer.new) }
+    ensures unwritten { result ≢ 0 → result ≢ 4 → writer.new ≡ writer.old }
     ensures status { (result ≡ 0) ⊎ ((3 ≤ result) × (result ≤ 7)) }
 {
+    let LiveSockets {
+        lines,
+        retransmission,
+        sender,
+        ports,
+    } = sockets;
     let feed = Feed {
-        sender: &sockets.sender,
-        retransmission: &sockets.retransmission,
-        ports: sockets.ports,
+        sender: &sender,
+        retransmission: &retransmission,
+        ports,
         loss,
         session,
         serves,
         alloc,
     };
-    match live(rt, &feed, listing, limit, matrix, &sockets, writer) {
+    match live(rt, &feed, listing, limit, matrix, lines, writer) {
         Ok(()) => 0,
         Err(fault) => fault.status(),
     }

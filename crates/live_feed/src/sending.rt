@@ -25,8 +25,9 @@ const PACKETS_BEFORE_REST: u32 = 16;
 /// How long it rests then, in milliseconds.
 const REST: u64 = 1;
 
-/// How long the sender waits before each end, in milliseconds: a reader whose buffer is full empties it meanwhile.
-const PAUSES_BEFORE_ENDS: [u64; 3] = [0, 50, 200];
+/// How long the sender waits before each end, in milliseconds: a reader whose buffer is full empties it meanwhile, and one that
+/// was held up for half a second still gets an end.
+const PAUSES_BEFORE_ENDS: [u64; 3] = [0, 250, 750];
 
 /// The outcome of the sender.
 #[derive(Clone, Copy)]

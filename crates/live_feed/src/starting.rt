@@ -1,5 +1,5 @@
 //! What a day needs before it starts.
-ghost use Rattle.std.specs.Prelude.{◌≡◌, IfOk, length, vec_len};
+ghost use Rattle.std.specs.Prelude.{◌≡◌, IfOk, vec_len};
 ghost use Rattle.live_feed.specs.declared.fault.Fault.TheVariants.{Disagrees, Memory};
 ghost use Rattle.tape_core.specs.declared.tape_fault.TapeFault.TheVariants.{BadLimit, OutOfMemory as TapeOutOfMemory};
 
@@ -58,8 +58,8 @@ pub(crate) fn prepare_day(
     }
 }
 
-/// Waits for one connection at a listener, to be read in large pieces.
-fn accept(alloc: Global, listener: &TcpListener) -> Result<Reader, Fault> {
+/// Waits for one connection at a listener, to be read in large pieces. The listener is closed then.
+fn accept(alloc: Global, listener: TcpListener) -> Result<Reader, Fault> {
     let Ok((stream, _)) = listener.accept() else {
         return Err(Fault::Read);
     };
@@ -69,9 +69,10 @@ fn accept(alloc: Global, listener: &TcpListener) -> Result<Reader, Fault> {
     }
 }
 
-/// Waits for one connection at each listener, in their order.
-pub(crate) fn accept_all(alloc: Global, listeners: &[TcpListener]) -> Result<Vec<Reader>, Fault>
-    ensures { IfOk result (λ readers. vec_len readers ≡ length listeners.now) }
+/// Waits for one connection at each listener, in their order. Each listener is closed once its connection has come, so that
+/// a second one is refused and not taken to be lost.
+pub(crate) fn accept_all(alloc: Global, listeners: Vec<TcpListener>) -> Result<Vec<Reader>, Fault>
+    ensures { IfOk result (λ readers. vec_len readers ≡ vec_len listeners) }
 {
     let mut readers = Vec::new(alloc);
     for listener in listeners {

@@ -1,5 +1,5 @@
 //! The report of a day.
-ghost use Rattle.std.specs.Prelude.{◌≡◌, ◌⊎◌, IfErr, OnOk};
+ghost use Rattle.std.specs.Prelude.{◌≡◌, ◌≢◌, ◌⊎◌, IfErr, OnOk};
 ghost use Rattle.std.specs.Io.KnownBytes.{Appends};
 ghost use Rattle.day_report.specs.ReportText.{report_text};
 ghost use Rattle.day_report.specs.Rows.{report_rows};
@@ -39,6 +39,7 @@ pub(crate) fn write_day<R: Threads + Sync, W: Write>(
     writer: &mut W,
 ) -> Result<(), Fault>
     ensures written { OnOk result (Appends (W.contents writer.old) (W.contents writer.new) (report_text (report_rows tape.now))) }
+    ensures unwritten { IfErr result (λ fault. fault ≢ Write → writer.new ≡ writer.old) }
     ensures fault { IfErr result (λ fault. (fault ≡ Worker) ⊎ (fault ≡ Memory) ⊎ (fault ≡ Write)) }
 {
     let rows = match rows(rt, alloc, tape, WORKERS, &NoGate) {

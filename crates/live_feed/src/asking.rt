@@ -1,0 +1,119 @@
+//! What a follower asks for what is missing, beside its lines.
+ghost use Rattle.std.specs.Prelude.{◌≡◌, ◌≢◌};
+ghost use Rattle.live_feed.specs.declared.fault.Fault.TheVariants.{Disagrees, Memory, Read, Write};
+ghost use Rattle.retransmit.specs.declared.ask_fault.AskFault.TheVariants.{OutOfMemory as AskOutOfMemory, ReadFault, WriteFault};
+
+use crate::follower::{Follower, Next};
+use crate::{Fault, here};
+use retransmit::{AskFault, ask};
+use std::alloc::Global;
+use std::net::{Net, TcpListener, TcpStream};
+use std::sync::{Mutex, Wait};
+use std::thread::Parker;
+use tape_frames::Request;
+
+/// What asks, and where.
+#[derive(Drop)]
+pub(crate) struct Asker {
+    /// The connection on which it asks.
+    pub(crate) connection: TcpStream,
+    /// The port of the retransmission.
+    pub(crate) port: u16,
+    /// Where memory comes from.
+    pub(crate) alloc: Global,
+}
+
+/// Connects to the retransmission at a port of this machine.
+fn dial<R: Net<Listener = TcpListener, Stream = TcpStream>>(
+    rt: &R,
+    port: u16,
+) -> Result<TcpStream, Fault> {
+    let Ok(stream) = TcpStream::connect(rt, here(port)) else {
+        return Err(Fault::Read);
+    };
+    // Each request is one write, which need not wait for the one before to be acknowledged.
+    let _ = stream.set_nodelay(true);
+    Ok(stream)
+}
+
+/// The run's fault for a request that brought no packets.
+fn fault_of_ask(fault: AskFault) -> Fault
+    ensures read { fault ≡ ReadFault → result ≡ Read }
+    ensures write { fault ≡ WriteFault → result ≡ Write }
+    ensures memory { fault ≡ AskOutOfMemory → result ≡ Memory }
+    ensures other { fault ≢ ReadFault → fault ≢ WriteFault → fault ≢ AskOutOfMemory → result ≡ Disagrees }
+{
+    match fault {
+        AskFault::ReadFault => Fault::Read,
+        AskFault::WriteFault => Fault::Write,
+        AskFault::OutOfMemory => Fault::Memory,
+        AskFault::BadAnswer | AskFault::Refused(_) => Fault::Disagrees,
+    }
+}
+
+impl Asker {
+    /// One that is connected.
+    pub(crate) fn new<R: Net<Listener = TcpListener, Stream = TcpStream>>(
+        rt: &R,
+        alloc: Global,
+        port: u16,
+    ) -> Result<Asker, Fault> {
+        let connection = dial(rt, port)?;
+        Ok(Asker {
+            connection,
+            port,
+            alloc,
+        })
+    }
+
+    /// What a request brings. The follower is not locked meanwhile, so its lines are read on.
+    fn bring(&self, request: &Request) -> Result<Vec<Vec<u8>>, Fault> {
+        let asked = ask(
+            self.alloc,
+            request,
+            &mut &self.connection,
+            &mut &self.connection,
+        );
+        match asked {
+            Ok(packets) => Ok(packets),
+            Err(fault) => Err(fault_of_ask(fault)),
+        }
+    }
+
+    /// Connects anew for a new subscriber. The connection of the one that was given up is closed.
+    fn reconnect<R: Net<Listener = TcpListener, Stream = TcpStream> + Wait>(
+        &mut self,
+        rt: &R,
+        follower: &Mutex<Follower>,
+    ) {
+        match dial(rt, self.port) {
+            Ok(connection) => {
+                self.connection = connection;
+                follower.lock(rt).connected();
+            }
+            Err(fault) => follower.lock(rt).fail(fault),
+        }
+    }
+
+    /// Asks for what is missing until the run is over, and sleeps while nothing is missing. The connection is closed then.
+    pub(crate) fn run<R: Net<Listener = TcpListener, Stream = TcpStream> + Wait>(
+        self,
+        rt: &R,
+        follower: &Mutex<Follower>,
+        bell: &Parker,
+    ) {
+        let mut asker = self;
+        for _ in rt.forever() {
+            let next = follower.lock(rt).next();
+            match next {
+                Next::Read => bell.park(rt),
+                Next::Ask(request) => {
+                    let brought = asker.bring(&request);
+                    follower.lock(rt).answer(&request, brought);
+                }
+                Next::Connect => asker.reconnect(rt, follower),
+                Next::End => break,
+            }
+        }
+    }
+}
