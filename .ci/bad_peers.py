@@ -1,9 +1,10 @@
 #!/usr/bin/env python3
 """A running day whose peers misbehave: bad_peers.py TAPEBOX
 
-N's line ends in a frame of length 0 and is closed at once, while the others are open. Q's ends inside a frame. Of the two
-connections for lost packets one ends inside a request, and the other asks under another session and is then reset. Each ends
-alone: what N and Q sent before, and P's two reports after it, are the day, which ends with status 0. Prints the report.
+N connects twice, and is refused the second time. Its line ends in a frame of length 0 and is closed at once, while the others are
+open. Q's ends inside a frame. Of the two connections for lost packets one ends inside a request, and the other asks under another
+session and is then reset. Each ends alone: what N and Q sent before, and P's two reports after it, are the day, which ends with
+status 0. Prints the report.
 """
 
 import socket
@@ -13,7 +14,7 @@ import sys
 
 sys.dont_write_bytecode = True
 
-from peers import LIMIT, connect, free_ports, report
+from peers import LIMIT, connect, free_ports, report, wait_refused
 
 SESSION = 7
 # The sizes and the trades of four reports.
@@ -24,7 +25,9 @@ OTHER_SESSION = bytes([71])
 
 def send_lines(port):
     """The lines of N, Q and P."""
-    n, q, p = (connect(port + at) for at in range(3))
+    n = connect(port)
+    wait_refused(port)
+    q, p = connect(port + 1), connect(port + 2)
     with n, q, p:
         n.sendall(report(b"N", 1) + b"\0\0")
         if n.recv(1):

@@ -13,11 +13,10 @@ import socket
 import subprocess
 import sys
 import tempfile
-import time
 
 sys.dont_write_bytecode = True
 
-from peers import HOST, LIMIT, connect, free_ports, report
+from peers import HOST, LIMIT, connect, free_ports, report, wait_refused
 
 READ = (3, "tapebox: read fault\n")
 WORKER = (6, "tapebox: worker not started\n")
@@ -153,12 +152,11 @@ def live_without_a_line():
 
 
 def live_without_a_subscriber(name, output):
-    """The line is the seventh file. The first subscriber's connection may be awaited then, and the second one's is not."""
+    """The line is there once its listener is closed. The first subscriber's connection may be awaited then, and the second one's is not."""
     port = free_ports(4)
     run = start(live_words(port, "N", 2), output=output)
     with connect(port) as line:
-        while len(os.listdir(f"/proc/{run.pid}/fd")) < 7:
-            time.sleep(0.01)
+        wait_refused(port)
         forbid_files(run)
         connect(port + 3).close()
         line.sendall(report(b"N", 1))

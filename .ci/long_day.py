@@ -9,12 +9,10 @@ import string
 import subprocess
 import sys
 import tempfile
-import time
-from pathlib import Path
 
 sys.dont_write_bytecode = True
 
-from peers import LIMIT, connect, free_ports, report
+from peers import LIMIT, connect, free_ports, reports, wait_bound
 
 REPORTS = 70_000
 SYMBOLS = ["AB", *(f"S{at}" for at in range(1, 4_096))]
@@ -28,21 +26,6 @@ def start(tapebox, written, verb, *numbers):
     return subprocess.Popen([tapebox, *words], stdout=written)
 
 
-def is_bound(port):
-    """Whether a socket receives packets on the port."""
-    rows = Path("/proc/net/udp").read_text().splitlines()[1:]
-    return any(row.split()[1].endswith(f":{port:04X}") for row in rows)
-
-
-def wait_bound(follow, *ports):
-    """Waits until the follower receives on the ports."""
-    until = time.monotonic() + LIMIT
-    while not all(is_bound(port) for port in ports):
-        if follow.poll() is not None or time.monotonic() > until:
-            sys.exit(f"nobody receives on {ports}: follow, status {follow.poll()}")
-        time.sleep(0.02)
-
-
 def main():
     tapebox = sys.argv[1]
     port = free_ports(len(PARTICIPANTS) + 3)
@@ -54,7 +37,7 @@ def main():
             programs.append(start(tapebox, followed, "follow", a, b, retransmission, SESSION))
             wait_bound(programs[1], a, b)
             first = PARTICIPANTS[0].encode()
-            connections[0].sendall(b"".join(report(first, number) for number in range(1, REPORTS + 1)))
+            connections[0].sendall(reports(first, REPORTS))
             for connection in connections:
                 connection.close()
             statuses = [program.wait(timeout=LIMIT) for program in programs]

@@ -14,7 +14,7 @@ import sys
 
 sys.dont_write_bytecode = True
 
-from peers import HOST, LIMIT, connect, free_ports, report
+from peers import HOST, LIMIT, connect, free_ports, reports
 
 SESSION = 4_294_967_303
 REPORTS = 800
@@ -22,7 +22,7 @@ ENTRIES_MOST = 8
 PACKETS_BEFORE_REST = 16
 # Seconds: a little less than the program rests, since a clock may be set back meanwhile.
 REST = 0.0009
-PAUSES = [0.045, 0.18]
+PAUSES = [0.24, 0.74]
 HEADER = struct.Struct(">BcQIB")
 # Asks Linux for the time at which each packet was taken, by the same number that its answer has.
 SO_TIMESTAMPNS = 35
@@ -81,7 +81,7 @@ def look_at_data(taken):
 
 def look_at_ends(taken):
     """Looks at what came after the data packets of a line."""
-    wanted = HEADER.pack(1, b"E", SESSION, REPORTS, 0)
+    wanted = HEADER.pack(2, b"E", SESSION, REPORTS, 0)
     if [packet for _, packet in taken] != [wanted] * 3:
         sys.exit(f"the ends are {[packet[:HEADER.size + 1].hex() for _, packet in taken]}")
     times = [time for time, _ in taken]
@@ -97,7 +97,7 @@ def main():
     day = subprocess.Popen([sys.argv[1], *map(str, words)], stdout=subprocess.DEVNULL)
     try:
         with connect(port) as participant:
-            participant.sendall(b"".join(report(b"N", number) for number in range(1, REPORTS + 1)))
+            participant.sendall(reports(b"N", REPORTS))
         a, b = receive(lines, day)
         day.wait(timeout=LIMIT)
     finally:
