@@ -4,6 +4,7 @@ use crate::day::Day;
 use crate::header;
 use crate::hex::{Line, Lines};
 use crate::keep::{Keep, Tape};
+use crate::matrix::Matrix;
 use crate::message::decode;
 use crate::report;
 
@@ -15,8 +16,12 @@ pub struct BadHeader;
 const REPORT_LINE: usize = 83;
 const MESSAGE_LINE: usize = 59;
 
-/// Adds the batch's output for the input to the text, and answers the day as it ended.
-pub fn batch<K: Keep>(input: &[u8], text: &mut Vec<u8>) -> Result<Day<K>, BadHeader> {
+/// Adds the batch's output for the input, by the matrix, to the text, and answers the day as it ended.
+pub fn batch<K: Keep>(
+    matrix: Matrix,
+    input: &[u8],
+    text: &mut Vec<u8>,
+) -> Result<Day<K>, BadHeader> {
     let mut lines = Lines::new(input);
     let symbols = lines.next_text().unwrap_or_default();
     let participants = lines.next_text().unwrap_or_default();
@@ -26,7 +31,7 @@ pub fn batch<K: Keep>(input: &[u8], text: &mut Vec<u8>) -> Result<Day<K>, BadHea
     })?;
     let reports = input.len() / REPORT_LINE;
     text.reserve(8 * reports + 100 * names.symbols.len());
-    let mut day = Day::new(names, reports, input.len() / MESSAGE_LINE);
+    let mut day = Day::new(names, matrix, reports, input.len() / MESSAGE_LINE);
     let mut line = Line::default();
     while let Some(read) = lines.next_message(&mut line) {
         match read
@@ -44,13 +49,18 @@ pub fn batch<K: Keep>(input: &[u8], text: &mut Vec<u8>) -> Result<Day<K>, BadHea
     Ok(day)
 }
 
-/// The tape of the input: what the batch keeps of it, without its output.
+/// The tape of the input by Matrix One: what the batch keeps of it, without its output.
 pub fn tape_of(input: &[u8]) -> Result<Day<Tape>, BadHeader> {
     let mut lines = Lines::new(input);
     let symbols = lines.next_text().unwrap_or_default();
     let participants = lines.next_text().unwrap_or_default();
     let names = header::read(symbols, participants).map_err(|_| BadHeader)?;
-    let mut day = Day::new(names, input.len() / REPORT_LINE, input.len() / MESSAGE_LINE);
+    let mut day = Day::new(
+        names,
+        Matrix::One,
+        input.len() / REPORT_LINE,
+        input.len() / MESSAGE_LINE,
+    );
     let mut line = Line::default();
     while let Some(read) = lines.next_message(&mut line) {
         // A line that is refused is passed over.

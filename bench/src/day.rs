@@ -1,8 +1,9 @@
 //! The day: which messages are admitted.
 
 use crate::header::Names;
-use crate::keep::{Keep, Named};
-use crate::message::{Kind, Message};
+use crate::keep::{Change, Keep, Named};
+use crate::matrix::Matrix;
+use crate::message::{Content, Kind, Message};
 use std::collections::HashMap;
 use std::hash::{BuildHasherDefault, Hasher};
 use std::num::NonZeroU32;
@@ -18,6 +19,8 @@ struct Report {
     symbol: u16,
     /// Whether it is not cancelled.
     stands: bool,
+    /// As reported or as last corrected, whether or not it is cancelled.
+    content: Content,
 }
 
 /// A day over its names, with what is kept of each message.
@@ -26,6 +29,7 @@ pub struct Day<K> {
     pub names: Names,
     /// What is kept of the admitted messages.
     pub kept: K,
+    matrix: Matrix,
     positions: Map<u16>,
     /// By rising place.
     reports: Vec<Report>,
@@ -38,8 +42,8 @@ pub struct Day<K> {
 }
 
 impl<K: Keep> Day<K> {
-    /// An empty day with room for so many reports and entries.
-    pub fn new(names: Names, reports: usize, entries: usize) -> Self {
+    /// An empty day that goes by the matrix, with room for so many reports and entries.
+    pub fn new(names: Names, matrix: Matrix, reports: usize, entries: usize) -> Self {
         let mut positions = Map::with_capacity_and_hasher(names.symbols.len(), Folding::default());
         for (position, symbol) in names.symbols.iter().enumerate() {
             positions.insert(u64::from_be_bytes(*symbol), position as u16);
@@ -52,6 +56,7 @@ impl<K: Keep> Day<K> {
             reports: Vec::with_capacity(reports),
             kept: K::with_room(&names, reports, entries),
             names,
+            matrix,
             positions,
             sent: Map::with_capacity_and_hasher(reports, Folding::default()),
             listed,
@@ -73,15 +78,7 @@ impl<K: Keep> Day<K> {
         let symbol = u64::from_be_bytes(message.symbol);
         let symbol = *self.positions.get(&symbol).ok_or("36 UnknownSymbol")?;
         let number = NonZeroU32::MIN.saturating_add(self.length);
-        let index = match message.kind {
-            Kind::Report(_) => self.record(&message, symbol, number),
-            Kind::Cancel { target } => {
-                let index = self.named(&message, symbol, target)?;
-                self.reports[index as usize].stands = false;
-                index
-            }
-            Kind::Correct { target, .. } => self.named(&message, symbol, target)?,
-        };
+        let (index, change) = self.change(&message, symbol, number)?;
         self.last[letter] = message.number;
         self.length += 1;
         let report = Named {
@@ -90,12 +87,61 @@ impl<K: Keep> Day<K> {
             symbol,
             participant,
         };
-        self.kept.keep(number, message, report);
+        self.kept.keep(number, message, report, change);
         Ok(self.length)
     }
 
+    /// Makes the message's change in the register, and answers the report's index and what is to be kept.
+    fn change(
+        &mut self,
+        message: &Message,
+        symbol: u16,
+        number: NonZeroU32,
+    ) -> Result<(u32, Change), &'static str> {
+        Ok(match message.kind {
+            Kind::Report(content) => {
+                let put = self.put(content)?;
+                (self.record(message, symbol, number, content), put)
+            }
+            Kind::Correct { target, content } => {
+                let put = self.put(content)?;
+                let index = self.standing(message, symbol, target)?;
+                self.reports[index as usize].content = content;
+                (index, put)
+            }
+            Kind::Cancel { target } => {
+                let index = self.standing(message, symbol, target)?;
+                self.reports[index as usize].stands = false;
+                (index, Change::Take)
+            }
+            Kind::Reinstate { target } => {
+                let index = self.named(message, symbol, target)?;
+                let report = &mut self.reports[index as usize];
+                if report.stands {
+                    return Err("43 Standing");
+                }
+                report.stands = true;
+                let content = report.content;
+                (index, self.put(content)?)
+            }
+        })
+    }
+
+    /// The change that puts this content, where the day's matrix has its condition.
+    fn put(&self, content: Content) -> Result<Change, &'static str> {
+        let cells = self.matrix.cells(content.condition);
+        let cells = cells.ok_or("44 NotInMatrix")?;
+        Ok(Change::Put { content, cells })
+    }
+
     /// Adds the message's report, and answers its index.
-    fn record(&mut self, message: &Message, symbol: u16, place: NonZeroU32) -> u32 {
+    fn record(
+        &mut self,
+        message: &Message,
+        symbol: u16,
+        place: NonZeroU32,
+        content: Content,
+    ) -> u32 {
         let index = self.reports.len() as u32;
         self.sent
             .insert(key(message.participant, message.number), index);
@@ -103,19 +149,25 @@ impl<K: Keep> Day<K> {
             place,
             symbol,
             stands: true,
+            content,
         });
         index
     }
 
-    /// The index of the standing report that the message's participant sent under the target.
+    /// The index of the report that the message's participant sent under the target.
     fn named(&self, message: &Message, symbol: u16, target: u32) -> Result<u32, &'static str> {
         let key = key(message.participant, target);
         let index = *self.sent.get(&key).ok_or("37 NoSuchReport")?;
-        let report = &self.reports[index as usize];
-        if report.symbol != symbol {
+        if self.reports[index as usize].symbol != symbol {
             return Err("38 OtherSymbol");
         }
-        if !report.stands {
+        Ok(index)
+    }
+
+    /// The same of a report that stands.
+    fn standing(&self, message: &Message, symbol: u16, target: u32) -> Result<u32, &'static str> {
+        let index = self.named(message, symbol, target)?;
+        if !self.reports[index as usize].stands {
             return Err("39 Cancelled");
         }
         Ok(index)

@@ -121,6 +121,7 @@ fn write_message(message: &Message, text: &mut Vec<u8>) {
     let (len, kind) = match message.kind {
         Kind::Report(_) => (38, b'R'),
         Kind::Cancel { .. } => (26, b'X'),
+        Kind::Reinstate { .. } => (26, b'S'),
         Kind::Correct { .. } => (42, b'C'),
     };
     text.extend_from_slice(&[0, len, kind, message.participant]);
@@ -129,7 +130,9 @@ fn write_message(message: &Message, text: &mut Vec<u8>) {
     text.extend_from_slice(&message.symbol);
     match &message.kind {
         Kind::Report(content) => write_content(content, text),
-        Kind::Cancel { target } => text.extend_from_slice(&target.to_be_bytes()),
+        Kind::Cancel { target } | Kind::Reinstate { target } => {
+            text.extend_from_slice(&target.to_be_bytes());
+        }
         Kind::Correct { target, content } => {
             text.extend_from_slice(&target.to_be_bytes());
             write_content(content, text);
@@ -169,7 +172,7 @@ fn read_entry(rest: &mut &[u8]) -> Result<Entry, &'static str> {
     *rest = &rest[count..];
     let after = match message.kind {
         Kind::Report(_) => None,
-        Kind::Cancel { .. } | Kind::Correct { .. } => {
+        Kind::Cancel { .. } | Kind::Correct { .. } | Kind::Reinstate { .. } => {
             let bytes = taken(rest, 65).ok_or("51 Short")?;
             Some(read_summary(bytes).ok_or("55 BadEntry")?)
         }

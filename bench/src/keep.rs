@@ -1,6 +1,7 @@
 //! What a day keeps beside the names of its reports: the whole tape with its summaries, or the reports alone.
 
 use crate::header::Names;
+use crate::matrix::Cells;
 use crate::message::{Content, Kind, Message};
 use crate::store::{Effect, Store};
 use crate::summary::{Mark, Summary};
@@ -19,13 +20,22 @@ pub struct Named {
     pub participant: u8,
 }
 
+/// What a message does to the report that it makes or names.
+#[derive(Clone, Copy)]
+pub enum Change {
+    /// It stands with this content, and these cells of its condition.
+    Put { content: Content, cells: Cells },
+    /// It stands no longer.
+    Take,
+}
+
 /// What a day keeps of each admitted message.
 pub trait Keep {
     /// Nothing kept yet, with room for so many reports and entries.
     fn with_room(names: &Names, reports: usize, entries: usize) -> Self;
 
-    /// Keeps a message with its tape number and the report that it makes or names.
-    fn keep(&mut self, number: NonZeroU32, message: Message, report: Named);
+    /// Keeps a message with its tape number, the report that it makes or names, and what it does to it.
+    fn keep(&mut self, number: NonZeroU32, message: Message, report: Named, change: Change);
 
     /// Per symbol its consolidated summary and then its participants', in the order of the listing.
     fn summaries(&self, names: &Names) -> Vec<Summary>;
@@ -46,7 +56,7 @@ pub struct Entry {
     pub number: NonZeroU32,
     /// The message as it came.
     pub message: Message,
-    /// The symbol's consolidated summary after a cancel or a correction.
+    /// The symbol's consolidated summary after each message but a report.
     pub after: Option<Summary>,
 }
 
@@ -59,12 +69,12 @@ struct Book {
 }
 
 impl Book {
-    fn put(&mut self, report: Named, message: &Message, content: &Content) {
+    fn put(&mut self, report: Named, letter: u8, content: &Content, cells: &Cells) {
         let own = usize::from(report.participant);
         if self.own.len() <= own {
             self.own.resize_with(own + 1, Store::default);
         }
-        let [whole, part] = [0, 1].map(|column| Effect::new(message.participant, content, column));
+        let [whole, part] = [0, 1].map(|column| Effect::new(letter, content, cells, column));
         self.consolidated.put(report.place, whole);
         self.own[own].put(report.place, part);
     }
@@ -83,21 +93,17 @@ impl Keep for Tape {
         }
     }
 
-    fn keep(&mut self, number: NonZeroU32, message: Message, report: Named) {
+    fn keep(&mut self, number: NonZeroU32, message: Message, report: Named, change: Change) {
         let book = &mut self.books[usize::from(report.symbol)];
-        let after = match &message.kind {
-            Kind::Report(content) => {
-                book.put(report, &message, content);
-                None
+        match change {
+            Change::Put { content, cells } => {
+                book.put(report, message.participant, &content, &cells);
             }
-            Kind::Cancel { .. } => {
-                book.take(report);
-                Some(book.consolidated.summary())
-            }
-            Kind::Correct { content, .. } => {
-                book.put(report, &message, content);
-                Some(book.consolidated.summary())
-            }
+            Change::Take => book.take(report),
+        }
+        let after = match message.kind {
+            Kind::Report(_) => None,
+            _ => Some(book.consolidated.summary()),
         };
         self.entries.push(Entry {
             number,
@@ -128,6 +134,7 @@ pub struct Reports {
 struct Report {
     /// As reported, or as last corrected.
     content: Content,
+    cells: Cells,
     place: NonZeroU32,
     symbol: u16,
     /// The participant's position in the listing.
@@ -145,18 +152,24 @@ impl Keep for Reports {
         }
     }
 
-    fn keep(&mut self, _number: NonZeroU32, message: Message, report: Named) {
-        match message.kind {
-            Kind::Report(content) => self.reports.push(Report {
-                content,
-                place: report.place,
-                symbol: report.symbol,
-                participant: report.participant,
-                letter: message.participant,
-                stands: true,
-            }),
-            Kind::Cancel { .. } => self.reports[report.index as usize].stands = false,
-            Kind::Correct { content, .. } => self.reports[report.index as usize].content = content,
+    fn keep(&mut self, _number: NonZeroU32, message: Message, report: Named, change: Change) {
+        let index = report.index as usize;
+        let Change::Put { content, cells } = change else {
+            self.reports[index].stands = false;
+            return;
+        };
+        let put = Report {
+            content,
+            cells,
+            place: report.place,
+            symbol: report.symbol,
+            participant: report.participant,
+            letter: message.participant,
+            stands: true,
+        };
+        match self.reports.get_mut(index) {
+            Some(report) => *report = put,
+            None => self.reports.push(put),
         }
     }
 
@@ -170,8 +183,10 @@ impl Keep for Reports {
                 place: report.place,
                 participant: report.letter,
             };
-            summaries[row].step(mark, &report.content, 0);
-            summaries[row + 1 + usize::from(report.participant)].step(mark, &report.content, 1);
+            let own = row + 1 + usize::from(report.participant);
+            for (column, row) in [row, own].into_iter().enumerate() {
+                summaries[row].step(mark, report.content.size, &report.cells, column);
+            }
         }
         summaries
     }

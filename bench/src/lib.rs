@@ -1,5 +1,5 @@
 //! The batch of a trade tape as two plain programs, `indexed` with the whole tape kept and each summary exact after each
-//! message, and `least` with none: the input, answers and report of `tapebox batch`, with nothing of its code. And `feed`, which sends
+//! message, and `least` with none: the input, answers and report of `tapebox batch [1|2]`, with nothing of its code. And `feed`, which sends
 //! that tape on two lossy lines to a subscriber.
 
 mod batch;
@@ -24,7 +24,7 @@ pub use day::Day;
 pub use feed::{Figures, feed};
 pub use header::Names;
 pub use keep::{Entry, Keep, Reports, Tape};
-pub use matrix::{Cells, LastRule, cells};
+pub use matrix::{Cells, LastRule, Matrix};
 pub use message::{Content, Kind, Message};
 pub use program::run;
 pub use summary::{Mark, Summary};

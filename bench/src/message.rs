@@ -1,7 +1,7 @@
 //! A message from its bytes, the first fault first.
 
 use crate::header::is_symbol;
-use crate::matrix::{Cells, cells};
+use crate::matrix::is_condition;
 
 /// What a message asks for.
 #[derive(Clone, Copy, Debug, PartialEq, Eq)]
@@ -12,9 +12,11 @@ pub enum Kind {
     Cancel { target: u32 },
     /// To give the report of that number another content.
     Correct { target: u32, content: Content },
+    /// To let the cancelled report of that number stand again.
+    Reinstate { target: u32 },
 }
 
-/// What was traded, and which figures it changes.
+/// What was traded.
 #[derive(Clone, Copy, Debug, PartialEq, Eq)]
 pub struct Content {
     /// Ten-thousandths of a dollar.
@@ -23,8 +25,6 @@ pub struct Content {
     pub size: u32,
     /// The four codes of the sale condition.
     pub condition: [u8; 4],
-    /// What the codes say together.
-    pub cells: Cells,
 }
 
 /// A message of a participant.
@@ -74,7 +74,7 @@ fn body(bytes: &[u8]) -> Result<&[u8], &'static str> {
 fn fields(body: &[u8]) -> Result<Message, &'static str> {
     let len = match body[0] {
         b'R' => 38,
-        b'X' => 26,
+        b'X' | b'S' => 26,
         b'C' => 42,
         _ => return Err("13 BadKind"),
     };
@@ -96,6 +96,9 @@ fn fields(body: &[u8]) -> Result<Message, &'static str> {
     let kind = match body[0] {
         b'R' => Kind::Report(content(&body[22..])?),
         b'X' => Kind::Cancel {
+            target: target(body)?,
+        },
+        b'S' => Kind::Reinstate {
             target: target(body)?,
         },
         _ => Kind::Correct {
@@ -129,12 +132,13 @@ fn content(bytes: &[u8]) -> Result<Content, &'static str> {
         return Err("20 BadSize");
     }
     let condition = word(bytes, 12).to_be_bytes();
-    let cells = cells(condition).ok_or("21 BadCondition")?;
+    if !is_condition(condition) {
+        return Err("21 BadCondition");
+    }
     Ok(Content {
         price,
         size,
         condition,
-        cells,
     })
 }
 

@@ -1,6 +1,6 @@
-//! A program's words, input, output and statuses: those of `tapebox batch`.
+//! A program's words, input, output and statuses: those of `tapebox batch [1|2]`.
 
-use crate::{BadHeader, INPUT_MOST, Keep, batch};
+use crate::{BadHeader, INPUT_MOST, Keep, Matrix, batch};
 use std::fs::File;
 use std::hint::black_box;
 use std::io::{self, Read, Write};
@@ -10,9 +10,12 @@ use std::process::ExitCode;
 /// Runs the batch over standard input, with a day that keeps `K`.
 pub fn run<K: Keep>() -> ExitCode {
     let words: Vec<_> = std::env::args_os().skip(1).collect();
-    if words.len() != 1 || words[0] != "batch" {
-        return fault(2, "bad arguments");
-    }
+    let words: Vec<_> = words.iter().map(|word| word.to_str()).collect();
+    let matrix = match words[..] {
+        [Some("batch")] | [Some("batch"), Some("1")] => Matrix::One,
+        [Some("batch"), Some("2")] => Matrix::Two,
+        _ => return fault(2, "bad arguments"),
+    };
     let Ok(input) = read_input() else {
         return fault(3, "read fault");
     };
@@ -20,7 +23,7 @@ pub fn run<K: Keep>() -> ExitCode {
         return fault(2, "input too large");
     }
     let mut text = Vec::new();
-    let day = batch::<K>(&input, &mut text);
+    let day = batch::<K>(matrix, &input, &mut text);
     // Nothing reads the tape again, and the optimizer must not leave it out for that.
     black_box(&day);
     if write_output(&text).is_err() {

@@ -1,6 +1,6 @@
 //! The reports of a symbol, or of a participant in it, that stand, with their summary at hand: no call goes over them.
 
-use crate::matrix::LastRule;
+use crate::matrix::{Cells, LastRule};
 use crate::message::Content;
 use crate::summary::{Mark, Summary};
 use std::collections::{BTreeMap, BTreeSet};
@@ -25,14 +25,14 @@ pub struct Effect {
 
 impl Effect {
     /// What a participant's report of this content does, by the consolidated columns (0) or the participant's (1).
-    pub fn new(participant: u8, content: &Content, column: usize) -> Self {
+    pub fn new(participant: u8, content: &Content, cells: &Cells, column: usize) -> Self {
         Effect {
             price: content.price,
             size: content.size,
             participant,
-            high_low: content.cells.high_low[column],
-            last: content.cells.last[column],
-            volume: content.cells.volume,
+            high_low: cells.high_low[column],
+            last: cells.last[column],
+            volume: cells.volume,
         }
     }
 

@@ -4,6 +4,7 @@ use crate::day::Day;
 use crate::frames::{Packet, Request};
 use crate::header::Names;
 use crate::keep::{Entry, Tape};
+use crate::matrix::Matrix;
 use crate::window::{Line, Window};
 
 /// A window and the tape that its entries are replayed on.
@@ -16,11 +17,11 @@ pub struct Subscriber {
 }
 
 impl Subscriber {
-    /// A subscriber that holds nothing, with room for so many reports and entries.
+    /// A subscriber by Matrix One that holds nothing, with room for so many reports and entries.
     pub fn new(names: Names, session: u64, reports: usize, entries: usize) -> Self {
         Subscriber {
             window: Window::new(session),
-            day: Day::new(names, reports, entries),
+            day: Day::new(names, Matrix::One, reports, entries),
             packet: Packet::new(),
             failed: false,
         }

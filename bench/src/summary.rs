@@ -1,7 +1,6 @@
 //! The figures of a symbol, or of a participant in it.
 
-use crate::matrix::LastRule;
-use crate::message::Content;
+use crate::matrix::{Cells, LastRule};
 use std::num::NonZeroU32;
 
 /// A price with where it was traded.
@@ -34,13 +33,13 @@ pub struct Summary {
 
 impl Summary {
     /// Takes the next report by rising place in, by the consolidated columns (0) or the participant's (1).
-    pub fn step(&mut self, mark: Mark, content: &Content, column: usize) {
+    pub fn step(&mut self, mark: Mark, size: u32, cells: &Cells, column: usize) {
         let last = self.last.map(|last| last.participant);
-        if content.cells.last[column] >= LastRule::weakest(last, mark.participant) {
+        if cells.last[column] >= LastRule::weakest(last, mark.participant) {
             self.open = self.open.or(Some(mark));
             self.last = Some(mark);
         }
-        if content.cells.high_low[column] {
+        if cells.high_low[column] {
             if self.high.is_none_or(|high| mark.price > high.price) {
                 self.high = Some(mark);
             }
@@ -48,8 +47,8 @@ impl Summary {
                 self.low = Some(mark);
             }
         }
-        if content.cells.volume {
-            self.volume += u64::from(content.size);
+        if cells.volume {
+            self.volume += u64::from(size);
         }
         self.trades += 1;
     }

@@ -1,15 +1,21 @@
 //! The worked rows that a batch can show, with their figures written out.
 
-use bench::{Day, Kind, LastRule, Mark, Reports, Summary, Tape, batch};
+use bench::{Day, Kind, LastRule, Mark, Matrix, Reports, Summary, Tape, batch};
 use std::num::NonZeroU32;
 
 const HEADER: &str = "symbol,who,open,open_at,high,high_at,low,low_at,last,last_at,volume,trades";
 
-/// The batch's output, line by line: with a tape the same as without.
+/// The batch's output by Matrix One, line by line.
 fn output(input: &str) -> Vec<String> {
+    output_by(Matrix::One, input)
+}
+
+/// The batch's output, line by line: with a tape the same as without.
+fn output_by(matrix: Matrix, input: &str) -> Vec<String> {
     let [mut text, mut least] = [Vec::new(), Vec::new()];
-    let kept = batch::<Tape>(input.as_bytes(), &mut text).is_ok();
-    assert_eq!(batch::<Reports>(input.as_bytes(), &mut least).is_ok(), kept);
+    let kept = batch::<Tape>(matrix, input.as_bytes(), &mut text).is_ok();
+    let reported = batch::<Reports>(matrix, input.as_bytes(), &mut least).is_ok();
+    assert_eq!(reported, kept);
     assert_eq!(text, least);
     let text = String::from_utf8(text).unwrap();
     text.lines().map(String::from).collect()
@@ -48,14 +54,34 @@ fn cancel(who: char, number: u32, symbol: &str, target: u32) -> String {
     line('X', who, number, symbol, &target.to_be_bytes())
 }
 
+fn reinstate(who: char, number: u32, symbol: &str, target: u32) -> String {
+    line('S', who, number, symbol, &target.to_be_bytes())
+}
+
 fn correct(who: char, number: u32, target: u32, price: u64) -> String {
-    let rest = [&target.to_be_bytes()[..], &content(price, 100, "@   ")].concat();
+    correct_to(who, number, target, price, "@   ")
+}
+
+fn correct_to(who: char, number: u32, target: u32, price: u64, condition: &str) -> String {
+    let rest = [&target.to_be_bytes()[..], &content(price, 100, condition)].concat();
     line('C', who, number, "AB", &rest)
 }
 
-/// Runs the messages over AB and CD and compares the answers and the rows of AB.
+/// Runs the messages by Matrix One, as `check_by` does.
 fn check(participants: &str, messages: &[String], answers: &[&str], rows: &[&str]) {
-    let written = output(&format!("AB CD\n{participants}\n{}", messages.join("\n")));
+    check_by(Matrix::One, participants, messages, answers, rows);
+}
+
+/// Runs the messages over AB and CD and compares the answers and the rows of AB.
+fn check_by(
+    matrix: Matrix,
+    participants: &str,
+    messages: &[String],
+    answers: &[&str],
+    rows: &[&str],
+) {
+    let input = format!("AB CD\n{participants}\n{}", messages.join("\n"));
+    let written = output_by(matrix, &input);
     let (told, report) = written.split_at(messages.len());
     assert_eq!(told, answers);
     assert_eq!(report[0], HEADER);
@@ -66,7 +92,7 @@ fn check(participants: &str, messages: &[String], answers: &[&str], rows: &[&str
 /// The day of the messages over AB and CD, with its tape.
 fn day(participants: &str, messages: &[String]) -> Day<Tape> {
     let input = format!("AB CD\n{participants}\n{}", messages.join("\n"));
-    batch(input.as_bytes(), &mut Vec::new()).unwrap()
+    batch(Matrix::One, input.as_bytes(), &mut Vec::new()).unwrap()
 }
 
 fn mark(price: u64, place: u32, participant: char) -> Option<Mark> {
@@ -234,27 +260,34 @@ fn a_carried_summary_is_the_row_of_its_moment() {
         "@   ", "@ L ", "@ Z ", "@4  ", "@  I", "@  M", "@9  ", "@F P",
     ];
     let mut messages = Vec::new();
-    let mut carried = 0;
+    let mut carried = [0; 3];
     for number in 1..=200 {
         let mixed = number * 7_919 % 1_009;
         let who = ['N', 'P', 'Q'][mixed as usize % 3];
         let condition = conditions[mixed as usize / 3 % 8];
         let price = 100_000 + 100 * u64::from(mixed % 11);
-        messages.push(match mixed % 5 {
-            0 => cancel(who, number, "AB", 1 + mixed % number),
-            1 | 2 => correct(who, number, 1 + mixed % number, price),
+        let target = 1 + mixed % number.min(20);
+        messages.push(match mixed % 7 {
+            0 => cancel(who, number, "AB", target),
+            1 | 2 => reinstate(who, number, "AB", target),
+            3 | 4 => correct(who, number, target, price),
             _ => report(who, number, condition, price, mixed),
         });
         let input = format!("AB\nN P Q\n{}", messages.join("\n"));
         let day = day("N P Q", &messages);
-        let Some(Some(after)) = day.kept.entries.last().map(|entry| entry.after) else {
+        let last = day.kept.entries.last();
+        let Some((last, after)) = last.and_then(|last| Some((last, last.after?))) else {
             continue;
         };
-        carried += 1;
+        carried[match last.message.kind {
+            Kind::Cancel { .. } => 0,
+            Kind::Reinstate { .. } => 1,
+            _ => 2,
+        }] += 1;
         let row = output(&input)[messages.len() + 1].clone();
         assert_eq!(row, format!("AB,ALL,{}", figures(&after)), "{input}");
     }
-    assert!(carried > 20, "only {carried} summaries were carried");
+    assert!(carried.iter().all(|count| *count >= 5), "{carried:?}");
 }
 
 /// The figures as a report's row has them.
@@ -287,7 +320,8 @@ fn an_entry_has_all_of_its_message() {
     };
     assert_eq!((content.price, content.size), (101_000, 200));
     assert_eq!(&content.condition, b"@F I");
-    assert_eq!(content.cells.last, [LastRule::Never; 2]);
+    let cells = Matrix::One.cells(content.condition).unwrap();
+    assert_eq!(cells.last, [LastRule::Never; 2]);
 }
 
 #[test]
@@ -311,6 +345,139 @@ fn targets_of_every_kind_are_told_apart() {
         "refused 37 NoSuchReport",
     ];
     check("N", &messages, &answers, &["AB,ALL,,,,,,,,,0,0"]);
+}
+
+#[test]
+fn a_reinstated_report_stands_in_its_first_place_with_its_latest_content() {
+    let messages = [
+        report('N', 1, "@   ", 100_000, 100),
+        report('N', 2, "@   ", 101_000, 100),
+        correct('N', 3, 1, 102_000),
+        cancel('N', 4, "AB", 1),
+        reinstate('N', 5, "CD", 1),
+        reinstate('N', 5, "AB", 3),
+        reinstate('N', 5, "AB", 2),
+        reinstate('N', 5, "AB", 1),
+        reinstate('N', 6, "AB", 1),
+        cancel('N', 6, "AB", 1),
+        reinstate('N', 7, "AB", 1),
+    ];
+    let answers = [
+        "1",
+        "2",
+        "3",
+        "4",
+        "refused 38 OtherSymbol",
+        "refused 37 NoSuchReport",
+        "refused 43 Standing",
+        "5",
+        "refused 43 Standing",
+        "6",
+        "7",
+    ];
+    let rows = [
+        "AB,ALL,102000,1,102000,1,101000,2,101000,2,200,2",
+        "AB,N,102000,1,102000,1,101000,2,101000,2,200,2",
+    ];
+    check("N", &messages, &answers, &rows);
+    let entries = day("N", &messages).kept.entries;
+    let again = Summary {
+        open: mark(102_000, 1, 'N'),
+        high: mark(102_000, 1, 'N'),
+        low: mark(101_000, 2, 'N'),
+        last: mark(101_000, 2, 'N'),
+        volume: 200,
+        trades: 2,
+    };
+    let alone = Summary {
+        open: again.last,
+        high: again.last,
+        volume: 100,
+        trades: 1,
+        ..again
+    };
+    let carried: Vec<_> = entries[3..].iter().map(|entry| entry.after).collect();
+    assert_eq!(carried, [alone, again, alone, again].map(Some));
+    assert_eq!(entries[4].message.kind, Kind::Reinstate { target: 1 });
+}
+
+#[test]
+fn a_reinstatement_gives_the_last_to_the_report_that_had_it() {
+    let messages = [
+        report('Q', 1, "@   ", 100_000, 100),
+        report('N', 1, "@   ", 101_000, 100),
+        report('Q', 2, "@ L ", 100_500, 100),
+        cancel('N', 2, "AB", 1),
+        reinstate('N', 3, "AB", 1),
+    ];
+    let rows = [
+        "AB,ALL,100000,1,101000,2,100000,1,101000,2,300,3",
+        "AB,N,101000,2,101000,2,101000,2,101000,2,100,1",
+        "AB,Q,100000,1,100500,3,100000,1,100500,3,200,2",
+    ];
+    check("N Q", &messages, &["1", "2", "3", "4", "5"], &rows);
+}
+
+#[test]
+fn matrix_two_has_odd_lots_among_the_prices_and_two_codes_more() {
+    let messages = [
+        report('N', 1, "@  I", 100_000, 50),
+        report('Q', 1, "@  2", 101_000, 100),
+        report('N', 2, "@  3", 99_000, 100),
+    ];
+    let rows = [
+        "AB,ALL,101000,2,101000,2,99000,3,101000,2,250,3",
+        "AB,N,99000,3,100000,1,99000,3,99000,3,150,2",
+        "AB,Q,101000,2,101000,2,101000,2,101000,2,100,1",
+    ];
+    check_by(Matrix::Two, "N Q", &messages, &["1", "2", "3"], &rows);
+    let refused = "refused 44 NotInMatrix";
+    let rows = ["AB,ALL,,,,,,,,,50,1", "AB,N,,,,,,,,,50,1"];
+    check("N Q", &messages, &["1", refused, refused], &rows);
+}
+
+#[test]
+fn a_condition_of_the_other_matrix_comes_behind_the_symbol_and_before_the_target() {
+    let messages = [
+        report('N', 1, "@   ", 100_000, 100),
+        line('R', 'N', 1, "EF", &content(100_000, 100, "@  2")),
+        line('R', 'N', 2, "EF", &content(100_000, 100, "@  2")),
+        correct_to('N', 2, 9, 100_000, "@  3"),
+        correct_to('N', 2, 1, 99_000, "@ L2"),
+        cancel('N', 3, "AB", 1),
+        correct_to('N', 4, 1, 99_000, "@  3"),
+        reinstate('N', 4, "AB", 1),
+    ];
+    let of_one = [
+        "1",
+        "refused 35 Stale",
+        "refused 36 UnknownSymbol",
+        "refused 44 NotInMatrix",
+        "refused 44 NotInMatrix",
+        "2",
+        "refused 44 NotInMatrix",
+        "3",
+    ];
+    let of_two = [
+        "1",
+        "refused 35 Stale",
+        "refused 36 UnknownSymbol",
+        "refused 37 NoSuchReport",
+        "2",
+        "3",
+        "refused 39 Cancelled",
+        "4",
+    ];
+    let row =
+        |who: &str, price: u64| format!("AB,{who},{price},1,{price},1,{price},1,{price},1,100,1");
+    for (matrix, answers, price) in [
+        (Matrix::One, of_one, 100_000),
+        (Matrix::Two, of_two, 99_000),
+    ] {
+        let rows = ["ALL", "N"].map(|who| row(who, price));
+        let rows = rows.each_ref().map(String::as_str);
+        check_by(matrix, "N", &messages, &answers, &rows);
+    }
 }
 
 #[test]
@@ -396,6 +563,7 @@ fn the_first_fault_of_a_line_is_answered() {
         (with(4, "00000000"), "refused 16 BadNumber"),
         (with(16, "4120422020202020"), "refused 17 BadSymbol"),
         (cancel('N', 1, "AB", 0), "refused 18 BadTarget"),
+        (reinstate('N', 1, "AB", 0), "refused 18 BadTarget"),
         (with(24, "0000000000000000"), "refused 19 BadPrice"),
         (with(24, "000000e8d4a51000"), "refused 19 BadPrice"),
         (with(32, "05f5e100"), "refused 20 BadSize"),
