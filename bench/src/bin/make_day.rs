@@ -1,13 +1,15 @@
 //! `make_day DAY [SEED [BYTES]]` writes a batch input to standard output: the same bytes for the same words.
 //!
 //! - `one`: one symbol and one participant, plain reports alone.
-//! - `busy`: 400 symbols and 15 participants, mixed conditions, some lines refused, 3 in 200 cancels and corrections.
+//! - `busy`: 400 symbols and 15 participants, mixed conditions; of 200 lines 3 are cancels, 2 corrections, 2 reinstatements and 2
+//!   refused.
 //! - `busy1`, `busy2`, `busy4`, `busy8`: the same with so many participants.
-//! - `hostile`: every second message cancels or corrects a report of one busy symbol.
+//! - `hostile`: every second message cancels, corrects or reinstates a report of one busy symbol.
 //! - `stored`: 20,000 reports with mixed conditions; BYTES is not looked at.
 //! - `odd`: every second line is changed somewhere, in its text or in its message's bytes.
-//! - `every`: 4,096 symbols and 25 participants, and every kind of line: each refusal that a day of this length can meet, lines
-//!   of 70,000 bytes, and a last line without a line feed that fills the day up to its last byte.
+//! - `every`: 4,096 symbols and 25 participants, and every kind of line: each refusal that a day of this length can meet,
+//!   conditions that Matrix Two alone has, lines of 70,000 bytes, and a last line without a line feed that fills the day up to
+//!   its last byte.
 //! - `wide`: 4,096 symbols and 26 participants, each of which reports in every symbol, and then reports anywhere.
 
 use std::io::{self, Write};
@@ -76,11 +78,24 @@ impl Random {
     }
 }
 
-/// A participant and the reports that it may yet cancel or correct: their numbers and symbols.
+/// A participant with the numbers and symbols of its reports.
 struct Sender {
     letter: u8,
     number: u32,
+    /// Those that it may yet cancel or correct.
     sent: Vec<(u32, usize)>,
+    /// Those that it may yet reinstate.
+    cancelled: Vec<(u32, usize)>,
+}
+
+impl Sender {
+    /// The reports that such a change names.
+    fn named_by(&mut self, change: Change) -> &mut Vec<(u32, usize)> {
+        match change {
+            Change::Cancel | Change::Correct => &mut self.sent,
+            Change::Reinstate => &mut self.cancelled,
+        }
+    }
 }
 
 struct Traded {
@@ -95,7 +110,29 @@ struct Maker {
     text: Vec<u8>,
     symbols: Vec<Traded>,
     senders: Vec<Sender>,
+    /// Whether one condition in eight is of Matrix Two alone.
+    has_two: bool,
 }
+
+/// What is asked for of a report.
+#[derive(Clone, Copy)]
+enum Change {
+    Cancel,
+    Correct,
+    Reinstate,
+}
+
+/// Changes as often as they come where nothing else decides.
+const CHANGES: [Change; 8] = [
+    Change::Cancel,
+    Change::Cancel,
+    Change::Reinstate,
+    Change::Correct,
+    Change::Correct,
+    Change::Correct,
+    Change::Correct,
+    Change::Correct,
+];
 
 /// Sale conditions as often as a day has them: mostly regular, then the others.
 const CONDITIONS: [&[u8; 4]; 32] = [
@@ -103,6 +140,11 @@ const CONDITIONS: [&[u8; 4]; 32] = [
     b"@F  ", b"@F I", b"@  I", b"@  I", b"@  I", b"@ T ", b"@FT ", b"@ TI", b"@ U ", b"@ Z ",
     b"@ L ", b"@4  ", b"@4 W", b"@7 V", b"@O X", b"@5  ", b"@6 X", b"@  P", b"C   ", b"@9  ",
     b"@  M", b"@  Q",
+];
+
+/// Sale conditions that Matrix Two alone has.
+const CONDITIONS_OF_TWO: [&[u8; 4]; 8] = [
+    b"@  2", b"@  3", b"@F 2", b"@ L3", b"@ Z2", b"@4 3", b"@9 2", b"CTU3",
 ];
 
 /// What is wrong with a line that is meant to be refused.
@@ -160,7 +202,7 @@ enum Fault {
 }
 
 /// Where a message's bytes are changed, and the digits that are written there.
-const DISTORTIONS: [(usize, &str); 25] = [
+const DISTORTIONS: [(usize, &str); 27] = [
     (0, "0000"),
     (0, "0040"),
     (0, "0041"),
@@ -168,6 +210,7 @@ const DISTORTIONS: [(usize, &str); 25] = [
     (2, "52"),
     (2, "58"),
     (2, "43"),
+    (2, "53"),
     (2, "5a"),
     (3, "40"),
     (3, "5b"),
@@ -186,6 +229,7 @@ const DISTORTIONS: [(usize, &str); 25] = [
     (32, "00000000"),
     (36, "43"),
     (37, "394d"),
+    (39, "32"),
 ];
 
 impl Maker {
@@ -196,6 +240,7 @@ impl Maker {
             text: Vec::with_capacity(bytes),
             symbols: Vec::new(),
             senders: Vec::new(),
+            has_two: false,
         }
     }
 
@@ -210,15 +255,15 @@ impl Maker {
         self.header(400, participants);
         while self.has_room() {
             let sender = self.random.below(participants as u64) as usize;
-            if self.random.happens(3, 200) {
-                self.change(sender, None);
-            } else if self.random.happens(1, 100) {
-                let fault = *self.random.one_of(&FAULTS);
-                self.faulty(sender, fault);
-            } else {
-                let symbol = self.popular_symbol();
-                let condition = **self.random.one_of(&CONDITIONS);
-                self.report(sender, symbol, condition);
+            match self.random.below(200) {
+                0..=2 => self.change(sender, Change::Cancel, None),
+                3..=4 => self.change(sender, Change::Correct, None),
+                5..=6 => self.change(sender, Change::Reinstate, None),
+                7..=8 => {
+                    let fault = *self.random.one_of(&FAULTS);
+                    self.faulty(sender, fault);
+                }
+                _ => self.popular_report(sender),
             }
         }
     }
@@ -231,9 +276,11 @@ impl Maker {
                 true => 0,
                 false => self.random.below(20) as usize,
             };
-            let condition = **self.random.one_of(&CONDITIONS);
+            let condition = self.condition();
             self.report(sender, symbol, condition);
-            self.change(sender, Some(0));
+            if self.has_room() {
+                self.any_change(sender, Some(0));
+            }
         }
     }
 
@@ -241,9 +288,7 @@ impl Maker {
         self.header(40, 12);
         for _ in 0..20_000 {
             let sender = self.random.below(12) as usize;
-            let symbol = self.popular_symbol();
-            let condition = **self.random.one_of(&CONDITIONS);
-            self.report(sender, symbol, condition);
+            self.popular_report(sender);
         }
     }
 
@@ -253,11 +298,9 @@ impl Maker {
             let start = self.text.len();
             let sender = self.random.below(4) as usize;
             if self.random.happens(1, 3) {
-                self.change(sender, None);
+                self.any_change(sender, None);
             } else {
-                let symbol = self.popular_symbol();
-                let condition = **self.random.one_of(&CONDITIONS);
-                self.report(sender, symbol, condition);
+                self.popular_report(sender);
             }
             if self.random.happens(1, 2) && self.text.len() > start {
                 self.distort(start);
@@ -266,21 +309,18 @@ impl Maker {
     }
 
     fn every(&mut self) {
+        self.has_two = true;
         self.header(4_096, 25);
         while self.text.len() + 1_000 <= self.bytes {
             let sender = self.random.below(25) as usize;
             match self.random.below(20) {
-                0..=2 => self.change(sender, None),
+                0..=2 => self.any_change(sender, None),
                 3..=4 => {
                     let fault = *self.random.one_of(&FAULTS);
                     self.faulty(sender, fault);
                 }
                 5..=6 => self.rarely_faulty(sender),
-                _ => {
-                    let symbol = self.popular_symbol();
-                    let condition = **self.random.one_of(&CONDITIONS);
-                    self.report(sender, symbol, condition);
-                }
+                _ => self.popular_report(sender),
             }
         }
         self.text.extend(b"Z ");
@@ -295,7 +335,7 @@ impl Maker {
                 Some(pair) => pair,
                 None => (self.random.below(26) as usize, self.popular_symbol()),
             };
-            let condition = **self.random.one_of(&CONDITIONS);
+            let condition = self.condition();
             self.report(sender, symbol, condition);
         }
     }
@@ -378,6 +418,7 @@ impl Maker {
                 letter,
                 number: 0,
                 sent: Vec::new(),
+                cancelled: Vec::new(),
             });
             self.text.extend([letter, b' ']);
         }
@@ -421,6 +462,20 @@ impl Maker {
         }
     }
 
+    fn condition(&mut self) -> [u8; 4] {
+        match self.has_two && self.random.happens(1, 8) {
+            true => **self.random.one_of(&CONDITIONS_OF_TWO),
+            false => **self.random.one_of(&CONDITIONS),
+        }
+    }
+
+    /// A report of a popular symbol.
+    fn popular_report(&mut self, sender: usize) {
+        let symbol = self.popular_symbol();
+        let condition = self.condition();
+        self.report(sender, symbol, condition);
+    }
+
     fn report(&mut self, sender: usize, symbol: usize, condition: [u8; 4]) {
         let number = self.next_number(sender);
         let content = (self.next_price(symbol), self.size(), condition);
@@ -431,40 +486,66 @@ impl Maker {
         self.line(letter, &body);
     }
 
-    /// A cancel, one in four, or a correction of one of the sender's reports, of any symbol or of this one.
-    fn change(&mut self, sender: usize, symbol: Option<usize>) {
-        let Some(report) = self.target(sender, symbol) else {
+    /// A cancel, a correction or a reinstatement of one of the sender's reports, of any symbol or of this one.
+    fn any_change(&mut self, sender: usize, symbol: Option<usize>) {
+        let change = *self.random.one_of(&CHANGES);
+        self.change(sender, change, symbol);
+    }
+
+    /// Such a change of one of the sender's reports, of any symbol or of this one.
+    fn change(&mut self, sender: usize, change: Change, symbol: Option<usize>) {
+        let Some(report) = self.target(sender, change, symbol) else {
             return;
         };
-        let (target, symbol) = self.senders[sender].sent[report];
+        let (target, symbol) = self.senders[sender].named_by(change)[report];
         let number = self.next_number(sender);
         let letter = self.senders[sender].letter;
         let name = self.symbols[symbol].name;
-        let body = if self.random.happens(1, 4) {
-            // Now and then a cancelled report stays to be named again.
-            if self.random.happens(9, 10) {
-                self.senders[sender].sent.swap_remove(report);
+        let target = Some(target);
+        let body = match change {
+            Change::Cancel => {
+                self.exchange(sender, change, report);
+                body(b'X', letter, number, name, target, None)
             }
-            body(b'X', letter, number, name, Some(target), None)
-        } else {
-            let price = self.symbols[symbol].price + 100 * self.random.below(20);
-            let condition = **self.random.one_of(&CONDITIONS);
-            let content = (price, self.size(), condition);
-            body(b'C', letter, number, name, Some(target), Some(content))
+            Change::Reinstate => {
+                self.exchange(sender, change, report);
+                body(b'S', letter, number, name, target, None)
+            }
+            Change::Correct => {
+                let price = self.symbols[symbol].price + 100 * self.random.below(20);
+                let condition = self.condition();
+                let content = (price, self.size(), condition);
+                body(b'C', letter, number, name, target, Some(content))
+            }
         };
         self.line(letter, &body);
     }
 
-    /// The index of one of the sender's reports, any or the next of the symbol.
-    fn target(&mut self, sender: usize, symbol: Option<usize>) -> Option<usize> {
-        let sent = &self.senders[sender].sent;
-        if sent.is_empty() {
+    /// Puts a report that is cancelled or reinstated among those of the other sort. Now and then it stays among its own too, to
+    /// be named again.
+    fn exchange(&mut self, sender: usize, change: Change, report: usize) {
+        let (other, moves) = match change {
+            Change::Reinstate => (Change::Cancel, self.random.happens(9, 10)),
+            _ => (Change::Reinstate, self.random.happens(9, 10)),
+        };
+        let sender = &mut self.senders[sender];
+        let named = sender.named_by(change)[report];
+        if moves {
+            sender.named_by(change).swap_remove(report);
+        }
+        sender.named_by(other).push(named);
+    }
+
+    /// The index of one of the reports that such a change names, any or the next of the symbol.
+    fn target(&mut self, sender: usize, change: Change, symbol: Option<usize>) -> Option<usize> {
+        let named = self.senders[sender].named_by(change);
+        if named.is_empty() {
             return None;
         }
-        let start = self.random.below(sent.len() as u64) as usize;
-        (start..sent.len())
+        let start = self.random.below(named.len() as u64) as usize;
+        (start..named.len())
             .chain(0..start)
-            .find(|report| symbol.is_none_or(|symbol| sent[*report].1 == symbol))
+            .find(|report| symbol.is_none_or(|symbol| named[*report].1 == symbol))
     }
 
     /// A line that is refused and changes nothing.
@@ -502,7 +583,7 @@ impl Maker {
                 body.extend([0; 4]);
             }
             Fault::OtherSymbol => {
-                if let Some(report) = self.target(sender, None) {
+                if let Some(report) = self.target(sender, Change::Cancel, None) {
                     let (target, symbol) = self.senders[sender].sent[report];
                     body[0] = b'X';
                     body.truncate(14);
@@ -528,8 +609,12 @@ impl Maker {
 
     fn faultless_body(&mut self, sender: usize) -> Vec<u8> {
         let symbol = self.popular_symbol();
+        let condition = match self.has_two {
+            true => self.condition(),
+            false => *b"@   ",
+        };
         let sender = &self.senders[sender];
-        let content = (self.symbols[symbol].price, 100, *b"@   ");
+        let content = (self.symbols[symbol].price, 100, condition);
         let name = self.symbols[symbol].name;
         body(
             b'R',
