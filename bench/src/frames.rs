@@ -5,16 +5,58 @@ use crate::message::{Content, Kind, Message, decode_front};
 use crate::summary::{Mark, Summary};
 use std::num::NonZeroU32;
 
-/// The greatest tape number.
-const TAPE_MOST: u32 = 1_048_576;
-/// How many entries a packet has at most.
-pub const ENTRIES_MOST: usize = 8;
-/// The longest packet: its header and eight corrections.
+/// How many entries a packet of version 2 has at most, which is what is sent.
+pub const ENTRIES_MOST: usize = 16;
+/// The longest packet: its header and sixteen corrections.
 pub const LONGEST_PACKET: usize = 15 + ENTRIES_MOST * 113;
 /// The greatest count of a request.
 const COUNT_MOST: u16 = 64;
 
-const VERSION: u8 = 1;
+/// A version of the format: both have the same fields, in other bounds.
+#[derive(Clone, Copy, Debug, PartialEq, Eq)]
+pub enum Version {
+    One,
+    Two,
+}
+
+impl Version {
+    /// The version of a packet with this first byte.
+    fn of_byte(byte: u8) -> Option<Self> {
+        match byte {
+            1 => Some(Version::One),
+            2 => Some(Version::Two),
+            _ => None,
+        }
+    }
+
+    /// A packet's first byte.
+    fn byte(self) -> u8 {
+        match self {
+            Version::One => 1,
+            Version::Two => 2,
+        }
+    }
+
+    /// How many entries a packet has at most.
+    fn entries_most(self) -> usize {
+        match self {
+            Version::One => 8,
+            Version::Two => ENTRIES_MOST,
+        }
+    }
+
+    /// The greatest number of an entry, of a mark's place, of a beat or of an end.
+    fn number_most(self) -> u32 {
+        match self {
+            Version::One => 1_048_576,
+            Version::Two => 16_777_216,
+        }
+    }
+
+    fn tape_number(self, number: u32) -> Option<NonZeroU32> {
+        NonZeroU32::new(number).filter(|number| number.get() <= self.number_most())
+    }
+}
 
 /// What a packet tells. Its entries stand beside it, in room that is used again.
 #[derive(Clone, Copy, Debug, PartialEq, Eq)]
@@ -28,9 +70,10 @@ pub enum PacketKind {
 
 /// A packet as read.
 pub struct Packet {
+    pub version: Version,
     pub session: u64,
     pub kind: PacketKind,
-    /// One to eight for data, none else.
+    /// One to the version's most for data, none else.
     pub entries: Vec<Entry>,
 }
 
@@ -38,6 +81,7 @@ impl Packet {
     /// Room for any packet.
     pub fn new() -> Self {
         Packet {
+            version: Version::Two,
             session: 0,
             kind: PacketKind::Beat(0),
             entries: Vec::with_capacity(ENTRIES_MOST),
@@ -60,9 +104,7 @@ impl Packet {
         self.session = long(header, 2);
         let number = word(header, 10);
         let count = usize::from(header[14]);
-        if header[0] != VERSION {
-            return Err("52 BadVersion");
-        }
+        self.version = Version::of_byte(header[0]).ok_or("52 BadVersion")?;
         self.kind = match header[1] {
             b'D' => PacketKind::Data,
             b'H' => PacketKind::Beat(number),
@@ -70,12 +112,15 @@ impl Packet {
             _ => return Err("53 BadKind"),
         };
         let is_data = self.kind == PacketKind::Data;
-        let counts = if is_data { 1..=ENTRIES_MOST } else { 0..=0 };
-        if !counts.contains(&count) || !is_data && number > TAPE_MOST {
+        let counts = match is_data {
+            true => 1..=self.version.entries_most(),
+            false => 0..=0,
+        };
+        if !counts.contains(&count) || !is_data && number > self.version.number_most() {
             return Err("54 BadCount");
         }
         for position in 0..count as u32 {
-            let entry = read_entry(&mut rest)?;
+            let entry = read_entry(self.version, &mut rest)?;
             if u64::from(entry.number.get()) != u64::from(number) + u64::from(position) {
                 return Err("56 NotInOrder");
             }
@@ -88,7 +133,7 @@ impl Packet {
     }
 }
 
-/// Adds a packet of these entries, one to eight of one tape in order.
+/// Adds a packet of version 2 of these entries, one to sixteen of one tape in order.
 pub fn write_data(session: u64, entries: &[Entry], text: &mut Vec<u8>) {
     let first = entries.first().map_or(0, |entry| entry.number.get());
     write_header(b'D', session, first, entries.len() as u8, text);
@@ -97,13 +142,13 @@ pub fn write_data(session: u64, entries: &[Entry], text: &mut Vec<u8>) {
     }
 }
 
-/// Adds the packet of a day's end.
+/// Adds the packet of a day's end, of version 2.
 pub fn write_end(session: u64, count: u32, text: &mut Vec<u8>) {
     write_header(b'E', session, count, 0, text);
 }
 
 fn write_header(kind: u8, session: u64, number: u32, count: u8, text: &mut Vec<u8>) {
-    text.extend_from_slice(&[VERSION, kind]);
+    text.extend_from_slice(&[Version::Two.byte(), kind]);
     text.extend_from_slice(&session.to_be_bytes());
     text.extend_from_slice(&number.to_be_bytes());
     text.push(count);
@@ -162,9 +207,9 @@ fn write_summary(summary: &Summary, text: &mut Vec<u8>) {
     text.extend_from_slice(&summary.trades.to_be_bytes());
 }
 
-fn read_entry(rest: &mut &[u8]) -> Result<Entry, &'static str> {
+fn read_entry(version: Version, rest: &mut &[u8]) -> Result<Entry, &'static str> {
     let number = word(taken(rest, 4).ok_or("51 Short")?, 0);
-    let number = tape_number(number).ok_or("55 BadEntry")?;
+    let number = version.tape_number(number).ok_or("55 BadEntry")?;
     let (message, count) = decode_front(rest).map_err(|fault| match fault {
         "12 Short" => "51 Short",
         _ => "55 BadEntry",
@@ -174,7 +219,7 @@ fn read_entry(rest: &mut &[u8]) -> Result<Entry, &'static str> {
         Kind::Report(_) => None,
         Kind::Cancel { .. } | Kind::Correct { .. } | Kind::Reinstate { .. } => {
             let bytes = taken(rest, 65).ok_or("51 Short")?;
-            Some(read_summary(bytes).ok_or("55 BadEntry")?)
+            Some(read_summary(version, bytes).ok_or("55 BadEntry")?)
         }
     };
     Ok(Entry {
@@ -184,7 +229,7 @@ fn read_entry(rest: &mut &[u8]) -> Result<Entry, &'static str> {
     })
 }
 
-fn read_summary(bytes: &[u8]) -> Option<Summary> {
+fn read_summary(version: Version, bytes: &[u8]) -> Option<Summary> {
     let present = bytes[0];
     if present > 15 {
         return None;
@@ -193,7 +238,7 @@ fn read_summary(bytes: &[u8]) -> Option<Summary> {
         let bytes = &bytes[1 + 13 * bit..14 + 13 * bit];
         match present >> bit & 1 {
             0 => bytes.iter().all(|byte| *byte == 0).then_some(None),
-            _ => read_mark(bytes).map(Some),
+            _ => read_mark(version, bytes).map(Some),
         }
     };
     Some(Summary {
@@ -206,19 +251,15 @@ fn read_summary(bytes: &[u8]) -> Option<Summary> {
     })
 }
 
-fn read_mark(bytes: &[u8]) -> Option<Mark> {
+fn read_mark(version: Version, bytes: &[u8]) -> Option<Mark> {
     let price = long(bytes, 0);
     let participant = bytes[12];
     let in_range = (1..=999_999_999_999).contains(&price) && participant.is_ascii_uppercase();
     in_range.then_some(Mark {
         price,
-        place: tape_number(word(bytes, 8))?,
+        place: version.tape_number(word(bytes, 8))?,
         participant,
     })
-}
-
-fn tape_number(number: u32) -> Option<NonZeroU32> {
-    NonZeroU32::new(number).filter(|number| number.get() <= TAPE_MOST)
 }
 
 /// What is missing: so many numbers from one on.
