@@ -30,7 +30,7 @@ impl Version {
     }
 
     /// A packet's first byte.
-    fn byte(self) -> u8 {
+    pub fn byte(self) -> u8 {
         match self {
             Version::One => 1,
             Version::Two => 2,

@@ -9,9 +9,11 @@ mod frames;
 mod header;
 mod hex;
 mod keep;
+mod lines;
 mod matrix;
 mod message;
 mod program;
+mod random;
 mod report;
 mod retransmission;
 mod store;
@@ -24,9 +26,11 @@ pub use day::Day;
 pub use feed::{Figures, feed};
 pub use header::Names;
 pub use keep::{Entry, Keep, Reports, Tape};
+pub use lines::{NoLine, Said};
 pub use matrix::{Cells, LastRule, Matrix};
 pub use message::{Content, Kind, Message};
 pub use program::run;
+pub use random::Random;
 pub use summary::{Mark, Summary};
 
 /// The greatest number of bytes of an input.

@@ -63,7 +63,9 @@ pub fn ask(
     let [first] = read_bytes(reader)?;
     match first {
         0 => {}
-        71..=73 => return Err("77 Refused"),
+        71 => return Err("77 Refused 71 OtherSession"),
+        72 => return Err("77 Refused 72 Beyond"),
+        73 => return Err("77 Refused 73 BadSpan"),
         _ => return Err("76 BadAnswer"),
     }
     let [count] = read_bytes(reader)?;

@@ -12,6 +12,7 @@
 //!   its last byte.
 //! - `wide`: 4,096 symbols and 26 participants, each of which reports in every symbol, and then reports anywhere.
 
+use bench::Random;
 use std::io::{self, Write};
 use std::process::ExitCode;
 
@@ -51,31 +52,6 @@ fn main() -> ExitCode {
 fn usage() -> ExitCode {
     eprintln!("usage: make_day one|busy[1|2|4|8]|hostile|stored|odd|every|wide [SEED [BYTES]]");
     ExitCode::FAILURE
-}
-
-/// Sebastiano Vigna's splitmix64.
-struct Random(u64);
-
-impl Random {
-    fn next(&mut self) -> u64 {
-        self.0 = self.0.wrapping_add(0x9e37_79b9_7f4a_7c15);
-        let mixed = (self.0 ^ self.0 >> 30).wrapping_mul(0xbf58_476d_1ce4_e5b9);
-        let mixed = (mixed ^ mixed >> 27).wrapping_mul(0x94d0_49bb_1331_11eb);
-        mixed ^ mixed >> 31
-    }
-
-    /// A number below `bound`.
-    fn below(&mut self, bound: u64) -> u64 {
-        ((u128::from(self.next()) * u128::from(bound)) >> 64) as u64
-    }
-
-    fn one_of<'a, T>(&mut self, choices: &'a [T]) -> &'a T {
-        &choices[self.below(choices.len() as u64) as usize]
-    }
-
-    fn happens(&mut self, times: u64, of: u64) -> bool {
-        self.below(of) < times
-    }
 }
 
 /// A participant with the numbers and symbols of its reports.
@@ -235,7 +211,7 @@ const DISTORTIONS: [(usize, &str); 27] = [
 impl Maker {
     fn new(seed: u64, bytes: usize) -> Self {
         Maker {
-            random: Random(seed),
+            random: Random::new(seed),
             bytes,
             text: Vec::with_capacity(bytes),
             symbols: Vec::new(),
