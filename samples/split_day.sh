@@ -1,0 +1,44 @@
+#!/bin/sh
+# A day over several tapes: split_day.sh TABLE.csv N
+#
+# Splits the table by its symbols into N, runs `tapebox batch` on each with the participants of all, side by side by GNU parallel, and
+# prints one report: the rows of all, in the order in which the symbols appear in the table. Where no message is refused, that is the report of one tape
+# over the whole table but for the places of the marks, which are numbers of each symbol's own tape. How many messages were
+# refused stands on standard error where it is not 0. If anything fails, the status is 1 and nothing is printed. Needs python3
+# and parallel.
+#
+#     TAPEBOX   the program (../crates/tapebox/out/tapebox, from here)
+#     MATRIX    the matrix, 1 or 2 (1)
+#     PARALLEL  options of parallel, as "--sshlogin HOST1,HOST2" for machines that have these scripts and the program in the same places
+
+samples=$(cd "$(dirname "$0")" && pwd) || exit 1
+tapebox=${TAPEBOX:-$samples/../crates/tapebox/out/tapebox}
+matrix=${MATRIX:-1}
+
+fail() {
+    echo "split_day.sh: $*" >&2
+    exit 1
+}
+
+[ $# -eq 2 ] || fail "the words are TABLE.csv and N"
+command -v parallel > /dev/null || fail "there is no GNU parallel"
+work=$(mktemp -d) || exit 1
+trap 'rm -rf "$work"' EXIT
+trap 'exit 1' HUP INT TERM
+
+"$samples/split_day.py" "$1" "$2" "$work" || exit 1
+# The second line of a batch input has the participants: each part lists all, in one order.
+participants=$(paste -s -d ' ' "$work/participants.txt")
+parallel --halt now,fail=1 --trc '{.}.out' \
+    "$samples/encode_day.py {} > {.}.txt && sed '2s/.*/$participants/' {.}.txt | $tapebox batch $matrix > {.}.out && rm {.}.txt" \
+    ::: "$work"/part-*.csv > "$work/said" 2>&1 ||
+    fail "a part failed: $(cat "$work/said")"
+refused=$(cat "$work"/part-*.out | grep -c '^refused ')
+[ "$refused" -eq 0 ] || echo "split_day.sh: $refused messages were refused" >&2
+awk -F , '
+    FILENAME ~ /symbols.txt$/ { listed[++symbols] = $1; next }
+    FNR == 1 { in_report = 0 }
+    /^symbol,who,/ { in_report = 1; header = $0; next }
+    in_report { rows[$1] = rows[$1] $0 "\n" }
+    END { print header; for (n = 1; n <= symbols; n++) printf "%s", rows[listed[n]] }
+' "$work/symbols.txt" "$work"/part-*.out
