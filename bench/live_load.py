@@ -6,8 +6,10 @@
 The day is that of `make_day busy`, without the lines that no participant's line can bring (an odd digit, a letter that is not
 listed), up to N messages. It runs straight and through samples/lossy_relay.py with P percent lost on each line. Prints for
 each run the seconds from the first byte sent to the end of `follow`, the messages a second, how many entries the answers of the
-retransmission had, and whether both reports are equal; and first how long `tapebox batch` takes over the same messages. Which
-participant comes first differs from run to run, but volumes and numbers of trades don't, so these are compared with the batch's.
+retransmission had, and whether both reports are equal; and first how long `tapebox batch` takes over the same messages, and how long
+their packets take over two ports without a tape, by `wire`, at several paces. Each run's seconds are also told as a multiple of the
+batch's, and of the least of `wire` that lost no entry. Which participant comes first differs from run to run, but volumes and numbers of
+trades don't, so these are compared with the batch's.
 
 The follower asks through a small proxy that counts the entries, which makes each ask a little slower. Needs cargo, Python and
 Linux, whose /proc/net tells which ports are bound.
@@ -22,7 +24,7 @@ import threading
 import time
 from pathlib import Path
 
-from measure import BENCH, DAYS, RELEASE, ROOT, make, run
+from measure import BENCH, DAYS, RELEASE, ROOT, make, run, told
 
 SAMPLES = ROOT / "samples"
 sys.path.insert(0, str(SAMPLES))
@@ -35,6 +37,8 @@ BINDING_SECONDS = 10
 REQUEST_BYTES = 14
 # Where a data packet has its number of entries.
 COUNT_AT = 14
+# After how many packets `wire` rests, and for how many milliseconds; and without a rest.
+PACES = (("16", "1"), ("64", "1"), ("128", "1"), ("256", "1"), ())
 
 
 def busy_day(messages, seed):
@@ -174,6 +178,21 @@ def live_run(words, symbols, own, lose):
     return seconds, counted, reports
 
 
+def wire_seconds(day):
+    """Runs `wire` over the day at each pace; answers the least seconds of a run that lost no entry."""
+    least = None
+    for pace in PACES:
+        status, *_ = run(RELEASE / "wire", pace, day, DAYS / "live.wire")
+        if status:
+            sys.exit(f"wire ended with status {status}")
+        answer = told(DAYS / "live.wire")
+        rest = f"{pace[1]} ms of rest after {pace[0]} packets" if pace else "no rest"
+        print(f"wire, {rest}: {answer['seconds']:.3f} s, {answer['entries_per_second']:,.0f} messages a second, {answer['lost']:,.0f} lost")
+        if answer["lost"] == 0:
+            least = min(least or answer["seconds"], answer["seconds"])
+    return least
+
+
 def figures(report):
     """A report's rows in what no order changes: symbol, who, volume and number of trades."""
     rows = report[report.index("symbol,who") :].splitlines()
@@ -204,6 +223,8 @@ def main():
     if status:
         sys.exit(f"batch ended with status {status}")
     print(f"batch: {seconds:.3f} s, {messages / seconds:,.0f} messages a second")
+    batch = seconds
+    wired = wire_seconds(day)
     wanted = figures((DAYS / "live.batch").read_text())
     right = True
     for name, lose in (("straight", None), (f"{words.lose} % lost on each line", words.lose)):
@@ -213,7 +234,8 @@ def main():
         print(
             f"{name}: {seconds:.3f} s, {messages / seconds:,.0f} messages a second, {counted.entries:,} entries retransmitted"
             f" in {counted.requests:,} answers; reports {'equal' if equal else 'DIFFER'};"
-            f" volumes and trades {'as' if agrees else 'NOT as'} the batch's"
+            f" volumes and trades {'as' if agrees else 'NOT as'} the batch's;"
+            f" {seconds / batch:.2f} times the batch" + (f", {seconds / wired:.2f} times wire" if wired else "")
         )
         right = right and equal and agrees
     return 0 if right else 1

@@ -20,6 +20,7 @@ mod store;
 mod subscriber;
 mod summary;
 mod window;
+mod wire;
 
 pub use batch::{BadHeader, batch};
 pub use day::Day;
@@ -32,6 +33,7 @@ pub use message::{Content, Kind, Message};
 pub use program::run;
 pub use random::Random;
 pub use summary::{Mark, Summary};
+pub use wire::{Rest, WireFigures, wire};
 
 /// The greatest number of bytes of an input.
 pub const INPUT_MOST: usize = 16_777_216;
