@@ -114,7 +114,9 @@ impl Maker {
 
     fn summary(&mut self, number_most: u64, packet: &mut Vec<u8>) {
         let present = self.0.below(16) as u8;
-        packet.push(present);
+        // Now and then with a bit that is no mark's.
+        let other = u8::from(self.0.happens(1, 100)) << (4 + self.0.below(4));
+        packet.push(present | other);
         for bit in 0..4 {
             if present >> bit & 1 == 0 {
                 packet.extend([0; 13]);
