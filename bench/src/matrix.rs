@@ -153,8 +153,6 @@ impl Matrix {
 
 /// Whether some matrix has each code in its position: Matrix Two has all that Matrix One has.
 pub fn is_condition(codes: [u8; 4]) -> bool {
-    let places = OF_TWO.iter().zip(codes);
-    places
-        .into_iter()
-        .all(|(table, code)| table[usize::from(code)].is_some())
+    let mut places = OF_TWO.iter().zip(codes);
+    places.all(|(table, code)| table[usize::from(code)].is_some())
 }
