@@ -77,7 +77,7 @@ impl Maker {
         let version = self.0.below(2);
         let (entries_most, number_most) = BOUNDS[version as usize];
         let mut packet = vec![version as u8 + 1, *self.0.one_of(b"DDDDDDHE")];
-        packet.extend(self.0.next().to_be_bytes());
+        packet.extend(self.0.any().to_be_bytes());
         if packet[1] != b'D' {
             let number = self.number(0, number_most);
             packet.extend((number as u32).to_be_bytes());
@@ -126,15 +126,15 @@ impl Maker {
             packet.extend((self.number(1, number_most) as u32).to_be_bytes());
             packet.push(b'A' + self.0.below(26) as u8);
         }
-        packet.extend(self.0.next().to_be_bytes());
-        packet.extend((self.0.next() as u32).to_be_bytes());
+        packet.extend(self.0.any().to_be_bytes());
+        packet.extend((self.0.any() as u32).to_be_bytes());
     }
 
     /// A message: a report in half of the cases.
     fn message(&mut self) -> Vec<u8> {
         let mut body = vec![*self.0.one_of(b"RRRXCS"), b'A' + self.0.below(26) as u8];
         body.extend((self.number(1, u64::from(u32::MAX)) as u32).to_be_bytes());
-        body.extend(self.0.next().to_be_bytes());
+        body.extend(self.0.any().to_be_bytes());
         body.extend(self.symbol());
         if body[0] != b'R' {
             body.extend((self.number(1, u64::from(u32::MAX)) as u32).to_be_bytes());
@@ -159,8 +159,8 @@ impl Maker {
     }
 
     fn request(&mut self) -> Vec<u8> {
-        let mut request = self.0.next().to_be_bytes().to_vec();
-        request.extend((self.0.next() as u32).to_be_bytes());
+        let mut request = self.0.any().to_be_bytes().to_vec();
+        request.extend((self.0.any() as u32).to_be_bytes());
         request.extend((self.number(1, 64) as u16).to_be_bytes());
         request
     }
@@ -170,7 +170,7 @@ impl Maker {
         let count = 1 + self.0.below(8) as u8;
         let mut answer = match self.0.below(16) {
             0..=1 => return vec![71 + self.0.below(3) as u8],
-            2 => return vec![self.0.next() as u8],
+            2 => return vec![self.0.any() as u8],
             _ => vec![0, count],
         };
         for _ in 0..count {
@@ -179,7 +179,7 @@ impl Maker {
                 _ => 1 + self.0.below(40),
             };
             answer.extend((length as u16).to_be_bytes());
-            answer.extend((0..length).map(|_| self.0.next() as u8));
+            answer.extend((0..length).map(|_| self.0.any() as u8));
         }
         answer
     }
@@ -200,7 +200,7 @@ impl Maker {
             0..=3 => {}
             4 => bytes.truncate(self.place(bytes)),
             5 => _ = bytes.remove(self.place(bytes)),
-            6 => bytes.insert(self.place(bytes), self.0.next() as u8),
+            6 => bytes.insert(self.place(bytes), self.0.any() as u8),
             7 => bytes.extend((0..=self.0.below(3)).map(|_| *self.0.one_of(BYTES))),
             _ => {
                 for _ in 0..=self.0.below(3) {
@@ -227,7 +227,7 @@ impl Maker {
             1 => old ^ 1 << self.0.below(8),
             2 => old.wrapping_add(1),
             3 => old.wrapping_sub(1),
-            _ => self.0.next() as u8,
+            _ => self.0.any() as u8,
         }
     }
 }
