@@ -1,6 +1,7 @@
 //! The batch of a trade tape as two plain programs, `indexed` with the whole tape kept and each summary exact after each
-//! message, and `least` with none: the input, answers and report of `tapebox batch [1|2]`, with nothing of its code. And `feed`, which sends
-//! that tape on two lossy lines to a subscriber.
+//! message, and `least` with none: the input, answers and report of `tapebox batch [1|2]`, with nothing of its code. `feed`
+//! sends that tape on two lossy lines to a subscriber, `wire` sends its packets over two ports without a tape, and `read_lines`
+//! says what packets, messages, requests and answers are read from given bytes.
 
 mod batch;
 mod day;
