@@ -1,4 +1,4 @@
-"""What the cases share: the built programs and how they ended, ports, peers of a running day, and messages' bytes."""
+"""What the cases share: the built programs and how they ended, ports, the peers of a running day, and messages' bytes."""
 
 import contextlib
 import os
@@ -25,6 +25,12 @@ sys.dont_write_bytecode = True
 sys.path.insert(0, str(SAMPLES))
 
 import encode_day
+from free_ports import free_ports
+
+# Seconds until a connection that is not awaited must have been reset.
+PATIENCE = 5
+# The state of a connection in Linux's table.
+ESTABLISHED = "01"
 
 
 @dataclass(frozen=True)
@@ -90,9 +96,10 @@ def ended(running, limit=LIMIT):
     return Ended(running.returncode, written or b"", said)
 
 
-def free_ports(count):
-    """The first of so many ports in a row that are free."""
-    return int(subprocess.check_output([SAMPLES / "free_ports.py", str(count)]))
+def ports(count):
+    """So many ports in a row that are free."""
+    first = free_ports(count)
+    return range(first, first + count)
 
 
 def connect(port):
@@ -107,19 +114,50 @@ def connect(port):
             time.sleep(0.02)
 
 
-def is_bound(port):
-    """Whether a socket receives packets on the port."""
-    rows = Path("/proc/net/udp").read_text(encoding="ascii").splitlines()[1:]
-    return any(row.split()[1].endswith(f":{port:04X}") for row in rows)
-
-
-def wait_bound(*ports):
-    """Waits until packets are received on the ports."""
+def wait_for(program, what, holds):
+    """Waits until this holds, while the program runs."""
     until = time.monotonic() + LIMIT
-    while not all(map(is_bound, ports)):
-        if time.monotonic() > until:
-            raise TimeoutError(f"nobody receives on {ports}")
+    while not holds():
+        if program.poll() is not None or time.monotonic() > until:
+            raise TimeoutError(f"{what} never came: the program has status {program.poll()}")
         time.sleep(0.02)
+
+
+def addresses(protocol):
+    """The row of each socket in Linux's table."""
+    return [row.split() for row in Path(f"/proc/net/{protocol}").read_text(encoding="ascii").splitlines()[1:]]
+
+
+def wait_bound(program, *ports):
+    """Waits until the program receives packets on the ports."""
+    ends = [f":{port:04X}" for port in ports]
+    wait_for(program, f"a socket on each of {ports}", lambda: all(any(row[1].endswith(end) for row in addresses("udp")) for end in ends))
+
+
+def wait_connected(program, port, count):
+    """Waits until there are so many connections to the port, those that have yet to be accepted among them."""
+    end = f":{port:04X}"
+    wait_for(
+        program,
+        f"connection {count} to {port}",
+        lambda: sum(row[2].endswith(end) and row[3] == ESTABLISHED for row in addresses("tcp")) == count,
+    )
+
+
+def is_refused(port):
+    """Whether further connections to the port are refused. One that comes just before its listener is closed is reset instead."""
+    until = time.monotonic() + LIMIT
+    while time.monotonic() < until:
+        try:
+            with socket.create_connection((HOST, port), timeout=PATIENCE) as second:
+                second.recv(1)
+        except ConnectionRefusedError:
+            return True
+        except ConnectionResetError:
+            continue
+        except socket.timeout:
+            return False
+    return False
 
 
 def message(**row):
@@ -130,6 +168,11 @@ def message(**row):
 def report(who, number, symbol="AB", price="10.00"):
     """A report of 100 shares as bytes."""
     return message(kind="report", participant=who, number=number, symbol=symbol, price=price, size=100, condition="@___")
+
+
+def reports(who, count):
+    """So many reports, by rising number."""
+    return b"".join(report(who, number) for number in range(1, count + 1))
 
 
 def batch_line(text):

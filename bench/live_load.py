@@ -4,7 +4,7 @@
     bench/live_load.py [--messages N] [--seed N] [--lose P] [--tapebox PROGRAM] [--no-build]
 
 The day is that of `make_day busy`, without the lines that no participant's line can bring (an odd digit, a letter that is not
-listed), up to N messages. It runs straight and through samples/lossy_relay.py with P percent lost on each line. Prints for
+listed), up to N messages. It runs straight and through .ci/lossy_relay.py with P percent lost on each line. Prints for
 each run the seconds from the first byte sent to the end of `follow`, the messages a second, how many entries the answers of the
 retransmission had, and whether both reports are equal; and first how long `tapebox batch` takes over the same messages, and how long
 their packets take over two ports without a tape, by `wire`, at several paces. Each run's seconds are also told as a multiple of the
@@ -27,7 +27,8 @@ from pathlib import Path
 from measure import BENCH, DAYS, RELEASE, ROOT, make, run, told
 
 SAMPLES = ROOT / "samples"
-sys.path.insert(0, str(SAMPLES))
+TOOLS = ROOT / ".ci"
+sys.path[:0] = [str(SAMPLES), str(TOOLS)]
 from free_ports import free_ports
 from send_day import HOST, connect, parse_batch
 
@@ -160,7 +161,7 @@ def live_run(words, symbols, own, lose):
         counted = Retransmission(asked, retransmission)
         counted.start()
         if lose:
-            lossy = [SAMPLES / "lossy_relay.py", "--lose", lose, "--seed", words.seed, sent_a, sent_b, a, b]
+            lossy = [TOOLS / "lossy_relay.py", "--lose", lose, "--seed", words.seed, sent_a, sent_b, a, b]
             relay = programs.start(DAYS / "live.relay", sys.executable, *lossy)
             wait_bound(relay, "udp", sent_a, sent_b)
         follow = programs.start(reports[1], words.tapebox, "follow", *names, a, b, asked, SESSION)

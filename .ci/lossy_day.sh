@@ -1,8 +1,8 @@
 #!/bin/sh
-# A day over sockets: live_day.sh [TABLE.csv]
+# A day over sockets: lossy_day.sh [TABLE.csv]
 #
 # Starts `tapebox live`, a relay that loses, doubles and reorders packets and injects bytes that are no packet, and `tapebox follow`
-# behind it, sends the table's messages (without an argument, those of corrections.csv), and compares the two reports byte for
+# behind it, sends the table's messages (without an argument, those of samples/corrections.csv), and compares the two reports byte for
 # byte. Prints the report once, and on standard error what the relay did. If anything fails, the reports differ or the time is
 # up, the status is 1 and the reason stands on standard error. Needs python3 and Linux, whose /proc/net tells which ports are bound.
 #
@@ -13,7 +13,8 @@
 #     PAUSE     seconds of rest after each message, so that each has a packet of its own (0.002)
 #     LIMIT     seconds until the day must have ended (60)
 
-samples=$(cd "$(dirname "$0")" && pwd) || exit 1
+tools=$(cd "$(dirname "$0")" && pwd) || exit 1
+samples=$tools/../samples
 table=${1:-$samples/corrections.csv}
 tapebox=${TAPEBOX:-$samples/../crates/tapebox/out/tapebox}
 followed=${FOLLOWED:-1}
@@ -40,7 +41,7 @@ trap clean_up EXIT
 trap 'exit 1' HUP INT TERM
 
 fail() {
-    echo "live_day.sh: $*" >&2
+    echo "lossy_day.sh: $*" >&2
     exit 1
 }
 
@@ -97,7 +98,7 @@ names=$("$samples/send_day.py" --names "$table") || fail "$table is no day"
 symbols=$(echo "$names" | sed -n 1p)
 participants=$(echo "$names" | sed -n 2p)
 lines=$(echo "$participants" | tr ',' '\n' | wc -l)
-port=$("$samples/free_ports.py" $((lines + 5))) || fail "there are no free ports"
+port=$("$tools/free_ports.py" $((lines + 5))) || fail "there are no free ports"
 retransmission=$((port + lines))
 sent_a=$((retransmission + 1))
 sent_b=$((retransmission + 2))
@@ -117,7 +118,7 @@ if [ "$followed" -eq 0 ]; then
 fi
 
 # The follower connects as it starts, and a line's first packet must find the relay and the follower.
-start relay "$samples/lossy_relay.py" --lose "$lose" --double 10 --reorder 10 --garble 30 --seed "$seed" "$sent_a" "$sent_b" "$a" "$b"
+start relay "$tools/lossy_relay.py" --lose "$lose" --double 10 --reorder 10 --garble 30 --seed "$seed" "$sent_a" "$sent_b" "$a" "$b"
 relay=relay:$!
 await bound udp "$sent_a"
 await bound udp "$sent_b"

@@ -1,0 +1,164 @@
+"""Followers of a running day, as the built program runs them."""
+
+import os
+import signal
+import socket
+import subprocess
+import threading
+import time
+from pathlib import Path
+
+from support import DISAGREES, HOST, LIMIT, READ_FAULT, TAPEBOX, Case
+from support import connect, ended, ports, report, reports, run, started, wait_bound, wait_connected
+
+SESSION = 7
+LOSSY_DAY = Path(__file__).resolve().with_name("lossy_day.sh")
+
+
+class Answers(Case):
+    """A beat announces four entries that never came, so the follower asks for them."""
+
+    BEAT = bytes.fromhex("0148 0000000000000007 00000004 00")
+    REQUEST = bytes.fromhex("0000000000000007 00000001 0004")
+    # One packet of 59 bytes, which has entry 2 alone.
+    SECOND = bytes.fromhex("01 003b 0144 0000000000000007 00000002 01 00000002") + report("N", 1)
+
+    @staticmethod
+    def receive(connection, length):
+        """So many bytes, or fewer where the connection ends."""
+        taken = b""
+        while len(taken) < length and (more := connection.recv(length - len(taken))):
+            taken += more
+        return taken
+
+    def follow(self, answer):
+        """How a follower that is answered so ends."""
+        a, b, retransmission = ports(3)
+        with socket.create_server((HOST, retransmission)) as server:
+            server.settimeout(LIMIT)
+            with started(["follow", "AB", "N", a, b, retransmission, SESSION]) as follow:
+                connection, _ = server.accept()
+                with connection, socket.socket(socket.AF_INET, socket.SOCK_DGRAM) as sender:
+                    connection.settimeout(LIMIT)
+                    sender.sendto(self.BEAT, (HOST, a))
+                    self.assertEqual(self.receive(connection, len(self.REQUEST)), self.REQUEST)
+                    connection.sendall(answer)
+                return ended(follow)
+
+    def test_answers_that_are_none(self):
+        """PROFILE, "Statuses", 3 and 7: a follower that is refused, or answered by bytes that are no answer or lack the first entry asked for,
+        disagrees; where the connection ends instead, a read has failed."""
+        for answer, fault in [(b"\x48", DISAGREES), (b"\x05", DISAGREES), (self.SECOND, DISAGREES), (b"", READ_FAULT)]:
+            with self.subTest(answer.hex()):
+                self.assert_fault(self.follow(answer), fault)
+
+    def test_port_that_is_taken(self):
+        """PROFILE, "Statuses", 3: a line's port that is taken is a read fault."""
+        a, b, retransmission = ports(3)
+        with socket.socket(socket.AF_INET, socket.SOCK_DGRAM) as holder:
+            holder.bind((HOST, b))
+            self.assert_fault(run(["follow", "AB", "N", a, b, retransmission, SESSION]), READ_FAULT)
+
+
+class Relay(threading.Thread):
+    """Passes a line's packets on to a port of each follower, but for every tenth data packet, until all ends have come."""
+
+    LOST = 10
+    ENDS = 3
+    BUFFER_BYTES = 1 << 22
+
+    def __init__(self, port, targets):
+        super().__init__(daemon=True)
+        self.targets = [(HOST, target) for target in targets]
+        self.line = socket.socket(socket.AF_INET, socket.SOCK_DGRAM)
+        self.line.setsockopt(socket.SOL_SOCKET, socket.SO_RCVBUF, self.BUFFER_BYTES)
+        self.line.bind((HOST, port))
+
+    def run(self):
+        data = ends = 0
+        with self.line:
+            while ends < self.ENDS:
+                packet = self.line.recv(2048)
+                is_end = packet[1:2] == b"E"
+                ends += is_end
+                data += not is_end
+                if is_end or data % self.LOST:
+                    for target in self.targets:
+                        self.line.sendto(packet, target)
+
+
+class HeldUp(Case):
+    """Followers that are held up during a day of 8,000 reports: their sockets hold only a part of it."""
+
+    REPORTS = 8_000
+
+    def assert_equal_reports(self, *programs):
+        """All end well, with equal reports of the whole day."""
+        ends = [ended(program) for program in programs]
+        self.assertEqual({(end.status, end.said) for end in ends}, {(0, b"")})
+        self.assertEqual(len({end.written for end in ends}), 1)
+        row = next(row for row in ends[0].written.splitlines() if row.startswith(b"AB,ALL,"))
+        self.assertTrue(row.endswith(f",{100 * self.REPORTS},{self.REPORTS}".encode()), row)
+
+    def test_stopped_for_a_while(self):
+        """PROFILE, "What becomes of a peer that misbehaves": a follower that a signal stops for 400 milliseconds before the first
+        report loses what its sockets can't hold, and gets it again, and one of the ends."""
+        line, a, b, retransmission = ports(4)
+        with started(["live", "AB", "N", line, a, b, retransmission, 1, SESSION]) as live, connect(line) as participant:
+            with started(["follow", "AB", "N", a, b, retransmission, SESSION]) as follow:
+                wait_bound(follow, a, b)
+                wait_connected(follow, retransmission, 1)
+                follow.send_signal(signal.SIGSTOP)
+                participant.sendall(reports("N", self.REPORTS))
+                participant.close()
+                time.sleep(0.4)
+                follow.send_signal(signal.SIGCONT)
+                self.assert_equal_reports(live, follow)
+
+    def wait_turn(self, second, relays, first):
+        """Waits until the second follower's turn is to come: two seconds at least, and the end of the first one and of all packets."""
+        time.sleep(2)
+        first.wait(timeout=LIMIT)
+        for relay in relays:
+            relay.join(timeout=LIMIT)
+            self.assertFalse(relay.is_alive(), "an end never came")
+        self.assertIsNone(second.poll(), "the second follower ended before its turn")
+
+    def test_waiting_for_its_turn(self):
+        """PROFILE, "What becomes of a peer that misbehaves": of two followers with gaps the second waits for its answer while another subscriber
+        has the retransmission, until the first has ended and each end has been passed on. It reads its lines on meanwhile."""
+        line, a, b, retransmission, *own = ports(8)
+        relays = [Relay(a, own[::2]), Relay(b, own[1::2])]
+        with started(["live", "AB", "N", line, a, b, retransmission, 3, SESSION]) as live, connect(line) as participant:
+            with started(["follow", "AB", "N", *own[:2], retransmission, SESSION]) as first:
+                wait_connected(first, retransmission, 1)
+                with connect(retransmission) as between, started(["follow", "AB", "N", *own[2:], retransmission, SESSION]) as second:
+                    wait_connected(second, retransmission, 3)
+                    for relay in relays:
+                        relay.start()
+                    participant.sendall(reports("N", self.REPORTS))
+                    participant.close()
+                    self.wait_turn(second, relays, first)
+                    between.close()
+                    self.assert_equal_reports(live, first, second)
+
+
+class LossyDays(Case):
+    """The table's day over sockets, through a relay that loses, doubles, reorders and garbles packets."""
+
+    def assert_day(self, **options):
+        """The script ends well, and prints the report of the table's day."""
+        environment = os.environ | {"TAPEBOX": str(TAPEBOX)} | options
+        done = subprocess.run([LOSSY_DAY], env=environment, capture_output=True, text=True, timeout=2 * LIMIT, check=False)
+        self.assertEqual(done.returncode, 0, done.stderr)
+        self.assertRegex(done.stdout, r"(?m)^AB,ALL,.*,250,2$")
+
+    def test_lossy_lines(self):
+        """README, "A running day": both reports are equal where packets of both lines are lost, and where all of line A or B is."""
+        for lose in ("30", "100,10", "0,100"):
+            with self.subTest(lose):
+                self.assert_day(LOSE=lose)
+
+    def test_nobody_follows(self):
+        """PROFILE, "A running day": with SERVES 0 no retransmission is awaited."""
+        self.assert_day(FOLLOWED="0")

@@ -1,0 +1,187 @@
+"""The built programs next to plain ones of `bench/`, and the counts of the measuring program."""
+
+import csv
+import functools
+import os
+import random
+import re
+import shutil
+import subprocess
+import tempfile
+import unittest
+from pathlib import Path
+
+from support import BENCH, CRATES, FEED_SPEED, SAMPLES, TAPEBOX, Case, batch_line, batch_of, encode_day, report, run
+
+DECODE_LINES = CRATES / "decode_lines" / "out" / "decode_lines"
+# The greatest batch.
+BYTES_MOST = 16_777_216
+
+
+@functools.cache
+def plain():
+    """The folder of the plain programs, built anew."""
+    folder = tempfile.TemporaryDirectory()
+    command = ["cargo", "build", "--quiet", "--release", "--offline", "--manifest-path", BENCH / "Cargo.toml", "--target-dir", folder.name]
+    subprocess.run(command, check=True)
+    return folder, Path(folder.name) / "release"
+
+
+def plain_run(program, *words, given=b""):
+    """How a plain program ended."""
+    return run(words, given, program=plain()[1] / program)
+
+
+def counts(written):
+    """What a feed's program counts, without its times."""
+    return " ".join(line for line in written.decode().splitlines() if not re.search("_second|^seconds|_to_", line))
+
+
+class Measuring(Case):
+    DAY = b"AB CD\nN Q\n" + b"".join(batch_line(report("N", number)) for number in range(1, 241))
+
+    def test_counts(self):
+        """SPEED, "The feed": what the measuring program counts in each of its ways, over 240 reports in fifteen packets of which both lines lose
+        the last."""
+        for words, wanted in [
+            ([], "entries 240 packets 15 retransmitted 16 held 240"),
+            (["rows"], "entries 240 rows 3"),
+            (["lines"], "lines 2 messages 240 entries 240"),
+            (["looks"], "lines 2 messages 240 entries 240"),
+        ]:
+            with self.subTest(words):
+                self.assertEqual(counts(run(words, self.DAY, program=FEED_SPEED).written), wanted)
+
+
+class Tables(Case):
+    def assert_day(self, matrix, table, wanted):
+        """A batch over the table by this matrix writes these answers and, without the first row, this report."""
+        ended = run(["batch", *matrix], batch_of(table))
+        self.assertEqual((ended.status, ended.said), (0, b""))
+        self.assertEqual([line for line in ended.written.decode().splitlines() if not line.startswith("symbol,")], wanted)
+
+    def test_a_day_by_either_matrix(self):
+        """ROWS, "Matrix Two" and "Not of Matrix One": the table's day by each matrix."""
+        table = SAMPLES / "matrix-two.csv"
+        two = ["AB,ALL,101000,2,101000,2,99000,3,101000,2,250,3", "AB,N,99000,3,100000,1,99000,3,99000,3,150,2"]
+        self.assert_day(["2"], table, ["1", "2", "3", *two, "AB,Q,101000,2,101000,2,101000,2,101000,2,100,1"])
+        one = ["1", "refused 44 NotInMatrix", "refused 44 NotInMatrix", "AB,ALL,,,,,,,,,50,1", "AB,N,,,,,,,,,50,1"]
+        self.assert_day(["1"], table, one)
+
+    def test_a_cancel_is_taken_back(self):
+        """README, "A day": with a reinstatement the table's cancelled report stands again in its first place."""
+        with tempfile.NamedTemporaryFile(suffix=".csv") as file:
+            file.write((SAMPLES / "corrections.csv").read_bytes() + b"reinstate,Q,3,AB,1,,,\n")
+            file.flush()
+            rows = ["AB,ALL,99500,1,101000,2,99500,1,101000,2,450,3", "AB,N,99500,1,100500,3,99500,1,99500,1,250,2"]
+            wanted = [*"123456", *rows, "AB,Q,101000,2,101000,2,101000,2,101000,2,200,1"]
+            self.assert_day([], file.name, wanted)
+
+
+@unittest.skipUnless(shutil.which("cargo"), "no cargo")
+class PlainPrograms(Case):
+    # The refusals of a day of every kind: 11 to 23, 33 to 39, 43 and 44.
+    REFUSALS = {*range(11, 24), *range(33, 40), 43, 44}
+
+    def test_days_of_the_greatest_batch(self):
+        """SPEED, "Ratios to plain Rust": both programs write the same of a day with every kind of line and refusal under either matrix, of the greatest
+        listing, and of cancels, corrections and reinstatements of one busy symbol."""
+        for kind, matrix in [("every", []), ("every", ["2"]), ("wide", ["2"]), ("hostile", ["1"])]:
+            with self.subTest(f"{kind} {matrix}"):
+                day = plain_run("make_day", kind, 1, BYTES_MOST).written
+                wanted = plain_run("indexed", "batch", *matrix, given=day)
+                self.assertTrue(wanted.written)
+                self.assert_writes(run(["batch", *matrix], day), wanted.written)
+                if (kind, matrix) == ("every", []):
+                    self.assertEqual({int(number) for number in re.findall(rb"(?m)^refused (\d+)", wanted.written)}, self.REFUSALS)
+
+    def test_a_feed_of_more_entries_than_two_bytes_count(self):
+        """SPEED, "The feed": both feeds count the same, and their subscribers hold all entries."""
+        day = plain_run("make_day", "busy", 1, BYTES_MOST).written
+        wanted = counts(plain_run("feed", given=day).written)
+        self.assertEqual(wanted, "entries 201331 packets 12584 retransmitted 13408 held 201331")
+        self.assertEqual(counts(run([], day, program=FEED_SPEED).written), wanted)
+
+    def test_lines_of_bytes(self):
+        """PROFILE, "Packets", "A message's bytes" and "Requests and answers": the readers and plain ones read the same of 210,000 lines of bytes, most
+        of them with a fault, and each fault of a packet, a message, a request and an answer is among them."""
+        lines = plain_run("make_lines", 1).written
+        wanted = plain_run("read_lines", given=lines).written
+        kinds = {(line[:1], answer.split()[0]) for line, answer in zip(lines.splitlines(), wanted.splitlines())}
+        self.assertEqual(len(kinds), 27)
+        self.assert_writes(run([], lines, program=DECODE_LINES), wanted)
+
+
+class Maker:
+    """Makes rows of a day that one tape refuses none of."""
+
+    SYMBOLS = [f"SYM{number}" for number in range(12)]
+    PARTICIPANTS = "NPQZ"
+    CONDITIONS = ["@___", "@___", "@F__", "@__I", "@_Z_", "@_L_", "@4__", "@__M", "@9__", "@FTI", "@__Q"]
+
+    def __init__(self, seed):
+        self.random = random.Random(seed)
+        self.numbers = dict.fromkeys(self.PARTICIPANTS, 0)
+        # The reports that stand, and those that are cancelled: participant, number and symbol of each.
+        self.standing = []
+        self.cancelled = []
+
+    def row(self):
+        """The next row."""
+        kind = self.random.choices(["report", "cancel", "correct", "reinstate"], [70, 10, 10, 10])[0]
+        named = {"report": [], "reinstate": self.cancelled}.get(kind, self.standing)
+        if not named:
+            return self.report()
+        place = self.random.randrange(len(named))
+        participant, target, symbol = named[place]
+        if kind != "correct":
+            other = self.standing if kind == "reinstate" else self.cancelled
+            other.append(named.pop(place))
+        content = self.content() if kind == "correct" else ["", "", ""]
+        return [kind, participant, self.next_number(participant), symbol, target, *content]
+
+    def report(self):
+        """A report, of the first symbols far more often, so that the parts have to be balanced."""
+        participant = self.random.choice(self.PARTICIPANTS)
+        symbol = self.SYMBOLS[int(len(self.SYMBOLS) * self.random.random() ** 3)]
+        number = self.next_number(participant)
+        self.standing.append((participant, number, symbol))
+        return ["report", participant, number, symbol, "", *self.content()]
+
+    def content(self):
+        """A price, a size and a condition."""
+        price = 100_000 + 100 * self.random.randrange(40)
+        return [f"{price // 10_000}.{price % 10_000:04}", self.random.randrange(1, 1_000), self.random.choice(self.CONDITIONS)]
+
+    def next_number(self, participant):
+        """The participant's next number, with gaps."""
+        self.numbers[participant] += self.random.choice([1, 1, 1, 3])
+        return self.numbers[participant]
+
+
+@unittest.skipUnless(shutil.which("parallel"), "no GNU parallel")
+class SplitDay(Case):
+    ROWS = 6_000
+    # The columns of a report's row that are places.
+    PLACES = {3, 5, 7, 9}
+
+    def figures(self, written):
+        """The rows of the report in what was written, without their places."""
+        rows = csv.reader(written[written.index("symbol,who") :].splitlines())
+        return [[field for column, field in enumerate(row) if column not in self.PLACES] for row in rows]
+
+    def test_parts_have_the_figures_of_the_whole(self):
+        """SCALE, "A day over several tapes": a seeded day of 12 symbols by 1, 3 and 4 parts has the figures of one tape, places aside."""
+        maker = Maker(1)
+        columns = ["kind", *encode_day.COLUMNS[:3], "target", *encode_day.COLUMNS[3:]]
+        with tempfile.NamedTemporaryFile("w", suffix=".csv", newline="") as table:
+            csv.writer(table, lineterminator="\n").writerows([columns, *(maker.row() for _ in range(self.ROWS))])
+            table.flush()
+            whole = run(["batch"], batch_of(table.name)).written.decode()
+            self.assertNotIn("refused", whole)
+            for parts in (1, 3, 4):
+                with self.subTest(parts):
+                    environment = os.environ | {"TAPEBOX": str(TAPEBOX)}
+                    split = run([table.name, parts], program=SAMPLES / "split_day.sh", env=environment)
+                    self.assertEqual((split.status, split.said), (0, b""))
+                    self.assertEqual(self.figures(split.written.decode()), self.figures(whole))
