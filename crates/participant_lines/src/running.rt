@@ -105,7 +105,7 @@ pub(crate) fn run_frames<D: DayName, R: BufRead, G: Gate, W: Wait>(
 
 /// Runs a line: reads frames, one after the other, and admits their messages by the line's seat. A frame is a length of 1
 /// to 64 in two bytes, big-endian, and as many bytes. One that spells no message is refused (13 to 21), and so is one whose
-/// message the tape does not take (32, 33, 35 to 39 and 43): that is counted, and the line goes on.
+/// message the tape does not take (32, 33, 35 to 39, 43 and 44): that is counted, and the line goes on.
 ///
 /// It ends as `Ended` says, and hands the seat back in each case. It reads no byte after those that decide the end, takes no
 /// memory but what an admission takes, and may wait for the lock. After each frame that is done it calls the gate with the
