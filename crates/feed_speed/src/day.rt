@@ -8,10 +8,10 @@ use std::alloc::{AllocError, Global};
 use subscriber::Subscriber;
 use summaries::IndexStore;
 use tape_core::Tape;
-use tape_types::{Listing, Participant, Symbol};
+use tape_types::{Listing, Participant, Symbol, TAPE_MOST};
 
-/// The limit of a measured day's tapes, in entries, whatever other tapes may have: a shared tape has a cell for each.
-const DAY_TAPE_MOST: u32 = 1_048_576;
+/// The limit of a tape that lines fill at once, in entries: it is prepared with a cell for each.
+const LINES_TAPE_MOST: u32 = 1_048_576;
 
 /// The session under which the tape is sent.
 pub const SESSION: u64 = 1;
@@ -86,9 +86,9 @@ fn read_message(line: &[u8]) -> Option<Message> {
     Some(message)
 }
 
-/// The tape of a day. A line that is no message and a message that is refused are passed over.
+/// The tape of a day, as long as a tape may be. A line that is no message and a message that is refused are passed over.
 pub fn read_tape(alloc: Global, input: &[u8]) -> anyhow::Result<Tape<IndexStore>> {
-    let mut tape = empty_tape(alloc, input)?;
+    let mut tape = empty_tape(alloc, input, TAPE_MOST)?;
     for line in input.lines().skip(2) {
         if let Some(message) = read_message(line) {
             let _answer = tape.admit(message);
@@ -118,17 +118,22 @@ fn messages_of(alloc: Global, listing: &Listing, input: &[u8]) -> Result<Vec<Mes
     Ok(messages)
 }
 
-/// The tape of a day before its first message.
-pub fn empty_tape(alloc: Global, input: &[u8]) -> anyhow::Result<Tape<IndexStore>> {
-    Ok(Tape::new(alloc, read_listing(alloc, input)?, DAY_TAPE_MOST, Matrix::One)?)
+/// The tape of a day before its first message, for so many entries.
+fn empty_tape(alloc: Global, input: &[u8], limit: u32) -> anyhow::Result<Tape<IndexStore>> {
+    Ok(Tape::new(alloc, read_listing(alloc, input)?, limit, Matrix::One)?)
 }
 
-/// A subscriber to the tape of a day.
+/// The tape of a day before its first message that lines are to fill at once, or that is compared with such a one.
+pub fn empty_tape_of_lines(alloc: Global, input: &[u8]) -> anyhow::Result<Tape<IndexStore>> {
+    empty_tape(alloc, input, LINES_TAPE_MOST)
+}
+
+/// A subscriber to the tape of a day, for as many entries as that may have.
 pub fn new_subscriber(alloc: Global, input: &[u8]) -> anyhow::Result<Subscriber> {
     Ok(Subscriber::new(
         alloc,
         read_listing(alloc, input)?,
-        DAY_TAPE_MOST,
+        TAPE_MOST,
         SESSION,
         Matrix::One,
     )?)

@@ -124,7 +124,7 @@ fn time_alone<R: AllocGlobal + Clock>(
     input: &[u8],
     messages: &[Message],
 ) -> anyhow::Result<DayTime> {
-    let mut tape = day::empty_tape(rt.alloc(), input)?;
+    let mut tape = day::empty_tape_of_lines(rt.alloc(), input)?;
     let time = admission_time(rt, &mut tape, messages);
     let entries = tape.entries().len();
     drop(tape);
@@ -140,7 +140,7 @@ fn time_of_lines<R: AllocGlobal + Clock + Threads + Wait + Sync>(
     input: &[u8],
     inputs: &[Vec<u8>],
 ) -> anyhow::Result<DayTime> {
-    let prepared = prepare(rt.alloc(), day::empty_tape(rt.alloc(), input)?)?;
+    let prepared = prepare(rt.alloc(), day::empty_tape_of_lines(rt.alloc(), input)?)?;
     run_day(rt, rt.alloc(), prepared, inputs).context("the lines made no day")
 }
 

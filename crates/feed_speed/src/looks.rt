@@ -54,7 +54,7 @@ fn looks_of<R: AllocGlobal + Clock + Threads + Wait + Sync>(
     input: &[u8],
     inputs: &[Vec<u8>],
 ) -> anyhow::Result<DayLooks> {
-    let prepared = prepare(rt.alloc(), day::empty_tape(rt.alloc(), input)?)?;
+    let prepared = prepare(rt.alloc(), day::empty_tape_of_lines(rt.alloc(), input)?)?;
     look_day(rt, rt.alloc(), prepared, inputs).context("the lines made no day")
 }
 

@@ -1,7 +1,8 @@
 //! What the program's arguments ask for.
-ghost use Rattle.std.specs.Prelude.{◌≡◌, ◌⊎◌, IfOk, IfSome, Ok, Err, length, true};
+ghost use Rattle.std.specs.Prelude.{◌≡◌, ◌⊎◌, [], IfOk, IfSome, Ok, Err, length, true};
 ghost use Rattle.std.specs.Iterator.{at_most};
-ghost use Rattle.tapebox.specs.Program.{AsksFor, asks_follow, asks_live, batch_matrix};
+ghost use Rattle.tape_types.specs.Ranges.{IsTapeNumber};
+ghost use Rattle.tapebox.specs.Program.{AsksFor, FEED_TAPE_MOST, asks_follow, asks_live, batch_matrix};
 ghost use Rattle.tapebox.specs.declared.command.Command.TheVariants.{Batch};
 ghost use Rattle.tapebox.specs.declared.command.CommandFault.TheVariants.{OutOfMemory};
 
@@ -9,7 +10,9 @@ use batch::Named;
 use sale_matrix::Matrix;
 use std::alloc::Global;
 use std::str;
-use tape_types::{Listing, ListingFault, PARTICIPANTS_MOST, Participant, SYMBOLS_MOST, Symbol};
+use tape_types::{
+    Listing, ListingFault, PARTICIPANTS_MOST, Participant, SYMBOLS_MOST, Symbol, TapeNumber,
+};
 
 /// The arguments of a batch by Matrix One.
 const BATCH: &[u8] = b"batch\0";
@@ -28,6 +31,9 @@ const FOLLOW: &[u8] = b"follow\0";
 
 /// How many ports there are, with port 0.
 const PORTS: usize = 65_536;
+
+/// The limit of a running day's tape and of its follower's where no argument names one, in entries.
+const FEED_TAPE_MOST: u32 = 1_048_576;
 
 /// What the program is asked for.
 #[derive(Drop)]
@@ -111,23 +117,30 @@ impl<'a> Words<'a> {
         Ok(([self.port()?, self.port()?], self.port()?))
     }
 
-    /// The last argument, if one is left, as a matrix: Matrix One where none is. Refused where another one follows.
+    /// The next argument, if one is left, as a matrix: Matrix One where none is.
     fn matrix(&mut self) -> Result<Matrix, CommandFault> {
-        let matrix = match self.next() {
-            None | Some(b"1") => Matrix::One,
-            Some(b"2") => Matrix::Two,
-            Some(_) => return Err(CommandFault::BadArguments),
-        };
-        self.end()?;
-        Ok(matrix)
+        match self.next() {
+            None | Some(b"1") => Ok(Matrix::One),
+            Some(b"2") => Ok(Matrix::Two),
+            Some(_) => Err(CommandFault::BadArguments),
+        }
     }
 
-    /// Refused where an argument is left.
-    fn end(&self) -> Result<(), CommandFault> {
-        if self.rest.is_empty() {
-            Ok(())
+    /// The last argument, if one is left, as the limit of a tape, 1 to 16,777,216 entries: 1,048,576 where none is. Refused
+    /// where another one follows.
+    fn limit(&mut self) -> Result<u32, CommandFault>
+        ensures left_out { self.old.rest.now ≡ [] → result ≡ Ok FEED_TAPE_MOST }
+        ensures range { IfOk result IsTapeNumber }
+        ensures last { IfOk result (λ _. self.new.rest.now ≡ []) }
+    {
+        let limit = if self.rest.is_empty() {
+            FEED_TAPE_MOST
         } else {
-            Err(CommandFault::BadArguments)
+            u32::try_from(self.number()?).map_err(|_| CommandFault::BadArguments)?
+        };
+        match TapeNumber::try_new(limit) {
+            Some(_) if self.rest.is_empty() => Ok(limit),
+            _ => Err(CommandFault::BadArguments),
         }
     }
 }
@@ -203,12 +216,16 @@ pub struct LiveWords {
     pub session: u64,
     /// The matrix of the tape.
     pub matrix: Matrix,
+    /// The limit of the tape, in entries.
+    pub limit: u32,
 }
 
 impl LiveWords {
     /// Reads the arguments after `live`. Memory is taken for the names once all else is right, which includes a port for the
     /// last participant's line.
-    fn read(alloc: Global, words: &[u8]) -> Result<LiveWords, CommandFault> {
+    fn read(alloc: Global, words: &[u8]) -> Result<LiveWords, CommandFault>
+        ensures limit { IfOk result (λ words. IsTapeNumber words.limit) }
+    {
         let mut words = Words { rest: words };
         let (symbols, participants) = words.names()?;
         let first_port = words.port()?;
@@ -216,6 +233,7 @@ impl LiveWords {
         let serves = words.short()?;
         let session = words.number()?;
         let matrix = words.matrix()?;
+        let limit = words.limit()?;
         let most = (PORTS - usize::from(first_port)).min(PARTICIPANTS_MOST);
         let listing = listing(alloc, symbols, participants, most)?;
         Ok(LiveWords {
@@ -226,6 +244,7 @@ impl LiveWords {
             serves,
             session,
             matrix,
+            limit,
         })
     }
 }
@@ -243,16 +262,21 @@ pub struct FollowWords {
     pub session: u64,
     /// The matrix of the tape.
     pub matrix: Matrix,
+    /// The limit of the tape, in entries.
+    pub limit: u32,
 }
 
 impl FollowWords {
     /// Reads the arguments after `follow`. Memory is taken for the names once all else is right.
-    fn read(alloc: Global, words: &[u8]) -> Result<FollowWords, CommandFault> {
+    fn read(alloc: Global, words: &[u8]) -> Result<FollowWords, CommandFault>
+        ensures limit { IfOk result (λ words. IsTapeNumber words.limit) }
+    {
         let mut words = Words { rest: words };
         let (symbols, participants) = words.names()?;
         let (ports, retransmission) = words.feed_ports()?;
         let session = words.number()?;
         let matrix = words.matrix()?;
+        let limit = words.limit()?;
         let listing = listing(alloc, symbols, participants, PARTICIPANTS_MOST)?;
         Ok(FollowWords {
             listing,
@@ -260,6 +284,7 @@ impl FollowWords {
             retransmission,
             session,
             matrix,
+            limit,
         })
     }
 }

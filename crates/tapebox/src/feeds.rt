@@ -16,9 +16,6 @@ use std::rt::Clock;
 use std::sync::Wait;
 use std::thread::Threads;
 
-/// The limit of a running day's tape and of its follower's, in entries, whatever other tapes may have.
-const FEED_TAPE_MOST: u32 = 1_048_576;
-
 /// Opens a listener on each port from the first on, one for each participant.
 fn open_lines<T: Net<Listener = TcpListener, Stream = TcpStream>>(
     rt: &T,
@@ -108,7 +105,7 @@ where
             rt,
             alloc,
             words.listing,
-            FEED_TAPE_MOST,
+            words.limit,
             words.matrix,
             words.session,
             words.serves,
@@ -151,7 +148,7 @@ where
             rt,
             alloc,
             words.listing,
-            FEED_TAPE_MOST,
+            words.limit,
             words.matrix,
             words.session,
             sockets,

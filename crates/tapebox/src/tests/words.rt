@@ -1,8 +1,9 @@
 //! The arguments of `live` and of `follow`: each number is the field of its place.
 
-use crate::command::{Command, FollowWords, LiveWords, read_command};
+use crate::command::{Command, CommandFault, FollowWords, LiveWords, read_command};
 use sale_matrix::Matrix;
-use std::alloc::Global;
+use std::alloc::{AllocError, Global};
+use std::test::Fail;
 use tape_types::Listing;
 
 /// The arguments for a tape that is made, all numbers different.
@@ -102,8 +103,91 @@ const MATRICES: [(&[u8], Matrix); 9] = [
 ];
 
 #[test]
-fn the_matrix_is_the_last_word_or_one(rt: HostRuntime) {
+fn the_matrix_is_the_word_behind_the_session_or_one(rt: HostRuntime) {
     for (words, matrix) in MATRICES {
         assert!(rt; asked_matrix(rt.alloc(), words) == Some(matrix));
+    }
+}
+
+/// What stands behind the session, and what is asked for as the limit then.
+const LIMITS: [(&[u8], Result<u32, CommandFault>); 18] = [
+    (b"", Ok(1_048_576)),
+    (b"1\0", Ok(1_048_576)),
+    (b"2\0", Ok(1_048_576)),
+    (b"1\01\0", Ok(1)),
+    (b"2\01\0", Ok(1)),
+    (b"1\01048577\0", Ok(1_048_577)),
+    (b"1\016777216\0", Ok(16_777_216)),
+    (b"2\00016777216\0", Ok(16_777_216)),
+    (b"1\00\0", Err(CommandFault::BadArguments)),
+    (b"1\016777217\0", Err(CommandFault::BadArguments)),
+    (b"1\04294967297\0", Err(CommandFault::BadArguments)),
+    (b"1\0x\0", Err(CommandFault::BadArguments)),
+    (b"1\0+5\0", Err(CommandFault::BadArguments)),
+    (b"1\0\0", Err(CommandFault::BadArguments)),
+    (b"1\05", Err(CommandFault::BadArguments)),
+    (b"1\05\0\0", Err(CommandFault::BadArguments)),
+    (b"1\05\05\0", Err(CommandFault::BadArguments)),
+    // No limit stands without a matrix.
+    (b"5\0", Err(CommandFault::BadArguments)),
+];
+
+/// The limit that arguments ask for.
+fn asked_limit(alloc: Global, words: &[u8]) -> Result<u32, CommandFault> {
+    match read_command(alloc, words)? {
+        Command::Live(live) => Ok(live.limit),
+        Command::Follow(follow) => Ok(follow.limit),
+        Command::Batch(_) => Err(CommandFault::BadArguments),
+    }
+}
+
+/// Arguments with more of them behind.
+fn joined(alloc: Global, words: &[u8], more: &[u8]) -> Result<Vec<u8>, AllocError> {
+    let mut all = Vec::from_slice(alloc, words)?;
+    all.extend_from_slice(more)?;
+    Ok(all)
+}
+
+#[test]
+fn the_limit_is_the_word_behind_the_matrix_or_1_048_576(rt: HostRuntime) -> Result<(), Fail> {
+    for (more, limit) in LIMITS {
+        for words in [LIVE, FOLLOW] {
+            let all = joined(rt.alloc(), words, more)?;
+            assert!(rt; asked_limit(rt.alloc(), &all) == limit);
+        }
+    }
+    Ok(())
+}
+
+/// The three symbols and the two participants of a listing, in its order.
+fn names(listing: &Listing) -> Option<([[u8; 8]; 3], [u8; 2])> {
+    let [first, second, third] = listing.symbols().as_slice() else {
+        return None;
+    };
+    let [one, other] = listing.participants().as_slice() else {
+        return None;
+    };
+    Some((
+        [first.value(), second.value(), third.value()],
+        [one.value(), other.value()],
+    ))
+}
+
+/// The same of the names that arguments list.
+fn asked_names(alloc: Global, words: &[u8]) -> Option<([[u8; 8]; 3], [u8; 2])> {
+    match read_command(alloc, words) {
+        Ok(Command::Live(live)) => names(&live.listing),
+        Ok(Command::Follow(follow)) => names(&follow.listing),
+        _ => None,
+    }
+}
+
+#[test]
+fn names_are_listed_in_the_order_of_the_words(rt: HostRuntime) {
+    let wanted = Some(([*b"ZZ      ", *b"AB      ", *b"CD      "], *b"ZN"));
+    let live = b"live\0ZZ,AB,CD\0Z,N\01\02\03\04\00\00\0".as_slice();
+    let follow = b"follow\0ZZ,AB,CD\0Z,N\01\02\03\00\0".as_slice();
+    for words in [live, follow] {
+        assert!(rt; asked_names(rt.alloc(), words) == wanted);
     }
 }
