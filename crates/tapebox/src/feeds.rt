@@ -1,5 +1,5 @@
 //! `live` and `follow`: their sockets, their engines, and what is said of how they end.
-ghost use Rattle.std.specs.Prelude.{◌≡◌, []};
+ghost use Rattle.std.specs.Prelude.{◌≡◌, ◌≢◌, []};
 ghost use Rattle.live_feed.specs.Reports.{WritesOneReport};
 ghost use Rattle.tapebox.specs.Program.{IsFeedStatus, RunsFeed, feed_text};
 ghost use Rattle.row_reads.specs.Writing.{WritesPrefix};
@@ -98,6 +98,7 @@ where
     T: Threads + Wait + Clock + Net<Listener = TcpListener, Stream = TcpStream> + Sync,
     W: Write,
     ensures report { result ≡ 0 → WritesOneReport (W.contents writer.old) (W.contents writer.new) }
+    ensures unwritten { result ≢ 0 → result ≢ 4 → writer.new ≡ writer.old }
     ensures known { IsFeedStatus result }
 {
     match open_live(rt, alloc, &words) {
@@ -129,7 +130,8 @@ where
     T: Threads + Wait + Clock + Net<Listener = TcpListener, Stream = TcpStream> + Sync,
     W: Write,
     E: Write,
-    ensures { RunsFeed result (W.contents writer.old) (W.contents writer.new) errors.old errors.new (E.contents errors.old) (E.contents errors.new) }
+    ensures { RunsFeed result writer.old writer.new (W.contents writer.old) (W.contents writer.new) errors.old errors.new
+        (E.contents errors.old) (E.contents errors.new) }
 {
     let status = live_status(rt, alloc, words, writer);
     report_status(errors, status)
@@ -141,6 +143,7 @@ where
     T: Threads + Wait + Net<Listener = TcpListener, Stream = TcpStream> + Sync,
     W: Write,
     ensures report { result ≡ 0 → WritesOneReport (W.contents writer.old) (W.contents writer.new) }
+    ensures unwritten { result ≢ 0 → result ≢ 4 → writer.new ≡ writer.old }
     ensures known { IsFeedStatus result }
 {
     match open_follow(rt, &words) {
@@ -171,7 +174,8 @@ where
     T: Threads + Wait + Net<Listener = TcpListener, Stream = TcpStream> + Sync,
     W: Write,
     E: Write,
-    ensures { RunsFeed result (W.contents writer.old) (W.contents writer.new) errors.old errors.new (E.contents errors.old) (E.contents errors.new) }
+    ensures { RunsFeed result writer.old writer.new (W.contents writer.old) (W.contents writer.new) errors.old errors.new
+        (E.contents errors.old) (E.contents errors.new) }
 {
     let status = follow_status(rt, alloc, words, writer);
     report_status(errors, status)
