@@ -33,7 +33,7 @@ from free_ports import free_ports
 from send_day import HOST, connect, parse_batch
 
 SESSION = "1"
-LIMIT_SECONDS = 120
+LIMIT_SECONDS = 600
 BINDING_SECONDS = 10
 REQUEST_BYTES = 14
 # Where a data packet has its number of entries.
