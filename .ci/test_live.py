@@ -9,7 +9,7 @@ import unittest
 from pathlib import Path
 
 from support import HOST, LIMIT, READ_FAULT, WRITE_FAULT, Case
-from support import connect, ended, free_ports, is_refused, report, reports, run, started, wait_bound
+from support import connect, ended, free_ports, is_refused, ports, report, reports, run, started, wait_bound
 
 # Asks Linux for the time at which each packet was taken, by the same number that its answer has.
 SO_TIMESTAMPNS = 35
@@ -169,6 +169,21 @@ class LongDay(Case):
         rows = text.splitlines()
         self.assertEqual(len(rows), len(self.SYMBOLS) + 2)
         self.assertTrue(rows[1].endswith(f",{100 * self.REPORTS},{self.REPORTS}".encode()), rows[1])
+
+
+class Limit(Case):
+    def test_the_limit_that_is_named(self):
+        """PROFILE, "A running day": what comes after LIMIT entries is refused, and the follower of a day of the limit holds all of it."""
+        line, a, b, retransmission = ports(4)
+        with started(["live", "AB", "N", line, a, b, retransmission, 1, 7, 1, 1]) as live, connect(line) as participant:
+            with started(["follow", "AB", "N", a, b, retransmission, 7, 1, 1]) as follow:
+                wait_bound(follow, a, b)
+                participant.sendall(reports("N", 2))
+                participant.close()
+                ends = [ended(live), ended(follow)]
+        self.assertEqual(ends[0], ends[1])
+        self.assertEqual((ends[0].status, ends[0].said), (0, b""))
+        self.assertRegex(ends[0].written, rb"(?m)^AB,ALL,.*,100,1$")
 
 
 class Sockets(Case):
