@@ -2,11 +2,15 @@
 
 mod failing;
 mod feed;
+mod figures;
 mod limits;
+mod matrices;
 mod memory;
 mod packets;
 mod requests;
 mod rows;
 mod schedules;
+mod sending;
+mod spans;
 mod steps;
 mod window;

@@ -8,12 +8,6 @@ use tape_core::Tape;
 use tape_frames::{EntryCount, Packet, SliceSource, Version, cut, write_packet};
 use tape_types::{Listing, MsgNumber, Participant, Price, Size, Symbol};
 
-/// The versions in which the rows are played.
-pub(super) const VERSIONS: [Version; 2] = [Version::One, Version::Two];
-
-/// The session under which the tapes are sent.
-pub(super) const SESSION: u64 = 7;
-
 /// A tape over indexes, as the subscriber's own is.
 pub(super) type Feed = Tape<IndexStore>;
 
@@ -47,10 +41,14 @@ fn header_of(letter: u8, number: u32) -> Option<Header> {
 
 /// A hundred shares.
 pub(super) fn content(price: u64) -> Option<Content> {
+    content_of(b"@   ", price, 100)
+}
+
+fn content_of(condition: &[u8; 4], price: u64, size: u32) -> Option<Content> {
     Some(Content {
         price: Price::try_new(price)?,
-        size: Size::try_new(100)?,
-        condition: Condition::try_new(*b"@   ")?,
+        size: Size::try_new(size)?,
+        condition: Condition::try_new(*condition)?,
     })
 }
 
@@ -76,14 +74,17 @@ pub(super) fn correction(number: u32, target: u32, price: u64) -> Option<Message
     })
 }
 
-/// A report of Q of a hundred shares.
-fn report_of_q(number: u32, condition: &[u8; 4], price: u64) -> Option<Message> {
+/// A participant's report.
+fn report_of(
+    letter: u8,
+    number: u32,
+    condition: &[u8; 4],
+    price: u64,
+    size: u32,
+) -> Option<Message> {
     Some(Message::Report {
-        header: header_of(b'Q', number)?,
-        content: Content {
-            condition: Condition::try_new(*condition)?,
-            ..content(price)?
-        },
+        header: header_of(letter, number)?,
+        content: content_of(condition, price, size)?,
     })
 }
 
@@ -94,6 +95,7 @@ fn reinstatement(number: u32, target: u32) -> Option<Message> {
     })
 }
 
+/// A tape of Matrix One.
 pub(super) fn feed(alloc: Global, limit: u32) -> Option<Feed> {
     Tape::new(alloc, listing(alloc)?, limit, Matrix::One).ok()
 }
@@ -119,7 +121,7 @@ fn admits_reports(tape: &mut Feed, count: u32, price: u64, rise: u64) -> bool {
 
 /// A tape of this many reports, whose prices rise by a hundredth of a cent from one to the next.
 pub(super) fn reports(alloc: Global, count: u32, price: u64) -> Option<Feed> {
-    let mut tape = feed(alloc, 2_000)?;
+    let mut tape = feed(alloc, 200_000)?;
     admits_reports(&mut tape, count, price, 1).then_some(tape)
 }
 
@@ -150,9 +152,9 @@ pub(super) fn corrected(alloc: Global) -> Option<Feed> {
 }
 
 fn admits_a_reinstatement(tape: &mut Feed) -> bool {
-    admits(tape, report_of_q(1, b"@   ", 100_000))
+    admits(tape, report_of(b'Q', 1, b"@   ", 100_000, 100))
         && admits(tape, report(1, 101_000))
-        && admits(tape, report_of_q(2, b"@ L ", 100_500))
+        && admits(tape, report_of(b'Q', 2, b"@ L ", 100_500, 100))
         && admits(tape, cancel(2, 1))
         && admits(tape, reinstatement(3, 1))
 }
@@ -163,9 +165,21 @@ pub(super) fn reinstated(alloc: Global) -> Option<Feed> {
     admits_a_reinstatement(&mut tape).then_some(tape)
 }
 
-/// Admits 71 corrections of report 1, each at a hundredth of a cent more than the one before.
-fn admits_corrections(tape: &mut Feed, price: u64) -> bool {
-    for number in 2..=72 {
+fn admits_codes_of_two(tape: &mut Feed) -> bool {
+    admits(tape, report_of(b'N', 1, b"@  I", 100_000, 50))
+        && admits(tape, report_of(b'Q', 1, b"@  2", 101_000, 100))
+        && admits(tape, report_of(b'N', 2, b"@  3", 99_000, 100))
+}
+
+/// A tape of Matrix Two: an odd lot, a sold last and a report out of sequence, of which Matrix One has the odd lot alone.
+pub(super) fn codes_of_two(alloc: Global) -> Option<Feed> {
+    let mut tape = Tape::new(alloc, listing(alloc)?, 100, Matrix::Two).ok()?;
+    admits_codes_of_two(&mut tape).then_some(tape)
+}
+
+/// Admits corrections of report 1 from a message number to 72, each at a hundredth of a cent more than the one before.
+fn admits_corrections(tape: &mut Feed, from: u32, price: u64) -> bool {
+    for number in from..=72 {
         if !admits(
             tape,
             correction(number, 1, price.wrapping_add(u64::from(number))),
@@ -179,7 +193,15 @@ fn admits_corrections(tape: &mut Feed, price: u64) -> bool {
 /// A report and 71 corrections of it.
 pub(super) fn corrected_often(alloc: Global) -> Option<Feed> {
     let mut tape = reports(alloc, 1, 100_000)?;
-    admits_corrections(&mut tape, 100_000).then_some(tape)
+    admits_corrections(&mut tape, 2, 100_000).then_some(tape)
+}
+
+/// Eleven reports, of which the first is cancelled, reinstated, and corrected 59 times.
+pub(super) fn of_every_kind(alloc: Global) -> Option<Feed> {
+    let mut tape = cancelled(alloc, 11)?;
+    let is_made = admits(&mut tape, reinstatement(13, 1))
+        && admits_corrections(&mut tape, 14, 100_000);
+    is_made.then_some(tape)
 }
 
 fn bytes_of(alloc: Global, packet: &Packet) -> Option<Vec<u8>> {
@@ -202,25 +224,13 @@ pub(super) fn packet(
 }
 
 /// The bytes of a beat that gives a number.
-pub(super) fn beat(alloc: Global, version: Version, last: u32) -> Option<Vec<u8>> {
+pub(super) fn beat(alloc: Global, version: Version, session: u64, last: u32) -> Option<Vec<u8>> {
     let last = EntryCount::try_new(version, last)?;
-    bytes_of(
-        alloc,
-        &Packet::Beat {
-            session: SESSION,
-            last,
-        },
-    )
+    bytes_of(alloc, &Packet::Beat { session, last })
 }
 
 /// The bytes of an end that gives a number.
-pub(super) fn end(alloc: Global, version: Version, count: u32) -> Option<Vec<u8>> {
+pub(super) fn end(alloc: Global, version: Version, session: u64, count: u32) -> Option<Vec<u8>> {
     let count = EntryCount::try_new(version, count)?;
-    bytes_of(
-        alloc,
-        &Packet::End {
-            session: SESSION,
-            count,
-        },
-    )
+    bytes_of(alloc, &Packet::End { session, count })
 }

@@ -1,7 +1,8 @@
-//! The longest answer, and a drain as long as the window.
+//! The longest answer, drains as long as the window, and a feed of many of them.
 
 use super::failing::Calls;
-use super::feed::{self, Feed, SESSION, VERSIONS};
+use super::feed::{self, Feed};
+use super::sending::{SESSION, Sending, VERSIONS};
 use super::steps::Sent::Reports;
 use super::steps::Told::{Drained, Took};
 use super::steps::{
@@ -71,7 +72,8 @@ fn are_longest(version: Version, packets: &[Vec<u8>]) -> bool {
 
 /// What is told of entry 1 by A, of these packets by R, and of a drain.
 fn told_of(alloc: Global, subscriber: &mut Subscriber, packets: &[Vec<u8>]) -> Option<[Told; 3]> {
-    let first = brings(alloc, Version::One, subscriber, A, Reports(1, 1))?;
+    let sending = Sending::all_in(Version::One);
+    let first = brings(alloc, sending, subscriber, A, Reports(1, 1))?;
     let rest = deliver_all(subscriber, packets);
     Some([first, rest, drain(subscriber)])
 }
@@ -106,45 +108,57 @@ fn the_longest_packets_are_read_taken_and_drained(rt: HostRuntime) {
     }
 }
 
-/// Whether A brings the tape's packet of this place, and its eight entries are fresh.
-fn comes(alloc: Global, subscriber: &mut Subscriber, tape: &Feed, place: u32) -> Option<bool> {
-    let from = place.wrapping_mul(8).wrapping_add(1);
-    let text = feed::packet(alloc, Version::One, tape, SESSION, from)?;
-    Some(deliver(subscriber, A, text.as_slice()) == Took(8, 0, 0))
+/// Whether A brings sixteen entries of the tape from a number on, and all are fresh.
+fn comes(alloc: Global, subscriber: &mut Subscriber, tape: &Feed, from: u32) -> Option<bool> {
+    let text = feed::packet(alloc, Version::Two, tape, SESSION, from)?;
+    Some(deliver(subscriber, A, text.as_slice()) == Took(16, 0, 0))
 }
 
-/// Whether A brings as many entries of the tape as a window has slots, and all are fresh.
-fn fills(alloc: Global, subscriber: &mut Subscriber, tape: &Feed) -> bool {
-    for place in 0..128 {
-        if comes(alloc, subscriber, tape, place) != Some(true) {
+/// Whether A brings as many entries of the tape above a number as a window has slots, and all are fresh.
+fn fills(alloc: Global, subscriber: &mut Subscriber, tape: &Feed, base: u32) -> bool {
+    for place in 0..64_u32 {
+        let from = base.wrapping_add(place.wrapping_mul(16)).wrapping_add(1);
+        if comes(alloc, subscriber, tape, from) != Some(true) {
             return false;
         }
     }
     true
 }
 
-/// What a drain of a full window tells, and whether the subscriber holds the whole tape then.
-fn drained(alloc: Global, subscriber: &mut Subscriber, tape: &Feed) -> Option<(Told, bool)> {
-    if !fills(alloc, subscriber, tape) {
-        return None;
+/// Whether A fills the window above a number, and one drain gives all of it.
+fn is_drained(alloc: Global, subscriber: &mut Subscriber, tape: &Feed, base: u32) -> bool {
+    fills(alloc, subscriber, tape, base) && drain(subscriber) == Drained(1_024, 0)
+}
+
+/// How many full windows are drained in turn.
+fn drained(alloc: Global, subscriber: &mut Subscriber, tape: &Feed, windows: u32) -> u32 {
+    for window in 0..windows {
+        if !is_drained(alloc, subscriber, tape, window.wrapping_mul(1_024)) {
+            return window;
+        }
     }
-    let told = drain(subscriber);
-    Some((told, holds(subscriber, tape)?))
+    windows
 }
 
-/// The same of a new subscriber.
-fn drained_anew(alloc: Global, tape: &Feed) -> Option<(Told, bool)> {
-    let mut subscriber = subscriber(alloc, 2_000)?;
-    drained(alloc, &mut subscriber, tape)
+/// How many of this many full windows a new subscriber drains, and whether it holds the whole tape then.
+fn drained_anew(alloc: Global, tape: &Feed, windows: u32) -> Option<(u32, bool)> {
+    let mut subscriber = subscriber(alloc, 200_000)?;
+    let drained = drained(alloc, &mut subscriber, tape, windows);
+    Some((drained, holds(&subscriber, tape)?))
 }
 
-/// The same of a tape of 1,024 reports.
-fn longest_drain(alloc: Global) -> Option<(Told, bool)> {
-    let tape = feed::reports(alloc, 1_024, 100_000)?;
-    drained_anew(alloc, &tape)
+/// The same of a tape of so many reports.
+fn full_windows(alloc: Global, windows: u32) -> Option<(u32, bool)> {
+    let tape = feed::reports(alloc, windows.wrapping_mul(1_024), 100_000)?;
+    drained_anew(alloc, &tape, windows)
 }
 
 #[test]
 fn a_full_window_is_drained_at_once(rt: HostRuntime) {
-    assert!(rt; longest_drain(rt.alloc()) == Some((Drained(1_024, 0), true)));
+    assert_eq!(rt; full_windows(rt.alloc(), 1), Some((1, true)));
+}
+
+#[test]
+fn a_hundred_thousand_entries_are_drained(rt: HostRuntime) {
+    assert_eq!(rt; full_windows(rt.alloc(), 98), Some((98, true)));
 }

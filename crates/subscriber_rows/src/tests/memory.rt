@@ -4,6 +4,7 @@ ghost use Rattle.std.specs.Prelude.{◌≡◌, ◌+◌, IfSome, length};
 ghost use Rattle.arbitration.specs.Windows.{ready_entries};
 
 use super::feed::{self, Feed};
+use super::sending::Sending;
 use super::steps::Sent::Reports;
 use super::steps::Step::{By, Drain};
 use super::steps::Told::{Drained, Took};
@@ -56,7 +57,8 @@ fn drained_after(
     steps: &[(Step, Told)],
     tape: &Feed,
 ) -> Option<(u32, u32)> {
-    if told_so(alloc, Version::One, subscriber, steps) != steps.len() {
+    let sending = Sending::all_in(Version::One);
+    if told_so(alloc, sending, subscriber, steps) != steps.len() {
         return None;
     }
     let drained = drained_in_two(subscriber);

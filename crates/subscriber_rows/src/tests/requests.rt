@@ -2,12 +2,13 @@
 ghost use Rattle.std.specs.Prelude.{◌≡◌};
 ghost use Rattle.tape_frames.specs.Sources.{IsPublished};
 
-use super::feed::{Feed, SESSION, VERSIONS, equal_reports};
+use super::feed::{Feed, equal_reports};
+use super::sending::{SESSION, VERSIONS};
 use retransmit::{Answer, AskFault, Ended, Refusal, ServeEnd, answer, ask, serve};
 use std::alloc::{AllocError, Global};
 use std::io;
 use std::io::{Read, Write};
-use tape_frames::{Packet, Request, SliceSource, Span, Version, decode_packet};
+use tape_frames::{Request, SliceSource, Span, Version};
 
 /// A request of session 7 for 64 entries from 3.
 pub(super) const REQUEST: [u8; 14] = [
@@ -85,33 +86,16 @@ pub(super) fn served<R: Read, W: Write>(
     reader: &mut R,
     writer: &mut W,
 ) -> Option<ServeEnd> {
-    served_in(alloc, Version::One, count, reader, writer)
-}
-
-/// The same in a version.
-fn served_in<R: Read, W: Write>(
-    alloc: Global,
-    version: Version,
-    count: u32,
-    reader: &mut R,
-    writer: &mut W,
-) -> Option<ServeEnd> {
     let tape = equal_reports(alloc, count)?;
     let mut source = source_of(&tape);
-    Some(serve(alloc, &mut source, SESSION, version, reader, writer))
+    Some(serve(alloc, &mut source, SESSION, Version::One, reader, writer))
 }
 
-/// What serving these requests over this many entries in a version answers, if it ends so.
-fn answers(
-    alloc: Global,
-    version: Version,
-    count: u32,
-    input: &[u8],
-    end: Option<ServeEnd>,
-) -> Option<Vec<u8>> {
+/// What serving these requests over this many entries in version 1 answers, if it ends so.
+fn answers(alloc: Global, count: u32, input: &[u8], end: Option<ServeEnd>) -> Option<Vec<u8>> {
     let mut reader = input;
     let mut output = Vec::new(alloc);
-    let is_end = served_in(alloc, version, count, &mut reader, &mut output) == end;
+    let is_end = served(alloc, count, &mut reader, &mut output) == end;
     is_end.then_some(output)
 }
 
@@ -123,7 +107,7 @@ fn is_answered(
     end: Option<ServeEnd>,
     bytes: &[u8],
 ) -> Option<bool> {
-    let output = answers(alloc, Version::One, count, input, end)?;
+    let output = answers(alloc, count, input, end)?;
     Some(output.as_slice() == bytes)
 }
 
@@ -174,16 +158,10 @@ fn is_told(alloc: Global, bytes: &[u8], wanted: Result<usize, AskFault>) -> bool
     told_of(alloc, bytes) == Some(wanted)
 }
 
-/// The packets that these bytes bring to a request. What is sent is appended.
-fn brought(
-    alloc: Global,
-    from: u32,
-    count: u16,
-    bytes: &[u8],
-    sent: &mut Vec<u8>,
-) -> Option<Vec<Vec<u8>>> {
-    let mut reader = bytes;
-    ask(alloc, &request(from, count)?, &mut reader, sent).ok()
+/// The packets that the answer's vector brings to its request. What is sent is appended.
+fn brought(alloc: Global, sent: &mut Vec<u8>) -> Option<Vec<Vec<u8>>> {
+    let mut reader = ANSWER.as_slice();
+    ask(alloc, &request(3, 64)?, &mut reader, sent).ok()
 }
 
 /// Whether the packet of the answer's vector is the only one.
@@ -194,42 +172,8 @@ fn is_the_vectors_packet(packets: &[Vec<u8>]) -> bool {
 /// Whether the answer's vector brings its packet, and the request's vector is sent for it.
 fn brings_the_vectors_packet(alloc: Global) -> Option<bool> {
     let mut sent = Vec::new(alloc);
-    let packets = brought(alloc, 3, 64, &ANSWER, &mut sent);
+    let packets = brought(alloc, &mut sent);
     Some(is_the_vectors_packet(&packets?) && sent.as_slice() == REQUEST.as_slice())
-}
-
-/// Appends the numbers of a packet's entries, and tells whether the bytes are such a packet and memory sufficed.
-fn put_numbers(numbers: &mut Vec<u32>, packet: &[u8]) -> Option<()> {
-    let Packet::Data { entries, .. } = decode_packet(packet).ok()? else {
-        return None;
-    };
-    for entry in entries.entries() {
-        numbers.push(entry.number.value()).ok()?;
-    }
-    Some(())
-}
-
-/// The numbers of the entries of packets.
-fn numbers_of(alloc: Global, packets: &[Vec<u8>]) -> Option<Vec<u32>> {
-    let mut numbers = Vec::new(alloc);
-    for packet in packets.iter() {
-        put_numbers(&mut numbers, packet)?;
-    }
-    Some(numbers)
-}
-
-/// The numbers of the entries that an answer to a request for ten entries from 2 brings.
-fn numbers_brought(alloc: Global, bytes: &[u8]) -> Option<Vec<u32>> {
-    let mut sent = Vec::new(alloc);
-    let packets = brought(alloc, 2, 10, bytes, &mut sent)?;
-    numbers_of(alloc, &packets)
-}
-
-/// The numbers that come back to that request in a version from a tape of twelve.
-fn numbers_read_again(alloc: Global, version: Version) -> Option<Vec<u32>> {
-    let input = requests(alloc, &[(SESSION, 2, 10)])?;
-    let output = answers(alloc, version, 12, &input, end(1, Ended::Clean))?;
-    numbers_brought(alloc, &output)
 }
 
 #[test]
@@ -276,19 +220,6 @@ fn a_refused_request_is_answered_and_the_next_one_is_read(rt: HostRuntime) {
         are_refused(rt.alloc(), &[0x48, 0x48, 0x47, 0x49, 0x49]),
         Some(true)
     );
-}
-
-/// Whether the numbers from 2 to 11 come back.
-fn reads_a_range_again(alloc: Global, version: Version) -> Option<bool> {
-    let numbers = numbers_read_again(alloc, version)?;
-    Some(numbers.as_slice() == [2, 3, 4, 5, 6, 7, 8, 9, 10, 11].as_slice())
-}
-
-#[test]
-fn a_range_is_read_again_in_each_version(rt: HostRuntime) {
-    for version in VERSIONS {
-        assert_eq!(rt; reads_a_range_again(rt.alloc(), version), Some(true));
-    }
 }
 
 /// Whether serving the first of fourteen zeros ends so, and answers these bytes.

@@ -1,14 +1,17 @@
 //! The worked rows of a subscriber.
 
-use super::feed::{self, SESSION, VERSIONS};
-use super::packets::CORRECTION_PACKET;
+use super::feed;
+use super::figures::{at, consolidated};
+use super::packets::{CORRECTION_PACKET, REINSTATEMENT_PACKET, as_second};
+use super::sending::{SESSION, Sending, VERSIONS, WAYS};
 use super::steps::Sent::{
     Beat, End, Front, OtherPrices, OtherSession, OtherVolume, Reports, UnknownTarget,
 };
 use super::steps::Step::{Announced, Asks, By, Drain, IsGapOpen, Missing};
 use super::steps::Told::{Drained, Gap, Is, Number, Refused, Took};
-use super::steps::{Step, Told, deliver, drain, holds, subscriber, told_so};
+use super::steps::{Step, Told, deliver, drain, holds, subscriber, subscriber_of, told_so};
 use arbitration::Line::{A, B, R};
+use sale_matrix::Matrix;
 use std::alloc::Global;
 use subscriber::Subscriber;
 use tape_frames::Version;
@@ -122,20 +125,20 @@ const BYTES_THAT_ARE_NO_PACKET: [(Step, Told); 4] = [
 ];
 
 /// How many steps of a row a new subscriber with a limit answers as it has to.
-fn row(alloc: Global, version: Version, limit: u32, steps: &[(Step, Told)]) -> Option<usize> {
+fn row(alloc: Global, sending: Sending, limit: u32, steps: &[(Step, Told)]) -> Option<usize> {
     let mut subscriber = subscriber(alloc, limit)?;
-    Some(told_so(alloc, version, &mut subscriber, steps))
+    Some(told_so(alloc, sending, &mut subscriber, steps))
 }
 
 /// How many entries lines A, B and R brought, if the subscriber answers the steps as it has to, and then holds the whole tape.
 fn brought(
     alloc: Global,
-    version: Version,
+    sending: Sending,
     subscriber: &mut Subscriber,
     steps: &[(Step, Told)],
     tape: &feed::Feed,
 ) -> Option<(u32, u32, u32)> {
-    let is_so = told_so(alloc, version, subscriber, steps) == steps.len()
+    let is_so = told_so(alloc, sending, subscriber, steps) == steps.len()
         && holds(subscriber, tape)?;
     is_so.then_some((
         subscriber.brought(A),
@@ -147,54 +150,54 @@ fn brought(
 /// The same of a new subscriber.
 fn brought_anew(
     alloc: Global,
-    version: Version,
+    sending: Sending,
     steps: &[(Step, Told)],
     tape: &feed::Feed,
 ) -> Option<(u32, u32, u32)> {
-    let mut subscriber = subscriber(alloc, 100)?;
-    brought(alloc, version, &mut subscriber, steps, tape)
+    let mut subscriber = subscriber_of(alloc, 100, sending.session, Matrix::One)?;
+    brought(alloc, sending, &mut subscriber, steps, tape)
 }
 
 /// How many entries each line brought in the row of two lossy lines.
-fn two_lossy_lines(alloc: Global, version: Version) -> Option<(u32, u32, u32)> {
+fn two_lossy_lines(alloc: Global, sending: Sending) -> Option<(u32, u32, u32)> {
     let tape = feed::reports(alloc, 8, 100_000)?;
-    brought_anew(alloc, version, &TWO_LOSSY_LINES, &tape)
+    brought_anew(alloc, sending, &TWO_LOSSY_LINES, &tape)
 }
 
 /// How many entries each line brought in a row of a gap.
 fn retransmitted(
     alloc: Global,
-    version: Version,
+    sending: Sending,
     steps: &[(Step, Told)],
 ) -> Option<(u32, u32, u32)> {
     let tape = feed::reports(alloc, 4, 100_000)?;
-    brought_anew(alloc, version, steps, &tape)
+    brought_anew(alloc, sending, steps, &tape)
 }
 
 /// How many entries each line brought in the row of another summary.
-fn another_summary(alloc: Global, version: Version) -> Option<(u32, u32, u32)> {
+fn another_summary(alloc: Global, sending: Sending) -> Option<(u32, u32, u32)> {
     let tape = feed::cancelled(alloc, 1)?;
-    brought_anew(alloc, version, &ANOTHER_SUMMARY, &tape)
+    brought_anew(alloc, sending, &ANOTHER_SUMMARY, &tape)
 }
 
 /// How many entries each line brought where the third is no entry of a tape.
-fn refused_entry(alloc: Global, version: Version) -> Option<(u32, u32, u32)> {
+fn refused_entry(alloc: Global, sending: Sending) -> Option<(u32, u32, u32)> {
     let tape = feed::reports(alloc, 2, 100_000)?;
-    brought_anew(alloc, version, &WHAT_ITS_OWN_TAPE_REFUSES, &tape)
+    brought_anew(alloc, sending, &WHAT_ITS_OWN_TAPE_REFUSES, &tape)
 }
 
 #[test]
 fn what_two_lossy_lines_bring_between_them_is_held(rt: HostRuntime) {
-    for version in VERSIONS {
-        assert_eq!(rt; two_lossy_lines(rt.alloc(), version), Some((6, 2, 0)));
+    for sending in WAYS {
+        assert_eq!(rt; two_lossy_lines(rt.alloc(), sending), Some((6, 2, 0)));
     }
 }
 
 #[test]
 fn a_gap_is_filled_by_its_retransmission(rt: HostRuntime) {
-    for version in VERSIONS {
+    for sending in WAYS {
         assert_eq!(rt;
-            retransmitted(rt.alloc(), version, &A_GAP_AND_ITS_RETRANSMISSION),
+            retransmitted(rt.alloc(), sending, &A_GAP_AND_ITS_RETRANSMISSION),
             Some((2, 0, 2))
         );
     }
@@ -202,33 +205,50 @@ fn a_gap_is_filled_by_its_retransmission(rt: HostRuntime) {
 
 #[test]
 fn a_gap_is_asked_for_and_answered_over_memory(rt: HostRuntime) {
-    for version in VERSIONS {
+    for sending in WAYS {
         assert_eq!(rt;
-            retransmitted(rt.alloc(), version, &A_GAP_THAT_IS_ASKED_FOR),
+            retransmitted(rt.alloc(), sending, &A_GAP_THAT_IS_ASKED_FOR),
             Some((2, 0, 2))
         );
     }
 }
 
+/// Whether the gap that is asked for is filled in a session.
+fn is_filled_in(alloc: Global, session: u64) -> bool {
+    let sending = Sending {
+        session,
+        ..Sending::all_in(Version::Two)
+    };
+    retransmitted(alloc, sending, &A_GAP_THAT_IS_ASKED_FOR) == Some((2, 0, 2))
+}
+
+#[test]
+fn a_gap_is_filled_whatever_the_session(rt: HostRuntime) {
+    for session in 0..256 {
+        assert!(rt; is_filled_in(rt.alloc(), session), "session {session}");
+    }
+    assert!(rt; is_filled_in(rt.alloc(), u64::MAX));
+}
+
 #[test]
 fn another_summary_is_not_believed(rt: HostRuntime) {
-    for version in VERSIONS {
-        assert_eq!(rt; another_summary(rt.alloc(), version), Some((1, 1, 0)));
+    for sending in WAYS {
+        assert_eq!(rt; another_summary(rt.alloc(), sending), Some((1, 1, 0)));
     }
 }
 
 #[test]
 fn an_entry_that_its_own_tape_refuses_waits(rt: HostRuntime) {
-    for version in VERSIONS {
-        assert_eq!(rt; refused_entry(rt.alloc(), version), Some((2, 1, 0)));
+    for sending in WAYS {
+        assert_eq!(rt; refused_entry(rt.alloc(), sending), Some((2, 1, 0)));
     }
 }
 
 #[test]
 fn conflicts_and_numbers_past_the_end_are_refused(rt: HostRuntime) {
-    for version in VERSIONS {
+    for sending in WAYS {
         assert_eq!(rt;
-            row(rt.alloc(), version, 100, &CONFLICT_AND_PAST_THE_END),
+            row(rt.alloc(), sending, 100, &CONFLICT_AND_PAST_THE_END),
             Some(9)
         );
     }
@@ -236,9 +256,9 @@ fn conflicts_and_numbers_past_the_end_are_refused(rt: HostRuntime) {
 
 #[test]
 fn what_is_beyond_the_window_is_announced_alone(rt: HostRuntime) {
-    for version in VERSIONS {
+    for sending in WAYS {
         assert_eq!(rt;
-            row(rt.alloc(), version, 2_000, &THE_EDGE_OF_THE_WINDOW),
+            row(rt.alloc(), sending, 2_000, &THE_EDGE_OF_THE_WINDOW),
             Some(6)
         );
     }
@@ -246,9 +266,9 @@ fn what_is_beyond_the_window_is_announced_alone(rt: HostRuntime) {
 
 #[test]
 fn bytes_that_are_no_packet_change_nothing(rt: HostRuntime) {
-    for version in VERSIONS {
+    for sending in WAYS {
         assert_eq!(rt;
-            row(rt.alloc(), version, 100, &BYTES_THAT_ARE_NO_PACKET),
+            row(rt.alloc(), sending, 100, &BYTES_THAT_ARE_NO_PACKET),
             Some(4)
         );
     }
@@ -256,8 +276,8 @@ fn bytes_that_are_no_packet_change_nothing(rt: HostRuntime) {
 
 #[test]
 fn a_drain_stops_at_the_subscribers_own_limit(rt: HostRuntime) {
-    for version in VERSIONS {
-        assert_eq!(rt; row(rt.alloc(), version, 2, &ITS_OWN_LIMIT), Some(5));
+    for sending in WAYS {
+        assert_eq!(rt; row(rt.alloc(), sending, 2, &ITS_OWN_LIMIT), Some(5));
     }
 }
 
@@ -332,37 +352,52 @@ fn a_packet_of_version_2_brings_what_two_of_version_1_brought(rt: HostRuntime) {
 }
 
 /// A subscriber that took the packet of a tape's entries, how many bytes the packet had, and what taking and draining it told.
-fn drained(alloc: Global, tape: &feed::Feed) -> Option<(Subscriber, usize, Told, Told)> {
-    let text = feed::packet(alloc, Version::One, tape, SESSION, 1)?;
+fn drained(
+    alloc: Global,
+    version: Version,
+    tape: &feed::Feed,
+) -> Option<(Subscriber, usize, Told, Told)> {
+    let text = feed::packet(alloc, version, tape, SESSION, 1)?;
     let mut subscriber = subscriber(alloc, 100)?;
     let taken = deliver(&mut subscriber, A, text.as_slice());
     let told = drain(&mut subscriber);
     Some((subscriber, text.len(), taken, told))
 }
 
-/// The place and the price of the last, the volume and the trades of the consolidated summary.
-fn figures(subscriber: &Subscriber) -> Option<(u32, u64, u64, u32)> {
-    let summary = subscriber.summary(feed::symbol()?)?;
-    let last = summary.last?;
-    Some((
-        last.place.value(),
-        last.price.value(),
-        summary.volume,
-        summary.trades,
-    ))
-}
-
-/// Whether a subscriber takes a reinstatement and then holds the tape, with the reinstated report as its last.
-fn holds_a_reinstatement(alloc: Global) -> Option<bool> {
+/// Whether a subscriber takes a reinstatement and then holds the tape, with the reinstated report as its high and its last.
+fn holds_a_reinstatement(alloc: Global, version: Version) -> Option<bool> {
     let tape = feed::reinstated(alloc)?;
-    let (subscriber, length, taken, told) = drained(alloc, &tape)?;
+    let (subscriber, length, taken, told) = drained(alloc, version, &tape)?;
     // Three reports of 44 bytes, and a cancel and a reinstatement of 97, after a header of 15.
     let is_so = length == 341 && taken == Took(5, 0, 0) && told == Drained(5, 0);
-    let shows = figures(&subscriber) == Some((2, 101_000, 300, 3));
+    let shows = consolidated(&subscriber) == at([1, 2, 1, 2], 300, 3);
     Some(is_so && shows && holds(&subscriber, &tape)?)
 }
 
 #[test]
 fn a_reinstated_report_stands_again_at_a_subscriber(rt: HostRuntime) {
-    assert_eq!(rt; holds_a_reinstatement(rt.alloc()), Some(true));
+    for version in VERSIONS {
+        assert_eq!(rt; holds_a_reinstatement(rt.alloc(), version), Some(true));
+    }
+}
+
+/// The packet of the reinstatement alone, in a version.
+fn reinstating(alloc: Global, version: Version) -> Option<Vec<u8>> {
+    let tape = feed::reinstated(alloc)?;
+    feed::packet(alloc, version, &tape, SESSION, 5)
+}
+
+/// Whether it is the vector.
+fn is_the_reinstatement(alloc: Global, version: Version, bytes: &[u8]) -> bool {
+    match reinstating(alloc, version) {
+        Some(text) => text.as_slice() == bytes,
+        None => false,
+    }
+}
+
+#[test]
+fn a_reinstatement_is_cut_as_its_vector_in_each_version(rt: HostRuntime) {
+    let second = as_second(REINSTATEMENT_PACKET);
+    assert!(rt; is_the_reinstatement(rt.alloc(), Version::One, &REINSTATEMENT_PACKET));
+    assert!(rt; is_the_reinstatement(rt.alloc(), Version::Two, &second));
 }

@@ -2,7 +2,8 @@
 ghost use Rattle.std.specs.Prelude.{◌≤◌, ◌<◌};
 ghost use Rattle.tape_types.specs.Ranges.{TAPE_MOST};
 
-use super::feed::{self, Feed, SESSION};
+use super::feed::{self, Feed};
+use super::sending::SESSION;
 use super::steps::{holds, subscriber};
 use arbitration::Line;
 use reports::Message;
@@ -200,7 +201,7 @@ impl Schedule {
     fn beats(&mut self, alloc: Global) -> Option<()> {
         let length = self.length();
         let last = self.dice.below(length + 1);
-        let text = feed::beat(alloc, version_of(last), last)?;
+        let text = feed::beat(alloc, version_of(last), SESSION, last)?;
         self.comes(text.as_slice())
     }
 
@@ -259,7 +260,8 @@ impl Schedule {
     /// The tape is closed, and its end comes.
     fn closes(&mut self, alloc: Global) -> Option<()> {
         self.tape.close();
-        let text = feed::end(alloc, version_of(self.length()), self.length())?;
+        let length = self.length();
+        let text = feed::end(alloc, version_of(length), SESSION, length)?;
         if !self.is_taken_by(Line::B, text.as_slice()) {
             return None;
         }

@@ -1,6 +1,7 @@
 //! The steps of a row: what comes, what is asked of the subscriber, and what it answers.
 
-use super::feed::{self, Feed, SESSION};
+use super::feed::{self, Feed};
+use super::sending::{SESSION, Sending};
 use arbitration::{Line, Taken};
 use retransmit::{Ended, ServeEnd, ask, serve};
 use sale_matrix::Matrix;
@@ -9,19 +10,21 @@ use std::io::Write;
 use subscriber::{DeliveryFault, DrainFault, Subscriber};
 use tape_frames::{Request, SliceSource, Version, write_request};
 
-/// What a line brings: a packet of session 7 where nothing else is said.
+/// What a line brings: a packet of the row's session where nothing else is said.
 #[derive(Clone, Copy)]
 pub(super) enum Sent {
     /// The reports from one number to another, no more than a packet has.
     Reports(u32, u32),
     /// The same of a tape with other prices.
     OtherPrices(u32, u32),
-    /// One report, of session 8.
+    /// One report, of another session.
     OtherSession(u32),
     /// Entry 2, the cancel of entry 1, with a volume of 100.
     OtherVolume,
     /// Entry 3, a cancel of a report that there is not.
     UnknownTarget,
+    /// Three reports of Matrix Two, the last two with conditions that it alone has.
+    CodesOfTwo,
     /// A beat with this number.
     Beat(u32),
     /// An end with this number.
@@ -116,34 +119,42 @@ fn front(text: Vec<u8>, length: u32) -> Vec<u8> {
 fn reports(
     alloc: Global,
     version: Version,
+    session: u64,
     from: u32,
     to: u32,
     price: u64,
-    session: u64,
 ) -> Option<Vec<u8>> {
     let tape = feed::reports(alloc, to, price)?;
     feed::packet(alloc, version, &tape, session, from)
 }
 
 /// The packet of the cancel of entry 1, after this many reports.
-fn cancelling(alloc: Global, version: Version, count: u32) -> Option<Vec<u8>> {
+fn cancelling(alloc: Global, version: Version, session: u64, count: u32) -> Option<Vec<u8>> {
     let number = count.checked_add(1)?;
     let tape = feed::cancelled(alloc, count)?;
-    feed::packet(alloc, version, &tape, SESSION, number)
+    feed::packet(alloc, version, &tape, session, number)
 }
 
-/// The bytes of what a line brings in a version.
-fn bytes(alloc: Global, version: Version, sent: Sent) -> Option<Vec<u8>> {
+/// The packet of three reports of Matrix Two.
+fn codes_of_two(alloc: Global, version: Version, session: u64) -> Option<Vec<u8>> {
+    let tape = feed::codes_of_two(alloc)?;
+    feed::packet(alloc, version, &tape, session, 1)
+}
+
+/// The bytes of what a line brings in a version and a session.
+fn bytes(alloc: Global, version: Version, session: u64, sent: Sent) -> Option<Vec<u8>> {
+    let other = session.wrapping_add(1);
     match sent {
-        Sent::Reports(from, to) => reports(alloc, version, from, to, 100_000, SESSION),
-        Sent::OtherPrices(from, to) => reports(alloc, version, from, to, 200_000, SESSION),
-        Sent::OtherSession(number) => reports(alloc, version, number, number, 100_000, 8),
-        Sent::OtherVolume => Some(with_volume(cancelling(alloc, version, 1)?, 100)),
-        Sent::UnknownTarget => Some(with_target(cancelling(alloc, version, 2)?, 9)),
-        Sent::Beat(last) => feed::beat(alloc, version, last),
-        Sent::End(count) => feed::end(alloc, version, count),
+        Sent::Reports(from, to) => reports(alloc, version, session, from, to, 100_000),
+        Sent::OtherPrices(from, to) => reports(alloc, version, session, from, to, 200_000),
+        Sent::OtherSession(number) => reports(alloc, version, other, number, number, 100_000),
+        Sent::OtherVolume => Some(with_volume(cancelling(alloc, version, session, 1)?, 100)),
+        Sent::UnknownTarget => Some(with_target(cancelling(alloc, version, session, 2)?, 9)),
+        Sent::CodesOfTwo => codes_of_two(alloc, version, session),
+        Sent::Beat(last) => feed::beat(alloc, version, session, last),
+        Sent::End(count) => feed::end(alloc, version, session, count),
         Sent::Front(length) => Some(front(
-            reports(alloc, version, 1, 1, 100_000, SESSION)?,
+            reports(alloc, version, session, 1, 1, 100_000)?,
             length,
         )),
     }
@@ -162,12 +173,12 @@ pub(super) fn drain(subscriber: &mut Subscriber) -> Told {
 /// A line brings something.
 pub(super) fn brings(
     alloc: Global,
-    version: Version,
+    sending: Sending,
     subscriber: &mut Subscriber,
     line: Line,
     sent: Sent,
 ) -> Option<Told> {
-    let text = bytes(alloc, version, sent)?;
+    let text = bytes(alloc, sending.version(line), sending.session, sent)?;
     Some(deliver(subscriber, line, text.as_slice()))
 }
 
@@ -189,7 +200,7 @@ pub(super) fn deliver_all(subscriber: &mut Subscriber, packets: &[Vec<u8>]) -> T
     Told::Took(fresh, repeated, beyond)
 }
 
-/// Whether this request alone is answered to the writer in a version, over the tape.
+/// Whether this request alone is answered to the writer in a version and in its own session, over the tape.
 pub(super) fn is_served<W: Write>(
     alloc: Global,
     version: Version,
@@ -200,7 +211,14 @@ pub(super) fn is_served<W: Write>(
     let text = write_request(asked);
     let mut reader = text.as_slice();
     let mut source = SliceSource::of(tape);
-    let end = serve(alloc, &mut source, SESSION, version, &mut reader, writer);
+    let end = serve(
+        alloc,
+        &mut source,
+        asked.session,
+        version,
+        &mut reader,
+        writer,
+    );
     end == ServeEnd {
         served: 1,
         ended: Ended::Clean,
@@ -243,16 +261,16 @@ fn answered_over(
 }
 
 /// What is missing is asked for over so many reports, and comes.
-fn asks(alloc: Global, version: Version, subscriber: &mut Subscriber, count: u32) -> Option<Told> {
+fn asks(alloc: Global, sending: Sending, subscriber: &mut Subscriber, count: u32) -> Option<Told> {
     let asked = subscriber.missing()?;
-    let packets = answered_over(alloc, version, count, &asked)?;
+    let packets = answered_over(alloc, sending.version(Line::R), count, &asked)?;
     Some(deliver_all(subscriber, &packets))
 }
 
-fn take(alloc: Global, version: Version, subscriber: &mut Subscriber, step: Step) -> Option<Told> {
+fn take(alloc: Global, sending: Sending, subscriber: &mut Subscriber, step: Step) -> Option<Told> {
     match step {
-        Step::By(line, sent) => brings(alloc, version, subscriber, line, sent),
-        Step::Asks(count) => asks(alloc, version, subscriber, count),
+        Step::By(line, sent) => brings(alloc, sending, subscriber, line, sent),
+        Step::Asks(count) => asks(alloc, sending, subscriber, count),
         Step::Drain => Some(drain(subscriber)),
         Step::Missing => Some(told_missing(subscriber.missing())),
         Step::IsGapOpen => Some(Told::Is(subscriber.open_gap())),
@@ -260,26 +278,36 @@ fn take(alloc: Global, version: Version, subscriber: &mut Subscriber, step: Step
     }
 }
 
-/// Takes the steps, with packets of a version, up to the first whose answer is not the expected one, and returns how many were
-/// answered as expected.
+/// Takes the steps, with packets that are sent so, up to the first whose answer is not the expected one, and returns how many
+/// were answered as expected.
 pub(super) fn told_so(
     alloc: Global,
-    version: Version,
+    sending: Sending,
     subscriber: &mut Subscriber,
     steps: &[(Step, Told)],
 ) -> usize {
     for at in 0..steps.len() {
         let (step, wanted) = steps[at];
-        if take(alloc, version, subscriber, step) != Some(wanted) {
+        if take(alloc, sending, subscriber, step) != Some(wanted) {
             return at;
         }
     }
     steps.len()
 }
 
-/// A subscriber of session 7 with a limit.
+/// A subscriber of session 7 under Matrix One, with a limit.
 pub(super) fn subscriber(alloc: Global, limit: u32) -> Option<Subscriber> {
-    Subscriber::new(alloc, feed::listing(alloc)?, limit, SESSION, Matrix::One).ok()
+    subscriber_of(alloc, limit, SESSION, Matrix::One)
+}
+
+/// The same of a session and under a matrix.
+pub(super) fn subscriber_of(
+    alloc: Global,
+    limit: u32,
+    session: u64,
+    matrix: Matrix,
+) -> Option<Subscriber> {
+    Subscriber::new(alloc, feed::listing(alloc)?, limit, session, matrix).ok()
 }
 
 /// Whether the subscriber holds the whole tape, with its summaries.
