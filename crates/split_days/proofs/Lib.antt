@@ -1,0 +1,9 @@
+mod Admissions
+mod Filtered
+mod Folds
+mod Lists
+mod Named
+mod Numbered
+mod Parts
+mod Renumbered
+mod WorkedDays

@@ -1,0 +1,75 @@
+-- A day's messages split by symbols: the messages of some of them, and the figures of the one tape beside those of the other.
+use Rattle.std.specs.Prelude.{◌≡◌, ℕ, ◌==◌, List, [], ◌∷◌, Option, Some, None, filter, fold}
+use Rattle.std.specs.Bool.{⊤}
+use Rattle.std.specs.List.{find}
+use Rattle.std.specs.Option.{option_map}
+use Rattle.tape_types.specs.Names.{Names}
+use Rattle.reports.specs.declared.message.Message.{Message}
+use Rattle.reports.specs.Messages.{header_of}
+use Rattle.scratch_fold.specs.declared.summary.Mark.{Mark}
+use Rattle.scratch_fold.specs.declared.summary.Summary.{Summary}
+use Rattle.tape_core.specs.Standing.{NumberedMessage, symbol_summary, participant_summary}
+use Rattle.tape_core.specs.Tape.{TapeState, refusal, with_message, messages_of, lists_symbol}
+
+-- ## A list of messages, and its part
+
+-- no message of a list is refused, as one after another is admitted
+abbrev pub AdmitsAll : TapeState → List Message → Type 0
+AdmitsAll t [] = ⊤
+AdmitsAll t (m ∷ ms) = (refusal t m ≡ None) × AdmitsAll (with_message t m) ms
+
+-- the tape after these messages
+abbrev pub tape_after : TapeState → List Message → TapeState
+tape_after t ms = fold with_message t ms
+
+-- the listing of these symbols, with the same participants
+abbrev pub listing_of : Names → List (List ℕ) → Names
+listing_of listing symbols = record { symbols = symbols; participants = listing.participants }
+
+-- the messages of the symbols that a listing has, in their order
+abbrev pub part_of : Names → List Message → List Message
+part_of listing ms = filter (λ m. lists_symbol listing (header_of m).symbol) ms
+
+-- ## The figures of two tapes
+
+-- the message at a place, where there is one
+abbrev pub message_at : List NumberedMessage → ℕ → Option Message
+message_at tape place = option_map (λ n. n.1) (find (λ n. n.0 == place) tape)
+
+-- a place of the whole and a place of the part are those of one message
+abbrev pub HaveOneMessage : List NumberedMessage → List NumberedMessage → ℕ → ℕ → Type 0
+HaveOneMessage whole part here there = (m : Message) × (message_at whole here ≡ Some m) × (message_at part there ≡ Some m)
+
+-- two marks have one price and one participant, and places that go together
+pub record IsSameMark (SamePlace : ℕ → ℕ → Type 0) (a b : Mark) : Type 0 where
+  pub place : SamePlace a.place b.place
+  pub price : a.price ≡ b.price
+  pub who : a.who ≡ b.who
+
+-- neither figure is there, or both are, with such marks
+abbrev pub IsSameFigure : (ℕ → ℕ → Type 0) → Option Mark → Option Mark → Type 0
+IsSameFigure SamePlace None None = ⊤
+IsSameFigure SamePlace None (Some b) = ⊥
+IsSameFigure SamePlace (Some a) None = ⊥
+IsSameFigure SamePlace (Some a) (Some b) = IsSameMark SamePlace a b
+
+-- two summaries have the same figures, the places of their marks apart, and these go together
+pub record IsSameSummary (SamePlace : ℕ → ℕ → Type 0) (z y : Summary) : Type 0 where
+  pub opening : IsSameFigure SamePlace z.opening y.opening
+  pub high : IsSameFigure SamePlace z.high y.high
+  pub low : IsSameFigure SamePlace z.low y.low
+  pub last : IsSameFigure SamePlace z.last y.last
+  pub volume : z.volume ≡ y.volume
+  pub trades : z.trades ≡ y.trades
+
+-- a symbol has the same consolidated summary on both tapes, each mark at the place of the same message
+abbrev pub HasSameSummary : TapeState → TapeState → List ℕ → Type 0
+HasSameSummary whole part symbol =
+    IsSameSummary (HaveOneMessage (messages_of whole.entries) (messages_of part.entries))
+    (symbol_summary whole.matrix (messages_of whole.entries) symbol) (symbol_summary part.matrix (messages_of part.entries) symbol)
+
+-- and so has a participant in it
+abbrev pub HasSameParticipantSummary : TapeState → TapeState → List ℕ → ℕ → Type 0
+HasSameParticipantSummary whole part symbol who =
+    IsSameSummary (HaveOneMessage (messages_of whole.entries) (messages_of part.entries))
+    (participant_summary whole.matrix (messages_of whole.entries) symbol who) (participant_summary part.matrix (messages_of part.entries) symbol who)

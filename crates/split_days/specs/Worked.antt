@@ -1,0 +1,53 @@
+-- Small days that are split.
+use Rattle.std.specs.Prelude.{ℕ, List, [], ◌∷◌, Some, codes}
+use Rattle.tape_types.specs.Names.{Names}
+use Rattle.sale_matrix.specs.declared.matrix.Matrix.TheVariants.{One}
+use Rattle.reports.specs.declared.message.Message.{Message}
+use Rattle.reports.specs.declared.message.Message.TheVariants.{Report}
+use Rattle.scratch_fold.specs.declared.summary.Summary.{Summary}
+use Rattle.tape_core.specs.Tape.{TapeState, empty_tape}
+use Rattle.split_days.specs.Split.{listing_of}
+
+-- a first symbol
+abbrev pub ab : List ℕ
+ab = codes "AB      "
+
+-- a second symbol
+abbrev pub cd : List ℕ
+cd = codes "CD      "
+
+-- the participant `N`
+abbrev pub N : ℕ
+N = 78
+
+-- both symbols, and N alone
+abbrev pub listing : Names
+listing = record { symbols = ab ∷ cd ∷ []; participants = N ∷ [] }
+
+-- N's regular report of 100 shares at 10.00 dollars, under this number
+abbrev pub report : ℕ → List ℕ → Message
+report number symbol =
+    Report (record { participant = N; number = number; moment = 0; symbol = symbol })
+    (record { price = 100000; size = 100; condition = codes "@   " })
+
+-- the empty tape of both symbols
+abbrev pub whole : TapeState
+whole = empty_tape listing 100 One
+
+-- the empty tape of the first symbol
+abbrev pub part : TapeState
+part = empty_tape (listing_of listing (ab ∷ [])) 100 One
+
+-- N reports the second symbol under 2, and then the first under 1
+abbrev pub out_of_number : List Message
+out_of_number = report 2 cd ∷ report 1 ab ∷ []
+
+-- N reports the second symbol under 1, and then the first under 2
+abbrev pub in_number : List Message
+in_number = report 1 cd ∷ report 2 ab ∷ []
+
+-- the summary of one such report, at this place
+abbrev pub figures_at : ℕ → Summary
+figures_at place =
+    let mark = Some (record { price = 100000; place = place; who = N }) in
+    record { opening = mark; high = mark; low = mark; last = mark; volume = 100; trades = 1 }
