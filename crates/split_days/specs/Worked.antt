@@ -21,8 +21,12 @@ abbrev pub N : ℕ
 N = 78
 
 -- both symbols, and N alone
-abbrev pub listing : Names
-listing = record { symbols = ab ∷ cd ∷ []; participants = N ∷ [] }
+abbrev pub both_listed : Names
+both_listed = record { symbols = ab ∷ cd ∷ []; participants = N ∷ [] }
+
+-- the first symbol, and N alone
+abbrev pub ab_listed : Names
+ab_listed = listing_of both_listed (ab ∷ [])
 
 -- N's regular report of 100 shares at 10.00 dollars, under this number
 abbrev pub report : ℕ → List ℕ → Message
@@ -31,12 +35,12 @@ report number symbol =
     (record { price = 100000; size = 100; condition = codes "@   " })
 
 -- the empty tape of both symbols
-abbrev pub whole : TapeState
-whole = empty_tape listing 100 One
+abbrev pub both_start : TapeState
+both_start = empty_tape both_listed 100 One
 
 -- the empty tape of the first symbol
-abbrev pub part : TapeState
-part = empty_tape (listing_of listing (ab ∷ [])) 100 One
+abbrev pub ab_start : TapeState
+ab_start = empty_tape ab_listed 100 One
 
 -- N reports the second symbol under 2, and then the first under 1
 abbrev pub out_of_number : List Message

@@ -1,5 +1,5 @@
 //! What a day that is split by symbols keeps, by the definitions of a tape alone: each function does nothing, and its contract is the law.
-ghost use Rattle.std.specs.Prelude.{◌≡◌, ℕ, List, [], ◌∷◌, Some, IsTrue};
+ghost use Rattle.std.specs.Prelude.{◌≡◌, ℕ, List, Some, IsTrue};
 ghost use Rattle.tape_types.specs.Names.{Names};
 ghost use Rattle.sale_matrix.specs.declared.matrix.Matrix.{Matrix};
 ghost use Rattle.sale_matrix.specs.declared.matrix.Matrix.TheVariants.{One};
@@ -8,7 +8,7 @@ ghost use Rattle.tape_core.specs.declared.refusal.Refusal.TheVariants.{Stale};
 ghost use Rattle.tape_core.specs.Standing.{symbol_summary};
 ghost use Rattle.tape_core.specs.Tape.{empty_tape, lists_symbol, messages_of, refusal, with_message};
 ghost use Rattle.split_days.specs.Split.{AdmitsAll, HasSameParticipantSummary, HasSameSummary, listing_of, part_of, tape_after};
-ghost use Rattle.split_days.specs.Worked.{ab, cd, figures_at, in_number, listing, out_of_number, part, report, whole};
+ghost use Rattle.split_days.specs.Worked.{ab, ab_listed, ab_start, both_start, cd, figures_at, in_number, out_of_number, report};
 
 /// Where a tape admits every message of a list, a tape of some symbols admits every message of them, and each of these symbols has
 /// the same figures on both: open, high, low and last are there together, each at the place of the same message; prices,
@@ -31,14 +31,14 @@ pub fn splitting()
 /// Why the whole has to admit them: a message can be stale on the whole alone. N sends 2 for CD and then 1 for AB; the whole refuses the
 /// second, which a tape of AB admits.
 pub fn premise()
-    ensures refused { refusal (with_message whole (report 2 cd)) (report 1 ab) ≡ Some Stale }
-    ensures admitted { AdmitsAll part (part_of (listing_of listing (ab ∷ [])) out_of_number) }
+    ensures refused { refusal (with_message both_start (report 2 cd)) (report 1 ab) ≡ Some Stale }
+    ensures admitted { AdmitsAll ab_start (part_of ab_listed out_of_number) }
 {}
 
 /// Places are each tape's own: where N sends 1 for CD and then 2 for AB, the one report of AB is second on the whole, and first on a
 /// tape of AB.
 pub fn places()
-    ensures admitted { AdmitsAll whole in_number }
-    ensures whole_figures { symbol_summary One (messages_of (tape_after whole in_number).entries) ab ≡ figures_at 2 }
-    ensures part_figures { symbol_summary One (messages_of (tape_after part (part_of (listing_of listing (ab ∷ [])) in_number)).entries) ab ≡ figures_at 1 }
+    ensures admitted { AdmitsAll both_start in_number }
+    ensures whole_figures { symbol_summary One (messages_of (tape_after both_start in_number).entries) ab ≡ figures_at 2 }
+    ensures part_figures { symbol_summary One (messages_of (tape_after ab_start (part_of ab_listed in_number)).entries) ab ≡ figures_at 1 }
 {}
