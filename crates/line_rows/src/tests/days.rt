@@ -1,4 +1,4 @@
-//! Days of the symbol AB and one, two or eight participants, the bytes of their reports, and the end of a day.
+//! Days of the symbol AB and one, two or all participants, the bytes of their reports, and the end of a day.
 ghost use Rattle.std.specs.Prelude.{◌≡◌, IfSome};
 ghost use Rattle.line_ledger.specs.Cells.{FirstTokens};
 
@@ -10,8 +10,8 @@ use summaries::IndexStore;
 use tape_core::Tape;
 use tape_types::{Listing, Participant, Symbol};
 
-/// How many turns a line or a reader waits for others at most.
-pub(super) const TURNS: u32 = 100_000_000;
+/// How many turns a line or a reader waits for others at most: some seconds, in which each of them comes to run.
+pub(super) const TURNS: u32 = 10_000_000;
 
 /// N's report 1 of 100 shares of AB at 10.00, out of sequence.
 pub(super) const REPORT: [u8; 40] = [
@@ -28,9 +28,9 @@ pub(super) fn report(who: u8, number: u8) -> [u8; 40] {
     bytes
 }
 
-/// The report under another number, at no price.
-pub(super) fn without_price(number: u8) -> [u8; 40] {
-    let mut bytes = report(b'N', number);
+/// The report under another participant and number, at no price.
+pub(super) fn without_price(who: u8, number: u8) -> [u8; 40] {
+    let mut bytes = report(who, number);
     bytes[29] = 0;
     bytes[30] = 0;
     bytes[31] = 0;
@@ -50,7 +50,7 @@ pub(super) fn joined(alloc: Global, reports: &[[u8; 40]]) -> Option<Vec<u8>> {
 fn day_of(alloc: Global, participants: &[Participant]) -> Option<Prepared> {
     let symbols = [Symbol::try_new(*b"AB      ")?];
     let listing = Listing::new(alloc, &symbols, participants).ok()?;
-    let tape: Tape<IndexStore> = Tape::new(alloc, listing, 10, Matrix::One).ok()?;
+    let tape: Tape<IndexStore> = Tape::new(alloc, listing, 30, Matrix::One).ok()?;
     prepare(alloc, tape).ok()
 }
 
@@ -65,14 +65,11 @@ pub(super) fn day_of_two(alloc: Global) -> Option<Prepared> {
     day_of(alloc, &participants)
 }
 
-/// The participants of eight lines.
-pub(super) const EIGHT: [u8; 8] = *b"NPQRSTUV";
-
-/// The day of eight participants, which is empty.
-pub(super) fn day_of_eight(alloc: Global) -> Option<Prepared> {
+/// The day of all 26 participants, which is empty.
+pub(super) fn day_of_all(alloc: Global) -> Option<Prepared> {
     let mut participants = Vec::new(alloc);
-    for who in &EIGHT {
-        participants.push(Participant::try_new(*who)?).ok()?;
+    for who in b'A'..=b'Z' {
+        participants.push(Participant::try_new(who)?).ok()?;
     }
     day_of(alloc, &participants)
 }

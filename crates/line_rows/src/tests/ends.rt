@@ -2,10 +2,12 @@
 ghost use Rattle.std.specs.Prelude.{◌≡◌};
 
 use super::days::{REPORT, day_of_one, joined, report, without_price};
-use super::shared_days::ended_len;
+use super::shared_days::Sent::{Cancel, CancelUnder, Reinstate, Report, ReportAs, ReportOf};
+use super::shared_days::{CD, EF, Sent, bytes_of, ended_len, prepared_of};
 use super::together::Meeting;
 use line_ledger::{DayName, LineSeat, Prepared, SharedTape};
 use participant_lines::{Ended, LineEnd, run_line};
+use sale_matrix::Matrix;
 use std::alloc::Global;
 use std::io;
 use std::io::{BufRead, BufReader, ErrorKind, Read};
@@ -14,9 +16,12 @@ use std::process::Abort;
 use std::sync::Wait;
 use tape_types::{Gate, NoGate};
 
-/// How a line ended: how many frames were refused, why no more were done, how many the seat was told of, and how many
-/// entries the day has.
-type Figures = (u32, Ended, u32, usize);
+/// What a seat was told of: how many messages, their sizes, and the last number.
+type Told = (u32, u64, u32);
+
+/// How a line ended: how many frames were refused, why no more were done, what the seat was told of, and how many entries the
+/// day has.
+type Figures = (u32, Ended, Told, usize);
 
 /// How a line ended, once its seat is back and the day has ended.
 fn figures_at_end<D: DayName, A: Abort>(
@@ -30,12 +35,12 @@ fn figures_at_end<D: DayName, A: Abort>(
         refused,
         ended,
     } = end;
-    let count = seat.count();
+    let told = (seat.count(), seat.sizes(), seat.last());
     let mut seats = seats;
     assert!(rt; seats.len() < seats.capacity());
     seats.push_reserved(seat);
     let entries = ended_len(rt, shared, seats)?;
-    Some((refused, ended, count, entries))
+    Some((refused, ended, told, entries))
 }
 
 /// How the last participant's line, as line 2, ends over this reader. A missing seat stops the test.
@@ -60,21 +65,37 @@ fn figures<D: DayName, R: BufRead, G: Gate, W: Wait + Abort>(
     figures_at_end(rt, shared, seats, end)
 }
 
-/// How N's line ends over this reader, in a day of N alone.
+/// How the last participant's line ends over this reader, in a prepared day.
 fn end_of<R: BufRead, G: Gate, W: Wait + Abort>(
     rt: &W,
-    alloc: Global,
+    prepared: Prepared,
     reader: &mut R,
     gate: &G,
 ) -> Option<Figures> {
-    let prepared = day_of_one(alloc)?;
     figures::<Brand, R, G, W>(rt, prepared, reader, gate)
+}
+
+/// How Q's line ends over these messages, in a day of N, P and Q of at most so many entries.
+fn end_of_sent<W: Wait + Abort>(
+    rt: &W,
+    alloc: Global,
+    limit: u32,
+    sent: &[Sent],
+) -> Option<Figures> {
+    let bytes = bytes_of(alloc, sent)?;
+    let mut reader = bytes.as_slice();
+    end_of(
+        rt,
+        prepared_of(alloc, Matrix::One, limit)?,
+        &mut reader,
+        &NoGate,
+    )
 }
 
 /// How N's line ends over these bytes.
 fn end_of_bytes<W: Wait + Abort>(rt: &W, alloc: Global, bytes: &[u8]) -> Option<Figures> {
     let mut reader = bytes;
-    end_of(rt, alloc, &mut reader, &NoGate)
+    end_of(rt, day_of_one(alloc)?, &mut reader, &NoGate)
 }
 
 /// How N's line ends over these frames.
@@ -86,7 +107,7 @@ fn end_of_frames<G: Gate, W: Wait + Abort>(
 ) -> Option<Figures> {
     let bytes = joined(alloc, frames)?;
     let mut reader = bytes.as_slice();
-    end_of(rt, alloc, &mut reader, gate)
+    end_of(rt, day_of_one(alloc)?, &mut reader, gate)
 }
 
 /// How N's line ends over the first so many bytes of two reports.
@@ -132,26 +153,76 @@ fn end_of_failing<W: Wait + Abort>(
         has_failed: false,
     };
     let mut reader = BufReader::with_capacity(alloc, buffer, failing).ok()?;
-    end_of(rt, alloc, &mut reader, &NoGate)
+    end_of(rt, day_of_one(alloc)?, &mut reader, &NoGate)
 }
 
 #[test]
 fn a_refused_frame_is_counted_and_is_a_turn(rt: HostRuntime) {
-    let frames = [REPORT, without_price(2), report(b'N', 3)];
+    let frames = [REPORT, without_price(b'N', 2), report(b'N', 3)];
     let alone = Meeting::of(1);
     assert_eq!(rt;
         end_of_frames(&rt, rt.alloc(), &frames, &alone),
-        Some((1, Ended::Clean, 2, 2))
+        Some((1, Ended::Clean, (2, 200, 3), 2))
     );
-    assert_eq!(rt; alone.noted(), (1, [0, 0, 123]));
+    assert_eq!(rt; alone.noted(), (1, [0, 0, 3]));
+}
+
+/// Messages that the tape refuses behind a report of Q, with the number of the refusal.
+const REFUSED: [(u8, Sent); 7] = [
+    (33, Report(b'P', 2, 100_000)),
+    (35, Report(b'Q', 1, 100_000)),
+    (36, ReportOf(EF, b'Q', 2)),
+    (37, Cancel(b'Q', 2, 9)),
+    (38, CancelUnder(CD, b'Q', 2, 1)),
+    (43, Reinstate(b'Q', 2, 1)),
+    (44, ReportAs(b"@  2", b'Q', 2, 100_000, 100)),
+];
+
+#[test]
+fn a_line_counts_what_the_tape_refuses_and_goes_on(rt: HostRuntime) {
+    for (code, refused) in REFUSED {
+        let sent = [Report(b'Q', 1, 100_000), refused, Report(b'Q', 3, 100_000)];
+        assert_eq!(rt;
+            end_of_sent(&rt, rt.alloc(), 10, &sent),
+            Some((1, Ended::Clean, (2, 200, 3), 2)),
+            "refused {code}"
+        );
+    }
 }
 
 #[test]
-fn a_message_that_the_tape_refuses_is_counted(rt: HostRuntime) {
-    let frames = [REPORT, report(b'Q', 2), REPORT, report(b'N', 2)];
+fn a_line_goes_on_when_the_tape_is_full(rt: HostRuntime) {
+    let sent = [
+        Report(b'Q', 1, 100_000),
+        Report(b'Q', 2, 100_000),
+        Report(b'Q', 3, 100_000),
+    ];
     assert_eq!(rt;
-        end_of_frames(&rt, rt.alloc(), &frames, &NoGate),
-        Some((2, Ended::Clean, 2, 2))
+        end_of_sent(&rt, rt.alloc(), 1, &sent),
+        Some((2, Ended::Clean, (1, 100, 1), 1))
+    );
+}
+
+#[test]
+fn a_line_cancels_and_reinstates_its_report(rt: HostRuntime) {
+    let sent = [
+        Report(b'Q', 1, 100_000),
+        Cancel(b'Q', 2, 1),
+        Cancel(b'Q', 3, 1),
+        Reinstate(b'Q', 4, 1),
+    ];
+    assert_eq!(rt;
+        end_of_sent(&rt, rt.alloc(), 10, &sent),
+        Some((1, Ended::Clean, (3, 100, 4), 3))
+    );
+}
+
+#[test]
+fn a_line_brings_the_greatest_report(rt: HostRuntime) {
+    let greatest = ReportAs(b"@   ", b'Q', 4_294_967_295, 999_999_999_999, 99_999_999);
+    assert_eq!(rt;
+        end_of_sent(&rt, rt.alloc(), 10, &[greatest]),
+        Some((0, Ended::Clean, (1, 99_999_999, 4_294_967_295), 1))
     );
 }
 
@@ -165,10 +236,10 @@ fn an_input_ends_its_line(rt: HostRuntime) {
         end_of_front(&rt, alloc, 41),
     ];
     let wanted = [
-        Some((0, Ended::Clean, 0, 0)),
-        Some((0, Ended::Oversize, 0, 0)),
-        Some((0, Ended::Truncated, 1, 1)),
-        Some((0, Ended::Truncated, 1, 1)),
+        Some((0, Ended::Clean, (0, 0, 0), 0)),
+        Some((0, Ended::Oversize, (0, 0, 0), 0)),
+        Some((0, Ended::Truncated, (1, 100, 1), 1)),
+        Some((0, Ended::Truncated, (1, 100, 1), 1)),
     ];
     assert_eq!(rt; ends, wanted);
 }
@@ -177,11 +248,13 @@ fn an_input_ends_its_line(rt: HostRuntime) {
 #[test]
 fn a_read_that_is_interrupted_is_tried_again_and_one_that_fails_ends_its_line(rt: HostRuntime) {
     for len in 0..81 {
-        let count = len / 40;
+        let many = len / 40;
+        let count = many as u32;
+        let told = (count, u64::from(count) * 100, count);
         let ends = [
             end_of_failing(&rt, rt.alloc(), len, 16),
             end_of_failing(&rt, rt.alloc(), len, 64),
         ];
-        assert_eq!(rt; ends, [Some((0, Ended::ReadFault, count as u32, count)); 2]);
+        assert_eq!(rt; ends, [Some((0, Ended::ReadFault, told, many)); 2]);
     }
 }

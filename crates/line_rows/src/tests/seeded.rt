@@ -1,13 +1,15 @@
 //! A seeded day of eight lines at once, beside the same messages admitted one after the other in the day's order. All its
-//! entries are published, found and confirmed.
+//! entries are published, found and confirmed, and the lines' gate is given each turn.
 ghost use Rattle.std.specs.Prelude.{◌≡◌, ◌≤◌, ◌<◌};
 ghost use Rattle.line_ledger.specs.Cells.{FirstTokens};
 
 use super::days::{Confirmed, confirmed, ended_day};
 use super::lines::{LineFigures, run_inputs};
+use super::shared_days::put;
+use super::together::Meeting;
 use line_ledger::{Day, DayName, LineSeat, Prepared, Published, SharedTape, Token, prepare};
 use participant_lines::Ended;
-use reports::{Content, Header, LONGEST_MESSAGE, Message, Moment, encode_into};
+use reports::{Content, Header, Message, Moment};
 use sale_matrix::{Condition, Matrix};
 use std::alloc::Global;
 use std::marker::Brand;
@@ -17,16 +19,16 @@ use std::thread::Threads;
 use summaries::IndexStore;
 use tape_core::{Tape, run};
 use tape_frames::Source;
-use tape_types::{Listing, MsgNumber, NoGate, Participant, Price, Size, Symbol};
+use tape_types::{Listing, MsgNumber, Participant, Price, Size, Symbol};
 
 /// How many lines the day has.
 const LINES: u32 = 8;
 
 /// How many messages each line brings.
-const MESSAGES: u32 = 10_000;
+const MESSAGES: u32 = 17_000;
 
 /// How many of the messages are admitted, whatever the lines' order.
-const ENTRIES: u32 = 67_575;
+const ENTRIES: u32 = 101_898;
 
 /// How many entries a publication sets at most.
 const MOST: u32 = 1_000;
@@ -68,8 +70,8 @@ impl Dice {
         })
     }
 
-    /// The message of a participant in its turn: two in ten cancel or correct one of its earlier messages, which may be no
-    /// report that stands, and one in ten has the number of the turn before.
+    /// The message of a participant in its turn: three in ten cancel, correct or reinstate one of its earlier messages, which
+    /// may be no report or none that stands so, and one in ten has the number of the turn before.
     fn message(&mut self, who: Participant, turn: u32) -> Option<Message>
         requires { 1 ≤ turn }
     {
@@ -85,6 +87,10 @@ impl Dice {
                 content: self.content()?,
             }),
             2 => self.report(who, turn.saturating_sub(1).max(1)),
+            3 => Some(Message::Reinstate {
+                header: header(who, turn, target)?,
+                target: MsgNumber::try_new(target)?,
+            }),
             _ => self.report(who, turn),
         }
     }
@@ -118,13 +124,6 @@ fn header(who: Participant, number: u32, report: u32) -> Option<Header> {
         moment: Moment::new(0),
         symbol: symbol(report)?,
     })
-}
-
-/// Appends a message's bytes, if it is one.
-fn put(bytes: &mut Vec<u8>, message: Option<Message>) -> Option<()> {
-    let mut row = [0; LONGEST_MESSAGE];
-    let len = encode_into(&message?, &mut row);
-    bytes.extend_from_slice(row.get(..len)?).ok()
 }
 
 /// The bytes of a line's messages.
@@ -264,21 +263,36 @@ fn publish_all<D: DayName, W: Wait>(rt: &W, shared: &SharedTape<D>) -> Option<u3
     None
 }
 
-/// How many entries were published, how many a source then finds at once, and whether the cell of the last entry and the one
-/// beyond it show one.
-type Found = (Option<u32>, u32, bool, bool);
+/// How many entries the first line's view of the first symbol shows.
+fn shown<D: DayName, W: Wait>(
+    rt: &W,
+    shared: &SharedTape<D>,
+    seats: &[LineSeat<D>],
+) -> Option<u32> {
+    let view = shared.view(rt, seats.first()?, symbol(0)?).ok()?;
+    Some(view.count())
+}
 
-/// What is published and found, and a token for each entry.
-fn found<D: DayName, W: Wait>(rt: &W, shared: &SharedTape<D>) -> (Found, Vec<Token>)
+/// How many entries a view shows, how many were published, how many a source then finds at once, and whether the cell of the
+/// last entry and the one beyond it show one.
+type Found = (Option<u32>, Option<u32>, u32, bool, bool);
+
+/// What is shown, published and found, and a token for each entry.
+fn found<D: DayName, W: Wait>(
+    rt: &W,
+    shared: &SharedTape<D>,
+    seats: &[LineSeat<D>],
+) -> (Found, Vec<Token>)
     ensures { FirstTokens shared.now result.1.items }
 {
+    let shown = shown(rt, shared, seats);
     let set = publish_all(rt, shared);
     let mut published = Published::new(shared);
     let _ = published.refresh();
     let many = published.published();
     let last = shared.look(ENTRIES).is_some();
     let is_beyond = shared.look(ENTRIES + 1).is_some();
-    ((set, many, last, is_beyond), published.into_tokens())
+    ((shown, set, many, last, is_beyond), published.into_tokens())
 }
 
 /// The ended day, and what it confirms.
@@ -304,6 +318,7 @@ fn lines_of_a_day<D: DayName + Send + Sync, T: Threads + Wait + Abort + Sync>(
     alloc: Global,
     prepared: Prepared,
     inputs: &[Vec<u8>],
+    meeting: &Meeting,
 ) -> Option<DayOfLines>
     requires name { prepared.blank.name ≡ D.name }
     requires parts { prepared.blank.parts ≡ D.parts }
@@ -313,8 +328,8 @@ fn lines_of_a_day<D: DayName + Send + Sync, T: Threads + Wait + Abort + Sync>(
     let Ok((shared, seats)) = SharedTape::<D>::open(prepared) else {
         return None;
     };
-    let (seats, figures) = run_inputs(rt, alloc, &shared, seats, inputs, &NoGate);
-    let (found, tokens) = found(rt, &shared);
+    let (seats, figures) = run_inputs(rt, alloc, &shared, seats, inputs, meeting);
+    let (found, tokens) = found(rt, &shared, seats.as_slice());
     let ended = confirmed_day(rt, shared, seats, tokens.as_slice());
     Some((found, figures.zip(ended)))
 }
@@ -324,14 +339,19 @@ fn lines_of_prepared<T: Threads + Wait + Abort + Sync>(
     alloc: Global,
     prepared: Prepared,
     inputs: &[Vec<u8>],
+    meeting: &Meeting,
 ) -> Option<DayOfLines> {
-    lines_of_a_day::<Brand, T>(rt, alloc, prepared, inputs)
+    lines_of_a_day::<Brand, T>(rt, alloc, prepared, inputs, meeting)
 }
 
 /// The outcomes of eight lines at once, and the day that they made.
-fn day_of_eight<T: Threads + Wait + Abort + Sync>(rt: &T, alloc: Global) -> Option<DayOfLines> {
+fn day_of_eight<T: Threads + Wait + Abort + Sync>(
+    rt: &T,
+    alloc: Global,
+    meeting: &Meeting,
+) -> Option<DayOfLines> {
     let inputs = inputs(alloc)?;
-    lines_of_prepared(rt, alloc, empty_day(alloc)?, &inputs)
+    lines_of_prepared(rt, alloc, empty_day(alloc)?, &inputs, meeting)
 }
 
 /// Whether two tapes have the same entries and summaries.
@@ -354,19 +374,22 @@ fn compared(alloc: Global, lines: &[LineFigures], tape: &Tape<IndexStore>) -> Op
 fn eight_lines<T: Threads + Wait + Abort + Sync>(
     rt: &T,
     alloc: Global,
+    meeting: &Meeting,
 ) -> Option<(Found, Confirmed, Option<Compared>)> {
-    let (found, ended) = day_of_eight(rt, alloc)?;
+    let (found, ended) = day_of_eight(rt, alloc, meeting)?;
     let (lines, (day, confirmed)) = ended?;
     Some((found, confirmed, compared(alloc, &lines, day.tape())))
 }
 
 #[test]
 fn eight_lines_make_the_tape_of_their_messages_in_its_order(rt: HostRuntime) {
+    let meeting = Meeting::of(LINES);
     let many = ENTRIES as usize;
-    let found = (Some(ENTRIES), ENTRIES, true, false);
+    let found = (Some(ENTRIES), Some(ENTRIES), ENTRIES, true, false);
     let compared = Some((Some(true), true, many));
     assert_eq!(rt;
-        eight_lines(&rt, rt.alloc()),
+        eight_lines(&rt, rt.alloc(), &meeting),
         Some((found, (many, ENTRIES, many), compared))
     );
+    assert_eq!(rt; meeting.noted(), (LINES, [MESSAGES; 3]));
 }

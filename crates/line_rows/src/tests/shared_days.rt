@@ -1,7 +1,7 @@
 //! A day of the symbols AB and CD and the participants N, P and Q, and what it is played with.
 use super::days::ended_day;
 use line_ledger::{DayName, LineSeat, Prepared, SharedTape, prepare};
-use reports::{Content, Header, Message, Moment};
+use reports::{Content, Header, LONGEST_MESSAGE, Message, Moment, encode_into};
 use sale_matrix::{Condition, Matrix};
 use std::alloc::Global;
 use std::process::Abort;
@@ -20,8 +20,8 @@ pub(super) const EF: &[u8; 8] = b"EF      ";
 pub(super) enum Sent {
     /// A regular report at a price.
     Report(u8, u32, u64),
-    /// A sold last report at a price.
-    SoldLast(u8, u32, u64),
+    /// A report under a sale condition, at a price, of so many shares.
+    ReportAs(&'static [u8; 4], u8, u32, u64, u32),
     /// A regular report of another symbol.
     ReportOf(&'static [u8; 8], u8, u32),
     /// A cancel of a target.
@@ -43,17 +43,17 @@ fn header(who: u8, number: u32, symbol: &[u8; 8]) -> Option<Header> {
     })
 }
 
-fn content(condition: &[u8; 4], price: u64) -> Option<Content> {
+fn content(condition: &[u8; 4], price: u64, size: u32) -> Option<Content> {
     Some(Content {
         price: Price::try_new(price)?,
-        size: Size::try_new(100)?,
+        size: Size::try_new(size)?,
         condition: Condition::try_new(*condition)?,
     })
 }
 
 /// A regular trade at a price.
 fn regular(price: u64) -> Option<Content> {
-    content(b"@   ", price)
+    content(b"@   ", price, 100)
 }
 
 fn report(header: Option<Header>, content: Option<Content>) -> Option<Message> {
@@ -88,8 +88,8 @@ fn reinstatement(header: Option<Header>, target: u32) -> Option<Message> {
 pub(super) fn message(sent: Sent) -> Option<Message> {
     match sent {
         Sent::Report(who, number, price) => report(header(who, number, AB), regular(price)),
-        Sent::SoldLast(who, number, price) => {
-            report(header(who, number, AB), content(b"@ L ", price))
+        Sent::ReportAs(condition, who, number, price, size) => {
+            report(header(who, number, AB), content(condition, price, size))
         }
         Sent::ReportOf(symbol, who, number) => {
             report(header(who, number, symbol), regular(100_000))
@@ -105,6 +105,22 @@ pub(super) fn message(sent: Sent) -> Option<Message> {
     }
 }
 
+/// Appends a message's bytes, if it is one.
+pub(super) fn put(bytes: &mut Vec<u8>, message: Option<Message>) -> Option<()> {
+    let mut row = [0; LONGEST_MESSAGE];
+    let len = encode_into(&message?, &mut row);
+    bytes.extend_from_slice(row.get(..len)?).ok()
+}
+
+/// The bytes of these messages, one after the other.
+pub(super) fn bytes_of(alloc: Global, sent: &[Sent]) -> Option<Vec<u8>> {
+    let mut bytes = Vec::new(alloc);
+    for one in sent {
+        put(&mut bytes, message(*one))?;
+    }
+    Some(bytes)
+}
+
 /// The symbols and participants of the day.
 pub(super) fn listing(alloc: Global) -> Option<Listing> {
     let symbols = [Symbol::try_new(*AB)?, Symbol::try_new(*CD)?];
@@ -116,24 +132,14 @@ pub(super) fn listing(alloc: Global) -> Option<Listing> {
     Listing::new(alloc, &symbols, &participants).ok()
 }
 
-/// An open tape of the day.
-pub(super) fn tape(alloc: Global) -> Option<Tape<IndexStore>> {
-    tape_of(alloc, 10)
+/// An open tape of the day by a matrix, of at most so many entries.
+pub(super) fn tape_of(alloc: Global, matrix: Matrix, limit: u32) -> Option<Tape<IndexStore>> {
+    Tape::new(alloc, listing(alloc)?, limit, matrix).ok()
 }
 
-/// The same of at most so many entries.
-fn tape_of(alloc: Global, limit: u32) -> Option<Tape<IndexStore>> {
-    Tape::new(alloc, listing(alloc)?, limit, Matrix::One).ok()
-}
-
-/// The day, which is empty.
-pub(super) fn prepared(alloc: Global) -> Option<Prepared> {
-    prepared_of(alloc, 10)
-}
-
-/// The same of at most so many entries.
-pub(super) fn prepared_of(alloc: Global, limit: u32) -> Option<Prepared> {
-    prepare(alloc, tape_of(alloc, limit)?).ok()
+/// The day by a matrix, of at most so many entries, which is empty.
+pub(super) fn prepared_of(alloc: Global, matrix: Matrix, limit: u32) -> Option<Prepared> {
+    prepare(alloc, tape_of(alloc, matrix, limit)?).ok()
 }
 
 /// How many entries the ended day has. A missing seat stops the test.

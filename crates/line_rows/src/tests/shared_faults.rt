@@ -1,6 +1,6 @@
 //! Where lists first differ, the limits of a tape, and what is no empty open tape.
 
-use super::shared_days::{Sent, listing, message, tape};
+use super::shared_days::{Sent, listing, message, tape_of};
 use line_ledger::laws::first_difference;
 use line_ledger::{OpenFault, Told, prepare};
 use reports::Message;
@@ -112,7 +112,7 @@ fn last_after(tape: &mut Tape<IndexStore>, report: Option<Message>) -> Option<Ma
 
 /// What is answered to a tape that is closed first, or gets an entry first, or neither.
 fn opened(alloc: Global, is_closed: bool, is_filled: bool) -> Option<Result<(), OpenFault>> {
-    let mut tape = tape(alloc)?;
+    let mut tape = tape_of(alloc, Matrix::One, 10)?;
     if is_filled {
         last_after(&mut tape, regular(b'N', 1, 100_000))?;
     }

@@ -5,10 +5,11 @@ ghost use Rattle.line_ledger.specs.Ends.{IsOneEach};
 
 use super::days::{Confirmed, confirmed_at_end};
 use super::sending::send_all;
-use super::shared_days::{Sent, message, prepared, prepared_of};
+use super::shared_days::{Sent, message, prepared_of};
 use line_ledger::{
     CellRow, DayName, LineSeat, Locked, Prepared, PublishFault, Published, SharedTape, Token,
 };
+use sale_matrix::Matrix;
 use std::alloc::Global;
 use std::marker::Brand;
 use std::process::Abort;
@@ -24,12 +25,8 @@ type Set = (
     Result<u32, PublishFault>,
 );
 
-/// How many entries were set in a row of one cell and in the day's own, and how many the day's end found.
-type SetInTwo = (
-    Result<usize, PublishFault>,
-    Result<usize, PublishFault>,
-    u32,
-);
+/// How many entries a publication in a row of cells set.
+type SetIn = Result<usize, PublishFault>;
 
 /// What was set, how many entries a source found after the first publication and after the last, and its tokens.
 fn publications<D: DayName, R: Wait>(
@@ -146,22 +143,21 @@ fn admit_one<D: DayName>(locked: &mut Locked<D>, seat: &mut LineSeat<D>, number:
     }
 }
 
-/// Admits two reports on the first line.
+/// Admits N's report of this number on the first line.
 #[tactic(auto, using(crate::proofs::KeptSeats::each_set))]
-fn admit_two<D: DayName>(locked: &mut Locked<D>, seats: &mut Vec<LineSeat<D>>)
+fn admit_first<D: DayName>(locked: &mut Locked<D>, seats: &mut Vec<LineSeat<D>>, number: u32)
     requires { IsOneEach D.listing.participants seats.old.items }
     ensures { IsOneEach D.listing.participants seats.new.items }
 {
     if seats.is_empty() {
         return;
     }
-    admit_one(locked, &mut seats[0], 1);
-    admit_one(locked, &mut seats[0], 2);
+    admit_one(locked, &mut seats[0], number);
 }
 
-/// How many entries are set in a row of cells.
-fn set_in<D: DayName>(locked: &mut Locked<D>, row: &CellRow) -> Result<usize, PublishFault> {
-    let tokens = locked.publish(row, 64)?;
+/// How many entries are set in a row of cells by a publication of at most so many.
+fn set_in<D: DayName>(locked: &mut Locked<D>, row: &CellRow, most: u32) -> SetIn {
+    let tokens = locked.publish(row, most)?;
     Ok(tokens.len())
 }
 
@@ -175,8 +171,11 @@ fn found_at_end<D: DayName>(locked: Locked<D>, row: CellRow, seats: Vec<LineSeat
     }
 }
 
-/// How many of two entries are set in a row of one cell, then in the day's own row, and how many the day's end finds.
-fn set_in_two_rows<D: DayName>(prepared: Prepared, short: &CellRow) -> Option<SetInTwo>
+/// What three publications of a day set, and how many entries its end finds.
+type Strayed = ([SetIn; 3], u32);
+
+/// The same of three reports: the first goes to the day's own row, the next strays to another row, and the last goes to its own.
+fn strayed<D: DayName>(prepared: Prepared, other: &CellRow) -> Option<Strayed>
     requires name { prepared.blank.name ≡ D.name }
     requires parts { prepared.blank.parts ≡ D.parts }
     requires listing { prepared.tape.listing ≡ D.listing }
@@ -185,43 +184,54 @@ fn set_in_two_rows<D: DayName>(prepared: Prepared, short: &CellRow) -> Option<Se
     let Ok((mut locked, row, mut seats)) = Locked::<D>::start(prepared) else {
         return None;
     };
-    admit_two(&mut locked, &mut seats);
-    let first = set_in(&mut locked, short);
-    let second = set_in(&mut locked, &row);
+    admit_first(&mut locked, &mut seats, 1);
+    admit_first(&mut locked, &mut seats, 2);
+    admit_first(&mut locked, &mut seats, 3);
+    let sets = [
+        set_in(&mut locked, &row, 1),
+        set_in(&mut locked, other, 64),
+        set_in(&mut locked, &row, 64),
+    ];
     let found = found_at_end(locked, row, seats)?;
-    Some((first, second, found))
+    Some((sets, found))
 }
 
-/// The same, with the row of a day of one cell.
-fn set_beside<D: DayName>(alloc: Global, one: Prepared) -> Option<SetInTwo>
-    requires name { one.blank.name ≡ D.name }
-    requires parts { one.blank.parts ≡ D.parts }
-    requires listing { one.tape.listing ≡ D.listing }
-    requires matrix { one.tape.matrix ≡ D.matrix }
+/// What a day sets that strays to the row of another one, what two publications of that other day then set in the row, and how
+/// many entries its end finds.
+type StrayedTo = (Option<Strayed>, [SetIn; 2], Option<u32>);
+
+/// The same where the other day has the first two of the reports.
+fn strayed_to<D: DayName>(alloc: Global, two: Prepared) -> Option<StrayedTo>
+    requires name { two.blank.name ≡ D.name }
+    requires parts { two.blank.parts ≡ D.parts }
+    requires listing { two.tape.listing ≡ D.listing }
+    requires matrix { two.tape.matrix ≡ D.matrix }
 {
-    let Ok((locked, short, seats)) = Locked::<D>::start(one) else {
+    let Ok((mut locked, row, mut seats)) = Locked::<D>::start(two) else {
         return None;
     };
-    let set = set_of_a_day(alloc, &short);
-    let _ = found_at_end(locked, short, seats);
-    set
+    admit_first(&mut locked, &mut seats, 1);
+    admit_first(&mut locked, &mut seats, 2);
+    let strayed = strayed_from_a_day(alloc, &row);
+    let sets = [set_in(&mut locked, &row, 64), set_in(&mut locked, &row, 64)];
+    Some((strayed, sets, found_at_end(locked, row, seats)))
 }
 
-fn set_of_a_day(alloc: Global, short: &CellRow) -> Option<SetInTwo> {
-    let prepared = prepared(alloc)?;
-    set_in_two_rows::<Brand>(prepared, short)
+fn strayed_from_a_day(alloc: Global, other: &CellRow) -> Option<Strayed> {
+    let prepared = prepared_of(alloc, Matrix::One, 10)?;
+    strayed::<Brand>(prepared, other)
 }
 
-fn set_in_two_rows_of_a_day(alloc: Global) -> Option<SetInTwo> {
-    let one = prepared_of(alloc, 1)?;
-    set_beside::<Brand>(alloc, one)
+fn strayed_to_a_day(alloc: Global) -> Option<StrayedTo> {
+    let two = prepared_of(alloc, Matrix::One, 2)?;
+    strayed_to::<Brand>(alloc, two)
 }
 
 fn five_published_in_a_day<R: Threads + Wait + Abort + Sync>(
     rt: &R,
     alloc: Global,
 ) -> Option<Found> {
-    let prepared = prepared(alloc)?;
+    let prepared = prepared_of(alloc, Matrix::One, 10)?;
     five_published::<Brand, _>(rt, prepared)
 }
 
@@ -234,9 +244,12 @@ fn published_entries_are_found_and_confirmed(rt: HostRuntime) {
 }
 
 #[test]
-fn a_missing_cell_ends_a_publication(rt: HostRuntime) {
+fn a_cell_that_is_missing_or_was_set_ends_a_publication(rt: HostRuntime) {
+    let missing = Err(PublishFault::Unpublished(3));
+    let was_set = Err(PublishFault::Unpublished(2));
+    let strayed = ([Ok(1), missing, Ok(1)], 1);
     assert_eq!(rt;
-        set_in_two_rows_of_a_day(rt.alloc()),
-        Some((Err(PublishFault::Unpublished(2)), Ok(1), 0))
+        strayed_to_a_day(rt.alloc()),
+        Some((Some(strayed), [was_set; 2], Some(2)))
     );
 }

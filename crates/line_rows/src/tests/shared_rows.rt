@@ -2,12 +2,13 @@
 ghost use Rattle.std.specs.Prelude.{◌≡◌};
 
 use super::shared_days::Sent::{
-    Cancel, CancelUnder, Correct, Reinstate, Report, ReportOf, SoldLast,
+    Cancel, CancelUnder, Correct, Reinstate, Report, ReportAs, ReportOf,
 };
-use super::shared_days::{AB, CD, EF, Sent, ended_len, message, prepared};
+use super::shared_days::{AB, CD, EF, Sent, ended_len, message, prepared_of};
 use Answer::{Number, Refused, Shown};
 use Step::{Admit, Show};
 use line_ledger::{DayName, LineRefusal, LineSeat, Prepared, Receipt, SharedTape, View, ViewFault};
+use sale_matrix::Matrix;
 use scratch_fold::{Mark, Summary};
 use std::alloc::Global;
 use std::marker::Brand;
@@ -47,7 +48,11 @@ const NOTHING: Figures = ((0, 0), (0, 0), (0, 0), (0, 0), 0, 0);
 const A_CANCEL_GIVES_THE_LAST_BACK: [(usize, Step, Answer); 6] = [
     (2, Admit(Report(b'Q', 1, 100_000)), Number(1)),
     (0, Admit(Report(b'N', 1, 101_000)), Number(2)),
-    (2, Admit(SoldLast(b'Q', 2, 100_500)), Number(3)),
+    (
+        2,
+        Admit(ReportAs(b"@ L ", b'Q', 2, 100_500, 100)),
+        Number(3),
+    ),
     (
         1,
         Show(AB),
@@ -134,7 +139,17 @@ const TARGETS_OF_EVERY_KIND: [(usize, Step, Answer); 9] = [
     (0, Show(CD), Shown(3, 3, NOTHING)),
 ];
 
-const A_REINSTATEMENT_BRINGS_THE_LATEST_BACK: [(usize, Step, Answer); 9] = [
+/// The corrected report stands again in its first place.
+const REINSTATED: Figures = (
+    (102_000, 1),
+    (102_000, 1),
+    (101_000, 2),
+    (101_000, 2),
+    200,
+    2,
+);
+
+const A_REINSTATEMENT_BRINGS_THE_LATEST_BACK: [(usize, Step, Answer); 12] = [
     (0, Admit(Report(b'N', 1, 100_000)), Number(1)),
     (0, Admit(Report(b'N', 2, 101_000)), Number(2)),
     (0, Admit(Correct(b'N', 3, 1, 102_000)), Number(3)),
@@ -142,22 +157,57 @@ const A_REINSTATEMENT_BRINGS_THE_LATEST_BACK: [(usize, Step, Answer); 9] = [
     (0, Admit(Reinstate(b'N', 5, 3)), Refused(37)),
     (0, Admit(Reinstate(b'N', 5, 2)), Refused(43)),
     (0, Admit(Reinstate(b'N', 5, 1)), Number(5)),
+    (0, Show(AB), Shown(5, 5, REINSTATED)),
     (0, Admit(Reinstate(b'N', 6, 1)), Refused(43)),
+    (0, Admit(Cancel(b'N', 6, 1)), Number(6)),
+    (0, Admit(Reinstate(b'N', 7, 1)), Number(7)),
+    (0, Show(AB), Shown(7, 7, REINSTATED)),
+];
+
+/// Matrix One has the first of the codes, and not the other two.
+const CODES_OF_MATRIX_TWO: [(usize, Step, Answer); 4] = [
+    (0, Admit(ReportAs(b"@  I", b'N', 1, 100_000, 50)), Number(1)),
     (
-        0,
+        2,
+        Admit(ReportAs(b"@  2", b'Q', 1, 101_000, 100)),
+        Number(2),
+    ),
+    (0, Admit(ReportAs(b"@  3", b'N', 2, 99_000, 100)), Number(3)),
+    (
+        1,
         Show(AB),
         Shown(
-            5,
-            5,
+            3,
+            0,
             (
-                (102_000, 1),
-                (102_000, 1),
                 (101_000, 2),
                 (101_000, 2),
-                200,
-                2,
+                (99_000, 3),
+                (101_000, 2),
+                250,
+                3,
             ),
         ),
+    ),
+];
+
+/// The same messages: the odd lot alone comes to the tape, and its shares count.
+const CODES_BEYOND_MATRIX_ONE: [(usize, Step, Answer); 4] = [
+    (0, Admit(ReportAs(b"@  I", b'N', 1, 100_000, 50)), Number(1)),
+    (
+        2,
+        Admit(ReportAs(b"@  2", b'Q', 1, 101_000, 100)),
+        Refused(44),
+    ),
+    (
+        0,
+        Admit(ReportAs(b"@  3", b'N', 2, 99_000, 100)),
+        Refused(44),
+    ),
+    (
+        1,
+        Show(AB),
+        Shown(1, 0, ((0, 0), (0, 0), (0, 0), (0, 0), 50, 1)),
     ),
 ];
 
@@ -266,49 +316,62 @@ fn played<D: DayName, R: Wait + Abort>(
     Some((many, ended_len(rt, shared, seats)?))
 }
 
-fn row<R: Wait + Abort>(rt: &R, alloc: Global, steps: &[(usize, Step, Answer)]) -> Played {
-    let prepared = prepared(alloc)?;
+/// What comes of the steps in a day by this matrix.
+fn row<R: Wait + Abort>(
+    rt: &R,
+    alloc: Global,
+    matrix: Matrix,
+    steps: &[(usize, Step, Answer)],
+) -> Played {
+    let prepared = prepared_of(alloc, matrix, 10)?;
     played::<Brand, _>(rt, prepared, steps)
 }
 
-fn a_cancel_gives_the_last_back<R: Wait + Abort>(rt: &R, alloc: Global) -> Played {
-    row(rt, alloc, &A_CANCEL_GIVES_THE_LAST_BACK)
-}
-
-fn a_correction_keeps_its_place<R: Wait + Abort>(rt: &R, alloc: Global) -> Played {
-    row(rt, alloc, &A_CORRECTION_KEEPS_ITS_PLACE)
-}
-
-fn targets_of_every_kind<R: Wait + Abort>(rt: &R, alloc: Global) -> Played {
-    row(rt, alloc, &TARGETS_OF_EVERY_KIND)
-}
-
-fn a_reinstatement_brings_the_latest_back<R: Wait + Abort>(rt: &R, alloc: Global) -> Played {
-    row(rt, alloc, &A_REINSTATEMENT_BRINGS_THE_LATEST_BACK)
-}
-
-fn a_refused_number_is_used_again<R: Wait + Abort>(rt: &R, alloc: Global) -> Played {
-    row(rt, alloc, &A_REFUSED_NUMBER_IS_USED_AGAIN)
-}
+/// The rows, each with its name, the matrix of its day, its steps, and how many entries the day has.
+const ROWS: [(&str, Matrix, &[(usize, Step, Answer)], usize); 7] = [
+    (
+        "a cancel gives the last back",
+        Matrix::One,
+        &A_CANCEL_GIVES_THE_LAST_BACK,
+        4,
+    ),
+    (
+        "a correction keeps its place",
+        Matrix::One,
+        &A_CORRECTION_KEEPS_ITS_PLACE,
+        4,
+    ),
+    (
+        "targets of every kind",
+        Matrix::One,
+        &TARGETS_OF_EVERY_KIND,
+        3,
+    ),
+    (
+        "a reinstatement brings the latest back",
+        Matrix::One,
+        &A_REINSTATEMENT_BRINGS_THE_LATEST_BACK,
+        7,
+    ),
+    (
+        "a refused number is used again",
+        Matrix::One,
+        &A_REFUSED_NUMBER_IS_USED_AGAIN,
+        2,
+    ),
+    ("codes of Matrix Two", Matrix::Two, &CODES_OF_MATRIX_TWO, 3),
+    (
+        "codes beyond Matrix One",
+        Matrix::One,
+        &CODES_BEYOND_MATRIX_ONE,
+        1,
+    ),
+];
 
 #[test]
 fn a_shared_tape_answers_the_worked_rows(rt: HostRuntime) {
-    let alloc = rt.alloc();
-    let played = [
-        a_cancel_gives_the_last_back(&rt, alloc),
-        a_correction_keeps_its_place(&rt, alloc),
-        targets_of_every_kind(&rt, alloc),
-        a_reinstatement_brings_the_latest_back(&rt, alloc),
-        a_refused_number_is_used_again(&rt, alloc),
-    ];
-    assert_eq!(rt;
-        played,
-        [
-            Some((6, 4)),
-            Some((6, 4)),
-            Some((9, 3)),
-            Some((9, 5)),
-            Some((8, 2)),
-        ]
-    );
+    for (name, matrix, steps, entries) in ROWS {
+        let played = row(&rt, rt.alloc(), matrix, steps);
+        assert_eq!(rt; played, Some((steps.len(), entries)), "{name}");
+    }
 }

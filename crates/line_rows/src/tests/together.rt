@@ -1,10 +1,9 @@
-//! Two lines at once, and what they publish; eight lines at once, and the turns that their gate is given.
+//! Two lines at once, and what they publish; all participants' lines at once, and the turns that their gate is given.
 ghost use Rattle.std.specs.Prelude.{◌≡◌};
 ghost use Rattle.line_ledger.specs.Cells.{FirstTokens};
 
 use super::days::{
-    Confirmed, EIGHT, TURNS, confirmed_at_end, day_of_eight, day_of_two, joined, report,
-    without_price,
+    Confirmed, TURNS, confirmed_at_end, day_of_all, day_of_two, joined, report, without_price,
 };
 use super::lines::{LineFigures, day_of_lines, run_inputs, seats_taken_back};
 use line_ledger::{
@@ -21,8 +20,8 @@ use std::thread::Threads;
 use tape_frames::Source;
 use tape_types::{Gate, Symbol};
 
-/// Holds each of so many lines after its first message until all have done theirs, and notes the turns that it is given for
-/// each of the first three lines, as the digits of a number.
+/// Holds each of so many lines after its first message until all have done theirs, and counts the turns that it is given for
+/// each of the first three lines.
 #[derive(Drop)]
 pub(super) struct Meeting {
     lines: u32,
@@ -42,16 +41,14 @@ impl Meeting {
         }
     }
 
-    /// Notes a turn of a line.
+    /// Counts a turn of a line, which is to be the next one. Where it is another, no turn is the next one from then on.
     fn note(&self, line: usize, turn: u32) {
         let Some(turns) = self.turns.get(line) else {
             return;
         };
-        let before = turns.load(Ordering::SeqCst);
-        turns.store(
-            before.saturating_mul(10).saturating_add(turn),
-            Ordering::SeqCst,
-        );
+        let next = turns.load(Ordering::SeqCst).saturating_add(1);
+        let count = if turn == next { turn } else { u32::MAX };
+        turns.store(count, Ordering::SeqCst);
     }
 
     /// Holds a line that has done its first message until all lines have. One that waits in vain lets the others go.
@@ -67,7 +64,7 @@ impl Meeting {
         self.done.fetch_add(self.lines, Ordering::SeqCst);
     }
 
-    /// How many lines found that all had come, and the turns of the first three lines.
+    /// How many lines found that all had come, and how many turns each of the first three lines had, from 1 and one by one.
     pub(super) fn noted(&self) -> (u32, [u32; 3]) {
         let turns = [
             self.turns[0].load(Ordering::SeqCst),
@@ -254,66 +251,61 @@ fn two_lines_run_at_once(rt: HostRuntime) {
         two_lines_of_a_day(&rt, rt.alloc(), &meeting),
         Some((counts, counts, published, 91, Some((5, 5, 5))))
     );
-    assert_eq!(rt; meeting.noted(), (2, [123, 12, 0]));
+    assert_eq!(rt; meeting.noted(), (2, [3, 2, 0]));
 }
 
-/// The bytes of eight lines: a report at no price between two reports, a report that comes again, and one report of each other
-/// participant.
-fn inputs_of_eight(alloc: Global) -> Option<Vec<Vec<u8>>> {
+/// The bytes of all participants' lines: of A a report at no price between two reports, of B a report that comes again, and of
+/// each other one report.
+fn inputs_of_all(alloc: Global) -> Option<Vec<Vec<u8>>> {
     let mut inputs = Vec::new(alloc);
-    let first = joined(alloc, &[report(b'N', 1), without_price(2), report(b'N', 3)])?;
+    let first = joined(
+        alloc,
+        &[report(b'A', 1), without_price(b'A', 2), report(b'A', 3)],
+    )?;
     inputs.push(first).ok()?;
-    let second = joined(alloc, &[report(b'P', 1), report(b'P', 1)])?;
+    let second = joined(alloc, &[report(b'B', 1), report(b'B', 1)])?;
     inputs.push(second).ok()?;
-    for who in &EIGHT[2..] {
-        inputs.push(joined(alloc, &[report(*who, 1)])?).ok()?;
+    for who in b'C'..=b'Z' {
+        inputs.push(joined(alloc, &[report(who, 1)])?).ok()?;
     }
     Some(inputs)
 }
 
-/// How many frames of a line were refused, why it ended, and how many messages it was told of.
-type End = (u32, Ended, u32);
-
-/// How the eight lines have to end.
-const EIGHT_ENDS: [End; 8] = [
-    (1, Ended::Clean, 2),
-    (1, Ended::Clean, 1),
-    (0, Ended::Clean, 1),
-    (0, Ended::Clean, 1),
-    (0, Ended::Clean, 1),
-    (0, Ended::Clean, 1),
-    (0, Ended::Clean, 1),
-    (0, Ended::Clean, 1),
-];
-
-/// Whether lines ended so, in their order.
-fn have_ended(lines: &[LineFigures], ends: &[End]) -> bool {
-    if lines.len() != ends.len() {
-        return false;
-    }
-    for at in 0..ends.len() {
-        let line = &lines[at];
-        if (line.refused, line.ended, line.count) != ends[at] {
-            return false;
-        }
-    }
-    true
+/// Whether a line ended with its input, with so many frames refused and so many messages told.
+fn is_end(line: &LineFigures, refused: u32, count: u32) -> bool {
+    line.ended == Ended::Clean && line.refused == refused && line.count == count
 }
 
-/// Whether eight lines at once ended as they have to, and how many entries their day has.
-fn eight_lines<T: Threads + Wait + Abort + Sync>(
+/// How many lines ended as they have to.
+fn many_ended(lines: &[LineFigures]) -> usize {
+    let mut many: usize = 0;
+    for at in 0..lines.len() {
+        let (refused, count) = match at {
+            0 => (1, 2),
+            1 => (1, 1),
+            _ => (0, 1),
+        };
+        if is_end(&lines[at], refused, count) {
+            many = many.saturating_add(1);
+        }
+    }
+    many
+}
+
+/// How many of all participants' lines at once ended as they have to, and how many entries their day has.
+fn all_lines<T: Threads + Wait + Abort + Sync>(
     rt: &T,
     alloc: Global,
     meeting: &Meeting,
-) -> Option<(bool, usize)> {
-    let inputs = inputs_of_eight(alloc)?;
-    let (lines, day) = day_of_lines(rt, alloc, day_of_eight(alloc)?, &inputs, meeting)?;
-    Some((have_ended(&lines, &EIGHT_ENDS), day.tape().entries().len()))
+) -> Option<(usize, usize)> {
+    let inputs = inputs_of_all(alloc)?;
+    let (lines, day) = day_of_lines(rt, alloc, day_of_all(alloc)?, &inputs, meeting)?;
+    Some((many_ended(&lines), day.tape().entries().len()))
 }
 
 #[test]
-fn eight_lines_run_at_once_and_the_gate_is_given_each_turn(rt: HostRuntime) {
-    let meeting = Meeting::of(8);
-    assert_eq!(rt; eight_lines(&rt, rt.alloc(), &meeting), Some((true, 9)));
-    assert_eq!(rt; meeting.noted(), (8, [123, 12, 1]));
+fn all_26_lines_run_at_once_and_the_gate_is_given_each_turn(rt: HostRuntime) {
+    let meeting = Meeting::of(26);
+    assert_eq!(rt; all_lines(&rt, rt.alloc(), &meeting), Some((26, 27)));
+    assert_eq!(rt; meeting.noted(), (26, [3, 2, 1]));
 }

@@ -1,0 +1,7 @@
+use Rattle.line_rows.proofs.tests.shared_publishing.strayed_from_a_day.Given as goal
+
+abbrev pub ghosts-strayed-D-Ledger : goal.ghosts-strayed-D-Ledger
+ghosts-strayed-D-Ledger a = record { name = a.prepared.blank.name; parts = a.prepared.blank.parts }
+
+abbrev pub ghosts-strayed-D-DayName : goal.ghosts-strayed-D-DayName
+ghosts-strayed-D-DayName a = record { listing = a.prepared.tape.listing; matrix = a.prepared.tape.matrix }
