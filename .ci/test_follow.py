@@ -4,11 +4,12 @@ import os
 import signal
 import socket
 import subprocess
+import tempfile
 import threading
 import time
 from pathlib import Path
 
-from support import DISAGREES, HOST, LIMIT, READ_FAULT, TAPEBOX, Case
+from support import DISAGREES, HOST, LIMIT, READ_FAULT, SAMPLES, TAPEBOX, Case
 from support import connect, ended, ports, report, reports, run, started, wait_bound, wait_connected
 
 SESSION = 7
@@ -146,18 +147,25 @@ class HeldUp(Case):
 class LossyDays(Case):
     """The table's day over sockets, through a relay that loses, doubles, reorders and garbles packets."""
 
-    def assert_day(self, **options):
-        """The script ends well, and prints the report of the table's day."""
+    def assert_day(self, *table, figures="250,2", **options):
+        """The script ends well, and prints the report of the table's day, with this volume and so many trades."""
         environment = os.environ | {"TAPEBOX": str(TAPEBOX)} | options
-        done = subprocess.run([LOSSY_DAY], env=environment, capture_output=True, text=True, timeout=2 * LIMIT, check=False)
+        done = subprocess.run([LOSSY_DAY, *table], env=environment, capture_output=True, text=True, timeout=2 * LIMIT, check=False)
         self.assertEqual(done.returncode, 0, done.stderr)
-        self.assertRegex(done.stdout, r"(?m)^AB,ALL,.*,250,2$")
+        self.assertRegex(done.stdout, rf"(?m)^AB,ALL,.*,{figures}$")
 
     def test_lossy_lines(self):
         """README, "A running day": both reports are equal where packets of both lines are lost, and where all of line A or B is."""
         for lose in ("30", "100,10", "0,100"):
             with self.subTest(lose):
                 self.assert_day(LOSE=lose)
+
+    def test_a_reinstatement(self):
+        """PROFILE, "A day": a report that is reinstated stands again on both tapes."""
+        with tempfile.NamedTemporaryFile(suffix=".csv") as table:
+            table.write((SAMPLES / "corrections.csv").read_bytes() + b"reinstate,Q,3,AB,1,,,\n")
+            table.flush()
+            self.assert_day(table.name, figures="450,3", LOSE="30")
 
     def test_nobody_follows(self):
         """PROFILE, "A running day": with SERVES 0 no retransmission is awaited."""

@@ -9,7 +9,7 @@ import unittest
 from pathlib import Path
 
 from support import HOST, LIMIT, READ_FAULT, WRITE_FAULT, Case
-from support import connect, ended, free_ports, is_refused, ports, report, reports, run, started, wait_bound
+from support import connect, ended, free_ports, is_refused, message, ports, report, reports, run, started, wait_bound
 
 # Asks Linux for the time at which each packet was taken, by the same number that its answer has.
 SO_TIMESTAMPNS = 35
@@ -171,19 +171,42 @@ class LongDay(Case):
         self.assertTrue(rows[1].endswith(f",{100 * self.REPORTS},{self.REPORTS}".encode()), rows[1])
 
 
-class Limit(Case):
-    def test_the_limit_that_is_named(self):
-        """PROFILE, "A running day": what comes after LIMIT entries is refused, and the follower of a day of the limit holds all of it."""
+class Terms(Case):
+    def test_the_matrix_and_the_limit_that_are_named(self):
+        """PROFILE, "A running day": a day by Matrix Two takes its codes, what comes after LIMIT entries is refused, and the follower of the day
+        holds all of it."""
         line, a, b, retransmission = ports(4)
-        with started(["live", "AB", "N", line, a, b, retransmission, 1, 7, 1, 1]) as live, connect(line) as participant:
-            with started(["follow", "AB", "N", a, b, retransmission, 7, 1, 1]) as follow:
+        stopped = [message(kind="report", participant="N", number=number, symbol="AB", price="10.00", size=100, condition="@__2") for number in (1, 2)]
+        with started(["live", "AB", "N", line, a, b, retransmission, 1, 7, 2, 1]) as live, connect(line) as participant:
+            with started(["follow", "AB", "N", a, b, retransmission, 7, 2, 1]) as follow:
                 wait_bound(follow, a, b)
-                participant.sendall(reports("N", 2))
+                participant.sendall(b"".join(stopped))
                 participant.close()
                 ends = [ended(live), ended(follow)]
         self.assertEqual(ends[0], ends[1])
         self.assertEqual((ends[0].status, ends[0].said), (0, b""))
         self.assertRegex(ends[0].written, rb"(?m)^AB,ALL,.*,100,1$")
+
+
+class Served(Case):
+    # One packet of version 2 under session 7, which has entry 1 alone.
+    ANSWER = bytes.fromhex("00 01 003b 0244 0000000000000007 00000001 01 00000001") + report("N", 1)
+
+    def test_a_published_entry(self):
+        """PROFILE, "A running day": what is published is served in version 2, while the day goes on."""
+        line, a, b, retransmission = ports(4)
+        with started(["live", "AB", "N", line, a, b, retransmission, 1, 7]) as live:
+            with connect(line) as participant, connect(retransmission) as subscriber:
+                participant.sendall(report("N", 1))
+                answer = b""
+                # 72, until the entry is published.
+                while answer in (b"", b"\x48"):
+                    subscriber.sendall(struct.pack(">QIH", 7, 1, 1))
+                    answer = subscriber.recv(1)
+                while len(answer) < len(self.ANSWER):
+                    answer += subscriber.recv(len(self.ANSWER) - len(answer))
+                self.assertEqual(answer, self.ANSWER)
+            self.assertEqual(ended(live).status, 0)
 
 
 class Sockets(Case):

@@ -8,7 +8,7 @@ from pathlib import Path
 from support import ROOT, SAMPLES, TAPEBOX, Case, run
 
 # Seconds that the toolchain may take to compile the program without its proofs.
-COMPILING = 300
+COMPILING = 900
 
 
 class Run(Case):

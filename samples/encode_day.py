@@ -51,7 +51,7 @@ def condition(row):
     """The four codes as bytes, each one of its position."""
     codes = row["condition"]
     if len(codes) != 4 or not all(code in allowed for code, allowed in zip(codes, POSITIONS)):
-        raise BadRow(f"condition {codes!r} is not four codes of the matrix, with _ for a blank")
+        raise BadRow(f"condition {codes!r} is not four codes of the matrices, with _ for a blank")
     return codes.replace("_", " ").encode()
 
 

@@ -133,13 +133,14 @@ def draw(answers, rows):
 
 
 def main():
-    if len(sys.argv) > 2 or sys.argv[1:2] == ["-h"]:
+    if len(sys.argv) > 2 or sys.argv[1:2] in (["-h"], ["--help"]):
         sys.exit(__doc__)
-    if len(sys.argv) == 2:
-        with open(sys.argv[1], encoding="utf-8") as file:
+    source = sys.argv[1] if len(sys.argv) == 2 else 0
+    try:
+        with open(source, encoding="utf-8", errors="replace") as file:
             text = file.read()
-    else:
-        text = sys.stdin.read()
+    except OSError as fault:
+        sys.exit(f"plot_day.py: {fault}")
     sys.stdout.write(draw(*read(text)))
 
 

@@ -8,7 +8,7 @@ use std::collections::HashMap;
 use std::hash::{BuildHasherDefault, Hasher};
 use std::num::NonZeroU32;
 
-/// The greatest tape number.
+/// The most entries that a batch's tape takes.
 const LIMIT: u32 = 1_048_576;
 
 /// A report as a later message names it.
