@@ -41,7 +41,7 @@ class Measuring(Case):
     DAY = b"AB CD\nN Q\n" + b"".join(batch_line(report("N", number)) for number in range(1, 241))
 
     def test_counts(self):
-        """SPEED, "The feed": what the measuring program counts in each of its ways, over 240 reports in fifteen packets of which both lines lose
+        """The README of feed_speed, "The feed": what the measuring program counts in each of its ways, over 240 reports in fifteen packets of which both lines lose
         the last."""
         for words, wanted in [
             ([], "entries 240 packets 15 retransmitted 16 held 240"),
@@ -96,7 +96,7 @@ class PlainPrograms(Case):
                     self.assertEqual({int(number) for number in re.findall(rb"(?m)^refused (\d+)", wanted.written)}, self.REFUSALS)
 
     def test_a_feed_of_more_entries_than_two_bytes_count(self):
-        """SPEED, "The feed": both feeds count the same, and their subscribers hold all entries."""
+        """SPEED, "Ratios to plain Rust": both feeds count the same, and their subscribers hold all entries."""
         day = plain_run("make_day", "busy", 1, BYTES_MOST).written
         wanted = counts(plain_run("feed", given=day).written)
         self.assertEqual(wanted, "entries 201331 packets 12584 retransmitted 13408 held 201331")
