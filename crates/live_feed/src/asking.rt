@@ -89,9 +89,9 @@ impl Asker {
         match dial(rt, self.port) {
             Ok(connection) => {
                 self.connection = connection;
-                follower.lock(rt).connected();
+                follower.lock(rt).connected(Ok(()));
             }
-            Err(fault) => follower.lock(rt).fail(fault),
+            Err(fault) => follower.lock(rt).connected(Err(fault)),
         }
     }
 

@@ -192,13 +192,13 @@ impl Follower {
         self.settle(taken);
     }
 
-    /// What is next.
+    /// What is next. A new subscriber gets its connection, which the retransmission awaits, even where the run is over by then.
     pub(crate) fn next(&self) -> Next {
-        if self.over.is_some() {
-            return Next::End;
-        }
         if self.has_restarted {
             return Next::Connect;
+        }
+        if self.over.is_some() {
+            return Next::End;
         }
         match self.subscriber.missing() {
             Some(request) => Next::Ask(request),
@@ -206,9 +206,12 @@ impl Follower {
         }
     }
 
-    /// Takes note that the new subscriber has its connection.
-    pub(crate) fn connected(&mut self) {
+    /// Takes note that the new subscriber has its connection, or ends the run by the fault that kept it from it.
+    pub(crate) fn connected(&mut self, connected: Result<(), Fault>) {
         self.has_restarted = false;
+        if let Err(fault) = connected {
+            self.fail(fault);
+        }
     }
 
     /// Ends the run by a fault, unless it is over.
