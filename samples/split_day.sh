@@ -2,8 +2,8 @@
 # A day over several tapes: split_day.sh TABLE.csv N
 #
 # Splits the table by its symbols into N, runs `tapebox batch` on each with the participants of all, side by side by GNU parallel, and
-# prints one report: the rows of all, in the order in which the symbols appear in the table. Where no message is refused, that is the report of one tape
-# over the whole table but for the places of the marks, which are numbers of each symbol's own tape. How many messages were
+# prints one report: the rows of all, in the order in which the symbols appear in the table. Where one tape over the whole table would refuse no message, that is its
+# report but for the places of the marks, which are numbers of each symbol's own tape. How many messages were
 # refused stands on standard error where it is not 0. If anything fails, the status is 1 and nothing is printed. Needs python3
 # and parallel.
 #
