@@ -1,5 +1,5 @@
 //! The window that the lines fill.
-ghost use Rattle.std.specs.Prelude.{ℕ, ◌≡◌, ◌+◌, ◌≤◌, length, IsSome, IfOk, OnOk, OnErr, MatchResult, MatchOption};
+ghost use Rattle.std.specs.Prelude.{ℕ, ◌≡◌, ◌+◌, length, IsSome, IfOk, OnOk, OnErr, MatchResult, MatchOption};
 ghost use Rattle.tape_frames.specs.Packets.{entries_of};
 ghost use Rattle.arbitration.specs.Windows.{IsWindow, empty_slots, empty_window, next_of, window_past};
 ghost use Rattle.arbitration.specs.Counts.{brought_by, taken_of};

@@ -10,16 +10,16 @@ use thiserror::Error;
 /// Why bytes that came by a line are not taken, the first reason that applies. The subscriber is unchanged.
 #[derive(Clone, Copy, Debug, PartialEq, Eq, Error)]
 pub enum DeliveryFault {
-    /// 64 Failed: a drain has met another summary, and the subscriber takes nothing any more, not even a good packet.
+    /// A drain has met another summary, and the subscriber takes nothing any more, not even a good packet.
     Failed,
-    /// 51 to 57: the bytes are no packet; the packet's own fault, the first from the front.
+    /// The bytes are no packet, for this fault, the first from the front.
     NoPacket(PacketFault),
-    /// 61 to 63: the window refuses the packet; its own fault.
+    /// The window refuses the packet, for this fault.
     Refused(DeliverFault),
 }
 
 impl DeliveryFault {
-    /// The number of the fault: 64, or that of the packet's or the window's fault.
+    /// The number of the fault: its own where the subscriber has failed, and else that of the packet's or the window's fault.
     pub fn code(self) -> u8
         ensures number { result ≡ delivery_fault_code self }
     {

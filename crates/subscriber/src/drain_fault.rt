@@ -9,14 +9,13 @@ use thiserror::Error;
 /// Why a drain stops before nothing is ready.
 #[derive(Clone, Copy, Debug, PartialEq, Eq, Error)]
 pub enum Stop {
-    /// The subscriber's own tape refuses the next entry's message: the tape's refusal, 32 where the subscriber's limit is
-    /// reached, 34 to 39 and 43 by a feed that is no tape, 40 out of memory. The entry stays in the window, and the next drain
-    /// tries it again.
+    /// The subscriber's own tape refuses the next entry's message, for this reason: `Full` where the subscriber's limit is reached,
+    /// `OutOfMemory`, and any other only where the feed is no tape. The entry stays in the window, and the next drain tries it again.
     Refused(Refusal),
-    /// 42 OtherSummary: the subscriber's own entry is not the feed's. The own one is held and counted as drained, the
-    /// feed's is taken out of the window, and from then on each delivery and drain answers 64.
+    /// The subscriber's own entry is not the feed's. The own one is held and counted as drained, the
+    /// feed's is taken out of the window, and from then on each delivery and drain answers `Failed`.
     OtherSummary,
-    /// 64 Failed: an earlier drain has answered 42. Nothing is drained.
+    /// An earlier drain has answered `OtherSummary`. Nothing is drained.
     Failed,
 }
 
@@ -30,7 +29,7 @@ pub struct DrainFault {
 }
 
 impl Stop {
-    /// The number of the stop: 42, 64, or that of the tape's refusal.
+    /// The number of the stop: its own, or that of the tape's refusal.
     pub fn code(self) -> u8
         ensures number { result ≡ stop_code self }
     {

@@ -29,7 +29,7 @@ pub const SUMMARY_LENGTH: usize = 1 + 4 * MARK_LENGTH + 12;
 /// How many bytes an entry has at most: the number (4), message and summary of a correction.
 pub const LONGEST_ENTRY: usize = 4 + LONGEST_MESSAGE + SUMMARY_LENGTH;
 
-/// How many bytes a packet has at most: 1,823.
+/// How many bytes a packet has at most.
 pub const LONGEST_PACKET: usize = HEADER_LENGTH + ENTRIES_MOST * LONGEST_ENTRY;
 
 /// How many bytes a request has: session 8, from 4, count 2.

@@ -1,12 +1,12 @@
 //! A packet written as its spelling.
-ghost use Rattle.std.specs.Prelude.{◌≡◌, ◌+◌, ◌*◌, ◌≤◌, ◌++◌, ◌∷◌, [], All, length, OnOk, OnErr, flat_map};
+ghost use Rattle.std.specs.Prelude.{◌≡◌, ◌+◌, ◌*◌, ◌≤◌, ◌++◌, All, length, OnOk, OnErr, flat_map};
 ghost use Rattle.reports.specs.ByteRows.{Puts};
 ghost use Rattle.tape_frames.specs.Limits.{ENTRIES_MOST, HEADER_LENGTH, MARK_LENGTH, SUMMARY_LENGTH, LONGEST_ENTRY, LONGEST_PACKET, ALL_MARKS};
 ghost use Rattle.scratch_fold.specs.Places.{HasPlacesUpTo, IsPlacedUpTo};
 ghost use Rattle.tape_frames.specs.EntryRows.{Carries, FitsIn};
 ghost use Rattle.tape_frames.specs.Packets.{version_of};
 ghost use Rattle.tape_frames.specs.Versions.{longest_packet, number_most};
-ghost use Rattle.tape_frames.specs.Spelling.{IsEntry, IsFigure, IsMark, IsPacket, IsSummary, bit, entry_text};
+ghost use Rattle.tape_frames.specs.Spelling.{IsEntry, IsFigure, IsMark, IsPacket, IsSummary, entry_text};
 ghost use Rattle.tape_frames.specs.Spelling.{figure_text, header_text, mark_text, packet_text, presence, summary_text};
 
 use crate::kinds::{BEAT, DATA, END};

@@ -1,0 +1,29 @@
+//! What a message changes beside the list of entries.
+
+use reports::Content;
+use tape_types::{MsgNumber, TapeNumber};
+
+/// A report that a message names, as it was looked up.
+#[derive(Clone, Copy)]
+pub struct Named {
+    /// The number under which its participant sent it.
+    pub target: MsgNumber,
+    /// The tape number of its admission.
+    pub place: TapeNumber,
+    /// At which index the register had it, so that a change there need not search for it again.
+    pub index: usize,
+}
+
+/// What a message changes in its symbol's book and in the register: for each kind all that its change reads beside the message's
+/// header and the number of its entry.
+#[derive(Clone, Copy)]
+pub enum Change {
+    /// A report is entered with this content, at the number of its entry.
+    Enter(Content),
+    /// The named report leaves the book, and no longer stands.
+    Cancel(Named),
+    /// The named report gets this content.
+    Correct(Named, Content),
+    /// The named report comes back into the book and stands again, with this content, which is its latest.
+    Reinstate(Named, Content),
+}
