@@ -3,6 +3,7 @@ mod Differences
 mod Endings
 mod OneDisagreement
 mod Openings
+mod Publications
 mod Pushes
 mod Reasons
 mod Tellings

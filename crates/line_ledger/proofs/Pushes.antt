@@ -1,6 +1,7 @@
 -- Lists of tokens, and of what was seen, with one more, and the front of such a list.
-use Rattle.std.proofs.Common.{◌≡◌, ℕ, ◌+◌, ◌<◌, List, [], ◌∷◌, ◌++◌, length, length-append, min, take, slice_index_or, sym, ap, ◌∙◌, ◌⊎◌, inl, inr, arith}
+use Rattle.std.proofs.Common.{◌≡◌, ℕ, suc, subst, ◌+◌, ◌<◌, List, [], ◌∷◌, ◌++◌, length, length-append, min, take, slice_index_or, sym, ap, ◌∙◌, ◌⊎◌, inl, inr, arith, ◌≤◌}
 use Rattle.std.proofs.Math.Nat.{eq-or-lt_of_le}
+use Rattle.std.proofs.lemmas.Option.{slice_get_within}
 use Rattle.std.proofs.lemmas.List.{append-nil, append_assoc, get_or_append_left, get_or_push, get_or-take, length-take, length-map, map-append, take-map}
 use Rattle.tape_core.specs.declared.entry.Entry.{Entry}
 use Rattle.tape_frames.specs.EntryRows.{Carries, HasNoLaterPlaces}
@@ -8,7 +9,7 @@ use Rattle.tape_frames.specs.Sources.{BeginsWith, IsPublished}
 use Rattle.tape_frames.specs.Lemmas.GrowingRows.{IsNumberedFrom-push}
 use Rattle.tape_frames.specs.Lemmas.Sources.{IsPublished-take}
 use Rattle.seen_cells.specs.declared.Seen.{Seen}
-use Rattle.line_ledger.specs.Cells.{TokenState, IsTokenOf, Each, TokenAt, NextTokens, FirstTokens, shown, SeenAt, FirstSeen}
+use Rattle.line_ledger.specs.Cells.{TokenState, IsTokenOf, Each, TokenAt, NextTokens, FirstTokens, shown, SeenAt, FirstSeen, NextSeen}
 use Rattle.line_ledger.specs.Publishing.{GoesOn}
 
 -- what holds of each element and of a further one holds at a place of the longer list
@@ -29,10 +30,38 @@ each_take P xs n each i d within =
     let inside : i < length xs = omega (arith, short, within) in
     rw (get_or-take n xs i d low) (each i d inside)
 
+-- no tokens are tokens of any cells
+pub next_none : (names : List ℕ) (entries : List Entry) (set : ℕ) (ts : List TokenState) → ts ≡ [] → NextTokens names entries set ts
+next_none names entries set ts none = λ i d within. absurd (omega (arith, within, ap length none))
+
 -- one cell more was set
 pub next_push : (names : List ℕ) (entries : List Entry) (set : ℕ) (ts ts' : List TokenState) (t : TokenState) → NextTokens names entries set ts
     → TokenAt names entries (set + length ts + 1) t → ts' ≡ ts ++ t ∷ [] → NextTokens names entries set ts'
 next_push names entries set ts ts' t each at pushed = rw pushed (each_push (λ i t. TokenAt names entries (set + i + 1) t) ts t each at)
+
+-- one cell more was set, as was seen in it
+pub next_seen_push : (names : List ℕ) (entries : List Entry) (set : ℕ) (seen seen' : List (Seen Entry)) (s : Seen Entry) → NextSeen names entries set seen
+    → SeenAt names entries (set + length seen) s → seen' ≡ seen ++ s ∷ [] → NextSeen names entries set seen'
+next_seen_push names entries set seen seen' s each at pushed = rw pushed (each_push (λ i s. SeenAt names entries (set + i) s) seen s each at)
+
+-- the first of the cells that were seen, and the others after it
+pub next_seen_first : (names : List ℕ) (entries : List Entry) (set : ℕ) (s : Seen Entry) (rest : List (Seen Entry)) → NextSeen names entries set (s ∷ rest)
+    → SeenAt names entries set s × NextSeen names entries (set + 1) rest
+next_seen_first names entries set s rest each =
+    let first : set + 0 ≡ set = omega arith in (
+      subst (λ (n : ℕ). SeenAt names entries n s) first (each 0 s (omega arith)),
+      (λ i d within.
+          let after : set + suc i ≡ set + 1 + i = omega arith in
+          subst (λ (n : ℕ). SeenAt names entries n (slice_index_or rest i d)) after (each (suc i) d (omega (arith, within)))),
+    )
+
+-- no more cells were set than there are
+pub seen_within : (names : List ℕ) (entries : List Entry) (set : ℕ) (seen : List (Seen Entry)) → NextSeen names entries set seen → length seen ≤ length names
+seen_within names entries set [] each = omega arith
+seen_within names entries set (s ∷ ss) each =
+    let last : SeenAt names entries (set + length ss) (slice_index_or (s ∷ ss) (length ss) s) = each (length ss) s (omega arith) in
+    let within : set + length ss < length names = slice_get_within names (set + length ss) (slice_index_or (s ∷ ss) (length ss) s).cell last.0 in
+    omega (arith, within)
 
 -- one cell more was seen to hold its entry
 pub seen_push : (names : List ℕ) (entries : List Entry) (seen seen' : List (Seen Entry)) (s : Seen Entry) (at : ℕ) → FirstSeen names entries seen

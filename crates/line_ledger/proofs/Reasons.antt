@@ -7,8 +7,7 @@ use Rattle.std.proofs.lemmas.Option.{none-some, same_Some}
 use Rattle.reports.specs.declared.message.Message.{Message}
 use Rattle.reports.specs.declared.message.Message.TheVariants.{Report, Cancel, Correct, Reinstate}
 use Rattle.reports.specs.Messages.{header_of}
-use Rattle.tape_types.specs.Names.{Names, first_fault}
-use Rattle.sale_matrix.specs.declared.matrix.Matrix.{Matrix}
+use Rattle.tape_types.specs.Names.{first_fault}
 use Rattle.tape_core.specs.declared.refusal.Refusal.{Refusal}
 use Rattle.tape_core.specs.declared.refusal.Refusal.TheVariants.{Closed, Full, WrongLine, UnknownParticipant, Stale, UnknownSymbol, OutOfMemory, NotInMatrix}
 use Rattle.tape_core.specs.Refusals.{refusal_code}
@@ -17,7 +16,7 @@ use Rattle.tape_core.specs.Tape.{TapeState, refusal, messages_of, message_faults
 use Rattle.line_ledger.specs.declared.line_refusal.LineRefusal.{LineRefusal}
 use Rattle.line_ledger.specs.declared.line_refusal.LineRefusal.TheVariants.{Behind, Refused}
 use Rattle.line_ledger.specs.Faults.{line_refusal_code}
-use Rattle.line_ledger.specs.Days.{IsDay}
+use Rattle.line_ledger.specs.Days.{Terms, IsDay}
 use Rattle.line_ledger.specs.Admissions.{line_refusal, Refuses, TellsWhy}
 use Rattle.line_ledger.specs.Seats.{SeatState, agrees, last_told}
 
@@ -187,11 +186,11 @@ why_as_tape t s m r own same is =
     ap Refused is ∙ sym (ap (λ o. unwrap_or o (Refused OutOfMemory)) (refuses_as_tape t s m own same) ∙ unwrap-map (refusal t m))
 
 -- what each reason is, by its number
-pub record Learns (listing : Names) (matrix : Matrix) (s : SeatState) (m : Message) (code : ℕ) : Type 0 where
+pub record Learns (terms : Terms) (s : SeatState) (m : Message) (code : ℕ) : Type 0 where
   pub wrong_line : code ≡ 33 → (header_of m).participant ≢ s.who
   pub stale : code ≡ 35 → (header_of m).number ≤ last_told 0 s.told
-  pub unlisted : code ≡ 36 → lists_symbol listing (header_of m).symbol ≡ false
-  pub not_within : code ≡ 44 → is_in_matrix matrix m ≡ false
+  pub unlisted : code ≡ 36 → lists_symbol terms.listing (header_of m).symbol ≡ false
+  pub not_within : code ≡ 44 → is_in_matrix terms.matrix m ≡ false
   pub never_closed : code ≡ 31 → ⊥
   pub never_unknown : code ≡ 34 → ⊥
 
@@ -201,12 +200,12 @@ not-true true is = absurd (true≢false (sym is))
 not-true false is = refl
 
 -- on a tape of the day, the number of a reason tells a listed seat's holder what is wrong
-learns : (listing : Names) (matrix : Matrix) (t : TapeState) (s : SeatState) (m : Message) (why : LineRefusal) → IsDay listing matrix t → lists_participant listing s.who ≡ true
-    → IsWhy t s m why → Learns listing matrix s m (line_refusal_code why)
-learns listing matrix t s m why day listed reasons = elim ((header_of m).participant == s.who) as
-    (λ b. ((header_of m).participant == s.who) ≡ b → Learns listing matrix s m (line_refusal_code why)) [
+learns : (terms : Terms) (t : TapeState) (s : SeatState) (m : Message) (why : LineRefusal) → IsDay terms t → lists_participant terms.listing s.who ≡ true
+    → IsWhy t s m why → Learns terms s m (line_refusal_code why)
+learns terms t s m why day listed reasons = elim ((header_of m).participant == s.who) as
+    (λ b. ((header_of m).participant == s.who) ≡ b → Learns terms s m (line_refusal_code why)) [
       | false ↦ λ e. other (neq e)
-      | true ↦ λ e. elim (agrees t s) as (λ b. agrees t s ≡ b → Learns listing matrix s m (line_refusal_code why)) [
+      | true ↦ λ e. elim (agrees t s) as (λ b. agrees t s ≡ b → Learns terms s m (line_refusal_code why)) [
         | false ↦ λ late. behind (eq e) late
         | true ↦ λ same. tape (eq e) same
       ] refl
@@ -218,8 +217,8 @@ learns listing matrix t s m why day listed reasons = elim ((header_of m).partici
     eq : ((header_of m).participant == s.who) ≡ true → (header_of m).participant ≡ s.who
     eq e = grind (arith, nat_tests, e)
 
-    other : (header_of m).participant ≢ s.who → Learns listing matrix s m (line_refusal_code why)
-    other not_own = subst (λ x. Learns listing matrix s m (line_refusal_code x)) (sym (reasons.wrong_line not_own))
+    other : (header_of m).participant ≢ s.who → Learns terms s m (line_refusal_code why)
+    other not_own = subst (λ x. Learns terms s m (line_refusal_code x)) (sym (reasons.wrong_line not_own))
         (record {
           wrong_line = λ e. not_own;
           stale = λ e. omega arith;
@@ -229,8 +228,8 @@ learns listing matrix t s m why day listed reasons = elim ((header_of m).partici
           never_unknown = λ e. omega arith;
         })
 
-    behind : (header_of m).participant ≡ s.who → agrees t s ≡ false → Learns listing matrix s m (line_refusal_code why)
-    behind own late = subst (λ x. Learns listing matrix s m (line_refusal_code x)) (sym (reasons.behind own late))
+    behind : (header_of m).participant ≡ s.who → agrees t s ≡ false → Learns terms s m (line_refusal_code why)
+    behind own late = subst (λ x. Learns terms s m (line_refusal_code x)) (sym (reasons.behind own late))
         (record {
           wrong_line = λ e. absurd (omega arith);
           stale = λ e. omega arith;
@@ -241,14 +240,14 @@ learns listing matrix t s m why day listed reasons = elim ((header_of m).partici
           never_unknown = λ e. omega arith;
         })
 
-    tape : (header_of m).participant ≡ s.who → agrees t s ≡ true → Learns listing matrix s m (line_refusal_code why)
+    tape : (header_of m).participant ≡ s.who → agrees t s ≡ true → Learns terms s m (line_refusal_code why)
     tape own same =
         let says = answer-says t m (refusal t m) refl in
         let last : last_number (messages_of t.entries) (header_of m).participant ≡ last_told 0 s.told = ap (last_number (messages_of t.entries)) own
         ∙ agrees-last t s same in
         let known : lists_participant t.listing (header_of m).participant ≡ true = ap (lists_participant t.listing) own ∙ ap
         (λ l. lists_participant l s.who) day.listed ∙ listed in
-        subst (λ x. Learns listing matrix s m (line_refusal_code x)) (sym (reasons.tape own same))
+        subst (λ x. Learns terms s m (line_refusal_code x)) (sym (reasons.tape own same))
         (record {
           wrong_line = λ e. absurd (says.wrong_line e);
           stale = λ e. subst (λ n. (header_of m).number ≤ n) last (le (says.stale e));
@@ -262,11 +261,11 @@ learns listing matrix t s m why day listed reasons = elim ((header_of m).partici
         le {a} {b} h = grind (arith, nat_tests, h)
 
 -- a refusal under the lock tells a listed seat's holder why
-pub tells_why : (listing : Names) (matrix : Matrix) (t : TapeState) (s : SeatState) (m : Message) (why : LineRefusal) (t' : TapeState) (s' : SeatState)
-    → IsDay listing matrix t → lists_participant listing s.who ≡ true → Refuses t s m why t' s' → TellsWhy listing matrix s m why s'
-tells_why listing matrix t s m why t' s' day listed refuses =
+pub tells_why : (terms : Terms) (t : TapeState) (s : SeatState) (m : Message) (why : LineRefusal) (t' : TapeState) (s' : SeatState)
+    → IsDay terms t → lists_participant terms.listing s.who ≡ true → Refuses t s m why t' s' → TellsWhy terms s m why s'
+tells_why terms t s m why t' s' day listed refuses =
     let reasons = is_why t s m why refuses.why_is in
-    let said = learns listing matrix t s m why day listed reasons in
+    let said = learns terms t s m why day listed reasons in
     record {
       seat = refuses.seat;
       wrong_line = (λ e. said.wrong_line (ap line_refusal_code e), reasons.wrong_line);

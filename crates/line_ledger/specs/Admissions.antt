@@ -3,12 +3,11 @@ use Rattle.std.specs.Prelude.{◌≡◌, ◌≢◌, ℕ, ◌+◌, ◌<◌, ◌�
 use Rattle.std.specs.Option.{option_map}
 use Rattle.reports.specs.declared.message.Message.{Message}
 use Rattle.reports.specs.Messages.{header_of}
-use Rattle.tape_types.specs.Names.{Names}
-use Rattle.sale_matrix.specs.declared.matrix.Matrix.{Matrix}
 use Rattle.tape_core.specs.declared.refusal.Refusal.TheVariants.{Closed, WrongLine, UnknownParticipant, Stale, UnknownSymbol, OutOfMemory, NotInMatrix}
 use Rattle.tape_core.specs.Tape.{TapeState, refusal, with_message, lists_symbol, is_in_matrix}
 use Rattle.line_ledger.specs.declared.line_refusal.LineRefusal.{LineRefusal}
 use Rattle.line_ledger.specs.declared.line_refusal.LineRefusal.TheVariants.{Behind, Refused}
+use Rattle.line_ledger.specs.Days.{Terms}
 use Rattle.line_ledger.specs.Seats.{SeatState, agrees, last_told, with_told}
 
 -- why a message is not admitted by this seat, apart from running out of memory: the first case that holds, or none
@@ -38,11 +37,11 @@ pub record Tells (s : SeatState) (m : Message) (number : ℕ) (s' : SeatState) :
   pub above : last_told 0 s.told < (header_of m).number
 
 -- what the seat's holder learns of a refusal: the tape is open, and the participant is listed
-pub record TellsWhy (listing : Names) (matrix : Matrix) (s : SeatState) (m : Message) (why : LineRefusal) (s' : SeatState) : Type 0 where
+pub record TellsWhy (terms : Terms) (s : SeatState) (m : Message) (why : LineRefusal) (s' : SeatState) : Type 0 where
   pub seat : s' ≡ s
   pub wrong_line : (why ≡ Refused WrongLine) ↔ ((header_of m).participant ≢ s.who)
   pub stale : why ≡ Refused Stale → (header_of m).number ≤ last_told 0 s.told
-  pub unlisted : why ≡ Refused UnknownSymbol → lists_symbol listing (header_of m).symbol ≡ false
-  pub not_within : why ≡ Refused NotInMatrix → is_in_matrix matrix m ≡ false
+  pub unlisted : why ≡ Refused UnknownSymbol → lists_symbol terms.listing (header_of m).symbol ≡ false
+  pub not_within : why ≡ Refused NotInMatrix → is_in_matrix terms.matrix m ≡ false
   pub never_closed : why ≢ Refused Closed
   pub never_unknown : why ≢ Refused UnknownParticipant

@@ -44,3 +44,7 @@ SeenAt names entries at s = (slice_get names at ≡ Some s.cell) × ((e : Entry)
 -- the first cells were seen to hold the first entries
 abbrev pub FirstSeen : List ℕ → List Entry → List (Seen Entry) → Type 0
 FirstSeen names entries seen = Each (λ i s. SeenAt names entries i s) seen
+
+-- the cells after the first so many were seen to hold the entries of their numbers, in order
+abbrev pub NextSeen : List ℕ → List Entry → ℕ → List (Seen Entry) → Type 0
+NextSeen names entries set seen = Each (λ i s. SeenAt names entries (set + i) s) seen

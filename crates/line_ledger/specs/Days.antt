@@ -5,12 +5,21 @@ use Rattle.sale_matrix.specs.declared.matrix.Matrix.{Matrix}
 use Rattle.tape_core.specs.Standing.{count_of, sizes_of, last_number}
 use Rattle.tape_core.specs.Tape.{TapeState, IsTape, messages_of}
 
--- an open legal tape of this listing and matrix
-pub record IsDay (listing : Names) (matrix : Matrix) (t : TapeState) : Type 0 where
+-- what a day is named by, and its tape keeps to
+pub record Terms : Type 0 where
+  pub listing : Names
+  pub matrix : Matrix
+
+-- the terms that a tape keeps to
+abbrev pub terms_of : TapeState → Terms
+terms_of t = record { listing = t.listing; matrix = t.matrix }
+
+-- an open legal tape of these terms
+pub record IsDay (terms : Terms) (t : TapeState) : Type 0 where
   pub tape : IsTape t
   pub unclosed : t.closed ≡ false
-  pub listed : t.listing ≡ listing
-  pub by_matrix : t.matrix ≡ matrix
+  pub listed : t.listing ≡ terms.listing
+  pub by_matrix : t.matrix ≡ terms.matrix
 
 -- whether the tape's count, sizes and last number of a participant are these
 abbrev pub has_figures : TapeState → ℕ → ℕ → ℕ → ℕ → Bool

@@ -2,9 +2,8 @@
 use Rattle.std.specs.Prelude.{◌≡◌, ℕ, ◌≤◌, ◌*◌, ◌++◌, List, [], ◌∷◌, length, Bool, true}
 use Rattle.std.specs.List.{sum_by}
 use Rattle.reports.specs.declared.message.Message.{Message}
-use Rattle.reports.specs.Messages.{header_of}
+use Rattle.reports.specs.Messages.{header_of, reported_size}
 use Rattle.tape_types.specs.Names.{Names}
-use Rattle.tape_core.specs.Standing.{reported_size}
 use Rattle.tape_core.specs.Tape.{TapeState, lists_participant}
 use Rattle.line_ledger.specs.declared.told.Told.{Told}
 use Rattle.line_ledger.specs.Days.{has_figures}

@@ -1,12 +1,10 @@
 -- What a seat's holder is shown of the tape.
 use Rattle.std.specs.Prelude.{◌≡◌, ℕ, true, not, if◌then◌else◌, List, length, Option, Some, None}
 use Rattle.scratch_fold.specs.declared.summary.Summary.{Summary}
-use Rattle.tape_types.specs.Names.{Names}
-use Rattle.sale_matrix.specs.declared.matrix.Matrix.{Matrix}
 use Rattle.tape_core.specs.Tape.{TapeState, summary_at, lists_symbol}
 use Rattle.line_ledger.specs.declared.view_fault.ViewFault.{ViewFault}
 use Rattle.line_ledger.specs.declared.view_fault.ViewFault.TheVariants.{UnknownSymbol, Behind}
-use Rattle.line_ledger.specs.Days.{IsDay}
+use Rattle.line_ledger.specs.Days.{Terms, IsDay}
 use Rattle.line_ledger.specs.Seats.{SeatState, agrees}
 
 -- what a seat is shown: the symbol asked for, the tape's length, its own count and the symbol's summary
@@ -32,5 +30,5 @@ pub record Shows (t : TapeState) (s : SeatState) (symbol : List ℕ) (v : ViewSt
   pub summary_is : summary_at t symbol ≡ Some v.summary
 
 -- there is a legal open tape of the day of which this is the view
-abbrev pub IsShown : Names → Matrix → SeatState → List ℕ → ViewState → Type 0
-IsShown listing matrix s symbol v = (t : TapeState) × IsDay listing matrix t × Shows t s symbol v
+abbrev pub IsShown : Terms → SeatState → List ℕ → ViewState → Type 0
+IsShown terms s symbol v = (t : TapeState) × IsDay terms t × Shows t s symbol v

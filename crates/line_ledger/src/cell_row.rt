@@ -1,7 +1,8 @@
 //! The cells beside the lock, each of which is set once and read by anyone.
-ghost use Rattle.std.specs.Prelude.{◌≡◌, ◌≤◌, [], length, IfErr, IfOk, IfSome, IsTrue};
+ghost use Rattle.std.specs.Prelude.{◌≡◌, ◌+◌, ◌-◌, ◌<◌, ◌≤◌, [], length, slice_get, IfErr, IfOk, IfSome, IsTrue, Some};
 ghost use Rattle.std.specs.Vec.{vec_capacity};
-ghost use Rattle.line_ledger.specs.Cells.{IsTokenOf, SeenAt, FirstSeen};
+ghost use Rattle.line_ledger.specs.Cells.{IsTokenOf, TokenAt, NextTokens, SeenAt, FirstSeen, NextSeen};
+ghost use Rattle.tape_types.specs.Ranges.{TAPE_MOST};
 
 use crate::Token;
 use crate::same_entry::is_same;
@@ -79,10 +80,11 @@ impl CellRow {
         number > 0 && number <= self.many && self.cells[number as usize - 1].get().is_none()
     }
 
-    /// Sets the cell of a number: `Ok(None)` where it was set before, or where there is none. No memory is asked for where the
-    /// cell is seen to be set, or is not there. Where memory runs out, the cell is as it was.
-    pub(crate) fn set(&self, number: u32, entry: &Entry) -> Result<Option<Token>, AllocError>
-        ensures ok { IfOk result (λ set. IfSome set (λ token. (token.entry ≡ entry.now) × (token.number ≡ number) × IsTokenOf self.now token)) }
+    /// Sets the cell of a number, and answers what was seen in it: `Ok(None)` where it was set before, or where there is none.
+    /// No memory is asked for where the cell is seen to be set, or is not there. Where memory runs out, the cell is as it was.
+    pub(crate) fn set(&self, number: u32, entry: &Entry) -> Result<Option<Seen<Entry>>, AllocError>
+        ensures known { IfOk result (λ set. IfSome set (λ seen. seen.known ≡ Some entry.now)) }
+        ensures cell { IfOk result (λ set. IfSome set (λ seen. (1 ≤ number) × (slice_get self.now (number - 1) ≡ Some seen.cell))) }
         ensures memory { IfErr result (λ _. number ≤ length self.now) }
     {
         if !self.is_vacant(number) {
@@ -94,11 +96,49 @@ impl CellRow {
         if cell.set_as(held, &mut note).is_err() {
             return Ok(None);
         }
-        Ok(Some(Token {
-            number,
-            entry: *entry,
-            seen: Seen::of(&mut note),
-        }))
+        Ok(Some(Seen::of(&mut note)))
+    }
+
+    /// The token of a cell that was seen to hold its entry, both at this position, from 0.
+    fn token_of(&self, at: u32, entries: &[Entry], seen: Seen<Entry>) -> Token
+        requires within { at < length entries.now }
+        requires most { length entries.now ≤ TAPE_MOST }
+        requires seen { SeenAt self.now entries.now at seen }
+        ensures token { TokenAt self.now entries.now (at + 1) result }
+    {
+        let entry = entries[at as usize];
+        Token {
+            number: at + 1,
+            entry,
+            seen,
+        }
+    }
+
+    /// A token of each cell that was seen to hold its entry, in order, the first being the one after so many cells. They are put
+    /// into a vector with room for them.
+    pub(crate) fn tokens_of(
+        &self,
+        set: u32,
+        entries: &[Entry],
+        seen: Vec<Seen<Entry>>,
+        room: Vec<Token>,
+    ) -> Vec<Token>
+        requires within { set + length seen.items ≤ length entries.now }
+        requires most { length entries.now ≤ TAPE_MOST }
+        requires seen { NextSeen self.now entries.now set seen.items }
+        requires empty { room.items ≡ [] }
+        requires roomy { length seen.items ≤ vec_capacity room }
+        ensures many { length result.items ≡ length seen.items }
+        ensures next { NextTokens self.now entries.now set result.items }
+    {
+        let mut tokens = room;
+        let mut at = set;
+        let mut left = seen.into_iter();
+        while let Some(one) = left.next() {
+            tokens.push_reserved(self.token_of(at, entries, one));
+            at += 1;
+        }
+        tokens
     }
 
     /// What shows that the cell at this position, from 0, holds the entry at this position. `None` where it was not seen to.

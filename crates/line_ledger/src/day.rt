@@ -1,10 +1,9 @@
 //! Which day it is, and what is left of it.
 ghost use Rattle.std.specs.Prelude.{◌≡◌, ◌↔◌, ◌+◌, ◌-◌, ◌<◌, ◌≤◌, [], length, slice_get, Some};
 ghost use Rattle.std.specs.Result.{IsOk};
-ghost use Rattle.tape_types.specs.Names.{Names};
-ghost use Rattle.sale_matrix.specs.declared.matrix.Matrix.{Matrix};
 ghost use Rattle.sale_matrix.specs.declared.matrix.Matrix.TheVariants.{One};
 ghost use Rattle.line_ledger.specs.Cells.{IsTokenOf};
+ghost use Rattle.line_ledger.specs.Days.{Terms};
 
 use crate::same_entry::is_same;
 use crate::{CellRow, NotOnTape, Token};
@@ -14,19 +13,15 @@ use std::sync::ledger::Ledger;
 use summaries::IndexStore;
 use tape_core::{Entry, Tape};
 
-/// The name of one shared day: its ledger, which has one part for each participant, its listing and its matrix. A function over
-/// it is called with `Brand`, once for each day.
+/// The name of one shared day: its ledger, which has one part for each participant, and its terms. A function over it is
+/// called with `Brand`, once for each day.
 pub trait DayName: Ledger {
-    /// The symbols and participants of the day.
-    ghost listing: { Names };
-    /// The sale condition matrix of the day.
-    ghost matrix: { Matrix };
+    /// The terms of the day, which its tape keeps to.
+    ghost terms: { Terms };
 }
 
 impl DayName for Brand {
-    ghost listing = { record { symbols = []; participants = [] } };
-
-    ghost matrix = { One };
+    ghost terms = { record { listing = record { symbols = []; participants = [] }; matrix = One } };
 }
 
 /// An ended day: its closed tape, its cells, and what its end saw in the first of them.

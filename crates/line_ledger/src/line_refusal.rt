@@ -11,8 +11,8 @@ use thiserror::Error;
 pub enum LineRefusal {
     /// 94 Behind: the tape's count, sizes or last number of the participant is not what its line was told.
     Behind,
-    /// 33 WrongLine where the message is of another participant; else, after 94, the tape's own refusal: 32, 35, 36, 44, 37 to 39, 43, or
-    /// 40 out of memory.
+    /// `WrongLine` where the message is of another participant; else, after 94, the tape's own refusal, `OutOfMemory` last: any of
+    /// these but `Closed` and `UnknownParticipant`.
     Refused(Refusal),
 }
 

@@ -1,26 +1,22 @@
 //! What lies behind the lock, and the seats. A seat's share and what it was told grow only here, in `Locked::admit`.
-ghost use Rattle.std.specs.Prelude.{◌≡◌, ◌↔◌, ◌+◌, ◌<◌, ◌≤◌, ◌++◌, ◌∷◌, [], true, length, map, IfOk, IfErr, IfNone, IfSome, Err, None, OnErr, OnOk};
+ghost use Rattle.std.specs.Prelude.{◌≡◌, ◌↔◌, ◌+◌, ◌≤◌, ◌++◌, ◌∷◌, [], true, length, map, IfOk, IfErr, IfNone, IfSome, None, OnErr, OnOk};
 ghost use Rattle.std.specs.Prelude.{MatchResult, Some, IsTrue, unwrap_or};
 ghost use Rattle.reports.specs.Messages.{header_of};
 ghost use Rattle.std.specs.Vec.{vec_capacity};
-ghost use Rattle.tape_core.specs.Standing.{reported_size};
 ghost use Rattle.tape_core.specs.Tape.{lists_participant, refusal, with_message};
 ghost use Rattle.tape_core.specs.declared.refusal.Refusal.TheVariants.{OutOfMemory as TapeOutOfMemory};
 ghost use Rattle.line_ledger.specs.declared.open_fault.OpenFault.TheVariants.{OutOfMemory};
-ghost use Rattle.line_ledger.specs.declared.publish_fault.PublishFault.TheVariants.{Unpublished, OutOfMemory as NoMemory};
 ghost use Rattle.line_ledger.specs.Admissions.{Admits, Refuses, line_refusal};
-ghost use Rattle.line_ledger.specs.Cells.{TokenAt};
 ghost use Rattle.line_ledger.specs.Days.{IsDay, has_figures};
 ghost use Rattle.line_ledger.specs.Ends.{IsOneEach, FirstTold, DisagreesAt, told_in_all};
-ghost use Rattle.line_ledger.specs.Publishing.{Publishes, Stops};
 ghost use Rattle.line_ledger.specs.Seats.{agrees, untold, sizes_told, last_told};
 ghost use Rattle.line_ledger.specs.Views.{Shows, view_fault};
-ghost use Rattle.tape_types.specs.Ranges.{SIZE_MOST};
+
+mod publishing;
 
 use crate::ends::{find_disagreement, is_one_each};
 use crate::{
-    CellRow, Day, DayName, Disagreement, LineRefusal, OpenFault, Prepared, PublishFault, Token,
-    Told, ViewFault,
+    CellRow, Day, DayName, Disagreement, LineRefusal, OpenFault, Prepared, Told, ViewFault,
 };
 use reports::Message;
 use scratch_fold::Summary;
@@ -53,8 +49,8 @@ impl<D: DayName> Model for Locked<D> {
 
     ghost view = { λ l. record { tape = l.tape; set = l.set } };
 
-    ghost invariant = { λ l. IsDay D.listing D.matrix l.tape × (l.book.total ≡ length l.tape.entries)
-        × (l.rest.parts ≡ 0) × (l.rest.amount ≡ 0) × (D.parts ≡ length D.listing.participants)
+    ghost invariant = { λ l. IsDay D.terms l.tape × (l.book.total ≡ length l.tape.entries)
+        × (l.rest.parts ≡ 0) × (l.rest.amount ≡ 0) × (D.parts ≡ length D.terms.listing.participants)
         × (l.set ≤ length l.tape.entries) × (l.room.items ≡ []) × (l.tape.limit ≤ vec_capacity l.room) };
 }
 
@@ -76,7 +72,7 @@ impl<D: DayName> Model for LineSeat<D> {
 
     ghost view = { λ s. record { who = s.who; told = s.told.items } };
 
-    ghost invariant = { λ s. IsCounted D.listing s.who s.share.parts s.share.amount s.sizes s.last s.told.items };
+    ghost invariant = { λ s. IsCounted D.terms.listing s.who s.share.parts s.share.amount s.sizes s.last s.told.items };
 }
 
 /// What an admission answers: the tape number that the message got. Only `Locked::admit` makes one.
@@ -197,22 +193,12 @@ fn has_figures(
 ) -> bool
     ensures { result ≡ has_figures tape.now who count sizes last }
 {
-    tape.count_of(who) as usize == count && tape.sizes_of(who) == sizes && tape.last_of(who) == last
+    let figures = tape.figures_of(who);
+    figures.count as usize == count && figures.sizes == sizes && figures.last == last
 }
 
-/// The size of a report as it was reported, 0 for another message.
-fn reported_size(message: &Message) -> u64
-    ensures size { result ≡ reported_size message.now }
-    ensures bound { result ≤ SIZE_MOST }
-{
-    match message.reported() {
-        Some(content) => u64::from(content.size.value()),
-        None => 0,
-    }
-}
-
-/// Admits a message to the tape and tells it to a line: the tape number that it got. Refused as the tape refuses it, 40 out of
-/// memory last; then the tape and what was told are unchanged.
+/// Admits a message to the tape and tells it to a line: the tape number that it got. Refused as the tape refuses it, `OutOfMemory`
+/// last; then the tape and what was told are unchanged.
 #[inline(always)]
 fn admit_and_tell(
     tape: &mut Tape<IndexStore>,
@@ -246,7 +232,7 @@ fn untold_seats<D: DayName>(
     rest: &mut Share<D>,
     seats: Vec<LineSeat<D>>,
 ) -> Vec<LineSeat<D>>
-    requires listed { participants.now ≡ D.listing.participants }
+    requires listed { participants.now ≡ D.terms.listing.participants }
     requires parts { rest.old.parts ≡ length participants.now }
     requires amount { rest.old.amount ≡ 0 }
     requires room { length participants.now ≤ vec_capacity seats }
@@ -295,12 +281,12 @@ impl<D: DayName> Locked<D> {
     pub fn start(prepared: Prepared) -> Result<(Locked<D>, CellRow, Vec<LineSeat<D>>), OpenFault>
         requires name { prepared.blank.name ≡ D.name }
         requires parts { prepared.blank.parts ≡ D.parts }
-        requires listing { prepared.tape.listing ≡ D.listing }
-        requires matrix { prepared.tape.matrix ≡ D.matrix }
+        requires listing { prepared.tape.listing ≡ D.terms.listing }
+        requires matrix { prepared.tape.matrix ≡ D.terms.matrix }
         ensures locked { IfOk result (λ r. r.0 ≡ record { tape = prepared.tape; set = 0 }) }
         ensures cells { IfOk result (λ r. length r.1 ≡ prepared.tape.limit) }
         ensures seats { IfOk result (λ r. r.2.items ≡ map untold prepared.tape.listing.participants) }
-        ensures each { IfOk result (λ r. IsOneEach D.listing.participants r.2.items) }
+        ensures each { IfOk result (λ r. IsOneEach D.terms.listing.participants r.2.items) }
         ensures memory { IfErr result (λ fault. fault ≡ OutOfMemory) }
     {
         let alloc = prepared.alloc;
@@ -332,12 +318,12 @@ impl<D: DayName> Locked<D> {
         Ok((locked, row, seats))
     }
 
-    /// Why a seat's message does not come to the tape: 33 WrongLine where it is another participant's, then 94 Behind where the
+    /// Why a seat's message does not come to the tape: `WrongLine` where it is another participant's, then 94 Behind where the
     /// tape's count, sizes or last number of the participant is not the seat's.
     #[inline(always)]
     fn refusal_at_seat(&self, seat: &LineSeat<D>, message: &Message) -> Option<LineRefusal>
-        ensures day { IsDay D.listing D.matrix self.now.tape }
-        ensures listed { lists_participant D.listing seat.now.who ≡ true }
+        ensures day { IsDay D.terms self.now.tape }
+        ensures listed { lists_participant D.terms.listing seat.now.who ≡ true }
         ensures some { IfSome result (λ why. line_refusal self.now.tape seat.now message.now ≡ Some why) }
         ensures own { IfNone result ((header_of message.now).participant ≡ seat.now.who) }
         ensures agrees { IfNone result (agrees self.now.tape seat.now ≡ true) }
@@ -354,17 +340,17 @@ impl<D: DayName> Locked<D> {
     }
 
     /// Admits a message of the seat's participant: the tape has it, the seat is told so, and share, count, sizes and last
-    /// number rise with it. Refused, the first that applies: 33 WrongLine where it is another participant's message, 94 Behind
-    /// where the tape's count, sizes or last number of the participant is not the seat's, and then as the tape refuses it, 40
-    /// out of memory last. On a refusal tape and seat are unchanged.
+    /// number rise with it. Refused, the first that applies: `WrongLine` where it is another participant's message, 94 Behind
+    /// where the tape's count, sizes or last number of the participant is not the seat's, and then as the tape refuses it,
+    /// `OutOfMemory` last. On a refusal tape and seat are unchanged.
     #[inline(always)]
     pub fn admit(
         &mut self,
         seat: &mut LineSeat<D>,
         message: Message,
     ) -> Result<Receipt, LineRefusal>
-        ensures day { IsDay D.listing D.matrix self.old.tape }
-        ensures listed { lists_participant D.listing seat.old.who ≡ true }
+        ensures day { IsDay D.terms self.old.tape }
+        ensures listed { lists_participant D.terms.listing seat.old.who ≡ true }
         ensures ok { IfOk result (λ r. Admits self.old.tape seat.old message r self.new.tape seat.new) }
         ensures err { IfErr result (λ why. Refuses self.old.tape seat.old message why self.new.tape seat.new) }
         ensures set { self.new.set ≡ self.old.set }
@@ -381,16 +367,16 @@ impl<D: DayName> Locked<D> {
         // For the proof alone: the clauses of these calls bound the tape's length.
         let _ = self.tape.entries();
         let _ = self.tape.limit();
-        seat.sizes += reported_size(&message);
+        seat.sizes += message.reported_size();
         seat.last = message.header().number.value();
         Ok(Receipt { number })
     }
 
     /// Shows the seat's holder a symbol's consolidated summary and how long the tape is: at least as long as the seat was told.
-    /// Refused: 36 UnknownSymbol where the symbol is not listed, then 94 Behind where the tape's count, sizes or last number
+    /// Refused: `UnknownSymbol` where the symbol is not listed, then 94 Behind where the tape's count, sizes or last number
     /// of the participant is not the seat's.
     pub fn view(&self, seat: &LineSeat<D>, symbol: Symbol) -> Result<View, ViewFault>
-        ensures day { IsDay D.listing D.matrix self.now.tape }
+        ensures day { IsDay D.terms self.now.tape }
         ensures answer { MatchResult result (Shows self.now.tape seat.now symbol) (λ fault. view_fault self.now.tape seat.now symbol ≡ Some fault) }
         ensures told { IfOk result (λ view. length seat.now.told ≤ view.count) }
     {
@@ -410,59 +396,9 @@ impl<D: DayName> Locked<D> {
         })
     }
 
-    /// Publishes the tape's next entries, at most so many: sets the next cells to them, and answers a token of each, in order.
-    /// 81 Unpublished where the cell of the next number was set before or is not there, which is looked at for the first number
-    /// before any memory is asked for, and 82 OutOfMemory where memory runs out: what was set before that stays set, and is
-    /// counted. Where nothing is left to publish, the answer is Ok and takes no memory. The row is to be the one that `start` gave.
-    pub fn publish(&mut self, row: &CellRow, most: u32) -> Result<Vec<Token>, PublishFault>
-        ensures ok { IfOk result (λ tokens. Publishes self.old row.now most tokens.items self.new) }
-        ensures err { IfErr result (λ _. Stops self.old row.now most self.new) }
-        ensures unpublished { (n : _) → result ≡ Err (Unpublished n) → n ≡ self.new.set + 1 }
-        ensures memory { result ≡ Err NoMemory → self.new.set < length row.now }
-    {
-        let waiting = self.tape.entries().len() as u32 - self.set;
-        let many = waiting.min(most);
-        if many == 0 {
-            return Ok(Vec::new(self.alloc));
-        }
-        let next = self.set + 1;
-        if !row.is_vacant(next) {
-            return Err(PublishFault::Unpublished(next));
-        }
-        let Ok(mut tokens) = Vec::with_capacity(self.alloc, many as usize) else {
-            return Err(PublishFault::OutOfMemory);
-        };
-        for done in 0..many {
-            let _ = done;
-            tokens.push_reserved(self.publish_next(row)?);
-        }
-        Ok(tokens)
-    }
-
-    /// Publishes the tape's next entry.
-    fn publish_next(&mut self, row: &CellRow) -> Result<Token, PublishFault>
-        requires { self.old.set < length self.old.tape.entries }
-        ensures token { IfOk result (TokenAt row.now self.old.tape.entries (self.old.set + 1)) }
-        ensures counted { IfOk result (λ _. self.new ≡ record self.old { set = self.old.set + 1 }) }
-        ensures err { IfErr result (λ _. self.new ≡ self.old) }
-        ensures unpublished { (n : _) → result ≡ Err (Unpublished n) → n ≡ self.old.set + 1 }
-        ensures memory { result ≡ Err NoMemory → self.old.set < length row.now }
-    {
-        let entry = &self.tape.entries()[self.set as usize];
-        let number = self.set + 1;
-        match row.set(number, entry) {
-            Ok(Some(token)) => {
-                self.set = number;
-                Ok(token)
-            }
-            Ok(None) => Err(PublishFault::Unpublished(number)),
-            Err(_) => Err(PublishFault::OutOfMemory),
-        }
-    }
-
     /// Whether there is exactly one seat of each participant of the day.
     pub(crate) fn is_each(&self, seats: &[LineSeat<D>]) -> bool
-        ensures { IsTrue result ↔ IsOneEach D.listing.participants seats.now }
+        ensures { IsTrue result ↔ IsOneEach D.terms.listing.participants seats.now }
     {
         // For the proof alone: this value's own invariant is known once a field is looked at.
         let _ = &self.tape;
@@ -474,8 +410,8 @@ impl<D: DayName> Locked<D> {
     /// participant, that is a disagreement, which hands the closed tape back. Else the day keeps the cells and what was seen
     /// in them. The seats are spent in each case.
     pub fn finish(self, row: CellRow, seats: Vec<LineSeat<D>>) -> Result<Day, Disagreement>
-        requires { IsOneEach D.listing.participants seats.items }
-        ensures day { IsDay D.listing D.matrix self.tape }
+        requires { IsOneEach D.terms.listing.participants seats.items }
+        ensures day { IsDay D.terms self.tape }
         ensures ok { IfOk result (λ day. day.tape ≡ record self.tape { closed = true }) }
         ensures cells { IfOk result (λ day. day.names ≡ row) }
         ensures told { OnOk result (FirstTold (length self.tape.listing.participants) self.tape.listing.participants self.tape.entries seats.items) }

@@ -57,11 +57,11 @@ impl<D: DayName> SharedTape<D> {
     pub fn open(prepared: Prepared) -> Result<(SharedTape<D>, Vec<LineSeat<D>>), OpenFault>
         requires name { prepared.blank.name ≡ D.name }
         requires parts { prepared.blank.parts ≡ D.parts }
-        requires listing { prepared.tape.listing ≡ D.listing }
-        requires matrix { prepared.tape.matrix ≡ D.matrix }
+        requires listing { prepared.tape.listing ≡ D.terms.listing }
+        requires matrix { prepared.tape.matrix ≡ D.terms.matrix }
         ensures cells { IfOk result (λ r. length r.0 ≡ prepared.tape.limit) }
         ensures seats { IfOk result (λ r. r.1.items ≡ map untold prepared.tape.listing.participants) }
-        ensures each { IfOk result (λ r. IsOneEach D.listing.participants r.1.items) }
+        ensures each { IfOk result (λ r. IsOneEach D.terms.listing.participants r.1.items) }
         ensures memory { IfErr result (λ fault. fault ≡ OutOfMemory) }
     {
         let (locked, row, seats) = Locked::start(prepared)?;
@@ -97,33 +97,34 @@ impl<D: DayName> SharedTape<D> {
         message: Message,
     ) -> Result<Receipt, LineRefusal>
         ensures ok { IfOk result (λ r. Tells seat.old message r seat.new) }
-        ensures err { IfErr result (λ why. TellsWhy D.listing D.matrix seat.old message why seat.new) }
+        ensures err { IfErr result (λ why. TellsWhy D.terms seat.old message why seat.new) }
     {
         self.lock(rt).admit(seat, message)
     }
 
-    /// Shows the seat's holder a symbol's consolidated summary under the lock, as `Locked::view` does, with its refusals: 36
-    /// UnknownSymbol, then 94 Behind. It may wait for the lock.
+    /// Shows the seat's holder a symbol's consolidated summary under the lock, as `Locked::view` does, with its refusals:
+    /// `UnknownSymbol`, then 94 Behind. It may wait for the lock.
     pub fn view(
         &self,
         rt: &impl Wait,
         seat: &LineSeat<D>,
         symbol: Symbol,
     ) -> Result<View, ViewFault>
-        ensures ok { IfOk result (IsShown D.listing D.matrix seat.now symbol) }
+        ensures ok { IfOk result (IsShown D.terms seat.now symbol) }
         ensures told { IfOk result (λ view. length seat.now.told ≤ view.count) }
-        ensures unlisted { (result ≡ Err UnknownSymbol) ↔ (lists_symbol D.listing symbol ≡ false) }
+        ensures unlisted { (result ≡ Err UnknownSymbol) ↔ (lists_symbol D.terms.listing symbol ≡ false) }
     {
         self.lock(rt).view(seat, symbol)
     }
 
     /// Publishes the tape's next entries under the lock, at most so many, as `Locked::publish` does, with its faults: how many
-    /// cells were set. It may wait for the lock; whoever looks at the cells does not.
+    /// cells were set. No memory is asked for but that of the cells. It may wait for the lock; whoever looks at the cells does not.
     pub fn publish(&self, rt: &impl Wait, most: u32) -> Result<u32, PublishFault>
         ensures most { IfOk result (λ set. set ≤ most) }
+        ensures cells { IfOk result (λ set. set ≤ length self.now) }
     {
-        let tokens = self.lock(rt).publish(&self.row, most)?;
-        Ok(tokens.len() as u32)
+        let seen = self.lock(rt).set_next(&self.row, most)?;
+        Ok(seen.len() as u32)
     }
 
     /// Reads the cell of a tape number: `None` where the number is 0, above the tape's limit, or not seen to be published.
@@ -171,11 +172,11 @@ impl<D: DayName> SharedTape<D> {
     /// shared tape has joined every thread that borrowed it. It goes over the tape once for each participant, and once over the
     /// cells.
     pub fn end(self, seats: Vec<LineSeat<D>>) -> Result<Day, EndFault<D>>
-        ensures ok { IfOk result (λ day. IsEnd D.listing D.matrix seats.items day.tape) }
+        ensures ok { IfOk result (λ day. IsEnd D.terms seats.items day.tape) }
         ensures cells { IfOk result (λ day. day.names ≡ self) }
         ensures missing { (f : _) → result ≡ Err (MissingSeat f)
-            → ¬ (IsOneEach D.listing.participants seats.items) × (f.seats.items ≡ seats.items) × (f.shared ≡ self) }
-        ensures disagrees { (d : _) → result ≡ Err (Disagrees d) → IsDispute D.listing D.matrix seats.items d.participant d.at d.tape }
+            → ¬ (IsOneEach D.terms.listing.participants seats.items) × (f.seats.items ≡ seats.items) × (f.shared ≡ self) }
+        ensures disagrees { (d : _) → result ≡ Err (Disagrees d) → IsDispute D.terms seats.items d.participant d.at d.tape }
     {
         let SharedTape { locked, row } = self;
         let locked = locked.into_inner();

@@ -8,7 +8,7 @@ use thiserror::Error;
 /// Why a line is not shown a symbol's summary, the first reason that applies.
 #[derive(Clone, Copy, Debug, PartialEq, Eq, Error)]
 pub enum ViewFault {
-    /// 36 UnknownSymbol: the symbol is not listed.
+    /// The symbol is not listed. It has the number of the tape's refusal of this name.
     UnknownSymbol,
     /// 94 Behind: the tape's count, sizes or last number of the participant is not what its line was told.
     Behind,

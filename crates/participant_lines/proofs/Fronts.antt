@@ -32,7 +32,7 @@ announced-two row long = ap (from_be_bytes w16) (take_all 2 (take 2 row) (omega 
 
 -- a length that no frame has
 pub oversize : (had left : Option (List ℕ)) (row : List ℕ) (len : ℕ) → 2 ≤ length row → len ≡ announced_length row
-    → (len ≡ 0) ⊎ (¬ (len ≡ 0) × (LONGEST_BODY < len))
+    → (len ≡ 0) ⊎ (LONGEST_BODY < len)
     → Consumes had left (take 2 row)
     → (head : List ℕ) × Consumes had left head × (length head ≡ 2) × ¬ (IsLength (announced_length head))
 oversize had left row len long is bad read = (

@@ -5,6 +5,7 @@ use Rattle.std.specs.List.{concat}
 use Rattle.std.specs.Io.KnownBytes.{Consumes}
 use Rattle.std.proofs.KnownBytes.{Consumes-nil, Consumes-trans}
 use Rattle.std.proofs.lemmas.List.Folds.{concat-append}
+use Rattle.line_ledger.specs.Days.{Terms}
 use Rattle.line_ledger.specs.Seats.{SeatState}
 use Rattle.line_ledger.specs.Admissions.{Tells, TellsWhy}
 use Rattle.line_ledger.specs.declared.line_refusal.LineRefusal.{LineRefusal}
@@ -15,8 +16,6 @@ use Rattle.reports.specs.declared.fault.MessageFault.TheVariants as fault
 use Rattle.reports.specs.declared.message.Message.{Message}
 use Rattle.tape_core.specs.declared.refusal.Refusal.{Refusal}
 use Rattle.tape_core.specs.declared.refusal.Refusal.TheVariants as tape
-use Rattle.tape_types.specs.Names.{Names}
-use Rattle.sale_matrix.specs.declared.matrix.Matrix.{Matrix}
 use Rattle.participant_lines.specs.Frames.{EndsInput, IsFrame}
 use Rattle.participant_lines.specs.Runs.{AreDone, Does, EndsAfter, IsAnswered, IsDone, Runs, StopsAt, TakesMessage, effect_of, FRAMES_MOST, refusal_effect}
 use Rattle.participant_lines.specs.declared.line_end.Ended.{Ended}
@@ -39,73 +38,73 @@ counted_once tape.Standing refused is = cc
 counted_once tape.NotInMatrix refused is = cc
 
 -- what a message that was taken does to the counts of a seat
-takes_counts : (listing : Names) (matrix : Matrix) (s s' : SeatState) (m : Message) (answer : Result ℕ LineRefusal) (refused : ℕ) → IsAnswered listing matrix s m answer s'
+takes_counts : (terms : Terms) (s s' : SeatState) (m : Message) (answer : Result ℕ LineRefusal) (refused : ℕ) → IsAnswered terms s m answer s'
     → effect_of answer ≡ Ok refused → (length s'.told + refused ≡ length s.told + 1) × (refused ≤ 1) × (s'.who ≡ s.who)
-takes_counts listing matrix s s' m (Ok number) refused tells is =
+takes_counts terms s s' m (Ok number) refused tells is =
     let t : Told = record { number = number; message = m } in
     let none : refused ≡ 0 = cc in (
       omega (arith, ap (λ (x : SeatState). length x.told) tells.told, length-append s.told (t ∷ []), none),
       omega (arith, none),
       ap (λ (x : SeatState). x.who) tells.told,
     )
-takes_counts listing matrix s s' m (Err line.Behind) refused tells is = absurd cc
-takes_counts listing matrix s s' m (Err (line.Refused r)) refused tells is =
+takes_counts terms s s' m (Err line.Behind) refused tells is = absurd cc
+takes_counts terms s s' m (Err (line.Refused r)) refused tells is =
     let one = counted_once r refused is in
     (omega (arith, ap (λ (x : SeatState). length x.told) tells.seat, one), omega (arith, one), ap (λ (x : SeatState). x.who) tells.seat)
 
 -- what a frame does to the counts of a seat
-counts : (listing : Names) (matrix : Matrix) (s s' : SeatState) (frame : List ℕ) (refused : ℕ) → IsDone listing matrix s frame refused s'
+counts : (terms : Terms) (s s' : SeatState) (frame : List ℕ) (refused : ℕ) → IsDone terms s frame refused s'
     → (length s'.told + refused ≡ length s.told + 1) × (refused ≤ 1) × (s'.who ≡ s.who)
-counts listing matrix s s' frame refused (inl (fault, read, same, one)) =
+counts terms s s' frame refused (inl (fault, read, same, one)) =
     (omega (arith, ap (λ (x : SeatState). length x.told) same, one), omega (arith, one), ap (λ (x : SeatState). x.who) same)
-counts listing matrix s s' frame refused (inr (m, spells, (answer, tells, is))) = takes_counts listing matrix s s' m answer refused tells is
+counts terms s s' frame refused (inr (m, spells, (answer, tells, is))) = takes_counts terms s s' m answer refused tells is
 
 -- an answer as what a seat's holder learns of it
-pub answered : (listing : Names) (matrix : Matrix) (s s' : SeatState) (m : Message) (answer : Result ℕ LineRefusal) → IfOk answer (λ number. Tells s m number s')
-    → IfErr answer (λ why. TellsWhy listing matrix s m why s') → IsAnswered listing matrix s m answer s'
-answered listing matrix s s' m (Ok number) tells why = tells
-answered listing matrix s s' m (Err refusal) tells why = why
+pub answered : (terms : Terms) (s s' : SeatState) (m : Message) (answer : Result ℕ LineRefusal) → IfOk answer (λ number. Tells s m number s')
+    → IfErr answer (λ why. TellsWhy terms s m why s') → IsAnswered terms s m answer s'
+answered terms s s' m (Ok number) tells why = tells
+answered terms s s' m (Err refusal) tells why = why
 
 -- an answer after which the line goes on
-pub taken : (listing : Names) (matrix : Matrix) (s s' : SeatState) (m : Message) (answer : Result ℕ LineRefusal) (result : Result ℕ Ended) → IsAnswered listing matrix s m answer s'
-    → result ≡ effect_of answer → IfOk result (λ refused. TakesMessage listing matrix s m refused s')
-taken listing matrix s s' m answer (Ok refused) tells is = (answer, tells, sym is)
-taken listing matrix s s' m answer (Err ended) tells is = tt
+pub taken : (terms : Terms) (s s' : SeatState) (m : Message) (answer : Result ℕ LineRefusal) (result : Result ℕ Ended) → IsAnswered terms s m answer s'
+    → result ≡ effect_of answer → IfOk result (λ refused. TakesMessage terms s m refused s')
+taken terms s s' m answer (Ok refused) tells is = (answer, tells, sym is)
+taken terms s s' m answer (Err ended) tells is = tt
 
 -- a refusal by the tape at which the line ends
-stopped_by : (listing : Names) (matrix : Matrix) (s s' : SeatState) (m : Message) (r : Refusal) → TellsWhy listing matrix s m (line.Refused r) s'
-    → IfErr (refusal_effect r) (λ ended. (s' ≡ s) × StopsAt ended listing matrix s m)
-stopped_by listing matrix s s' m tape.Closed tells = tt
-stopped_by listing matrix s s' m tape.Full tells = tt
-stopped_by listing matrix s s' m tape.WrongLine tells = tt
-stopped_by listing matrix s s' m tape.UnknownParticipant tells = tt
-stopped_by listing matrix s s' m tape.Stale tells = tt
-stopped_by listing matrix s s' m tape.UnknownSymbol tells = tt
-stopped_by listing matrix s s' m tape.NoSuchReport tells = tt
-stopped_by listing matrix s s' m tape.OtherSymbol tells = tt
-stopped_by listing matrix s s' m tape.Cancelled tells = tt
-stopped_by listing matrix s s' m tape.OutOfMemory tells = (tells.seat, subst (TellsWhy listing matrix s m (line.Refused tape.OutOfMemory)) tells.seat tells)
-stopped_by listing matrix s s' m tape.WrongNumber tells = tt
-stopped_by listing matrix s s' m tape.Standing tells = tt
-stopped_by listing matrix s s' m tape.NotInMatrix tells = tt
+stopped_by : (terms : Terms) (s s' : SeatState) (m : Message) (r : Refusal) → TellsWhy terms s m (line.Refused r) s'
+    → IfErr (refusal_effect r) (λ ended. (s' ≡ s) × StopsAt ended terms s m)
+stopped_by terms s s' m tape.Closed tells = tt
+stopped_by terms s s' m tape.Full tells = tt
+stopped_by terms s s' m tape.WrongLine tells = tt
+stopped_by terms s s' m tape.UnknownParticipant tells = tt
+stopped_by terms s s' m tape.Stale tells = tt
+stopped_by terms s s' m tape.UnknownSymbol tells = tt
+stopped_by terms s s' m tape.NoSuchReport tells = tt
+stopped_by terms s s' m tape.OtherSymbol tells = tt
+stopped_by terms s s' m tape.Cancelled tells = tt
+stopped_by terms s s' m tape.OutOfMemory tells = (tells.seat, subst (TellsWhy terms s m (line.Refused tape.OutOfMemory)) tells.seat tells)
+stopped_by terms s s' m tape.WrongNumber tells = tt
+stopped_by terms s s' m tape.Standing tells = tt
+stopped_by terms s s' m tape.NotInMatrix tells = tt
 
 -- an answer at which the line ends leaves the seat as it was, and gives the reason of the end
-effect-stops : (listing : Names) (matrix : Matrix) (s s' : SeatState) (m : Message) (answer : Result ℕ LineRefusal) → IsAnswered listing matrix s m answer s'
-    → IfErr (effect_of answer) (λ ended. (s' ≡ s) × StopsAt ended listing matrix s m)
-effect-stops listing matrix s s' m (Ok number) tells = tt
-effect-stops listing matrix s s' m (Err line.Behind) tells = (tells.seat, subst (TellsWhy listing matrix s m line.Behind) tells.seat tells)
-effect-stops listing matrix s s' m (Err (line.Refused r)) tells = stopped_by listing matrix s s' m r tells
+effect-stops : (terms : Terms) (s s' : SeatState) (m : Message) (answer : Result ℕ LineRefusal) → IsAnswered terms s m answer s'
+    → IfErr (effect_of answer) (λ ended. (s' ≡ s) × StopsAt ended terms s m)
+effect-stops terms s s' m (Ok number) tells = tt
+effect-stops terms s s' m (Err line.Behind) tells = (tells.seat, subst (TellsWhy terms s m line.Behind) tells.seat tells)
+effect-stops terms s s' m (Err (line.Refused r)) tells = stopped_by terms s s' m r tells
 
 -- an answer at which the line ends
-pub stopped : (listing : Names) (matrix : Matrix) (s s' : SeatState) (m : Message) (answer : Result ℕ LineRefusal) (result : Result ℕ Ended) → IsAnswered listing matrix s m answer s'
-    → result ≡ effect_of answer → IfErr result (λ ended. (s' ≡ s) × StopsAt ended listing matrix s m)
-stopped listing matrix s s' m answer result tells is =
-    subst (λ (r : Result ℕ Ended). IfErr r (λ ended. (s' ≡ s) × StopsAt ended listing matrix s m)) (sym is) (effect-stops listing matrix s s' m answer tells)
+pub stopped : (terms : Terms) (s s' : SeatState) (m : Message) (answer : Result ℕ LineRefusal) (result : Result ℕ Ended) → IsAnswered terms s m answer s'
+    → result ≡ effect_of answer → IfErr result (λ ended. (s' ≡ s) × StopsAt ended terms s m)
+stopped terms s s' m answer result tells is =
+    subst (λ (r : Result ℕ Ended). IfErr r (λ ended. (s' ≡ s) × StopsAt ended terms s m)) (sym is) (effect-stops terms s s' m answer tells)
 
 -- where nothing was read, no frame is done and the seat is as it was
-pub does_none : (listing : Names) (matrix : Matrix) (s : SeatState) (had : Option (List ℕ)) → Does listing matrix s had had 0 0 s
+pub does_none : (terms : Terms) (s : SeatState) (had : Option (List ℕ)) → Does terms s had had 0 0 s
 unfolding AreDone
-does_none listing matrix s had = record {
+does_none terms s had = record {
   frames = [];
   number = refl;
   read = Consumes-nil had;
@@ -116,11 +115,11 @@ does_none listing matrix s had = record {
 }
 
 -- where one frame was read and done, one is done
-pub does_one : (listing : Names) (matrix : Matrix) (s s' : SeatState) (had rest : Option (List ℕ)) (frame : List ℕ) (refused : ℕ) → IsFrame frame
-    → IsDone listing matrix s frame refused s' → Consumes had rest frame → Does listing matrix s had rest 1 refused s'
+pub does_one : (terms : Terms) (s s' : SeatState) (had rest : Option (List ℕ)) (frame : List ℕ) (refused : ℕ) → IsFrame frame
+    → IsDone terms s frame refused s' → Consumes had rest frame → Does terms s had rest 1 refused s'
 unfolding AreDone
-does_one listing matrix s s' had rest frame refused is done read =
-    let many = counts listing matrix s s' frame refused done in
+does_one terms s s' had rest frame refused is done read =
+    let many = counts terms s s' frame refused done in
     record {
       frames = frame ∷ [];
       number = refl;
@@ -132,69 +131,69 @@ does_one listing matrix s s' had rest frame refused is done read =
     }
 
 -- two lists of frames that are done one after the other are done as one list
-done_both : (listing : Names) (matrix : Matrix) (s s' s'' : SeatState) (xs ys : List (List ℕ)) (n m : ℕ) → AreDone listing matrix s xs n s' → AreDone listing matrix s' ys m s''
-    → AreDone listing matrix s (xs ++ ys) (n + m) s''
+done_both : (terms : Terms) (s s' s'' : SeatState) (xs ys : List (List ℕ)) (n m : ℕ) → AreDone terms s xs n s' → AreDone terms s' ys m s''
+    → AreDone terms s (xs ++ ys) (n + m) s''
 unfolding AreDone
-done_both listing matrix s s' s'' [] ys n m one two =
+done_both terms s s' s'' [] ys n m one two =
     let none : n + m ≡ m = omega (arith, one.1) in
-    subst (λ (k : ℕ). AreDone listing matrix s ys k s'') (sym none) (subst (λ (x : SeatState). AreDone listing matrix x ys m s'') one.0 two)
-done_both listing matrix s s' s'' (frame ∷ xs) ys n m (between, first, others, is, done, later, sum) two =
-    (between, first, others + m, is, done, done_both listing matrix between s' s'' xs ys others m later two, omega (arith, sum))
+    subst (λ (k : ℕ). AreDone terms s ys k s'') (sym none) (subst (λ (x : SeatState). AreDone terms x ys m s'') one.0 two)
+done_both terms s s' s'' (frame ∷ xs) ys n m (between, first, others, is, done, later, sum) two =
+    (between, first, others + m, is, done, done_both terms between s' s'' xs ys others m later two, omega (arith, sum))
 
 -- frames that are done one part after the other are done together
-pub does_both : (listing : Names) (matrix : Matrix) (s s' s'' : SeatState) (had left rest : Option (List ℕ)) (n m a b many refused : ℕ)
-    → Does listing matrix s had left n a s' → Does listing matrix s' left rest m b s'' → many ≡ n + m → refused ≡ a + b
-    → Does listing matrix s had rest many refused s''
-does_both listing matrix s s' s'' had left rest n m a b many refused one two all more = record {
+pub does_both : (terms : Terms) (s s' s'' : SeatState) (had left rest : Option (List ℕ)) (n m a b many refused : ℕ)
+    → Does terms s had left n a s' → Does terms s' left rest m b s'' → many ≡ n + m → refused ≡ a + b
+    → Does terms s had rest many refused s''
+does_both terms s s' s'' had left rest n m a b many refused one two all more = record {
   frames = one.frames ++ two.frames;
   number = omega (arith, length-append one.frames two.frames, one.number, two.number, all);
   read =
       subst (Consumes had rest) (sym (concat-append one.frames two.frames))
       (Consumes-trans had left rest (concat one.frames) (concat two.frames) one.read two.read);
   done =
-      subst (λ (k : ℕ). AreDone listing matrix s (one.frames ++ two.frames) k s'') (sym more)
-      (done_both listing matrix s s' s'' one.frames two.frames a b one.done two.done);
+      subst (λ (k : ℕ). AreDone terms s (one.frames ++ two.frames) k s'') (sym more)
+      (done_both terms s s' s'' one.frames two.frames a b one.done two.done);
   sum = omega (arith, one.sum, two.sum, all, more);
   few = omega (arith, one.few, two.few, all, more);
   same = two.same ∙ one.same;
 }
 
 -- an end that the input brings is an end of the line
-pub input_end : (ended : Ended) (listing : Names) (matrix : Matrix) (s : SeatState) (had rest : Option (List ℕ)) → EndsInput ended had rest
-    → EndsAfter ended listing matrix s had rest
-input_end Clean listing matrix s had rest end = end
-input_end Truncated listing matrix s had rest end = end
-input_end Oversize listing matrix s had rest end = end
-input_end ReadFault listing matrix s had rest end = end
-input_end TooMany listing matrix s had rest end = absurd end
-input_end OutOfMemory listing matrix s had rest end = absurd end
-input_end Behind listing matrix s had rest end = absurd end
+pub input_end : (ended : Ended) (terms : Terms) (s : SeatState) (had rest : Option (List ℕ)) → EndsInput ended had rest
+    → EndsAfter ended terms s had rest
+input_end Clean terms s had rest end = end
+input_end Truncated terms s had rest end = end
+input_end Oversize terms s had rest end = end
+input_end ReadFault terms s had rest end = end
+input_end TooMany terms s had rest end = absurd end
+input_end OutOfMemory terms s had rest end = absurd end
+input_end Behind terms s had rest end = absurd end
 
 -- an end that a refusal brings is an end of the line
-pub refusal_end : (ended : Ended) (listing : Names) (matrix : Matrix) (s : SeatState) (had rest : Option (List ℕ)) (frame : List ℕ) (m : Message)
-    → Consumes had rest frame → IsFrame frame → Spells frame m → StopsAt ended listing matrix s m → EndsAfter ended listing matrix s had rest
-refusal_end Clean listing matrix s had rest frame m read is spells stop = absurd stop
-refusal_end Truncated listing matrix s had rest frame m read is spells stop = absurd stop
-refusal_end Oversize listing matrix s had rest frame m read is spells stop = absurd stop
-refusal_end ReadFault listing matrix s had rest frame m read is spells stop = absurd stop
-refusal_end TooMany listing matrix s had rest frame m read is spells stop = absurd stop
-refusal_end OutOfMemory listing matrix s had rest frame m read is spells stop = (frame, m, read, is, spells, stop)
-refusal_end Behind listing matrix s had rest frame m read is spells stop = (frame, m, read, is, spells, stop)
+pub refusal_end : (ended : Ended) (terms : Terms) (s : SeatState) (had rest : Option (List ℕ)) (frame : List ℕ) (m : Message)
+    → Consumes had rest frame → IsFrame frame → Spells frame m → StopsAt ended terms s m → EndsAfter ended terms s had rest
+refusal_end Clean terms s had rest frame m read is spells stop = absurd stop
+refusal_end Truncated terms s had rest frame m read is spells stop = absurd stop
+refusal_end Oversize terms s had rest frame m read is spells stop = absurd stop
+refusal_end ReadFault terms s had rest frame m read is spells stop = absurd stop
+refusal_end TooMany terms s had rest frame m read is spells stop = absurd stop
+refusal_end OutOfMemory terms s had rest frame m read is spells stop = (frame, m, read, is, spells, stop)
+refusal_end Behind terms s had rest frame m read is spells stop = (frame, m, read, is, spells, stop)
 
 -- neither brings the end of as many frames as ever are
 pub input_few : (ended : Ended) (had rest : Option (List ℕ)) → EndsInput ended had rest → ended ≢ TooMany
 input_few ended had rest end is = subst (λ (e : Ended). EndsInput e had rest) is end
 
 -- nor is the end at a message that of as many frames as ever are
-pub refusal_few : (ended : Ended) (listing : Names) (matrix : Matrix) (s : SeatState) (m : Message) → StopsAt ended listing matrix s m → ended ≢ TooMany
-refusal_few ended listing matrix s m stop is = subst (λ (e : Ended). StopsAt e listing matrix s m) is stop
+pub refusal_few : (ended : Ended) (terms : Terms) (s : SeatState) (m : Message) → StopsAt ended terms s m → ended ≢ TooMany
+refusal_few ended terms s m stop is = subst (λ (e : Ended). StopsAt e terms s m) is stop
 
 -- a line that ended before it did as many frames as ever are
-pub runs_ended : (listing : Names) (matrix : Matrix) (s s' s'' : SeatState) (had left rest : Option (List ℕ)) (many refused : ℕ) (ended : Ended)
-    → Does listing matrix s had left many refused s' → s'' ≡ s' → EndsAfter ended listing matrix s' left rest → ended ≢ TooMany → many < FRAMES_MOST
-    → Runs listing matrix s had rest refused ended s''
-runs_ended listing matrix s s' s'' had left rest many refused ended does same after goes_on fewer =
-    subst (Runs listing matrix s had rest refused ended) (sym same) (record {
+pub runs_ended : (terms : Terms) (s s' s'' : SeatState) (had left rest : Option (List ℕ)) (many refused : ℕ) (ended : Ended)
+    → Does terms s had left many refused s' → s'' ≡ s' → EndsAfter ended terms s' left rest → ended ≢ TooMany → many < FRAMES_MOST
+    → Runs terms s had rest refused ended s''
+runs_ended terms s s' s'' had left rest many refused ended does same after goes_on fewer =
+    subst (Runs terms s had rest refused ended) (sym same) (record {
       many = many;
       left = left;
       does = does;
@@ -204,9 +203,9 @@ runs_ended listing matrix s s' s'' had left rest many refused ended does same af
     })
 
 -- a line that did as many frames as ever are
-pub runs_most : (listing : Names) (matrix : Matrix) (s s' : SeatState) (had rest : Option (List ℕ)) (many refused : ℕ)
-    → Does listing matrix s had rest many refused s' → many ≡ FRAMES_MOST → Runs listing matrix s had rest refused TooMany s'
-runs_most listing matrix s s' had rest many refused does all = record {
+pub runs_most : (terms : Terms) (s s' : SeatState) (had rest : Option (List ℕ)) (many refused : ℕ)
+    → Does terms s had rest many refused s' → many ≡ FRAMES_MOST → Runs terms s had rest refused TooMany s'
+runs_most terms s s' had rest many refused does all = record {
   many = many;
   left = rest;
   does = does;

@@ -12,7 +12,7 @@ use Rattle.participant_lines.specs.declared.line_end.Ended.TheVariants.{Clean, T
 abbrev pub IsLength : ℕ → Type 0
 IsLength len = (1 ≤ len) × (len ≤ LONGEST_BODY)
 
--- a frame: a length of 1 to 64 in two bytes, and as many bytes
+-- a frame: its length in two bytes, and as many bytes
 pub record IsFrame (frame : List ℕ) : Type 0 where
   pub len : IsLength (announced_length frame)
   pub whole : length frame ≡ 2 + announced_length frame
@@ -26,7 +26,7 @@ IsSpelled frame (Err fault) = message_at frame ≡ Err fault
 abbrev pub ReadsFrame : Option (List ℕ) → Option (List ℕ) → Result Message MessageFault → Type 0
 ReadsFrame had rest found = (frame : List ℕ) × IsFrame frame × Consumes had rest frame × IsSpelled frame found
 
--- the front of a frame and not all of it: one byte or none, or a length of 1 to 64 and fewer bytes than it says
+-- the front of a frame and not all of it: one byte or none, or a length and fewer bytes than it says
 abbrev pub IsPart : List ℕ → Type 0
 IsPart part = (length part < 2) ⊎ (IsLength (announced_length part) × (length part < 2 + announced_length part))
 

@@ -1,14 +1,13 @@
 -- A line's run, from its seat and its reader to its end.
 use Rattle.std.specs.Prelude.{ℕ, List, Option, Some}
+use Rattle.line_ledger.specs.Days.{Terms}
 use Rattle.line_ledger.specs.Seats.{SeatState}
-use Rattle.tape_types.specs.Names.{Names}
-use Rattle.sale_matrix.specs.declared.matrix.Matrix.{Matrix}
 use Rattle.participant_lines.specs.Runs.{Runs}
 use Rattle.participant_lines.specs.declared.line_end.Ended.{Ended}
 
 -- the line has run, and its reader is spent
-abbrev pub HasRun : Names → Matrix → SeatState → Option (List ℕ) → ℕ → Ended → SeatState → Type 0
-HasRun listing matrix s had refused ended s' = (rest : Option (List ℕ)) × Runs listing matrix s had rest refused ended s'
+abbrev pub HasRun : Terms → SeatState → Option (List ℕ) → ℕ → Ended → SeatState → Type 0
+HasRun terms s had refused ended s' = (rest : Option (List ℕ)) × Runs terms s had rest refused ended s'
 
 -- a line whose reader is still held
 abbrev pub held : {S R : Type 0} → S × R → S × Option R

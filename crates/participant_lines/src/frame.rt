@@ -5,7 +5,7 @@ ghost use Rattle.reports.specs.Reading.{announced_length, LONGEST_FRAME};
 ghost use Rattle.participant_lines.specs.Frames.{EndsInput, IsFrame, IsLength, IsSpelled, ReadsFrame};
 
 use crate::Ended;
-use reports::{LONGEST_BODY, LONGEST_FRAME, Message, MessageFault, Unread, decode};
+use reports::{LONGEST_FRAME, Message, MessageFault, Unread, decode, is_oversize};
 use row_reads::fill;
 use std::io::{BufRead, ErrorKind, Read};
 
@@ -63,7 +63,7 @@ fn read_length<R: Read>(reader: &mut R, row: &mut [u8; LONGEST_FRAME]) -> Result
         Some(_) => {}
     }
     let len = length_in_front(row).unwrap();
-    if len == 0 || len > LONGEST_BODY {
+    if is_oversize(len) {
         return Err(Ended::Oversize);
     }
     Ok(len)
@@ -111,7 +111,7 @@ fn frame_in(bytes: &[u8]) -> Option<&[u8]>
     ensures frame { IfSome result (λ frame. IsFrame frame.now) }
 {
     let len = length_in_front(bytes)?;
-    if len == 0 || len > LONGEST_BODY || bytes.len() < LENGTH_BYTES + len {
+    if is_oversize(len) || bytes.len() < LENGTH_BYTES + len {
         return None;
     }
     Some(&bytes[..LENGTH_BYTES + len])

@@ -7,17 +7,18 @@ use line_ledger::{DayName, LineSeat};
 pub enum Ended {
     /// The input ended, and the frames were all of it.
     Clean,
-    /// The input ended within a frame: after one byte, or after a length of 1 to 64 and fewer bytes than it says.
+    /// The input ended within a frame: after one byte, or after a length of 1 to `LONGEST_BODY` and fewer bytes
+    /// than it says.
     Truncated,
-    /// 11: a length of 0 or above 64 came next.
+    /// A length of 0 or above `LONGEST_BODY` came next.
     Oversize,
     /// A read failed. What was read after the frames that were done is not a whole frame.
     ReadFault,
     /// `FRAMES_MOST` frames were done, which is the most. What follows them is left unread.
     TooMany,
-    /// 40: memory ran out for the next frame's message. The frame was read, and nothing changed; it is not counted.
+    /// Memory ran out for the next frame's message. The frame was read, and nothing changed; it is not counted.
     OutOfMemory,
-    /// 94: the tape's count, sizes or last number of the participant is not what the seat was told. The next frame was read, and
+    /// The tape's count, sizes or last number of the participant is not what the seat was told. The next frame was read, and
     /// nothing changed; it is not counted.
     Behind,
 }
@@ -26,8 +27,8 @@ pub enum Ended {
 pub struct LineEnd<D: DayName> {
     /// The line's seat, with what it was told.
     pub seat: LineSeat<D>,
-    /// How many frames were refused, from 0 to 33,554,432: those that spell no message (13 to 21), and those whose message the
-    /// tape does not take (32, 33, 35 to 39, 43 and 44).
+    /// How many frames were refused, from 0 to `FRAMES_MOST`: those that spell no message, and those whose message the tape does
+    /// not take, out of memory aside.
     pub refused: u32,
     /// Why no more were done.
     pub ended: Ended,

@@ -85,7 +85,7 @@ fn run_each<
     ensures len { length lines.new ≡ length lines.old }
     ensures who { (i : ℕ) (d : _) → i < length lines.old → (slice_index_or lines.new i d).seat.who ≡ (slice_index_or lines.old i d).seat.who }
     ensures each { (i : ℕ) (d : _) → i < length lines.old → (r : _) → (slice_index_or lines.old i d).reader ≡ Some r
-        → HasRun D.listing D.matrix (slice_index_or lines.old i d).seat (R.remaining r)
+        → HasRun D.terms (slice_index_or lines.old i d).seat (R.remaining r)
         (slice_index_or lines.new i d).outcome.refused (slice_index_or lines.new i d).outcome.ended (slice_index_or lines.new i d).seat }
     ensures closed { (i : ℕ) (d : _) → i < length lines.old → (slice_index_or lines.new i d).reader ≡ None }
 {
@@ -95,7 +95,7 @@ fn run_each<
     }
     let work = |line: usize, running: &mut Running<D, R>|
         ensures who { running.exit.now.seat.who ≡ running.entry.now.seat.who }
-        ensures ran { (r : _) → running.entry.now.reader ≡ Some r → HasRun D.listing D.matrix running.entry.now.seat (R.remaining r)
+        ensures ran { (r : _) → running.entry.now.reader ≡ Some r → HasRun D.terms running.entry.now.seat (R.remaining r)
             running.exit.now.outcome.refused running.exit.now.outcome.ended running.exit.now.seat }
         ensures closed { running.exit.now.reader ≡ None }
     { run_one(rt, shared, line, running, gate) };
@@ -111,7 +111,7 @@ fn run_one<D: DayName, R: BufRead + Drop, G: Gate, W: Wait>(
     gate: &G,
 )
     ensures who { running.new.seat.who ≡ running.old.seat.who }
-    ensures ran { (r : _) → running.old.reader ≡ Some r → HasRun D.listing D.matrix running.old.seat (R.remaining r)
+    ensures ran { (r : _) → running.old.reader ≡ Some r → HasRun D.terms running.old.seat (R.remaining r)
         running.new.outcome.refused running.new.outcome.ended running.new.seat }
     ensures closed { running.new.reader ≡ None }
 {
@@ -158,7 +158,7 @@ pub fn run_lines<
     ensures len { IfOk result (λ ends. length ends.items ≡ length lines.items) }
     // Each end is that of the line at its position.
     ensures each { IfOk result (λ ends. (i : ℕ) (l : _) (e : _) → i < length lines.items
-        → HasRun D.listing D.matrix (slice_index_or lines.items i l).0 (R.remaining (slice_index_or lines.items i l).1)
+        → HasRun D.terms (slice_index_or lines.items i l).0 (R.remaining (slice_index_or lines.items i l).1)
         (slice_index_or ends.items i e).refused (slice_index_or ends.items i e).ended (slice_index_or ends.items i e).seat) }
     ensures same { IfOk result (λ ends. map (λ e. e.seat.who) ends.items ≡ map (λ l. l.0.who) lines.items) }
     ensures back { IfErr result (λ unstarted. (unstarted.ends.items ≡ []) × (unstarted.lines.items ≡ lines.items)) }

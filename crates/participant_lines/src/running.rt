@@ -46,8 +46,8 @@ fn take_message<D: DayName, W: Wait>(
     seat: &mut LineSeat<D>,
     message: Message,
 ) -> Result<u32, Ended>
-    ensures ok { IfOk result (λ refused. TakesMessage D.listing D.matrix seat.old message refused seat.new) }
-    ensures err { IfErr result (λ ended. (seat.new ≡ seat.old) × StopsAt ended D.listing D.matrix seat.old message) }
+    ensures ok { IfOk result (λ refused. TakesMessage D.terms seat.old message refused seat.new) }
+    ensures err { IfErr result (λ ended. (seat.new ≡ seat.old) × StopsAt ended D.terms seat.old message) }
 {
     effect_of(shared.admit(rt, seat, message))
 }
@@ -62,9 +62,9 @@ fn do_frame<D: DayName, R: BufRead, W: Wait>(
     reader: &mut R,
     row: &mut [u8; LONGEST_FRAME],
 ) -> Result<u32, Ended>
-    ensures ok { IfOk result (λ refused. Does D.listing D.matrix seat.old (R.remaining reader.old) (R.remaining reader.new) 1 refused seat.new) }
+    ensures ok { IfOk result (λ refused. Does D.terms seat.old (R.remaining reader.old) (R.remaining reader.new) 1 refused seat.new) }
     ensures same { IfErr result (λ _. seat.new ≡ seat.old) }
-    ensures err { IfErr result (λ ended. EndsAfter ended D.listing D.matrix seat.old (R.remaining reader.old) (R.remaining reader.new)) }
+    ensures err { IfErr result (λ ended. EndsAfter ended D.terms seat.old (R.remaining reader.old) (R.remaining reader.new)) }
     ensures goes_on { IfErr result (λ ended. ended ≢ TooMany) }
 {
     let spelled = match read_spelled(reader, row) {
@@ -86,7 +86,7 @@ pub(crate) fn run_frames<D: DayName, R: BufRead, G: Gate, W: Wait>(
     reader: &mut R,
     gate: &G,
 ) -> Outcome
-    ensures { Runs D.listing D.matrix seat.old (R.remaining reader.old) (R.remaining reader.new) result.refused result.ended seat.new }
+    ensures { Runs D.terms seat.old (R.remaining reader.old) (R.remaining reader.new) result.refused result.ended seat.new }
 {
     let mut row = [0; LONGEST_FRAME];
     let mut refused = 0;
@@ -104,8 +104,8 @@ pub(crate) fn run_frames<D: DayName, R: BufRead, G: Gate, W: Wait>(
 }
 
 /// Runs a line: reads frames, one after the other, and admits their messages by the line's seat. A frame is a length of 1
-/// to 64 in two bytes, big-endian, and as many bytes. One that spells no message is refused (13 to 21), and so is one whose
-/// message the tape does not take (32, 33, 35 to 39, 43 and 44): that is counted, and the line goes on.
+/// to `LONGEST_BODY` in two bytes, big-endian, and as many bytes. One that spells no message is refused, and so is one whose
+/// message the tape does not take, out of memory aside: that is counted, and the line goes on.
 ///
 /// It ends as `Ended` says, and hands the seat back in each case. It reads no byte after those that decide the end, takes no
 /// memory but what an admission takes, and may wait for the lock. After each frame that is done it calls the gate with the
@@ -118,7 +118,7 @@ pub fn run_line<D: DayName, R: BufRead, G: Gate, W: Wait>(
     reader: &mut R,
     gate: &G,
 ) -> LineEnd<D>
-    ensures runs { Runs D.listing D.matrix seat (R.remaining reader.old) (R.remaining reader.new) result.refused result.ended result.seat }
+    ensures runs { Runs D.terms seat (R.remaining reader.old) (R.remaining reader.new) result.refused result.ended result.seat }
 {
     let mut seat = seat;
     let Outcome { refused, ended } = run_frames(rt, shared, line, &mut seat, reader, gate);

@@ -52,8 +52,8 @@ fn figures<D: DayName, R: BufRead, G: Gate, W: Wait + Abort>(
 ) -> Option<Figures>
     requires name { prepared.blank.name ≡ D.name }
     requires parts { prepared.blank.parts ≡ D.parts }
-    requires listing { prepared.tape.listing ≡ D.listing }
-    requires matrix { prepared.tape.matrix ≡ D.matrix }
+    requires listing { prepared.tape.listing ≡ D.terms.listing }
+    requires matrix { prepared.tape.matrix ≡ D.terms.matrix }
 {
     let Ok((shared, mut seats)) = SharedTape::<D>::open(prepared) else {
         return None;

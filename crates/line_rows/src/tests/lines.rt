@@ -164,8 +164,8 @@ fn day_after<D: DayName + Send + Sync, G: Gate + Sync, T: Threads + Wait + Abort
 ) -> Option<(Vec<LineFigures>, Day)>
     requires name { prepared.blank.name ≡ D.name }
     requires parts { prepared.blank.parts ≡ D.parts }
-    requires listing { prepared.tape.listing ≡ D.listing }
-    requires matrix { prepared.tape.matrix ≡ D.matrix }
+    requires listing { prepared.tape.listing ≡ D.terms.listing }
+    requires matrix { prepared.tape.matrix ≡ D.terms.matrix }
 {
     let Ok((shared, seats)) = SharedTape::<D>::open(prepared) else {
         return None;

@@ -89,8 +89,8 @@ fn served<D: DayName, W: Wait + Abort>(
 ) -> Option<(Set, Vec<u8>, Vec<u8>)>
     requires name { prepared.blank.name ≡ D.name }
     requires parts { prepared.blank.parts ≡ D.parts }
-    requires listing { prepared.tape.listing ≡ D.listing }
-    requires matrix { prepared.tape.matrix ≡ D.matrix }
+    requires listing { prepared.tape.listing ≡ D.terms.listing }
+    requires matrix { prepared.tape.matrix ≡ D.terms.matrix }
 {
     let Ok((shared, mut seats)) = SharedTape::<D>::open(prepared) else {
         return None;

@@ -120,8 +120,8 @@ fn five_published<D: DayName + Send + Sync, R: Threads + Wait + Abort + Sync>(
 ) -> Option<Found>
     requires name { prepared.blank.name ≡ D.name }
     requires parts { prepared.blank.parts ≡ D.parts }
-    requires listing { prepared.tape.listing ≡ D.listing }
-    requires matrix { prepared.tape.matrix ≡ D.matrix }
+    requires listing { prepared.tape.listing ≡ D.terms.listing }
+    requires matrix { prepared.tape.matrix ≡ D.terms.matrix }
 {
     let Ok((shared, mut seats)) = SharedTape::<D>::open(prepared) else {
         return None;
@@ -146,8 +146,8 @@ fn admit_one<D: DayName>(locked: &mut Locked<D>, seat: &mut LineSeat<D>, number:
 /// Admits N's report of this number on the first line.
 #[tactic(auto, using(crate::proofs::KeptSeats::each_set))]
 fn admit_first<D: DayName>(locked: &mut Locked<D>, seats: &mut Vec<LineSeat<D>>, number: u32)
-    requires { IsOneEach D.listing.participants seats.old.items }
-    ensures { IsOneEach D.listing.participants seats.new.items }
+    requires { IsOneEach D.terms.listing.participants seats.old.items }
+    ensures { IsOneEach D.terms.listing.participants seats.new.items }
 {
     if seats.is_empty() {
         return;
@@ -163,7 +163,7 @@ fn set_in<D: DayName>(locked: &mut Locked<D>, row: &CellRow, most: u32) -> SetIn
 
 /// How many entries the day's end finds.
 fn found_at_end<D: DayName>(locked: Locked<D>, row: CellRow, seats: Vec<LineSeat<D>>) -> Option<u32>
-    requires { IsOneEach D.listing.participants seats.items }
+    requires { IsOneEach D.terms.listing.participants seats.items }
 {
     match locked.finish(row, seats) {
         Ok(day) => Some(day.published()),
@@ -178,8 +178,8 @@ type Strayed = ([SetIn; 3], u32);
 fn strayed<D: DayName>(prepared: Prepared, other: &CellRow) -> Option<Strayed>
     requires name { prepared.blank.name ≡ D.name }
     requires parts { prepared.blank.parts ≡ D.parts }
-    requires listing { prepared.tape.listing ≡ D.listing }
-    requires matrix { prepared.tape.matrix ≡ D.matrix }
+    requires listing { prepared.tape.listing ≡ D.terms.listing }
+    requires matrix { prepared.tape.matrix ≡ D.terms.matrix }
 {
     let Ok((mut locked, row, mut seats)) = Locked::<D>::start(prepared) else {
         return None;
@@ -204,8 +204,8 @@ type StrayedTo = (Option<Strayed>, [SetIn; 2], Option<u32>);
 fn strayed_to<D: DayName>(alloc: Global, two: Prepared) -> Option<StrayedTo>
     requires name { two.blank.name ≡ D.name }
     requires parts { two.blank.parts ≡ D.parts }
-    requires listing { two.tape.listing ≡ D.listing }
-    requires matrix { two.tape.matrix ≡ D.matrix }
+    requires listing { two.tape.listing ≡ D.terms.listing }
+    requires matrix { two.tape.matrix ≡ D.terms.matrix }
 {
     let Ok((mut locked, row, mut seats)) = Locked::<D>::start(two) else {
         return None;

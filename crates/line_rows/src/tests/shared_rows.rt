@@ -306,8 +306,8 @@ fn played<D: DayName, R: Wait + Abort>(
 ) -> Played
     requires name { prepared.blank.name ≡ D.name }
     requires parts { prepared.blank.parts ≡ D.parts }
-    requires listing { prepared.tape.listing ≡ D.listing }
-    requires matrix { prepared.tape.matrix ≡ D.matrix }
+    requires listing { prepared.tape.listing ≡ D.terms.listing }
+    requires matrix { prepared.tape.matrix ≡ D.terms.matrix }
 {
     let Ok((shared, mut seats)) = SharedTape::<D>::open(prepared) else {
         return None;

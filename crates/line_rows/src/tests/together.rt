@@ -208,8 +208,8 @@ fn two_lines<D: DayName + Send + Sync, T: Threads + Wait + Abort + Sync>(
 ) -> Option<Whole>
     requires name { prepared.blank.name ≡ D.name }
     requires parts { prepared.blank.parts ≡ D.parts }
-    requires listing { prepared.tape.listing ≡ D.listing }
-    requires matrix { prepared.tape.matrix ≡ D.matrix }
+    requires listing { prepared.tape.listing ≡ D.terms.listing }
+    requires matrix { prepared.tape.matrix ≡ D.terms.matrix }
 {
     let Ok((shared, seats)) = SharedTape::<D>::open(prepared) else {
         return None;

@@ -18,7 +18,7 @@ returns-clause-each g c = λ i l e within.
     let line : Run → Line = λ r. (r.seat, r.reader) in
     let end : Run → End = λ r. record { seat = r.seat; refused = r.outcome.refused; ended = r.outcome.ended } in
     let Ran : Line → End → Type 0 = λ x y. (r : g.row.R.Denot) → x.1 ≡ Some r
-    → HasRun g.D.DayName.listing g.D.DayName.matrix x.0 (g.R.Read.remaining r) y.refused y.ended y.seat in
+    → HasRun g.D.DayName.terms x.0 (g.R.Read.remaining r) y.refused y.ended y.seat in
     let running = c.in-Ok-running_lines.running.items in
     let after = c.run_each.new.lines in
     let lent : c.as_mut_slice.result.now ≡ running = c.as_mut_slice.ensures.value in

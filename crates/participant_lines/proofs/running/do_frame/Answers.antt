@@ -9,7 +9,7 @@ returns-in-Ok-spelled-clause-ok g c =
     let remaining = g.R.Read.remaining in
     let read = c.in-Ok.ensures.ok in
     let spells = subst (IsSpelled read.0) c.in-Ok-spelled.is read.3 in
-    IfOk-weaker c.take_message.result _ _ (λ refused takes. does_one g.D.DayName.listing g.D.DayName.matrix c.args.seat.now c.take_message.new.seat
+    IfOk-weaker c.take_message.result _ _ (λ refused takes. does_one g.D.DayName.terms c.args.seat.now c.take_message.new.seat
     (remaining c.args.reader.now) (remaining c.read_spelled.new.reader) read.0 refused read.1 (inr (c.in-Ok-spelled.message, spells, takes)) read.2)
     c.take_message.ensures.ok
 
@@ -18,5 +18,5 @@ returns-in-Err-spelled-clause-ok g c =
     let remaining = g.R.Read.remaining in
     let read = c.in-Ok.ensures.ok in
     let fault = subst (IsSpelled read.0) c.in-Err-spelled.is read.3 in
-    does_one g.D.DayName.listing g.D.DayName.matrix c.args.seat.now c.args.seat.now (remaining c.args.reader.now) (remaining c.read_spelled.new.reader) read.0 1
+    does_one g.D.DayName.terms c.args.seat.now c.args.seat.now (remaining c.args.reader.now) (remaining c.read_spelled.new.reader) read.0 1
     read.1 (inl (c.in-Err-spelled.field-0, fault, refl, refl)) read.2

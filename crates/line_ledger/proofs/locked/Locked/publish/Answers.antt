@@ -1,28 +1,18 @@
-use Rattle.std.proofs.Common.{rules, ◌≡◌, ◌+◌, ℕ, length, subst, ap, ◌∙◌, arith}
-use Rattle.tape_core.specs.Tape.{TapeState}
-use Rattle.line_ledger.specs.Cells.{TokenAt}
-use Rattle.line_ledger.specs.Days.{LockedState}
-use Rattle.line_ledger.proofs.Pushes.{next_push}
+use Rattle.std.proofs.Common.{rules, ◌≡◌, ℕ, subst}
+use Rattle.line_ledger.specs.Cells.{NextSeen}
+use Rattle.line_ledger.specs.Publishing.{Sets}
+use Rattle.line_ledger.proofs.Publications.{next_kept}
 use Rattle.line_ledger.proofs.locked.Locked.publish.Goals as goal
 
--- one cell more was set, and is counted
-pub loop-done-preserved : goal.loop-done-preserved
-loop-done-preserved g c =
-    let first = c.args.self.now in
+-- what was seen in the cells is of the tape that is there still
+pub tokens_of-requires-clause-seen : goal.tokens_of-requires-clause-seen
+tokens_of-requires-clause-seen g c =
+    let old = c.args.self.now in
+    let new = c.set_next.new.self in
     let names = c.args.row.now in
-    let tokens = c.loop-done.tokens.items in
-    let token = c.in_ok-publish_next.field-0 in
-    let before = c.loop-done.self in
-    let was : before ≡ record first { set = first.set + c.loop-done.done } = c.loop-done.invariant.0 in
-    let tape : before.tape ≡ first.tape = ap (λ (l : LockedState). l.tape) was in
-    let set : before.set ≡ first.set + c.loop-done.done = ap (λ (l : LockedState). l.set) was in
-    let number : before.set + 1 ≡ first.set + length tokens + 1 = omega (arith, set, c.loop-done.invariant.1) in
-    let at : TokenAt names first.tape.entries (first.set + length tokens + 1) token =
-    subst (λ (n : ℕ). TokenAt names first.tape.entries n token) number
-    (subst (λ (t : TapeState). TokenAt names t.entries (before.set + 1) token) tape c.in_ok-publish_next.ensures.token) in
-    let one_more : (first.set + c.loop-done.done) + 1 ≡ first.set + (c.loop-done.done + 1) = omega arith in (
-      c.in_ok-publish_next.ensures.counted ∙ ap (λ (l : LockedState). record l { set = l.set + 1 }) was ∙ ap (λ (n : ℕ). record first { set = n }) one_more,
-      search rules,
-      search rules,
-      next_push names first.tape.entries first.set tokens c.push_reserved.new.self.items token c.loop-done.invariant.3 at c.push_reserved.ensures.items,
-    )
+    let seen = c.in_ok-seen.seen.items in
+    let entries = c.entries.result.now in
+    let did : Sets old names c.args.most seen new = search rules in
+    let set : old.set ≡ c.self.inside.set = search rules in
+    let same : entries ≡ new.tape.entries = search rules in
+    subst (λ (n : ℕ). NextSeen names entries n seen) set (next_kept old new names c.args.most seen entries did same)
