@@ -1,10 +1,14 @@
 """Running days, as the built program runs them."""
 
+import contextlib
+import itertools
 import selectors
 import socket
 import string
 import struct
 import tempfile
+import threading
+import time
 import unittest
 from pathlib import Path
 
@@ -17,15 +21,22 @@ HEADER = struct.Struct(">BcQIB")
 
 
 class SentPackets(Case):
-    """One participant sends 800 reports at once, and nobody follows."""
+    """One participant sends its reports at once, and nobody follows."""
 
     SESSION = 4_294_967_303
     REPORTS = 800
+    # More entries than two bytes count.
+    MANY = 100_100
     ENTRIES_MOST = 8
-    PACKETS_BEFORE_REST = 16
+    # After how many packets the sender rests first, and how many more it sends before each rest after that, since nobody asks.
+    PACE_LEAST = 16
+    PACE_STEP = 2
     # Seconds: a little less than the program rests, since a clock may be set back meanwhile.
     REST = 0.0009
     PAUSES = [0.24, 0.74]
+    # Seconds for which a subscriber asks: longer than all data takes, and shorter than the day waits for it.
+    ASKING = 3
+    UNPUBLISHED = bytes([72])
 
     @staticmethod
     def open_line(port):
@@ -61,41 +72,90 @@ class SentPackets(Case):
             self.take(line, taken)
         return packets
 
-    def look_at_data(self, taken):
-        """Each entry comes once, in order, in packets of at most eight and at least one of eight, with a rest after every sixteenth packet."""
+    def look_at_data(self, taken, paces, entries):
+        """Each entry comes once, in order, in packets of at most eight and at least one of eight, with a rest at each of the sender's paces."""
         last, counts = 0, set()
+        rest = next(paces)
         for at, (time, packet) in enumerate(taken):
             version, kind, session, first, count = HEADER.unpack_from(packet)
             self.assertEqual((version, kind, session, first), (2, b"D", self.SESSION, last + 1))
             self.assertTrue(1 <= count <= self.ENTRIES_MOST, count)
-            if at and at % self.PACKETS_BEFORE_REST == 0:
+            if at == rest:
                 self.assertGreaterEqual(time - taken[at - 1][0], self.REST)
+                rest += next(paces)
             last += count
             counts.add(count)
-        self.assertEqual(last, self.REPORTS)
+        self.assertEqual(last, entries)
         self.assertIn(self.ENTRIES_MOST, counts)
 
-    def look_at_ends(self, taken):
+    def look_at_ends(self, taken, entries):
         """The end comes three times, with the day's length, and a pause before the second and the third."""
-        self.assertEqual([packet for _, packet in taken], 3 * [HEADER.pack(2, b"E", self.SESSION, self.REPORTS, 0)])
+        self.assertEqual([packet for _, packet in taken], 3 * [HEADER.pack(2, b"E", self.SESSION, entries, 0)])
         times = [time for time, _ in taken]
         for pause, before, after in zip(self.PAUSES, times, times[1:]):
             self.assertGreaterEqual(after - before, pause)
 
-    def test_each_entry_once_and_three_ends(self):
-        """PROFILE, "A running day": what is sent on lines A and B, when the sender rests, and when the ends come."""
+    def hear(self, count, serves=0, subscribe=lambda port, day: None):
+        """The packets of each line of a day of so many reports. A subscriber may do something before the reports are sent."""
         port = free_ports(4)
         lines = [self.open_line(port + 1), self.open_line(port + 2)]
         self.addCleanup(lambda: [line.close() for line in lines])
-        with started(["live", "AB", "N", port, port + 1, port + 2, port + 3, 0, self.SESSION]) as day:
+        with started(["live", "AB", "N", port, port + 1, port + 2, port + 3, serves, self.SESSION]) as day:
             with connect(port) as participant:
-                participant.sendall(reports("N", self.REPORTS))
-            a, b = self.receive(lines, day)
+                subscribe(port + 3, day)
+                participant.sendall(reports("N", count))
+            packets = self.receive(lines, day)
             self.assertEqual(ended(day).status, 0)
+        return packets
+
+    def test_each_entry_once_and_three_ends(self):
+        """PROFILE, "A running day": what is sent on lines A and B, when the sender rests, and when the ends come."""
+        a, b = self.hear(self.REPORTS)
         self.assertEqual([packet for _, packet in a], [packet for _, packet in b])
         for taken in (a, b):
-            self.look_at_data(taken[:-3])
-            self.look_at_ends(taken[-3:])
+            self.look_at_data(taken[:-3], itertools.count(self.PACE_LEAST, self.PACE_STEP), self.REPORTS)
+            self.look_at_ends(taken[-3:], self.REPORTS)
+
+    def keep_asking(self, port, day):
+        """A subscriber that asks, before the first report and until the day has no connection more, for what is not published."""
+        def ask(subscriber):
+            with contextlib.suppress(OSError), subscriber:
+                while day.poll() is None and time.monotonic() < until:
+                    subscriber.sendall(struct.pack(">QIH", self.SESSION, self.MANY, 1))
+                    subscriber.recv(1)
+        until = time.monotonic() + self.ASKING
+        subscriber = connect(port)
+        threading.Thread(target=ask, args=[subscriber], daemon=True).start()
+
+    def test_the_pace_of_who_asks(self):
+        """PROFILE, "A running day": while a subscriber asks, the sender rests after the least number of packets. A busy machine may keep the
+        subscriber from asking between two rests, so one of three days has to show it."""
+        for tries_left in (2, 1, 0):
+            try:
+                for taken in self.hear(self.REPORTS, 1, self.keep_asking):
+                    self.look_at_data(taken[:-3], itertools.repeat(self.PACE_LEAST), self.REPORTS)
+                break
+            except AssertionError:
+                if tries_left == 0:
+                    raise
+
+    def ask_once(self, port, day):
+        """A subscriber that asks once, before the first report, and goes."""
+        with connect(port) as subscriber:
+            subscriber.sendall(struct.pack(">QIH", self.SESSION, 1, 1))
+            self.assertEqual(subscriber.recv(1), self.UNPUBLISHED)
+
+    def test_the_pace_after_a_request(self):
+        """PROFILE, "A running day": a request before the first rest keeps the pace down for that rest alone."""
+        paces = itertools.chain([self.PACE_LEAST], itertools.count(self.PACE_LEAST, self.PACE_STEP))
+        for taken in self.hear(self.REPORTS, 1, self.ask_once):
+            self.look_at_data(taken[:-3], paces, self.REPORTS)
+            paces = itertools.chain([self.PACE_LEAST], itertools.count(self.PACE_LEAST, self.PACE_STEP))
+
+    def test_three_ends_of_a_long_day(self):
+        """PROFILE, "A running day": a long day ends no other way. Of its entries some may be lost here."""
+        for taken in self.hear(self.MANY):
+            self.look_at_ends(taken[-3:], self.MANY)
 
 
 class Peers(Case):
@@ -213,6 +273,14 @@ class Sockets(Case):
     def words(self, port):
         """A day's arguments, on ports from this one on."""
         return ["live", "AB", "N", port, port + 1, port + 2, port + 3, 0, 1]
+
+    def test_the_last_port(self):
+        """PROFILE, "A running day": a participant's port may be the last of all."""
+        first = 65_535
+        a, b, retransmission = ports(3)
+        with started(["live", "AB", "N", first, a, b, retransmission, 0, 1]) as day:
+            connect(first).close()
+            self.assertEqual(ended(day).status, 0)
 
     def test_ports_that_are_taken(self):
         """PROFILE, "Statuses", 3: a participant's or the retransmission's port that is taken is a read fault."""

@@ -1,5 +1,9 @@
 -- What ends a day without a report, by the status that is answered.
-use Rattle.std.specs.Prelude.{◌≤◌, ℕ, Option, IfSome}
+use Rattle.std.specs.Prelude.{◌≡◌, ◌≤◌, ◌↔◌, ℕ, List, Option, Some, None, IfSome, All, Contains}
+use Rattle.participant_lines.specs.declared.line_end.Ended.{Ended}
+use Rattle.participant_lines.specs.declared.line_end.Ended.TheVariants as ended
+use Rattle.participant_lines.specs.declared.unstarted.Lack.{Lack}
+use Rattle.participant_lines.specs.declared.unstarted.Lack.TheVariants as lack
 use Rattle.live_feed.specs.declared.fault.Fault.{Fault}
 use Rattle.live_feed.specs.declared.fault.Fault.TheVariants.{Read, Write, Memory, Worker, Disagrees}
 
@@ -14,3 +18,24 @@ fault_status Disagrees = 7
 -- what was met beside it, if anything, has no lesser status
 abbrev pub NoneBefore : Fault → Option Fault → Type 0
 NoneBefore fault met = IfSome met (λ other. fault_status fault ≤ fault_status other)
+
+-- the fault that is answered of all that were met: none exactly where none was, else one of them, of the least status
+pub record IsLeast (met : List (Option Fault)) (answer : Option Fault) : Type 0 where
+  pub none : (answer ≡ None) ↔ All (λ fault. fault ≡ None) met
+  pub one : IfSome answer (λ fault. Contains met (Some fault))
+  pub least : IfSome answer (λ fault. All (NoneBefore fault) met)
+
+-- the day's fault for the end of a line: a peer that misbehaves ends its own line alone
+abbrev pub line_fault : Ended → Option Fault
+line_fault ended.Clean = None
+line_fault ended.Truncated = None
+line_fault ended.Oversize = None
+line_fault ended.ReadFault = None
+line_fault ended.TooMany = None
+line_fault ended.OutOfMemory = Some Memory
+line_fault ended.Behind = Some Disagrees
+
+-- the day's fault where memory or a worker is lacking
+abbrev pub lack_fault : Lack → Fault
+lack_fault lack.Memory = Memory
+lack_fault lack.Worker = Worker

@@ -1,2 +1,5 @@
 pub mod Faults
+pub mod Followers
+pub mod Paces
 pub mod Reports
+pub mod Sendings

@@ -1,17 +1,21 @@
 -- The report of a day as it is written.
-use Rattle.std.specs.Prelude.{◌≡◌, ℕ, List, Option}
+use Rattle.std.specs.Prelude.{◌≡◌, ℕ, List, Option, None}
 use Rattle.std.specs.Io.KnownBytes.{Appends}
-use Rattle.tape_types.specs.Names.{Names}
+use Rattle.tape_types.specs.Names.{Names, names_fault}
 use Rattle.sale_matrix.specs.declared.matrix.Matrix.{Matrix}
 use Rattle.tape_core.specs.Tape.{TapeState, IsLegal}
 use Rattle.day_report.specs.ReportText.{report_text}
 use Rattle.day_report.specs.Rows.{report_rows}
 
--- the whole report of some legal tape was appended, and nothing else
+-- a day's listing: it has symbols and participants, not too many, and none of them twice
+abbrev pub IsListing : Names → Type 0
+IsListing listing = names_fault listing.symbols listing.participants ≡ None
+
+-- the whole report of some legal tape of a day's listing was appended, and nothing else
 abbrev pub WritesOneReport : Option (List ℕ) → Option (List ℕ) → Type 0
-WritesOneReport old new = (t : TapeState) × IsLegal t × Appends old new (report_text (report_rows t))
+WritesOneReport old new = (t : TapeState) × IsListing t.listing × IsLegal t × Appends old new (report_text (report_rows t))
 
 -- the whole report of some legal tape of the listing and the matrix was appended, and nothing else
 abbrev pub WritesItsReport : Names → Matrix → Option (List ℕ) → Option (List ℕ) → Type 0
 WritesItsReport listing matrix old new =
-    (t : TapeState) × IsLegal t × (t.listing ≡ listing) × (t.matrix ≡ matrix) × Appends old new (report_text (report_rows t))
+    (t : TapeState) × IsListing t.listing × IsLegal t × (t.listing ≡ listing) × (t.matrix ≡ matrix) × Appends old new (report_text (report_rows t))

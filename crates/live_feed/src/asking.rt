@@ -3,6 +3,7 @@ ghost use Rattle.std.specs.Prelude.{◌≡◌, ◌≢◌};
 ghost use Rattle.live_feed.specs.declared.fault.Fault.TheVariants.{Disagrees, Memory, Read, Write};
 ghost use Rattle.retransmit.specs.declared.ask_fault.AskFault.TheVariants.{OutOfMemory as AskOutOfMemory, ReadFault, WriteFault};
 
+use crate::followed::Followed;
 use crate::follower::{Follower, Next};
 use crate::{Fault, here};
 use retransmit::{AskFault, ask};
@@ -81,10 +82,10 @@ impl Asker {
     }
 
     /// Connects anew for a new subscriber. The connection of the one that was given up is closed.
-    fn reconnect<R: Net<Listener = TcpListener, Stream = TcpStream> + Wait>(
+    fn reconnect<N: Followed, R: Net<Listener = TcpListener, Stream = TcpStream> + Wait>(
         &mut self,
         rt: &R,
-        follower: &Mutex<Follower>,
+        follower: &Mutex<Follower<N>>,
     ) {
         match dial(rt, self.port) {
             Ok(connection) => {
@@ -96,10 +97,10 @@ impl Asker {
     }
 
     /// Asks for what is missing until the run is over, and sleeps while nothing is missing. The connection is closed then.
-    pub(crate) fn run<R: Net<Listener = TcpListener, Stream = TcpStream> + Wait>(
+    pub(crate) fn run<N: Followed, R: Net<Listener = TcpListener, Stream = TcpStream> + Wait>(
         self,
         rt: &R,
-        follower: &Mutex<Follower>,
+        follower: &Mutex<Follower<N>>,
         bell: &Parker,
     ) {
         let mut asker = self;

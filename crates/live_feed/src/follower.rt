@@ -1,14 +1,17 @@
 //! What a follower comes to hold, which its lines and what asks for it share.
-ghost use Rattle.std.specs.Prelude.{◌≡◌, ◌≢◌, ◌↔◌, ◌≤◌, IsSomeAnd, true};
+ghost use Rattle.std.specs.Prelude.{◌≡◌, ◌≢◌, ◌↔◌, ◌≤◌, IfOk, IsSomeAnd, true};
+ghost use Rattle.live_feed.specs.Followers.{KeepsNames};
 ghost use Rattle.live_feed.specs.declared.fault.Fault.TheVariants.{Disagrees, Memory};
 ghost use Rattle.subscriber.specs.declared.drain_fault.Stop.TheVariants.{Refused};
 ghost use Rattle.tape_core.specs.declared.refusal.Refusal.TheVariants.{OutOfMemory};
 
 use crate::Fault;
+use crate::followed::Followed;
 use crate::starting::fault_of_tape;
 use arbitration::Line;
 use sale_matrix::Matrix;
 use std::alloc::Global;
+use std::marker::PhantomData;
 use std::mem;
 use subscriber::{DeliveryFault, DrainFault, Stop, Subscriber};
 use tape_core::Refusal;
@@ -28,15 +31,18 @@ pub(crate) enum Next {
     End,
 }
 
-/// A subscriber, whether it has yet to be connected, and whether the run is over.
+/// A subscriber of the tape that is followed, whether it has yet to be connected, and whether the run is over.
 #[derive(Drop)]
-pub(crate) struct Follower {
+pub(crate) struct Follower<N: Followed> {
     alloc: Global,
     subscriber: Subscriber,
     session: u64,
     restart_after: Option<u32>,
     has_restarted: bool,
     over: Option<Result<(), Fault>>,
+    name: PhantomData<N>,
+    ghost listed: { subscriber.tape.listing ≡ N.listing },
+    ghost by_matrix: { subscriber.tape.matrix ≡ N.matrix },
 }
 
 /// The run's fault for a drain that stopped.
@@ -57,7 +63,9 @@ fn subscribe(
     limit: u32,
     matrix: Matrix,
     session: u64,
-) -> Result<Subscriber, Fault> {
+) -> Result<Subscriber, Fault>
+    ensures { IfOk result (λ subscriber. (subscriber.tape.listing ≡ listing) × (subscriber.tape.matrix ≡ matrix)) }
+{
     match Subscriber::new(alloc, listing, limit, session, matrix) {
         Ok(subscriber) => Ok(subscriber),
         Err(fault) => Err(fault_of_tape(fault)),
@@ -65,7 +73,9 @@ fn subscribe(
 }
 
 /// Another listing of the same names.
-fn copy_of(alloc: Global, listing: &Listing) -> Result<Listing, Fault> {
+fn copy_of(alloc: Global, listing: &Listing) -> Result<Listing, Fault>
+    ensures { IfOk result (λ copy. copy ≡ listing.now) }
+{
     match Listing::new(
         alloc,
         listing.symbols().as_slice(),
@@ -73,6 +83,27 @@ fn copy_of(alloc: Global, listing: &Listing) -> Result<Listing, Fault> {
     ) {
         Ok(listing) => Ok(listing),
         Err(_) => Err(Fault::Memory),
+    }
+}
+
+/// Has the subscriber take what came by a line. Bytes that are no packet of the day are dropped.
+fn deliver_to(subscriber: &mut Subscriber, line: Line, bytes: &[u8]) -> Result<(), Fault>
+    ensures { subscriber.new.tape ≡ subscriber.old.tape }
+{
+    match subscriber.deliver(line, bytes) {
+        Ok(_) => Ok(()),
+        Err(DeliveryFault::NoPacket(_) | DeliveryFault::Refused(_)) => Ok(()),
+        Err(DeliveryFault::Failed) => Err(Fault::Disagrees),
+    }
+}
+
+/// Has the subscriber replay what is ready.
+fn drain(subscriber: &mut Subscriber) -> Result<(), Fault>
+    ensures { KeepsNames subscriber.old.tape subscriber.new.tape }
+{
+    match subscriber.drain() {
+        Ok(_) => Ok(()),
+        Err(fault) => Err(fault_of_drain(fault)),
     }
 }
 
@@ -86,7 +117,7 @@ fn is_given_up(restart_after: Option<u32>, held: usize) -> bool
     }
 }
 
-impl Follower {
+impl<N: Followed> Follower<N> {
     /// A follower that holds nothing.
     pub(crate) fn new(
         alloc: Global,
@@ -95,7 +126,10 @@ impl Follower {
         matrix: Matrix,
         session: u64,
         restart_after: Option<u32>,
-    ) -> Result<Follower, Fault> {
+    ) -> Result<Follower<N>, Fault>
+        requires listing { listing ≡ N.listing }
+        requires matrix { matrix ≡ N.matrix }
+    {
         let subscriber = subscribe(alloc, listing, limit, matrix, session)?;
         Ok(Follower {
             alloc,
@@ -104,19 +138,14 @@ impl Follower {
             restart_after,
             has_restarted: false,
             over: None,
+            name: PhantomData,
         })
     }
 
     /// Takes what came by a line, and replays what is ready. Bytes that are no packet of the day are dropped.
     fn take(&mut self, line: Line, bytes: &[u8]) -> Result<(), Fault> {
-        match self.subscriber.deliver(line, bytes) {
-            Ok(_) | Err(DeliveryFault::NoPacket(_) | DeliveryFault::Refused(_)) => {}
-            Err(DeliveryFault::Failed) => return Err(Fault::Disagrees),
-        }
-        match self.subscriber.drain() {
-            Ok(_) => Ok(()),
-            Err(fault) => Err(fault_of_drain(fault)),
-        }
+        deliver_to(&mut self.subscriber, line, bytes)?;
+        drain(&mut self.subscriber)
     }
 
     /// Takes packets that were asked for. The first number that was asked for has to be held then, by these or by what a line
@@ -222,7 +251,10 @@ impl Follower {
     }
 
     /// The subscriber of a run that is over, or the fault that ended it.
-    pub(crate) fn into_subscriber(self) -> Result<Subscriber, Fault> {
+    pub(crate) fn into_subscriber(self) -> Result<Subscriber, Fault>
+        ensures listed { IfOk result (λ subscriber. subscriber.tape.listing ≡ N.listing) }
+        ensures by_matrix { IfOk result (λ subscriber. subscriber.tape.matrix ≡ N.matrix) }
+    {
         let over = self.over.unwrap_or(Err(Fault::Read));
         over.and(Ok(self.subscriber))
     }

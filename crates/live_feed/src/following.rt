@@ -1,6 +1,7 @@
 //! A follower's lines, each read until the run is over, beside what asks for what they lack.
 
 use crate::asking::Asker;
+use crate::followed::Followed;
 use crate::follower::{Follower, Next};
 use crate::{Fault, FollowSockets};
 use arbitration::Line;
@@ -25,8 +26,8 @@ struct FollowedLine<'a> {
 
 /// What the lines of a follower and what asks for it share.
 #[derive(Drop)]
-pub(crate) struct Run<'a> {
-    follower: Mutex<Follower>,
+pub(crate) struct Run<'a, N: Followed> {
+    follower: Mutex<Follower<N>>,
     /// Wakes what asks.
     bell: Parker,
     a: FollowedLine<'a>,
@@ -53,7 +54,12 @@ impl FollowedLine<'_> {
 
     /// Reads a datagram, and has the follower take it: what is next then. A read that fails ends the run, and one that was
     /// interrupted brings nothing.
-    fn read<R: Wait>(&self, rt: &R, follower: &Mutex<Follower>, room: &mut [u8]) -> Next {
+    fn read<N: Followed, R: Wait>(
+        &self,
+        rt: &R,
+        follower: &Mutex<Follower<N>>,
+        room: &mut [u8],
+    ) -> Next {
         match self.socket.recv_from(room) {
             Ok((len, _)) => follower.lock(rt).deliver(self.line, &room[..len]),
             Err(error) if error.kind() == ErrorKind::Interrupted => Next::Read,
@@ -65,9 +71,12 @@ impl FollowedLine<'_> {
     }
 }
 
-impl<'a> Run<'a> {
+impl<'a, N: Followed> Run<'a, N> {
     /// A run over these sockets.
-    pub(crate) fn new(follower: Follower, sockets: &'a FollowSockets) -> Result<Run<'a>, Fault> {
+    pub(crate) fn new(
+        follower: Follower<N>,
+        sockets: &'a FollowSockets,
+    ) -> Result<Run<'a, N>, Fault> {
         let a = followed_line(Line::A, &sockets.a);
         let b = followed_line(Line::B, &sockets.b);
         let (Ok(a), Ok(b)) = (a, b) else {
@@ -103,7 +112,7 @@ impl<'a> Run<'a> {
     }
 
     /// The follower of a run that is over.
-    pub(crate) fn into_follower(self) -> Follower {
+    pub(crate) fn into_follower(self) -> Follower<N> {
         self.follower.into_inner()
     }
 }
@@ -111,8 +120,9 @@ impl<'a> Run<'a> {
 /// Reads both lines, each in a thread of its own, and asks beside them, until the run is over. Where a thread can't be started
 /// that ends the run.
 pub(crate) fn follow_at_once<
+    N: Followed + Send,
     R: Threads + Wait + Net<Listener = TcpListener, Stream = TcpStream> + Sync,
->(rt: &R, run: &Run<'_>, asker: Asker) {
+>(rt: &R, run: &Run<'_, N>, asker: Asker) {
     thread::scope(thread::scope_env(), rt, move |scope| {
         let a = scope.spawn(move || run.read_line(rt, &run.a));
         let b = scope.spawn(move || run.read_line(rt, &run.b));

@@ -2,15 +2,18 @@
 //! day at the other end.
 #![tactic(auto)]
 
+mod asked;
 mod asking;
 mod bell;
 mod fault;
 mod feed;
 mod follow;
+mod followed;
 mod follower;
 mod following;
 mod live;
 mod loss;
+mod pace;
 mod retransmitting;
 mod running;
 mod seated;

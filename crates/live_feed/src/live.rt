@@ -1,7 +1,7 @@
 //! A live day: it accepts the participants' lines, sends the tape that they make, and reports it.
 ghost use Rattle.std.specs.Prelude.{◌≡◌, ◌≢◌, ◌⊎◌, ◌≤◌, IfErr, IfOk, None, OnOk, Some, length, true, vec_len};
 ghost use Rattle.tape_core.specs.Tape.{IsLegal};
-ghost use Rattle.line_ledger.specs.Cells.{FirstTokens, HaveAll};
+ghost use Rattle.line_ledger.specs.Cells.{FirstTokens, HaveAll, shown};
 ghost use Rattle.line_ledger.specs.Ends.{IsOneEach};
 ghost use Rattle.live_feed.specs.Faults.{NoneBefore};
 ghost use Rattle.live_feed.specs.Reports.{WritesItsReport, WritesOneReport};
@@ -9,13 +9,13 @@ ghost use Rattle.live_feed.specs.declared.fault.Fault.TheVariants.{Disagrees, Wr
 
 use crate::bell::Bell;
 use crate::feed::Feed;
-use crate::running::{Joined, run_together};
+use crate::running::{Joined, Sides, run_together};
 use crate::seated::{Ran, Reader, Waiting, seated_lines};
 use crate::sending::room_for_a_packet;
 use crate::starting::{accept_all, can_start, prepare_day};
 use crate::writing::write_day;
 use crate::{Fault, LiveSockets, Loss};
-use line_ledger::{Day, DayName, EndFault, LineSeat, Prepared, Published, SharedTape, Token};
+use line_ledger::{Day, DayName, EndFault, LineSeat, Prepared, SharedTape, Token};
 use sale_matrix::Matrix;
 use std::alloc::Global;
 use std::io::Write;
@@ -24,39 +24,14 @@ use std::net::TcpListener;
 use std::rt::Clock;
 use std::sync::Wait;
 use std::thread::Threads;
-use tape_frames::Source;
 use tape_types::Listing;
-
-/// What was found published once all had ended.
-#[derive(Drop)]
-struct Found {
-    /// A token for each entry, in order.
-    tokens: Vec<Token>,
-    /// That memory ran out for them.
-    fault: Option<Fault>,
-}
-
-/// A token of each cell that was published. A cell is set once, so its token stands for whatever was sent or served of it.
-fn find_published<D: DayName>(shared: &SharedTape<D>) -> Found
-    ensures first { FirstTokens shared.now result.tokens.items }
-{
-    let mut published = Published::new(shared);
-    let fault = match published.refresh() {
-        Ok(()) => None,
-        Err(_) => Some(Fault::Memory),
-    };
-    Found {
-        tokens: published.into_tokens(),
-        fault,
-    }
-}
 
 /// Ends the day with a seat of each participant.
 fn end_day<D: DayName>(shared: SharedTape<D>, seats: Vec<LineSeat<D>>) -> Result<Day, Fault>
-    requires { IsOneEach D.listing.participants seats.items }
+    requires { IsOneEach D.terms.listing.participants seats.items }
     ensures legal { IfOk result (λ day. IsLegal day.tape) }
-    ensures listed { IfOk result (λ day. day.tape.listing ≡ D.listing) }
-    ensures by_matrix { IfOk result (λ day. day.tape.matrix ≡ D.matrix) }
+    ensures listed { IfOk result (λ day. day.tape.listing ≡ D.terms.listing) }
+    ensures by_matrix { IfOk result (λ day. day.tape.matrix ≡ D.terms.matrix) }
     ensures cells { IfOk result (λ day. day.names ≡ shared) }
     ensures fault { IfErr result (λ fault. fault ≡ Disagrees) }
 {
@@ -83,8 +58,8 @@ fn confirms_all(day: &Day, tokens: &[Token]) -> bool
     true
 }
 
-/// Whether the day is what was sent of it: all that was published stands on its tape, and the number that the end told is
-/// how many entries it has.
+/// Whether the day is what was sent of it: the number that the end told is how many entries it has and the sender had tokens
+/// of, and each of these stands on its tape. A cell is set once, so its token stands for whatever was sent or served of it.
 fn is_as_sent(day: &Day, tokens: &[Token], number: u32) -> bool
     requires { FirstTokens day.now.names tokens.now }
     ensures number { result ≡ true → (length tokens.now ≡ number) × (length day.now.tape.entries ≡ number) }
@@ -95,38 +70,34 @@ fn is_as_sent(day: &Day, tokens: &[Token], number: u32) -> bool
         && confirms_all(day, tokens)
 }
 
-/// Ends the day that was joined and found: the day, or the fault of the least status that was met.
-fn finish_day<D: DayName>(
-    shared: SharedTape<D>,
-    joined: Joined<D>,
-    found: Found,
-) -> Result<Day, Fault>
-    requires seats { IsOneEach D.listing.participants joined.ran.seats.items }
-    requires tokens { FirstTokens shared found.tokens.items }
+/// Ends the day that was joined: the day, whose entries are those that were sent, or the fault of the least status that was met.
+fn finish_day<D: DayName>(shared: SharedTape<D>, joined: Joined<D>) -> Result<Day, Fault>
+    requires seats { IsOneEach D.terms.listing.participants joined.ran.seats.items }
+    requires tokens { FirstTokens shared joined.sides.sent.tokens.items }
     // With `least` and `met`, a fault that was met is answered by the least of all.
-    ensures none { IfOk result (λ _. (joined.sides.served ≡ None) × (joined.sides.sent.fault ≡ None) × (joined.ran.fault ≡ None) × (found.fault ≡ None)) }
+    ensures none { IfOk result (λ _. (joined.sides.served ≡ None) × (joined.sides.sent.fault ≡ None) × (joined.ran.fault ≡ None)) }
     ensures least { IfErr result (λ fault. NoneBefore fault joined.sides.served × NoneBefore fault joined.sides.sent.fault
-        × NoneBefore fault joined.ran.fault × NoneBefore fault found.fault) }
+        × NoneBefore fault joined.ran.fault) }
     ensures met { IfErr result (λ fault. (joined.sides.served ≡ Some fault) ⊎ (joined.sides.sent.fault ≡ Some fault)
-        ⊎ (joined.ran.fault ≡ Some fault) ⊎ (found.fault ≡ Some fault) ⊎ (fault ≡ Disagrees)) }
+        ⊎ (joined.ran.fault ≡ Some fault) ⊎ (fault ≡ Disagrees)) }
     ensures legal { IfOk result (λ day. IsLegal day.tape) }
-    ensures listed { IfOk result (λ day. day.tape.listing ≡ D.listing) }
-    ensures by_matrix { IfOk result (λ day. day.tape.matrix ≡ D.matrix) }
-    ensures sent { IfOk result (λ day. length day.tape.entries ≡ joined.sides.sent.number) }
+    ensures listed { IfOk result (λ day. day.tape.listing ≡ D.terms.listing) }
+    ensures by_matrix { IfOk result (λ day. day.tape.matrix ≡ D.terms.matrix) }
+    ensures number { IfOk result (λ day. length day.tape.entries ≡ joined.sides.sent.number) }
+    ensures sent { IfOk result (λ day. shown joined.sides.sent.tokens.items ≡ day.tape.entries) }
 {
     let Joined {
         ran: Ran { seats, fault },
-        sides,
+        sides: Sides { served, sent },
     } = joined;
     let ended = end_day(shared, seats);
-    let at_the_sides = Fault::least(sides.served, sides.sent.fault);
-    let at_the_lines = Fault::least(fault, found.fault);
-    if let Some(fault) = Fault::least(at_the_sides, at_the_lines) {
+    let at_the_sides = Fault::least(served, sent.fault);
+    if let Some(fault) = Fault::least(at_the_sides, fault) {
         drop(ended);
         return Err(fault);
     }
     let day = ended?;
-    if !is_as_sent(&day, &found.tokens, sides.sent.number) {
+    if !is_as_sent(&day, &sent.tokens, sent.number) {
         drop(day);
         return Err(Fault::Disagrees);
     }
@@ -143,12 +114,12 @@ fn run_named<D: DayName + Send + Sync, R: Threads + Wait + Clock + Sync, L: Loss
 ) -> Result<Day, Fault>
     requires name { prepared.blank.name ≡ D.name }
     requires parts { prepared.blank.parts ≡ D.parts }
-    requires listing { prepared.tape.listing ≡ D.listing }
-    requires matrix { prepared.tape.matrix ≡ D.matrix }
-    requires many { vec_len readers ≡ length D.listing.participants }
+    requires listing { prepared.tape.listing ≡ D.terms.listing }
+    requires matrix { prepared.tape.matrix ≡ D.terms.matrix }
+    requires many { vec_len readers ≡ length D.terms.listing.participants }
     ensures legal { IfOk result (λ day. IsLegal day.tape) }
-    ensures listed { IfOk result (λ day. day.tape.listing ≡ D.listing) }
-    ensures by_matrix { IfOk result (λ day. day.tape.matrix ≡ D.matrix) }
+    ensures listed { IfOk result (λ day. day.tape.listing ≡ D.terms.listing) }
+    ensures by_matrix { IfOk result (λ day. day.tape.matrix ≡ D.terms.matrix) }
 {
     let Ok(lines) = Vec::with_capacity(feed.alloc, readers.len()) else {
         drop(prepared);
@@ -170,8 +141,7 @@ fn run_named<D: DayName + Send + Sync, R: Threads + Wait + Clock + Sync, L: Loss
     };
     let bell = Bell::new();
     let joined = run_together(rt, feed, &shared, waiting, &bell, text);
-    let found = find_published(&shared);
-    finish_day(shared, joined, found)
+    finish_day(shared, joined)
 }
 
 /// Runs the day of what was prepared. Packets are written in the text.
@@ -256,11 +226,11 @@ fn live<R: Threads + Wait + Clock + Sync, L: Loss + Sync, W: Write>(
 /// Runs a day over sockets, and writes its report to `writer`.
 ///
 /// It waits for one connection of each participant, in listing order, closes the listener at which it came, and runs the lines
-/// at once. What they admit is
-/// published up to eight entries at a time, and each publication is sent as one packet on lines A and B, unless `loss` drops it.
-/// Once the lines have ended, the end is sent three times on each. Beside that `serves` retransmission connections are served,
-/// one after the other; with 0 of them none is awaited. After all are joined the day is ended, each entry that was published is
-/// confirmed, and the number that the end told is compared with the day's length.
+/// at once. What they admit is published up to `PUBLISHED_AT_ONCE` entries at a time, and each publication is sent as one packet
+/// on lines A and B, unless `loss` drops it. The sender rests at a pace that rises while nothing is asked for again. Once the
+/// lines have ended, the end is sent three times on each. Beside that `serves` retransmission connections are served, one after
+/// the other; with 0 of them none is awaited. After all are joined the day is ended, each entry that was sent is confirmed, and
+/// the number that the end told is compared with the day's length.
 ///
 /// The status is 0 exactly where the report was written whole and flushed. A connection whose peer misbehaves ends
 /// alone, and a packet that cannot be sent is lost. What else goes wrong is answered by the least status of all, and then

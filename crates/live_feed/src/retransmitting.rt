@@ -1,9 +1,10 @@
 //! The retransmission: subscribers are served one after the other.
-ghost use Rattle.std.specs.Prelude.{◌≡◌, ◌≢◌, None, Some};
-ghost use Rattle.live_feed.specs.declared.fault.Fault.TheVariants.{Memory};
+ghost use Rattle.std.specs.Prelude.{◌≡◌, ◌≢◌, ◌⊎◌, None, Some, IfSome};
+ghost use Rattle.live_feed.specs.declared.fault.Fault.TheVariants.{Memory, Read};
 ghost use Rattle.retransmit.specs.declared.serve_end.Ended.TheVariants.{OutOfMemory};
 
 use crate::Fault;
+use crate::asked::{Asked, Requests};
 use crate::feed::Feed;
 use line_ledger::{DayName, Published, SharedTape};
 use retransmit::{Ended, serve};
@@ -23,19 +24,29 @@ fn fault_of_serving(ended: Ended) -> Option<Fault>
 
 /// Waits for the next connection, and answers what it asks for until it ends. However its peer behaves, that ends the
 /// connection alone.
-fn serve_next<D: DayName, L>(feed: &Feed<'_, L>, shared: &SharedTape<D>) -> Option<Fault> {
+fn serve_next<D: DayName, L>(
+    feed: &Feed<'_, L>,
+    shared: &SharedTape<D>,
+    asked: &Asked,
+) -> Option<Fault>
+    ensures few { IfSome result (λ fault. (fault ≡ Read) ⊎ (fault ≡ Memory)) }
+{
     let Ok((stream, _)) = feed.retransmission.accept() else {
         return Some(Fault::Read);
     };
     // Each answer is one write, which need not wait for the one before to be acknowledged.
     let _ = stream.set_nodelay(true);
     let mut published = Published::new(shared);
+    let mut requests = Requests {
+        connection: &stream,
+        asked,
+    };
     let end = serve(
         feed.alloc,
         &mut published,
         feed.session,
         Version::Two,
-        &mut &stream,
+        &mut requests,
         &mut &stream,
     );
     fault_of_serving(end.ended)
@@ -46,10 +57,14 @@ fn serve_next<D: DayName, L>(feed: &Feed<'_, L>, shared: &SharedTape<D>) -> Opti
 pub(crate) fn serve_all<D: DayName, L>(
     feed: &Feed<'_, L>,
     shared: &SharedTape<D>,
-) -> Option<Fault> {
+    asked: &Asked,
+) -> Option<Fault>
+    ensures few { IfSome result (λ fault. (fault ≡ Read) ⊎ (fault ≡ Memory)) }
+    ensures none { feed.now.serves ≡ 0 → result ≡ None }
+{
     let mut fault = None;
     for _ in 0..feed.serves {
-        fault = Fault::least(fault, serve_next(feed, shared));
+        fault = Fault::least(fault, serve_next(feed, shared, asked));
     }
     fault
 }

@@ -1,8 +1,10 @@
 //! A day's lines, its sender and its retransmission, all at once.
 ghost use Rattle.std.specs.Prelude.{◌≡◌, None, IsSome, IfSome, map};
 ghost use Rattle.std.specs.Thread.{IsSync};
+ghost use Rattle.line_ledger.specs.Cells.{FirstTokens};
 ghost use Rattle.line_ledger.specs.Ends.{whos};
 
+use crate::asked::Asked;
 use crate::bell::Bell;
 use crate::feed::Feed;
 use crate::retransmitting::serve_all;
@@ -15,7 +17,7 @@ use std::sync::Wait;
 use std::thread::{Threads, join, join_mut};
 
 /// The outcome of the sender and of the retransmission.
-#[derive(Clone, Copy)]
+#[derive(Drop)]
 pub(crate) struct Sides {
     /// The retransmission's fault.
     pub(crate) served: Option<Fault>,
@@ -59,11 +61,14 @@ fn serve_and_send<D: DayName + Send + Sync, R: Threads + Wait + Clock + Sync, L:
     shared: &SharedTape<D>,
     bell: &Bell,
     text: &mut Vec<u8>,
-) -> Sides {
+) -> Sides
+    ensures { FirstTokens shared.now result.sent.tokens.items }
+{
+    let asked = Asked::new();
     let (served, sent) = join(
         rt,
-        || serve_all(feed, shared),
-        || send_day(rt, feed, shared, bell, text),
+        || serve_all(feed, shared, &asked),
+        || send_day(rt, feed, shared, bell, &asked, text),
     );
     Sides { served, sent }
 }
@@ -84,6 +89,7 @@ pub(crate) fn run_together<
     text: &mut Vec<u8>,
 ) -> Joined<D>
     ensures whos { whos result.ran.seats.items ≡ map (λ l. l.0.who) waiting.lines.items }
+    ensures first { FirstTokens shared.now result.sides.sent.tokens.items }
 {
     let mut waiting = Some(waiting);
     let (sides, ran) = join_mut(

@@ -1,10 +1,8 @@
 //! The lines with their seats, before they run and after.
-ghost use Rattle.std.specs.Prelude.{◌≡◌, ◌≢◌, ◌≤◌, [], None, Some, map, vec_len};
+ghost use Rattle.std.specs.Prelude.{◌≡◌, ◌≤◌, [], Some, map, vec_len};
 ghost use Rattle.std.specs.Vec.{vec_capacity};
 ghost use Rattle.line_ledger.specs.Ends.{whos};
-ghost use Rattle.live_feed.specs.declared.fault.Fault.TheVariants.{Memory, Worker, Disagrees};
-ghost use Rattle.participant_lines.specs.declared.line_end.Ended.TheVariants.{OutOfMemory, Behind};
-ghost use Rattle.participant_lines.specs.declared.unstarted.Lack.TheVariants.{Memory as LackOfMemory, Worker as LackOfWorker};
+ghost use Rattle.live_feed.specs.Faults.{IsLeast, lack_fault, line_fault};
 
 use crate::Fault;
 use crate::bell::Bell;
@@ -70,9 +68,7 @@ pub(crate) fn seated_lines<D: DayName>(
 
 /// The day's fault for the end of a line. A peer that misbehaves ends its own line alone.
 fn fault_of_end(ended: Ended) -> Option<Fault>
-    ensures memory { ended ≡ OutOfMemory → result ≡ Some Memory }
-    ensures behind { ended ≡ Behind → result ≡ Some Disagrees }
-    ensures other { ended ≢ OutOfMemory → ended ≢ Behind → result ≡ None }
+    ensures { result ≡ line_fault ended }
 {
     match ended {
         Ended::OutOfMemory => Some(Fault::Memory),
@@ -84,8 +80,7 @@ fn fault_of_end(ended: Ended) -> Option<Fault>
 
 /// The day's fault where memory or a worker is lacking.
 fn fault_of_lack(lack: Lack) -> Fault
-    ensures memory { lack ≡ LackOfMemory → result ≡ Memory }
-    ensures worker { lack ≡ LackOfWorker → result ≡ Worker }
+    ensures { result ≡ lack_fault lack }
 {
     match lack {
         Lack::Memory => Fault::Memory,
@@ -94,12 +89,46 @@ fn fault_of_lack(lack: Lack) -> Fault
 }
 
 /// The fault of the least status that ended lines met.
-fn fault_of_ends<D: DayName>(ends: &[LineEnd<D>]) -> Option<Fault> {
+fn fault_of_ends<D: DayName>(ends: &[LineEnd<D>]) -> Option<Fault>
+    ensures { IsLeast (map (λ e. line_fault e.ended) ends.now) result }
+{
     let mut fault = None;
     for end in ends {
         fault = Fault::least(fault, fault_of_end(end.ended));
     }
     fault
+}
+
+/// Lines that have run: the seats, and the fault of the least status that one of them met. The room is for the seats.
+fn after_running<D: DayName>(ends: Vec<LineEnd<D>>, room: Vec<LineSeat<D>>) -> Ran<D>
+    requires room { vec_len ends ≤ vec_capacity room }
+    requires empty { room.items ≡ [] }
+    ensures seats { result.seats.items ≡ map (λ e. e.seat) ends.items }
+    ensures whos { whos result.seats.items ≡ map (λ e. e.seat.who) ends.items }
+    ensures fault { IsLeast (map (λ e. line_fault e.ended) ends.items) result.fault }
+{
+    let fault = fault_of_ends(&ends);
+    Ran {
+        seats: seats_of_ends(ends, room),
+        fault,
+    }
+}
+
+/// Lines that were not started: their seats, and the fault of what was lacking. The room is for the seats.
+fn not_started<D: DayName>(unstarted: Unstarted<D, Reader>, room: Vec<LineSeat<D>>) -> Ran<D>
+    requires room { vec_len unstarted.lines ≤ vec_capacity room }
+    requires empty { room.items ≡ [] }
+    requires none { unstarted.ends.items ≡ [] }
+    ensures seats { result.seats.items ≡ map (λ l. l.0) unstarted.lines.items }
+    ensures whos { whos result.seats.items ≡ map (λ l. l.0.who) unstarted.lines.items }
+    ensures fault { result.fault ≡ Some (lack_fault unstarted.lack) }
+{
+    let Unstarted { ends, lines, lack } = unstarted;
+    ends.destroy_empty();
+    Ran {
+        seats: seats_of_lines(lines, room),
+        fault: Some(fault_of_lack(lack)),
+    }
 }
 
 /// Runs the lines at once, each in a worker that rings the bell after each message.
@@ -114,19 +143,7 @@ pub(crate) fn run_all<D: DayName + Send + Sync, R: Threads + Wait + Sync>(
 {
     let Waiting { lines, room } = waiting;
     match run_lines(rt, alloc, shared, lines, bell) {
-        Ok(ends) => {
-            let fault = fault_of_ends(&ends);
-            Ran {
-                seats: seats_of_ends(ends, room),
-                fault,
-            }
-        }
-        Err(Unstarted { ends, lines, lack }) => {
-            ends.destroy_empty();
-            Ran {
-                seats: seats_of_lines(lines, room),
-                fault: Some(fault_of_lack(lack)),
-            }
-        }
+        Ok(ends) => after_running(ends, room),
+        Err(unstarted) => not_started(unstarted, room),
     }
 }

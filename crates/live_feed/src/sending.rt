@@ -1,14 +1,20 @@
 //! The sender: what the lines admit is published and sent on both lines, and then the end.
-ghost use Rattle.std.specs.Prelude.{◌≡◌, ◌↔◌, ◌%◌, ℕ, true};
+ghost use Rattle.std.specs.Prelude.{◌≡◌, ◌<◌, ◌≤◌, ◌+◌, ◌∷◌, [], IfOk, OnOk, None, length, ℕ};
+ghost use Rattle.line_ledger.specs.Cells.{FirstTokens, shown};
+ghost use Rattle.line_ledger.specs.Publishing.{GoesOn};
 ghost use Rattle.line_ledger.specs.declared.publish_fault.PublishFault.TheVariants.{OutOfMemory, Unpublished};
+ghost use Rattle.tape_frames.specs.Sources.{IsPublished};
+ghost use Rattle.live_feed.specs.Faults.{IsLeast};
+ghost use Rattle.live_feed.specs.Sendings.{IsSent, data_text, end_text};
 ghost use Rattle.live_feed.specs.declared.fault.Fault.TheVariants.{Memory, Disagrees};
-ghost use Rattle.live_feed.specs.declared.sending.TheConstants.{PACKETS_BEFORE_REST};
 
+use crate::asked::Asked;
 use crate::bell::Bell;
 use crate::feed::Feed;
+use crate::pace::Pace;
 use crate::{Fault, Loss, here};
 use arbitration::Line;
-use line_ledger::{DayName, PublishFault, Published, SharedTape};
+use line_ledger::{DayName, PublishFault, Published, SharedTape, Token};
 use std::alloc::Global;
 use std::rt::Clock;
 use std::sync::Wait;
@@ -19,10 +25,7 @@ use tape_frames::{EntryCount, LONGEST_PACKET, Packet, Source, Version, cut, writ
 /// How many entries are published at once, no more than a packet takes.
 const PUBLISHED_AT_ONCE: u32 = 8;
 
-/// After how many packets the sender rests, so that a reader's buffer does not run over.
-const PACKETS_BEFORE_REST: u32 = 16;
-
-/// How long it rests then, in milliseconds.
+/// How long the sender rests once it sent as many packets as its pace says, in milliseconds.
 const REST: u64 = 1;
 
 /// How long the sender waits before each end, in milliseconds: a reader whose buffer is full empties it meanwhile, and one that
@@ -30,12 +33,34 @@ const REST: u64 = 1;
 const PAUSES_BEFORE_ENDS: [u64; 3] = [0, 250, 750];
 
 /// The outcome of the sender.
-#[derive(Clone, Copy)]
+#[derive(Drop)]
 pub(crate) struct Sent {
+    /// A token of each entry that it found published, in order. What it sent was cut from these entries.
+    pub(crate) tokens: Vec<Token>,
     /// The number of the last entry that was sent, which the end tells.
     pub(crate) number: u32,
-    /// Why it did not go on to the last entry.
+    /// Why it did not go on to the last entry, or sent no end.
     pub(crate) fault: Option<Fault>,
+}
+
+impl Sent {
+    /// The same once the end was sent, or met this fault.
+    fn ended(self, fault: Option<Fault>) -> Sent
+        ensures tokens { result.tokens.items ≡ self.tokens.items }
+        ensures number { result.number ≡ self.number }
+        ensures fault { IsLeast (self.fault ∷ fault ∷ []) result.fault }
+    {
+        let Sent {
+            tokens,
+            number,
+            fault: met,
+        } = self;
+        Sent {
+            tokens,
+            number,
+            fault: Fault::least(met, fault),
+        }
+    }
 }
 
 /// Why nothing is published.
@@ -63,24 +88,49 @@ fn send<L>(feed: &Feed<'_, L>, port: u16, bytes: &[u8]) {
     let _ = feed.sender.send_to(bytes, here(port));
 }
 
-/// Sends a data packet of this first number on both lines, but for those that lose it.
-fn send_data<L: Loss>(feed: &Feed<'_, L>, first: u32, bytes: &[u8]) {
+/// Sends the data packet of what is published from this number on to both lines, but for those that lose it.
+fn send_data<D: DayName, L: Loss>(
+    feed: &Feed<'_, L>,
+    published: &Published<'_, D>,
+    from: u32,
+    bytes: &[u8],
+)
+    requires { bytes.now ≡ data_text feed.now.session (shown published.now.tokens) from }
+{
+    // Only the clause speaks of what is published.
+    let _ = published;
     for (line, port) in [(Line::A, feed.ports[0]), (Line::B, feed.ports[1])] {
-        if !feed.loss.drops(line, first) {
+        if !feed.loss.drops(line, from) {
             send(feed, port, bytes);
         }
     }
 }
 
-/// Whether the sender rests after so many packets.
-fn is_rest(packets: u32) -> bool
-    ensures rest { (result ≡ true) ↔ (packets % PACKETS_BEFORE_REST ≡ 0) }
+/// Cuts the packet of what is published from this number on, and sends it: the number of its last entry. The text is only
+/// room, and holds what was sent then.
+fn send_from<D: DayName, L: Loss>(
+    feed: &Feed<'_, L>,
+    published: &Published<'_, D>,
+    from: u32,
+    text: &mut Vec<u8>,
+) -> Result<u32, Fault>
+    requires first { 1 ≤ from }
+    requires within { from ≤ length (shown published.now.tokens) }
+    requires source { IsPublished (shown published.now.tokens) }
+    ensures sent { IfOk result (λ last. IsSent feed.now.session (shown published.now.tokens) from last text.new.items) }
+    ensures last { IfOk result (λ last. (from ≤ last) × (last ≤ length (shown published.now.tokens))) }
 {
-    packets % PACKETS_BEFORE_REST == 0
+    let packet = cut(Version::Two, feed.session, from, published);
+    text.clear();
+    let Ok(()) = write_packet(&packet, text) else {
+        return Err(Fault::Memory);
+    };
+    send_data(feed, published, from, text);
+    Ok(packet.last())
 }
 
 /// Publishes what the lines admitted, so many entries at most, and sends a packet of what is published after this
-/// number: the last number that was sent then. The text is only room.
+/// number: the last number that was sent then. The text is only room, and holds what was sent last.
 fn send_next<D: DayName, R: Wait, L: Loss>(
     rt: &R,
     feed: &Feed<'_, L>,
@@ -88,77 +138,104 @@ fn send_next<D: DayName, R: Wait, L: Loss>(
     published: &mut Published<'_, D>,
     sent: u32,
     text: &mut Vec<u8>,
-) -> Result<u32, Fault> {
+) -> Result<u32, Fault>
+    requires { sent ≤ length (shown published.old.tokens) }
+    ensures cells { published.new.names ≡ published.old.names }
+    ensures kept { OnOk result (GoesOn published.old.tokens published.new.tokens) }
+    ensures last { IfOk result (λ last. (sent ≤ last) × (last ≤ length (shown published.new.tokens))) }
+    ensures nothing { IfOk result (λ last. last ≡ sent → sent ≡ length (shown published.new.tokens)) }
+    ensures packet { IfOk result (λ last. sent < last → IsSent feed.now.session (shown published.new.tokens) (sent + 1) last text.new.items) }
+{
     let set = match shared.publish(rt, PUBLISHED_AT_ONCE) {
         Ok(set) => set,
         Err(fault) => return Err(fault_of_publication(fault)),
     };
-    if published.refresh().is_err() {
+    let Ok(()) = published.refresh() else {
         return Err(Fault::Memory);
+    };
+    if published.published() > sent {
+        return send_from(feed, published, sent + 1, text);
     }
-    if published.published() <= sent {
+    if set > 0 {
         // What was set is not seen.
-        return if set > 0 {
-            Err(Fault::Disagrees)
-        } else {
-            Ok(sent)
-        };
+        return Err(Fault::Disagrees);
     }
-    let packet = cut(Version::Two, feed.session, sent + 1, published);
-    text.clear();
-    if write_packet(&packet, text).is_err() {
-        return Err(Fault::Memory);
-    }
-    send_data(feed, sent + 1, text);
-    Ok(packet.last())
+    Ok(sent)
 }
 
-/// Publishes and sends until the lines have ended and all is sent. It sleeps while there is nothing to send, until the bell
-/// rings.
+/// Publishes and sends until the lines have ended and all is sent: the number of the last entry that was sent, and why it did
+/// not go on to the last one. It sleeps while there is nothing to send, until the bell rings, and rests at the pace that its
+/// followers take.
+fn send_to_end<D: DayName, R: Wait + Clock, L: Loss>(
+    rt: &R,
+    feed: &Feed<'_, L>,
+    shared: &SharedTape<D>,
+    bell: &Bell,
+    asked: &Asked,
+    published: &mut Published<'_, D>,
+    text: &mut Vec<u8>,
+) -> (u32, Option<Fault>)
+    ensures cells { published.new.names ≡ published.old.names }
+    ensures whole { result.1 ≡ None → result.0 ≡ length (shown published.new.tokens) }
+{
+    let mut number = 0;
+    let mut pace = Pace::least();
+    let mut packets = 0u32;
+    for _ in rt.forever() {
+        // Looked at first: what was admitted before the end is published after it.
+        let is_last = bell.has_ended();
+        let last = match send_next(rt, feed, shared, published, number, text) {
+            Ok(last) => last,
+            Err(fault) => return (number, Some(fault)),
+        };
+        if last != number {
+            number = last;
+            packets = packets.wrapping_add(1);
+            if pace.is_reached(packets) {
+                thread::sleep(rt, Duration::from_millis(REST));
+                pace = pace.after(asked.take());
+                packets = 0;
+            }
+        } else if is_last {
+            return (number, None);
+        } else {
+            bell.wait(rt);
+        }
+    }
+    unreachable!()
+}
+
+/// Publishes and sends until the lines have ended and all is sent.
 fn send_entries<D: DayName, R: Wait + Clock, L: Loss>(
     rt: &R,
     feed: &Feed<'_, L>,
     shared: &SharedTape<D>,
     bell: &Bell,
+    asked: &Asked,
     text: &mut Vec<u8>,
-) -> Sent {
+) -> Sent
+    ensures first { FirstTokens shared.now result.tokens.items }
+    ensures whole { result.fault ≡ None → length result.tokens.items ≡ result.number }
+{
     let mut published = Published::new(shared);
-    let mut packets = 0u32;
-    let mut number = 0;
-    for _ in rt.forever() {
-        // Looked at first: what was admitted before the end is published after it.
-        let is_last = bell.has_ended();
-        match send_next(rt, feed, shared, &mut published, number, text) {
-            Ok(last) if last != number => {
-                number = last;
-                packets = packets.wrapping_add(1);
-                if is_rest(packets) {
-                    thread::sleep(rt, Duration::from_millis(REST));
-                }
-            }
-            Ok(_) if is_last => break,
-            Ok(_) => bell.wait(rt),
-            Err(fault) => {
-                return Sent {
-                    number,
-                    fault: Some(fault),
-                };
-            }
-        }
-    }
+    let (number, fault) = send_to_end(rt, feed, shared, bell, asked, &mut published, text);
     Sent {
+        tokens: published.into_tokens(),
         number,
-        fault: None,
+        fault,
     }
 }
 
-/// Sends the end of a day of so many entries three times on each line, with a pause before each. No line loses it.
+/// Sends the end of a day of so many entries three times on each line, with a pause before each. No line loses it. The text is
+/// only room, and holds the end then.
 fn send_ends<R: Clock, L>(
     rt: &R,
     feed: &Feed<'_, L>,
     number: u32,
     text: &mut Vec<u8>,
-) -> Option<Fault> {
+) -> Option<Fault>
+    ensures { result ≡ None → text.new.items ≡ end_text feed.now.session number }
+{
     let Some(count) = EntryCount::try_new(Version::Two, number) else {
         return Some(Fault::Disagrees);
     };
@@ -167,9 +244,9 @@ fn send_ends<R: Clock, L>(
         session: feed.session,
         count,
     };
-    if write_packet(&end, text).is_err() {
+    let Ok(()) = write_packet(&end, text) else {
         return Some(Fault::Memory);
-    }
+    };
     for pause in PAUSES_BEFORE_ENDS {
         thread::sleep(rt, Duration::from_millis(pause));
         send(feed, feed.ports[0], text);
@@ -185,12 +262,14 @@ pub(crate) fn send_day<D: DayName, R: Wait + Clock, L: Loss>(
     feed: &Feed<'_, L>,
     shared: &SharedTape<D>,
     bell: &Bell,
+    asked: &Asked,
     text: &mut Vec<u8>,
-) -> Sent {
-    let sent = send_entries(rt, feed, shared, bell, text);
+) -> Sent
+    ensures first { FirstTokens shared.now result.tokens.items }
+    ensures whole { result.fault ≡ None → length result.tokens.items ≡ result.number }
+    ensures end { result.fault ≡ None → text.new.items ≡ end_text feed.now.session result.number }
+{
+    let sent = send_entries(rt, feed, shared, bell, asked, text);
     let fault = send_ends(rt, feed, sent.number, text);
-    Sent {
-        number: sent.number,
-        fault: Fault::least(sent.fault, fault),
-    }
+    sent.ended(fault)
 }

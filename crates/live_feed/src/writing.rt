@@ -4,6 +4,7 @@ ghost use Rattle.std.specs.Io.KnownBytes.{Appends};
 ghost use Rattle.day_report.specs.ReportText.{report_text};
 ghost use Rattle.day_report.specs.Rows.{report_rows};
 ghost use Rattle.day_report.specs.declared.report_fault.ReportFault.TheVariants.{BadWorkers, OutOfMemory as ReportOutOfMemory, Unstarted, WriteFault};
+ghost use Rattle.live_feed.specs.Reports.{IsListing};
 ghost use Rattle.live_feed.specs.declared.fault.Fault.TheVariants.{Memory, Worker, Write};
 
 use crate::Fault;
@@ -38,10 +39,13 @@ pub(crate) fn write_day<R: Threads + Sync, W: Write>(
     tape: &Tape<IndexStore>,
     writer: &mut W,
 ) -> Result<(), Fault>
+    ensures names { IsListing tape.now.listing }
     ensures written { OnOk result (Appends (W.contents writer.old) (W.contents writer.new) (report_text (report_rows tape.now))) }
     ensures unwritten { IfErr result (λ fault. fault ≢ Write → writer.new ≡ writer.old) }
     ensures fault { IfErr result (λ fault. (fault ≡ Worker) ⊎ (fault ≡ Memory) ⊎ (fault ≡ Write)) }
 {
+    // A tape's listing is a day's: the clauses of `symbols` say so.
+    let _symbols = tape.listing().symbols();
     let rows = match rows(rt, alloc, tape, WORKERS, &NoGate) {
         Ok(rows) => rows,
         Err(fault) => return Err(fault_of_report(fault)),

@@ -71,11 +71,20 @@ fn a_follower_by_another_matrix_ends_with_status_7(rt: HostRuntime) {
     assert!(rt; played.followed.is_empty());
 }
 
+/// A follower that starts again keeps its limit.
 #[test]
 fn a_day_has_no_more_entries_than_its_limit(rt: HostRuntime) {
-    for (followed, status) in [(30, 0), (16_777_216, 0), (29, 7)] {
+    for (followed, restart_after, status) in [
+        (30, None, 0),
+        (16_777_216, None, 0),
+        (29, None, 7),
+        (30, Some(5), 0),
+        (29, Some(5), 7),
+    ] {
         let plan = Plan {
             limits: [30, followed],
+            serves: if restart_after.is_some() { 2 } else { 0 },
+            restart_after,
             ..STRAIGHT
         };
         let played = play(&rt, rt.alloc(), &plan, &NoLoss);
