@@ -39,6 +39,16 @@ class Headers(Case):
         self.assertEqual((ended.status, ended.written, ended.said), (2, b"refused 2 TooMany\n", b""))
 
 
+class Lengths(Case):
+    BYTES_MOST = 16_777_216
+
+    def test_the_greatest_input(self):
+        """PROFILE, "A batch": an input of the greatest length is answered, and one byte more is too large."""
+        day = b"AB\nN\n".ljust(self.BYTES_MOST, b"A")
+        self.assert_writes(run(["batch"], day), f"refused 22 BadLine\n{HEADINGS}\nAB,ALL,,,,,,,,,0,0\n".encode())
+        self.assert_fault(run(["batch"], day + b"A"), (2, b"tapebox: input too large\n"))
+
+
 class Faults(Case):
     @unittest.skipUnless(Path("/dev/full").is_char_device(), "no /dev/full")
     def test_full_output(self):

@@ -5,7 +5,6 @@ mod feed;
 mod figures;
 mod limits;
 mod matrices;
-mod memory;
 mod packets;
 mod requests;
 mod rows;

@@ -88,7 +88,7 @@ fn report_of(
     })
 }
 
-fn reinstatement(number: u32, target: u32) -> Option<Message> {
+pub(super) fn reinstatement(number: u32, target: u32) -> Option<Message> {
     Some(Message::Reinstate {
         header: header(number)?,
         target: MsgNumber::try_new(target)?,

@@ -1,4 +1,5 @@
-//! Seeded schedules in which packets are lost, duplicated, reordered and cut short, and the subscriber restarts.
+//! Seeded schedules of messages of every kind, in which packets are lost, duplicated, reordered and cut short, and the subscriber
+//! restarts.
 ghost use Rattle.std.specs.Prelude.{◌≤◌, ◌<◌};
 ghost use Rattle.tape_types.specs.Ranges.{TAPE_MOST};
 
@@ -52,13 +53,15 @@ impl Dice {
         }
     }
 
-    /// What is sent to the tape under a number: a report, a cancel or a correction.
+    /// What is sent to the tape under a number: one in two messages is a report, and each other cancels, corrects or reinstates
+    /// one of the first eight messages, so that a report is often changed again.
     fn message(&mut self, number: u32) -> Option<Message> {
         let price = 100_000 + u64::from(self.below(50));
-        let target = self.below(number.max(1)).saturating_add(1);
-        match self.below(4) {
+        let target = 1 + self.below(number.clamp(1, 8));
+        match self.below(6) {
             0 => feed::cancel(number, target),
             1 => feed::correction(number, target, price),
+            2 => feed::reinstatement(number, target),
             _ => feed::report(number, price),
         }
     }
@@ -288,10 +291,24 @@ impl Schedule {
     }
 }
 
-/// How many entries the tape has after 300 events, if the subscriber holds all of them at its end.
+/// Whether a tape has a message of each kind.
+fn has_every_kind(tape: &Feed) -> bool {
+    let mut kinds = [false; 4];
+    for entry in tape.entries() {
+        match &entry.message {
+            Message::Report { .. } => kinds[0] = true,
+            Message::Cancel { .. } => kinds[1] = true,
+            Message::Correct { .. } => kinds[2] = true,
+            Message::Reinstate { .. } => kinds[3] = true,
+        }
+    }
+    kinds == [true; 4]
+}
+
+/// How many entries the tape has after 300 events, if some are of each kind and the subscriber holds all of them at its end.
 fn entries_of(schedule: &mut Schedule, alloc: Global) -> Option<u32> {
     let holds_all = schedule.runs(alloc, 300) == Some(true);
-    holds_all.then_some(schedule.length())
+    (holds_all && has_every_kind(&schedule.tape)).then_some(schedule.length())
 }
 
 /// The same of the schedule of a seed.

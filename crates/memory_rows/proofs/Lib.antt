@@ -1,0 +1,2 @@
+mod Ready
+mod Vacant
