@@ -1,10 +1,9 @@
-//! A day's input, read into a tape.
+//! A day's input, read into a tape. A call is `None` where the two lines of names make no listing, or memory runs out.
 
-use anyhow::Context;
 use bstr::ByteSlice;
-use reports::{LONGEST_MESSAGE, Message, decode};
+use reports::{LONGEST_MESSAGE, Message, decode, encode_into};
 use sale_matrix::Matrix;
-use std::alloc::{AllocError, Global};
+use std::alloc::Global;
 use subscriber::Subscriber;
 use summaries::IndexStore;
 use tape_core::Tape;
@@ -15,6 +14,9 @@ const LINES_TAPE_MOST: u32 = 1_048_576;
 
 /// The session under which the tape is sent.
 pub const SESSION: u64 = 1;
+
+/// What is said where a day cannot be read.
+pub const NO_DAY: &str = "the first two lines make no listing, or memory ran out";
 
 /// The symbol of a name.
 fn symbol_named(name: &[u8]) -> Option<Symbol> {
@@ -31,44 +33,30 @@ fn participant_named(name: &[u8]) -> Option<Participant> {
     }
 }
 
-/// Appends the symbol of a name.
-fn push_symbol(symbols: &mut Vec<Symbol>, name: &[u8]) -> anyhow::Result<()> {
-    let symbol = symbol_named(name).context("a name is no symbol")?;
-    symbols.push(symbol)?;
-    Ok(())
-}
-
 /// The symbols of a line of names.
-fn read_symbols(alloc: Global, line: &[u8]) -> anyhow::Result<Vec<Symbol>> {
+fn read_symbols(alloc: Global, line: &[u8]) -> Option<Vec<Symbol>> {
     let mut symbols = Vec::new(alloc);
-    for name in line.split_str(b" ") {
-        push_symbol(&mut symbols, name)?;
+    for name in line.fields() {
+        symbols.push(symbol_named(name)?).ok()?;
     }
-    Ok(symbols)
-}
-
-/// Appends the participant of a name.
-fn push_participant(participants: &mut Vec<Participant>, name: &[u8]) -> anyhow::Result<()> {
-    let participant = participant_named(name).context("a name is no participant")?;
-    participants.push(participant)?;
-    Ok(())
+    Some(symbols)
 }
 
 /// The participants of a line of letters.
-fn read_participants(alloc: Global, line: &[u8]) -> anyhow::Result<Vec<Participant>> {
+fn read_participants(alloc: Global, line: &[u8]) -> Option<Vec<Participant>> {
     let mut participants = Vec::new(alloc);
-    for name in line.split_str(b" ") {
-        push_participant(&mut participants, name)?;
+    for name in line.fields() {
+        participants.push(participant_named(name)?).ok()?;
     }
-    Ok(participants)
+    Some(participants)
 }
 
 /// The listing of a day's first two lines: symbols, and the letters of participants.
-pub fn read_listing(alloc: Global, input: &[u8]) -> anyhow::Result<Listing> {
+fn read_listing(alloc: Global, input: &[u8]) -> Option<Listing> {
     let mut lines = input.lines();
-    let symbols = read_symbols(alloc, lines.next().unwrap_or(&[]))?;
-    let participants = read_participants(alloc, lines.next().unwrap_or(&[]))?;
-    Ok(Listing::new(alloc, &symbols, &participants)?)
+    let symbols = read_symbols(alloc, lines.next()?)?;
+    let participants = read_participants(alloc, lines.next()?)?;
+    Listing::new(alloc, &symbols, &participants).ok()
 }
 
 /// The message of a line: its participant's letter, a space, and the message's bytes in hexadecimal digits.
@@ -86,55 +74,90 @@ fn read_message(line: &[u8]) -> Option<Message> {
     Some(message)
 }
 
-/// The tape of a day, as long as a tape may be. A line that is no message and a message that is refused are passed over.
-pub fn read_tape(alloc: Global, input: &[u8]) -> anyhow::Result<Tape<IndexStore>> {
+/// The tape of a day, as long as a tape may be. A line that is no message, as the two of names are, and a message that is refused
+/// are passed over.
+pub fn read_tape(alloc: Global, input: &[u8]) -> Option<Tape<IndexStore>> {
     let mut tape = empty_tape(alloc, input, TAPE_MOST)?;
-    for line in input.lines().skip(2) {
+    for line in input.lines() {
         if let Some(message) = read_message(line) {
             let _answer = tape.admit(message);
         }
     }
-    Ok(tape)
+    Some(tape)
 }
 
-/// The messages of a day's listed participants, in order. A line that is no message is passed over. The listing is lent and then
-/// dropped explicitly, since each exit that dropped it implicitly would need a long proof.
-pub fn read_messages(alloc: Global, input: &[u8]) -> anyhow::Result<Vec<Message>> {
+/// The messages of a day's listed participants, in order, and of each participant in listing order the bytes of its messages. The
+/// listing is lent and then dropped explicitly, since each exit that dropped it implicitly would need a long proof.
+pub fn read_lines(alloc: Global, input: &[u8]) -> Option<(Vec<Message>, Vec<Vec<u8>>)> {
     let listing = read_listing(alloc, input)?;
-    let messages = messages_of(alloc, &listing, input);
+    let read = read_lines_of(alloc, &listing, input);
     drop(listing);
-    Ok(messages?)
+    read
 }
 
 /// The same of the participants of a listing.
-fn messages_of(alloc: Global, listing: &Listing, input: &[u8]) -> Result<Vec<Message>, AllocError> {
+fn read_lines_of(
+    alloc: Global,
+    listing: &Listing,
+    input: &[u8],
+) -> Option<(Vec<Message>, Vec<Vec<u8>>)> {
+    let messages = messages_of(alloc, listing, input)?;
+    let inputs = inputs_of(alloc, listing.participants().as_slice(), &messages)?;
+    Some((messages, inputs))
+}
+
+/// The messages of the participants of a listing. A line that is no message is passed over.
+fn messages_of(alloc: Global, listing: &Listing, input: &[u8]) -> Option<Vec<Message>> {
     let mut messages = Vec::new(alloc);
-    for line in input.lines().skip(2) {
+    for line in input.lines() {
         match read_message(line) {
-            Some(message) if listing.has(message.header().participant) => messages.push(message)?,
+            Some(message) if listing.has(message.header().participant) => {
+                messages.push(message).ok()?;
+            }
             _ => {}
         }
     }
-    Ok(messages)
+    Some(messages)
+}
+
+/// The bytes of each participant's messages, in this order.
+fn inputs_of(
+    alloc: Global,
+    participants: &[Participant],
+    messages: &[Message],
+) -> Option<Vec<Vec<u8>>> {
+    let mut inputs = Vec::new(alloc);
+    for who in participants {
+        inputs.push(input_of(alloc, *who, messages)?).ok()?;
+    }
+    Some(inputs)
+}
+
+/// The bytes of a participant's messages.
+fn input_of(alloc: Global, who: Participant, messages: &[Message]) -> Option<Vec<u8>> {
+    let mut row = [0; LONGEST_MESSAGE];
+    let mut bytes = Vec::new(alloc);
+    for message in messages {
+        if message.header().participant == who {
+            let len = encode_into(message, &mut row);
+            bytes.extend_from_slice(&row[..len]).ok()?;
+        }
+    }
+    Some(bytes)
 }
 
 /// The tape of a day before its first message, for so many entries.
-fn empty_tape(alloc: Global, input: &[u8], limit: u32) -> anyhow::Result<Tape<IndexStore>> {
-    Ok(Tape::new(alloc, read_listing(alloc, input)?, limit, Matrix::One)?)
+fn empty_tape(alloc: Global, input: &[u8], limit: u32) -> Option<Tape<IndexStore>> {
+    Tape::new(alloc, read_listing(alloc, input)?, limit, Matrix::One).ok()
 }
 
 /// The tape of a day before its first message that lines are to fill at once, or that is compared with such a one.
-pub fn empty_tape_of_lines(alloc: Global, input: &[u8]) -> anyhow::Result<Tape<IndexStore>> {
+pub fn empty_tape_of_lines(alloc: Global, input: &[u8]) -> Option<Tape<IndexStore>> {
     empty_tape(alloc, input, LINES_TAPE_MOST)
 }
 
 /// A subscriber to the tape of a day, for as many entries as that may have.
-pub fn new_subscriber(alloc: Global, input: &[u8]) -> anyhow::Result<Subscriber> {
-    Ok(Subscriber::new(
-        alloc,
-        read_listing(alloc, input)?,
-        TAPE_MOST,
-        SESSION,
-        Matrix::One,
-    )?)
+pub fn new_subscriber(alloc: Global, input: &[u8]) -> Option<Subscriber> {
+    let listing = read_listing(alloc, input)?;
+    Subscriber::new(alloc, listing, TAPE_MOST, SESSION, Matrix::One).ok()
 }

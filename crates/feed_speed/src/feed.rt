@@ -1,7 +1,4 @@
 //! A tape sent on two lossy lines, and what both of them lose asked for.
-ghost use Rattle.std.specs.Prelude.{◌≡◌};
-ghost use Rattle.feed_speed.specs.Losses.{is_lost};
-
 use crate::day::SESSION;
 use anyhow::Context;
 use arbitration::{DeliverFault, Line};
@@ -18,6 +15,15 @@ use tape_frames::{
 /// How many entries a packet has at most.
 const PACKET_ENTRIES: u32 = ENTRIES_MOST as u32;
 
+/// Line A loses each packet whose number this divides.
+const LOST_BY_A: u32 = 3;
+
+/// Line B loses each packet whose number this divides.
+const LOST_BY_B: u32 = 5;
+
+/// The number of the packet of the tape's end, which neither line loses.
+const UNLOST: u32 = 1;
+
 /// Sends a tape whole and then its end, and answers how many packets of entries it took. Whenever the subscriber tells
 /// a gap, what is missing is asked for before the next packet.
 pub fn send_all(
@@ -33,11 +39,12 @@ pub fn send_all(
         let packet = cut(Version::Two, SESSION, PACKET_ENTRIES * place + 1, &source);
         send_packet(alloc, tape, subscriber, place + 1, &packet, &mut text)?;
     }
-    send_end(alloc, tape, subscriber, &mut text)?;
+    let end = end_after(published)?;
+    send_packet(alloc, tape, subscriber, UNLOST, &end, &mut text)?;
     Ok(packets)
 }
 
-/// Sends the packet of entries of this number. The text is only room.
+/// Sends a packet under this number. The text is only room.
 fn send_packet(
     alloc: Global,
     tape: &Tape<IndexStore>,
@@ -52,19 +59,6 @@ fn send_packet(
     catch_up(alloc, tape, subscriber)
 }
 
-/// Sends the end of a tape. The text is only room.
-fn send_end(
-    alloc: Global,
-    tape: &Tape<IndexStore>,
-    subscriber: &mut Subscriber,
-    text: &mut Vec<u8>,
-) -> anyhow::Result<()> {
-    text.clear();
-    write_packet(&end_after(SliceSource::of(tape).published())?, text)?;
-    deliver_by(subscriber, Line::A, text)?;
-    catch_up(alloc, tape, subscriber)
-}
-
 /// The end of a tape of this many entries.
 fn end_after(published: u32) -> anyhow::Result<Packet> {
     let count = EntryCount::try_new(Version::Two, published).context(
@@ -76,23 +70,13 @@ fn end_after(published: u32) -> anyhow::Result<Packet> {
     })
 }
 
-/// Whether a line loses the packet of this number: A every third, B every fifth, a retransmission none.
-fn is_lost(line: Line, packet: u32) -> bool
-    ensures lost { result ≡ is_lost line packet }
-{
-    match line {
-        Line::A => packet % 3 == 0,
-        Line::B => packet % 5 == 0,
-        Line::R => false,
-    }
-}
-
 /// Delivers a packet by both lines, where they do not lose it.
 fn deliver(subscriber: &mut Subscriber, packet: u32, bytes: &[u8]) -> anyhow::Result<()> {
-    for line in [Line::A, Line::B] {
-        if !is_lost(line, packet) {
-            deliver_by(subscriber, line, bytes)?;
-        }
+    if packet % LOST_BY_A != 0 {
+        deliver_by(subscriber, Line::A, bytes)?;
+    }
+    if packet % LOST_BY_B != 0 {
+        deliver_by(subscriber, Line::B, bytes)?;
     }
     Ok(())
 }

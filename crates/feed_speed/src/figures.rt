@@ -1,43 +1,63 @@
-//! The figures of a feed.
+//! Figures, and how they are printed.
+ghost use Rattle.std.specs.Prelude.{◌≡◌, ◌*◌, ◌/◌, min, max};
+ghost use Rattle.std.specs.Duration.{as_nanos};
 
-use crate::times::Seconds;
-use std::io;
 use std::time::Duration;
+use std::{fmt, io};
 
-/// What was measured of a tape.
+/// A figure's value.
 #[derive(Clone, Copy)]
-pub struct Figures {
-    /// The entries of the tape.
-    pub entries: usize,
-    /// The packets of entries that were sent, each counted once.
-    pub packets: u32,
-    /// The time for all: the day read into its tape, and the tape sent until all is held.
-    pub total: Duration,
-    /// The time for the packets alone: cut, written, delivered, drained, and what was lost asked for.
-    pub sending: Duration,
-    /// The entries that came by retransmission.
-    pub retransmitted: u32,
-    /// The entries that the subscriber holds at the end.
-    pub held: usize,
+pub enum Figure {
+    /// How many there are.
+    Count(usize),
+    /// How many there are in a second, rounded down.
+    Rate(u128),
+    /// A time, printed in seconds with six digits after the point.
+    Time(Duration),
+    /// A ratio in thousandths, printed with three digits after the point.
+    Ratio(u128),
 }
 
-impl Figures {
-    /// Prints the figures, one a line.
-    pub fn print(&self, rt: &impl Print) -> io::Result<()> {
-        println!(rt; "entries {}", self.entries)?;
-        println!(rt; "packets {}", self.packets)?;
-        println!(rt; "seconds_total {}", Seconds(self.total))?;
-        println!(rt; "seconds_packets {}", Seconds(self.sending))?;
-        println!(rt;
-            "entries_per_second {}",
-            per_second(self.entries as u64, self.sending)
-        )?;
-        println!(rt; "retransmitted {}", self.retransmitted)?;
-        println!(rt; "held {}", self.held)
+impl fmt::Display for Figure {
+    fn fmt<W: fmt::Write>(&self, f: &mut fmt::Formatter<W>) -> fmt::Result {
+        match self {
+            Figure::Count(count) => write!(f, "{}", count),
+            Figure::Rate(rate) => write!(f, "{}", rate),
+            Figure::Time(time) => write!(f, "{}.{:06}", time.as_secs(), time.subsec_micros()),
+            Figure::Ratio(ratio) => write!(f, "{}.{:03}", ratio / 1_000, ratio % 1_000),
+        }
     }
 }
 
+/// Prints figures, one a line: the name and the value.
+pub fn print(rt: &impl Print, figures: &[(&str, Figure)]) -> io::Result<()> {
+    for (name, figure) in figures {
+        println!(rt; "{} {}", name, figure)?;
+    }
+    Ok(())
+}
+
 /// The rate of so many things in this time, in things a second, rounded down. A time of zero counts as a nanosecond.
-pub fn per_second(count: u64, time: Duration) -> u128 {
+pub fn per_second(count: u64, time: Duration) -> u128
+    ensures rate { result ≡ count * 1_000_000_000 / max 1 (as_nanos time) }
+{
     count as u128 * 1_000_000_000 / time.as_nanos().max(1)
+}
+
+/// The ratio of a time to a whole one in thousandths, rounded down. A whole of no time counts as a nanosecond.
+pub fn ratio(part: Duration, whole: Duration) -> u128
+    ensures ratio { result ≡ as_nanos part * 1_000 / max 1 (as_nanos whole) }
+{
+    part.as_nanos() * 1_000 / whole.as_nanos().max(1)
+}
+
+/// The lesser of two times.
+pub fn lesser(time: Duration, other: Duration) -> Duration
+    ensures least { as_nanos result ≡ min (as_nanos time) (as_nanos other) }
+{
+    if other.as_nanos() < time.as_nanos() {
+        other
+    } else {
+        time
+    }
 }

@@ -1,29 +1,38 @@
-//! A day whose lines run at once, each over its bytes in memory.
+//! A day whose lines run at once, each over its bytes in memory, while threads may publish and look at what is published.
 ghost use Rattle.std.specs.Prelude.{◌≡◌, ◌≤◌, [], map, vec_len};
+ghost use Rattle.std.specs.Thread.{IsSync};
 ghost use Rattle.std.specs.Vec.{vec_capacity};
 ghost use Rattle.line_ledger.specs.Ends.{IsOneEach, whos};
 
+use crate::watch::{Watch, watch_on};
 use line_ledger::{DayName, EndFault, LineSeat, Prepared, SharedTape};
 use participant_lines::{Unstarted, run_lines, seats_of_ends, seats_of_lines};
 use std::alloc::Global;
-use std::io;
 use std::marker::Brand;
 use std::rt::Clock;
 use std::sync::Wait;
-use std::thread::Threads;
+use std::sync::atomic::{AtomicBool, Ordering};
+use std::thread::{Threads, join_mut};
 use std::time::{Duration, Instant};
+use std::{io, mem};
 use tape_types::NoGate;
 
 /// A seat and the bytes of its line.
 type Line<'a, D> = (LineSeat<D>, &'a [u8]);
 
-/// How long a day's messages took, and what they made.
+/// What a day's lines made, and how often and how long it was looked at.
 #[derive(Clone, Copy)]
-pub struct DayTime {
-    /// The time from the first message until the last is answered.
-    pub time: Duration,
+pub struct DayRun {
     /// The entries of the day's tape.
     pub entries: usize,
+    /// The time from before the first thread's start until all are joined.
+    pub time: Duration,
+    /// The looks that showed an entry while the lines ran.
+    pub looks: u64,
+    /// The time of the looks after it.
+    pub time_after: Duration,
+    /// The looks that showed one then.
+    pub looks_after: u64,
 }
 
 /// The bytes of a line, none where it has no input.
@@ -84,7 +93,7 @@ fn run_all<D: DayName + Send + Sync, R: Threads + Wait + Sync>(
 
 /// Runs a line for each seat, all at once, in their order and over these bytes: the seats after it, and whether the lines were
 /// started. Where memory runs out they are not.
-pub fn run_seats<D: DayName + Send + Sync, R: Threads + Wait + Sync>(
+fn run_seats<D: DayName + Send + Sync, R: Threads + Wait + Sync>(
     rt: &R,
     alloc: Global,
     shared: &SharedTape<D>,
@@ -105,8 +114,8 @@ pub fn run_seats<D: DayName + Send + Sync, R: Threads + Wait + Sync>(
 }
 
 /// How many entries the day has that ends with these seats, `None` where a seat was not told what the tape has.
-pub fn entries_at_end<D: DayName>(shared: SharedTape<D>, seats: Vec<LineSeat<D>>) -> Option<usize>
-    requires { IsOneEach D.listing.participants seats.items }
+fn entries_at_end<D: DayName>(shared: SharedTape<D>, seats: Vec<LineSeat<D>>) -> Option<usize>
+    requires { IsOneEach D.terms.listing.participants seats.items }
 {
     match shared.end(seats) {
         Ok(day) => {
@@ -123,8 +132,63 @@ pub fn entries_at_end<D: DayName>(shared: SharedTape<D>, seats: Vec<LineSeat<D>>
 }
 
 /// The time since `began`, if the clock told both.
-pub fn elapsed<R: Clock>(rt: &R, began: io::Result<Instant>) -> Option<Duration> {
+fn elapsed<R: Clock>(rt: &R, began: io::Result<Instant>) -> Option<Duration> {
     began.ok()?.elapsed(rt).ok()
+}
+
+/// Runs the lines, and says when they are over: whether they were started.
+fn run_until_over<D: DayName + Send + Sync, R: Threads + Wait + Sync>(
+    rt: &R,
+    alloc: Global,
+    shared: &SharedTape<D>,
+    seats: &mut Vec<LineSeat<D>>,
+    inputs: &[Vec<u8>],
+    over: &AtomicBool,
+) -> bool
+    ensures { whos seats.new.items ≡ whos seats.old.items }
+{
+    let given = mem::replace(seats, Vec::new(alloc));
+    let (ran, is_run) = run_seats(rt, alloc, shared, given, inputs);
+    mem::replace(seats, ran).destroy_empty();
+    over.store(true, Ordering::SeqCst);
+    is_run
+}
+
+/// Runs the lines while others watch: the seats after it, and how many looks showed an entry.
+fn run_beside<D: DayName + Send + Sync, R: Clock + Threads + Wait + Sync>(
+    rt: &R,
+    alloc: Global,
+    shared: &SharedTape<D>,
+    seats: Vec<LineSeat<D>>,
+    inputs: &[Vec<u8>],
+    beside: Watch,
+) -> (Vec<LineSeat<D>>, Option<u64>)
+    ensures seats { whos result.0.items ≡ whos seats.items }
+{
+    let mut seats = seats;
+    let over = AtomicBool::new(false);
+    let (looks, is_run) = join_mut(
+        rt,
+        &mut || watch_on(rt, alloc, shared, &over, beside),
+        &mut || -> bool
+            requires { IsSync R.row }
+            ensures { whos seats.exit.items ≡ whos seats.entry.items }
+        { run_until_over(rt, alloc, shared, &mut seats, inputs, &over) },
+    );
+    (seats, if is_run { looks } else { None })
+}
+
+/// The looks at what is published while nothing else runs, and how long they took.
+fn look_after<D: DayName + Send + Sync, R: Clock + Threads + Wait + Sync>(
+    rt: &R,
+    alloc: Global,
+    shared: &SharedTape<D>,
+    after: Watch,
+) -> Option<(u64, Duration)> {
+    let over = AtomicBool::new(false);
+    let began = Instant::now(rt);
+    let looks = watch_on(rt, alloc, shared, &over, after)?;
+    Some((looks, elapsed(rt, began)?))
 }
 
 /// Runs a day as `run_day` does, under a name of it.
@@ -133,35 +197,42 @@ fn run_named_day<D: DayName + Send + Sync, R: Clock + Threads + Wait + Sync>(
     alloc: Global,
     prepared: Prepared,
     inputs: &[Vec<u8>],
-) -> Option<DayTime>
+    beside: Watch,
+    after: Watch,
+) -> Option<DayRun>
     requires name { prepared.blank.name ≡ D.name }
     requires parts { prepared.blank.parts ≡ D.parts }
-    requires listing { prepared.tape.listing ≡ D.listing }
-    requires matrix { prepared.tape.matrix ≡ D.matrix }
+    requires listing { prepared.tape.listing ≡ D.terms.listing }
+    requires matrix { prepared.tape.matrix ≡ D.terms.matrix }
 {
     let Ok((shared, seats)) = SharedTape::<D>::open(prepared) else {
         return None;
     };
     let began = Instant::now(rt);
-    let (seats, is_run) = run_seats(rt, alloc, &shared, seats, inputs);
+    let (seats, looks) = run_beside(rt, alloc, &shared, seats, inputs, beside);
     let time = elapsed(rt, began);
+    let looked = look_after(rt, alloc, &shared, after);
     let entries = entries_at_end(shared, seats);
-    if !is_run {
-        return None;
-    }
-    Some(DayTime {
-        time: time?,
+    let (looks_after, time_after) = looked?;
+    Some(DayRun {
         entries: entries?,
+        time: time?,
+        looks: looks?,
+        time_after,
+        looks_after,
     })
 }
 
-/// Runs the lines of a day, one for each participant, in listing order and over these bytes. `None` where memory runs out, no
-/// thread can be started, the clock does not tell the time, or a seat was not told what the tape has of its participant.
+/// Runs the lines of a day, one for each participant, in listing order and over these bytes, while it is watched, and watches it once
+/// more after it. `None` where memory runs out, no thread can be started, the clock does not tell the time, or a seat was not told
+/// what the tape has of its participant.
 pub fn run_day<R: Clock + Threads + Wait + Sync>(
     rt: &R,
     alloc: Global,
     prepared: Prepared,
     inputs: &[Vec<u8>],
-) -> Option<DayTime> {
-    run_named_day::<Brand, R>(rt, alloc, prepared, inputs)
+    beside: Watch,
+    after: Watch,
+) -> Option<DayRun> {
+    run_named_day::<Brand, R>(rt, alloc, prepared, inputs, beside, after)
 }

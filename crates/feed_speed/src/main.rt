@@ -8,12 +8,10 @@ mod feed;
 mod figures;
 mod line_day;
 mod lines;
-mod look_day;
-mod looks;
 mod mode;
 mod report;
 mod sending;
-mod times;
+mod watch;
 
 use mode::{Mode, given_mode};
 use std::io::Read;
@@ -37,12 +35,11 @@ fn print_figures<R: AllocGlobal + Clock + Print + Threads + Wait + Sync>(
         return Ok(());
     }
     match mode {
-        Mode::Feed => sending::measure(rt, input)?.print(rt)?,
-        Mode::Rows => report::measure(rt, input)?.print(rt)?,
-        Mode::Lines => lines::measure(rt, input)?.print(rt)?,
-        Mode::Looks => looks::measure(rt, input)?.print(rt)?,
+        Mode::Feed => sending::measure(rt, input),
+        Mode::Rows => report::measure(rt, input),
+        Mode::Lines => lines::measure(rt, input),
+        Mode::Looks => lines::measure_looks(rt, input),
     }
-    Ok(())
 }
 
 /// Reads a day from standard input, and measures what the arguments ask for. Where they ask for nothing, nothing is read.
