@@ -2,6 +2,7 @@
 ghost use Rattle.std.specs.Prelude.{◌≡◌, ◌≤◌, [], map, vec_len};
 ghost use Rattle.std.specs.Thread.{IsSync};
 ghost use Rattle.std.specs.Vec.{vec_capacity};
+ghost use Rattle.line_ledger.specs.Days.{terms_of};
 ghost use Rattle.line_ledger.specs.Ends.{IsOneEach, whos};
 
 use crate::watch::{Watch, watch_on};
@@ -202,8 +203,7 @@ fn run_named_day<D: DayName + Send + Sync, R: Clock + Threads + Wait + Sync>(
 ) -> Option<DayRun>
     requires name { prepared.blank.name ≡ D.name }
     requires parts { prepared.blank.parts ≡ D.parts }
-    requires listing { prepared.tape.listing ≡ D.terms.listing }
-    requires matrix { prepared.tape.matrix ≡ D.terms.matrix }
+    requires terms { terms_of prepared.tape ≡ D.terms }
 {
     let Ok((shared, seats)) = SharedTape::<D>::open(prepared) else {
         return None;

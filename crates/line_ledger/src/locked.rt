@@ -7,7 +7,7 @@ ghost use Rattle.tape_core.specs.Tape.{lists_participant, refusal, with_message}
 ghost use Rattle.tape_core.specs.declared.refusal.Refusal.TheVariants.{OutOfMemory as TapeOutOfMemory};
 ghost use Rattle.line_ledger.specs.declared.open_fault.OpenFault.TheVariants.{OutOfMemory};
 ghost use Rattle.line_ledger.specs.Admissions.{Admits, Refuses, line_refusal};
-ghost use Rattle.line_ledger.specs.Days.{IsDay, has_figures};
+ghost use Rattle.line_ledger.specs.Days.{IsDay, has_figures, terms_of};
 ghost use Rattle.line_ledger.specs.Ends.{IsOneEach, FirstTold, DisagreesAt, told_in_all};
 ghost use Rattle.line_ledger.specs.Seats.{agrees, untold, sizes_told, last_told};
 ghost use Rattle.line_ledger.specs.Views.{Shows, view_fault};
@@ -65,7 +65,6 @@ pub struct LineSeat<D: DayName> {
 }
 
 impl<D: DayName> Model for LineSeat<D> {
-    ghost use Rattle.std.specs.Prelude.{◌≡◌};
     ghost use Rattle.line_ledger.specs.Seats.{SeatState, IsCounted};
 
     ghost Value = { SeatState };
@@ -281,8 +280,7 @@ impl<D: DayName> Locked<D> {
     pub fn start(prepared: Prepared) -> Result<(Locked<D>, CellRow, Vec<LineSeat<D>>), OpenFault>
         requires name { prepared.blank.name ≡ D.name }
         requires parts { prepared.blank.parts ≡ D.parts }
-        requires listing { prepared.tape.listing ≡ D.terms.listing }
-        requires matrix { prepared.tape.matrix ≡ D.terms.matrix }
+        requires terms { terms_of prepared.tape ≡ D.terms }
         ensures locked { IfOk result (λ r. r.0 ≡ record { tape = prepared.tape; set = 0 }) }
         ensures cells { IfOk result (λ r. length r.1 ≡ prepared.tape.limit) }
         ensures seats { IfOk result (λ r. r.2.items ≡ map untold prepared.tape.listing.participants) }

@@ -1,6 +1,7 @@
 //! The tape behind one lock.
 ghost use Rattle.std.specs.Prelude.{◌≡◌, ◌≤◌, ◌↔◌, false, map, length, IfOk, IfErr, IfSome, Err};
 ghost use Rattle.tape_core.specs.Tape.{lists_symbol};
+ghost use Rattle.line_ledger.specs.Days.{terms_of};
 ghost use Rattle.line_ledger.specs.declared.end_fault.EndFault.TheVariants.{MissingSeat, Disagrees};
 ghost use Rattle.line_ledger.specs.declared.open_fault.OpenFault.TheVariants.{OutOfMemory};
 ghost use Rattle.line_ledger.specs.declared.view_fault.ViewFault.TheVariants.{UnknownSymbol};
@@ -57,8 +58,7 @@ impl<D: DayName> SharedTape<D> {
     pub fn open(prepared: Prepared) -> Result<(SharedTape<D>, Vec<LineSeat<D>>), OpenFault>
         requires name { prepared.blank.name ≡ D.name }
         requires parts { prepared.blank.parts ≡ D.parts }
-        requires listing { prepared.tape.listing ≡ D.terms.listing }
-        requires matrix { prepared.tape.matrix ≡ D.terms.matrix }
+        requires terms { terms_of prepared.tape ≡ D.terms }
         ensures cells { IfOk result (λ r. length r.0 ≡ prepared.tape.limit) }
         ensures seats { IfOk result (λ r. r.1.items ≡ map untold prepared.tape.listing.participants) }
         ensures each { IfOk result (λ r. IsOneEach D.terms.listing.participants r.1.items) }

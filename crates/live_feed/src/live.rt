@@ -2,6 +2,7 @@
 ghost use Rattle.std.specs.Prelude.{◌≡◌, ◌≢◌, ◌⊎◌, ◌≤◌, IfErr, IfOk, None, OnOk, Some, length, true, vec_len};
 ghost use Rattle.tape_core.specs.Tape.{IsLegal};
 ghost use Rattle.line_ledger.specs.Cells.{FirstTokens, HaveAll, shown};
+ghost use Rattle.line_ledger.specs.Days.{terms_of};
 ghost use Rattle.line_ledger.specs.Ends.{IsOneEach};
 ghost use Rattle.live_feed.specs.Faults.{NoneBefore};
 ghost use Rattle.live_feed.specs.Reports.{WritesItsReport, WritesOneReport};
@@ -114,8 +115,7 @@ fn run_named<D: DayName + Send + Sync, R: Threads + Wait + Clock + Sync, L: Loss
 ) -> Result<Day, Fault>
     requires name { prepared.blank.name ≡ D.name }
     requires parts { prepared.blank.parts ≡ D.parts }
-    requires listing { prepared.tape.listing ≡ D.terms.listing }
-    requires matrix { prepared.tape.matrix ≡ D.terms.matrix }
+    requires terms { terms_of prepared.tape ≡ D.terms }
     requires many { vec_len readers ≡ length D.terms.listing.participants }
     ensures legal { IfOk result (λ day. IsLegal day.tape) }
     ensures listed { IfOk result (λ day. day.tape.listing ≡ D.terms.listing) }
@@ -232,7 +232,7 @@ fn live<R: Threads + Wait + Clock + Sync, L: Loss + Sync, W: Write>(
 /// the other; with 0 of them none is awaited. After all are joined the day is ended, each entry that was sent is confirmed, and
 /// the number that the end told is compared with the day's length.
 ///
-/// The status is 0 exactly where the report was written whole and flushed. A connection whose peer misbehaves ends
+/// The status is 0 only where the report was written whole and flushed. A connection whose peer misbehaves ends
 /// alone, and a packet that cannot be sent is lost. What else goes wrong is answered by the least status of all, and then
 /// there is no report, or some of it after a write that failed: 3 where a connection is not accepted, or there is not one
 /// listener for each participant; 4 for a failed write of the report; 5 where memory runs out; 6 where no thread can be

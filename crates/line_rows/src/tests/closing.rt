@@ -1,5 +1,6 @@
 //! A line that has ended lets go of its reader while another line runs.
 ghost use Rattle.std.specs.Prelude.{◌≡◌};
+ghost use Rattle.line_ledger.specs.Days.{terms_of};
 
 use super::days::{REPORT, TURNS, day_of_two, joined, report};
 use super::lines::{LineFigures, run_all};
@@ -142,8 +143,7 @@ fn two_apart<D: DayName + Send + Sync, T: Threads + Wait + Abort + Sync>(
 ) -> Option<Counts>
     requires name { prepared.blank.name ≡ D.name }
     requires parts { prepared.blank.parts ≡ D.parts }
-    requires listing { prepared.tape.listing ≡ D.terms.listing }
-    requires matrix { prepared.tape.matrix ≡ D.terms.matrix }
+    requires terms { terms_of prepared.tape ≡ D.terms }
 {
     let Ok((shared, seats)) = SharedTape::<D>::open(prepared) else {
         return None;

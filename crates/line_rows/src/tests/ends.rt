@@ -1,5 +1,6 @@
 //! The ends of a line, and the turns that its gate is given.
 ghost use Rattle.std.specs.Prelude.{◌≡◌};
+ghost use Rattle.line_ledger.specs.Days.{terms_of};
 
 use super::days::{REPORT, day_of_one, joined, report, without_price};
 use super::shared_days::Sent::{Cancel, CancelUnder, Reinstate, Report, ReportAs, ReportOf};
@@ -52,8 +53,7 @@ fn figures<D: DayName, R: BufRead, G: Gate, W: Wait + Abort>(
 ) -> Option<Figures>
     requires name { prepared.blank.name ≡ D.name }
     requires parts { prepared.blank.parts ≡ D.parts }
-    requires listing { prepared.tape.listing ≡ D.terms.listing }
-    requires matrix { prepared.tape.matrix ≡ D.terms.matrix }
+    requires terms { terms_of prepared.tape ≡ D.terms }
 {
     let Ok((shared, mut seats)) = SharedTape::<D>::open(prepared) else {
         return None;

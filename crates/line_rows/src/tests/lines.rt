@@ -1,6 +1,7 @@
 //! Lines run at once over bytes, and the outcome of each.
 ghost use Rattle.std.specs.Prelude.{◌≡◌, ◌≤◌, [], vec_len};
 ghost use Rattle.std.specs.Vec.{vec_capacity};
+ghost use Rattle.line_ledger.specs.Days.{terms_of};
 
 use super::days::ended_day;
 use line_ledger::{Day, DayName, LineSeat, Prepared, SharedTape};
@@ -164,8 +165,7 @@ fn day_after<D: DayName + Send + Sync, G: Gate + Sync, T: Threads + Wait + Abort
 ) -> Option<(Vec<LineFigures>, Day)>
     requires name { prepared.blank.name ≡ D.name }
     requires parts { prepared.blank.parts ≡ D.parts }
-    requires listing { prepared.tape.listing ≡ D.terms.listing }
-    requires matrix { prepared.tape.matrix ≡ D.terms.matrix }
+    requires terms { terms_of prepared.tape ≡ D.terms }
 {
     let Ok((shared, seats)) = SharedTape::<D>::open(prepared) else {
         return None;

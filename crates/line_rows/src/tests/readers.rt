@@ -1,6 +1,7 @@
 //! Two readers that take no lock, beside two lines that admit and publish.
 ghost use Rattle.std.specs.Prelude.{◌≡◌};
 ghost use Rattle.line_ledger.specs.Cells.{FirstTokens};
+ghost use Rattle.line_ledger.specs.Days.{terms_of};
 
 use super::days::{Confirmed, TURNS, confirmed, day_of_two, ended_day};
 use super::sending::send_all;
@@ -128,8 +129,7 @@ fn read_day<D: DayName + Send + Sync, T: Threads + Wait + Abort + Sync>(
 ) -> Option<(Confirmed, Confirmed)>
     requires name { prepared.blank.name ≡ D.name }
     requires parts { prepared.blank.parts ≡ D.parts }
-    requires listing { prepared.tape.listing ≡ D.terms.listing }
-    requires matrix { prepared.tape.matrix ≡ D.terms.matrix }
+    requires terms { terms_of prepared.tape ≡ D.terms }
 {
     let Ok((shared, mut seats)) = SharedTape::<D>::open(prepared) else {
         return None;

@@ -2,6 +2,7 @@
 //! entries are published, found and confirmed, and the lines' gate is given each turn.
 ghost use Rattle.std.specs.Prelude.{◌≡◌, ◌≤◌, ◌<◌};
 ghost use Rattle.line_ledger.specs.Cells.{FirstTokens};
+ghost use Rattle.line_ledger.specs.Days.{terms_of};
 
 use super::days::{Confirmed, confirmed, ended_day};
 use super::lines::{LineFigures, run_inputs};
@@ -322,8 +323,7 @@ fn lines_of_a_day<D: DayName + Send + Sync, T: Threads + Wait + Abort + Sync>(
 ) -> Option<DayOfLines>
     requires name { prepared.blank.name ≡ D.name }
     requires parts { prepared.blank.parts ≡ D.parts }
-    requires listing { prepared.tape.listing ≡ D.terms.listing }
-    requires matrix { prepared.tape.matrix ≡ D.terms.matrix }
+    requires terms { terms_of prepared.tape ≡ D.terms }
 {
     let Ok((shared, seats)) = SharedTape::<D>::open(prepared) else {
         return None;

@@ -1,6 +1,6 @@
 //! A retransmission from the published entries of a day that is still open.
 ghost use Rattle.std.specs.Prelude.{◌≡◌};
-ghost use Rattle.tape_frames.specs.Sources.{IsPublished};
+ghost use Rattle.line_ledger.specs.Days.{terms_of};
 
 use super::days::{day_of_two, ended_day, report};
 use line_ledger::{Day, DayName, LineSeat, Prepared, PublishFault, Published, SharedTape};
@@ -89,8 +89,7 @@ fn served<D: DayName, W: Wait + Abort>(
 ) -> Option<(Set, Vec<u8>, Vec<u8>)>
     requires name { prepared.blank.name ≡ D.name }
     requires parts { prepared.blank.parts ≡ D.parts }
-    requires listing { prepared.tape.listing ≡ D.terms.listing }
-    requires matrix { prepared.tape.matrix ≡ D.terms.matrix }
+    requires terms { terms_of prepared.tape ≡ D.terms }
 {
     let Ok((shared, mut seats)) = SharedTape::<D>::open(prepared) else {
         return None;

@@ -1,6 +1,7 @@
 //! What lines publish, and what readers find that take no lock.
 ghost use Rattle.std.specs.Prelude.{◌≡◌, IfSome};
 ghost use Rattle.line_ledger.specs.Cells.{FirstTokens, IsTokenOf};
+ghost use Rattle.line_ledger.specs.Days.{terms_of};
 ghost use Rattle.line_ledger.specs.Ends.{IsOneEach};
 
 use super::days::{Confirmed, confirmed_at_end};
@@ -120,8 +121,7 @@ fn five_published<D: DayName + Send + Sync, R: Threads + Wait + Abort + Sync>(
 ) -> Option<Found>
     requires name { prepared.blank.name ≡ D.name }
     requires parts { prepared.blank.parts ≡ D.parts }
-    requires listing { prepared.tape.listing ≡ D.terms.listing }
-    requires matrix { prepared.tape.matrix ≡ D.terms.matrix }
+    requires terms { terms_of prepared.tape ≡ D.terms }
 {
     let Ok((shared, mut seats)) = SharedTape::<D>::open(prepared) else {
         return None;
@@ -178,8 +178,7 @@ type Strayed = ([SetIn; 3], u32);
 fn strayed<D: DayName>(prepared: Prepared, other: &CellRow) -> Option<Strayed>
     requires name { prepared.blank.name ≡ D.name }
     requires parts { prepared.blank.parts ≡ D.parts }
-    requires listing { prepared.tape.listing ≡ D.terms.listing }
-    requires matrix { prepared.tape.matrix ≡ D.terms.matrix }
+    requires terms { terms_of prepared.tape ≡ D.terms }
 {
     let Ok((mut locked, row, mut seats)) = Locked::<D>::start(prepared) else {
         return None;
@@ -204,8 +203,7 @@ type StrayedTo = (Option<Strayed>, [SetIn; 2], Option<u32>);
 fn strayed_to<D: DayName>(alloc: Global, two: Prepared) -> Option<StrayedTo>
     requires name { two.blank.name ≡ D.name }
     requires parts { two.blank.parts ≡ D.parts }
-    requires listing { two.tape.listing ≡ D.terms.listing }
-    requires matrix { two.tape.matrix ≡ D.terms.matrix }
+    requires terms { terms_of two.tape ≡ D.terms }
 {
     let Ok((mut locked, row, mut seats)) = Locked::<D>::start(two) else {
         return None;

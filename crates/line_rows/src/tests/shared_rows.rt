@@ -1,5 +1,6 @@
 //! The worked rows of a tape, each through a shared one.
 ghost use Rattle.std.specs.Prelude.{◌≡◌};
+ghost use Rattle.line_ledger.specs.Days.{terms_of};
 
 use super::shared_days::Sent::{
     Cancel, CancelUnder, Correct, Reinstate, Report, ReportAs, ReportOf,
@@ -306,8 +307,7 @@ fn played<D: DayName, R: Wait + Abort>(
 ) -> Played
     requires name { prepared.blank.name ≡ D.name }
     requires parts { prepared.blank.parts ≡ D.parts }
-    requires listing { prepared.tape.listing ≡ D.terms.listing }
-    requires matrix { prepared.tape.matrix ≡ D.terms.matrix }
+    requires terms { terms_of prepared.tape ≡ D.terms }
 {
     let Ok((shared, mut seats)) = SharedTape::<D>::open(prepared) else {
         return None;

@@ -1,6 +1,7 @@
 //! Two lines at once, and what they publish; all participants' lines at once, and the turns that their gate is given.
 ghost use Rattle.std.specs.Prelude.{◌≡◌};
 ghost use Rattle.line_ledger.specs.Cells.{FirstTokens};
+ghost use Rattle.line_ledger.specs.Days.{terms_of};
 
 use super::days::{
     Confirmed, TURNS, confirmed_at_end, day_of_all, day_of_two, joined, report, without_price,
@@ -208,8 +209,7 @@ fn two_lines<D: DayName + Send + Sync, T: Threads + Wait + Abort + Sync>(
 ) -> Option<Whole>
     requires name { prepared.blank.name ≡ D.name }
     requires parts { prepared.blank.parts ≡ D.parts }
-    requires listing { prepared.tape.listing ≡ D.terms.listing }
-    requires matrix { prepared.tape.matrix ≡ D.terms.matrix }
+    requires terms { terms_of prepared.tape ≡ D.terms }
 {
     let Ok((shared, seats)) = SharedTape::<D>::open(prepared) else {
         return None;

@@ -1,6 +1,7 @@
 //! Lines that run out of memory, or are not started for want of it.
 ghost use Rattle.std.specs.Prelude.{◌≡◌, ◌≤◌, [], vec_len};
 ghost use Rattle.std.specs.Vec.{vec_capacity};
+ghost use Rattle.line_ledger.specs.Days.{terms_of};
 
 use super::days::{LENGTH, REPORTS, bytes_of, day, ended};
 use line_ledger::{DayName, LineSeat, Prepared, SharedTape};
@@ -106,8 +107,7 @@ fn run_day<D: DayName + Send + Sync, T: Threads + Wait + Abort + Sync>(
 ) -> u32
     requires name { prepared.blank.name ≡ D.name }
     requires parts { prepared.blank.parts ≡ D.parts }
-    requires listing { prepared.tape.listing ≡ D.terms.listing }
-    requires matrix { prepared.tape.matrix ≡ D.terms.matrix }
+    requires terms { terms_of prepared.tape ≡ D.terms }
 {
     let Ok((shared, seats)) = SharedTape::<D>::open(prepared) else {
         return 0;
@@ -180,8 +180,7 @@ fn run_again<D: DayName, W: Wait + Abort>(
 fn run_line_in<D: DayName, W: Wait + Abort>(rt: &W, prepared: Prepared, bytes: &[u8]) -> Option<u32>
     requires name { prepared.blank.name ≡ D.name }
     requires parts { prepared.blank.parts ≡ D.parts }
-    requires listing { prepared.tape.listing ≡ D.terms.listing }
-    requires matrix { prepared.tape.matrix ≡ D.terms.matrix }
+    requires terms { terms_of prepared.tape ≡ D.terms }
 {
     let Ok((shared, mut seats)) = SharedTape::<D>::open(prepared) else {
         return None;

@@ -1,5 +1,6 @@
 //! A day that is opened, and entries that are admitted by a seat, published and found.
 ghost use Rattle.std.specs.Prelude.{◌≡◌};
+ghost use Rattle.line_ledger.specs.Days.{terms_of};
 
 use super::days::{REPORTS, day, ended, report};
 use line_ledger::{
@@ -85,8 +86,7 @@ fn play<D: DayName, W: Wait + Abort + Print>(
 fn publish_in<D: DayName, W: Wait + Abort + Print>(rt: &W, prepared: Prepared) -> bool
     requires name { prepared.blank.name ≡ D.name }
     requires parts { prepared.blank.parts ≡ D.parts }
-    requires listing { prepared.tape.listing ≡ D.terms.listing }
-    requires matrix { prepared.tape.matrix ≡ D.terms.matrix }
+    requires terms { terms_of prepared.tape ≡ D.terms }
 {
     let (shared, mut seats) = match SharedTape::<D>::open(prepared) {
         Ok(opened) => opened,
