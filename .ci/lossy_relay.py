@@ -1,9 +1,10 @@
 #!/usr/bin/env python3
 """Stands between `tapebox live` and `tapebox follow` and makes the two lines lossy.
 
-    lossy_relay.py [--lose P] [--double P] [--reorder P] [--garble P] [--seed N] IN_A IN_B OUT_A OUT_B
+    lossy_relay.py [--lose P] [--double P] [--reorder P] [--garble P] [--seed N] IN_A IN_B OUT_A OUT_B [OUT_A OUT_B ..]
 
-It takes the UDP packets that come to ports IN_A and IN_B of 127.0.0.1 and sends them on to OUT_A and OUT_B. Each P is a
+It takes the UDP packets that come to ports IN_A and IN_B of 127.0.0.1 and sends them on to OUT_A and OUT_B, and to each further pair of ports
+what the first pair gets. Each P is a
 percentage from 0 to 100, or one for each line: `--lose 100,10` loses all of line A and a tenth of line B. Of the packets that are
 not lost, the doubled ones are sent twice, and the reordered ones are held back until three later ones of their line went on, or
 a fiftieth of a second passed. Before a garbled one, lost or not, goes a datagram of its own that is no packet of the day, but
@@ -61,9 +62,9 @@ class Held:
 class Line:
     """One of the two lines: its sockets, its parts, and what became of its packets."""
 
-    def __init__(self, name, ports, parts, seed):
+    def __init__(self, name, port, targets, parts, seed):
         self.name = name
-        self.target = (HOST, ports[1])
+        self.targets = [(HOST, target) for target in targets]
         self.lose, self.double, self.reorder, self.garble = parts
         self.random = random.Random(f"{seed} {name}")
         self.garbling = random.Random(f"{seed} {name} garbled")
@@ -72,7 +73,7 @@ class Line:
         self.sender = socket.socket(socket.AF_INET, socket.SOCK_DGRAM)
         self.receiver = socket.socket(socket.AF_INET, socket.SOCK_DGRAM)
         enlarge(self.receiver)
-        self.receiver.bind((HOST, ports[0]))
+        self.receiver.bind((HOST, port))
         self.receiver.setblocking(False)
 
     def receive(self):
@@ -108,7 +109,8 @@ class Line:
 
     def send(self, packet, times):
         for _ in range(times):
-            self.sender.sendto(packet, self.target)
+            for target in self.targets:
+                self.sender.sendto(packet, target)
 
     def send_garbage(self, packet):
         """Sends a datagram that is no packet of the day: an empty one, the packet cut short, with a byte more or under another
@@ -117,7 +119,8 @@ class Line:
         other_session = bytes(byte ^ (at == SESSION_END) for at, byte in enumerate(packet))
         noise = self.garbling.randbytes(64)
         garbage = self.garbling.choice([b"", packet[:-1], packet + b"\0", other_session, noise])
-        self.sender.sendto(garbage, self.target)
+        for target in self.targets:
+            self.sender.sendto(garbage, target)
 
     def count_later(self):
         """Counts a packet that went on for those that are held back, and lets go the ones that waited for it."""
@@ -173,9 +176,12 @@ def arguments():
     for part in ("lose", "double", "reorder", "garble"):
         parser.add_argument(f"--{part}", type=percentages, default=(0, 0), metavar="P[,P]", help="percentage, or of A and B (0)")
     parser.add_argument("--seed", type=int, default=1, metavar="N", help="seed of the random choices (1)")
-    for name in ("IN_A", "IN_B", "OUT_A", "OUT_B"):
+    for name in ("IN_A", "IN_B"):
         parser.add_argument(name.lower(), type=port, metavar=name)
+    parser.add_argument("out", type=port, nargs="+", metavar="OUT_A OUT_B")
     words = parser.parse_args()
+    if len(words.out) % 2:
+        parser.error("a port of line A has one of line B")
     if min(words.lose) == 100:
         parser.error("where both lines lose everything no follower can end")
     return words
@@ -188,8 +194,8 @@ def main():
     parts = list(zip(words.lose, words.double, words.reorder, words.garble))
     try:
         lines = [
-            Line("A", (words.in_a, words.out_a), parts[0], words.seed),
-            Line("B", (words.in_b, words.out_b), parts[1], words.seed),
+            Line("A", words.in_a, words.out[::2], parts[0], words.seed),
+            Line("B", words.in_b, words.out[1::2], parts[1], words.seed),
         ]
     except OSError as fault:
         sys.exit(f"lossy_relay.py: {fault}")

@@ -3,10 +3,12 @@
 import os
 import signal
 import socket
+import struct
 import subprocess
 import tempfile
 import threading
 import time
+from concurrent.futures import ThreadPoolExecutor
 from pathlib import Path
 
 from support import DISAGREES, HOST, LIMIT, READ_FAULT, SAMPLES, TAPEBOX, Case
@@ -59,6 +61,70 @@ class Answers(Case):
         with socket.socket(socket.AF_INET, socket.SOCK_DGRAM) as holder:
             holder.bind((HOST, b))
             self.assert_fault(run(["follow", "AB", "N", a, b, retransmission, SESSION]), READ_FAULT)
+
+
+class LateLines(Case):
+    """A follower of packets of one report each, which asks on a connection of the case's own."""
+
+    REPORTS = 200
+
+    @staticmethod
+    def packet(kind, number, *messages):
+        """A packet of version 1, by the number in its header and the messages of its entries."""
+        entries = b"".join(struct.pack(">I", number + at) + message for at, message in enumerate(messages))
+        return struct.pack(">BcQIB", 1, kind, SESSION, number, len(messages)) + entries
+
+    def answer(self, connection):
+        """Answers each request by the first entry asked for, until the follower closes: the numbers that were asked for."""
+        asked = []
+        while request := connection.recv(14):
+            asked.append(struct.unpack(">QIH", request)[1])
+            packet = self.packet(b"D", asked[-1], report("N", asked[-1]))
+            connection.sendall(struct.pack(">BBH", 0, 1, len(packet)) + packet)
+        return asked
+
+    def asked(self, count, send):
+        """What a follower asks for of a day of so many reports, where this function sends the packets by the two lines given."""
+        a, b, retransmission = ports(3)
+        with socket.create_server((HOST, retransmission)) as server, socket.socket(socket.AF_INET, socket.SOCK_DGRAM) as sender:
+            server.settimeout(LIMIT)
+            with started(["follow", "AB", "N", a, b, retransmission, SESSION]) as follow:
+                connection, _ = server.accept()
+                with connection, ThreadPoolExecutor() as pool:
+                    connection.settimeout(LIMIT)
+                    asked = pool.submit(self.answer, connection)
+                    send(*(lambda packet, port=port: sender.sendto(packet, (HOST, port)) for port in (a, b)))
+                    ended_well = ended(follow)
+                    self.assertEqual((ended_well.status, ended_well.said), (0, b""))
+                    self.assertIn(f"AB,ALL,100000,1,100000,1,100000,1,100000,{count},{100 * count},{count}\n".encode(), ended_well.written)
+                    return asked.result()
+
+    def test_a_line_that_brings_the_rest_later(self):
+        """PROFILE, "A running day": what line A lost and B brings a millisecond later is not asked for, but where the machine is held up."""
+
+        def send(line_a, line_b):
+            for number in range(1, self.REPORTS, 2):
+                line_a(self.packet(b"D", number, report("N", number)))
+                time.sleep(0.001)
+                for late in range(max(number - 1, 1), number + 1):
+                    line_b(self.packet(b"D", late, report("N", late)))
+            for line in (line_a, line_b):
+                line(self.packet(b"D", self.REPORTS, report("N", self.REPORTS)))
+                line(self.packet(b"E", self.REPORTS))
+
+        self.assertLess(len(self.asked(self.REPORTS, send)), self.REPORTS // 4)
+
+    def test_a_line_that_brings_nothing_more(self):
+        """PROFILE, "A running day": a line that brings nothing more is not waited for without end."""
+
+        def send(line_a, line_b):
+            for line in (line_a, line_b):
+                line(self.packet(b"D", 1, report("N", 1)))
+            for number in (3, 5):
+                line_a(self.packet(b"D", number, report("N", number)))
+            line_a(self.packet(b"E", 5))
+
+        self.assertEqual(self.asked(5, send), [2, 4])
 
 
 class Relay(threading.Thread):

@@ -1,7 +1,7 @@
 #!/usr/bin/env python3
-"""Measures `tapebox live` and `tapebox follow` on this machine: a busy day over 15 participants' lines to one follower.
+"""Measures `tapebox live` and `tapebox follow` on this machine: a busy day over 15 participants' lines to followers, one unless told otherwise.
 
-    bench/live_load.py [--messages N] [--seed N] [--lose P] [--tapebox PROGRAM] [--no-build]
+    bench/live_load.py [--messages N] [--seed N] [--lose P] [--followers N] [--tapebox PROGRAM] [--no-build]
 
 The day is that of `make_day busy`, without the lines that no participant's line can bring (an odd digit, a letter that is not
 listed), up to N messages. It runs straight and through .ci/lossy_relay.py with P percent lost on each line. Prints for
@@ -148,31 +148,37 @@ class Programs:
 
 
 def live_run(words, symbols, own, lose):
-    """Runs the day once; answers the seconds, the counted retransmission and the reports' files, or ends with the reason."""
-    port = free_ports(len(own) + 6)
-    retransmission, asked, sent_a, sent_b, a, b = range(port + len(own), port + len(own) + 6)
+    """Runs the day once; answers the seconds, the counted retransmissions and the reports' files, or ends with the reason."""
+    many = words.followers
+    port = free_ports(len(own) + 3 + 3 * many)
+    retransmission, sent_a, sent_b, *ports = range(port + len(own), port + len(own) + 3 + 3 * many)
+    asked, lines = ports[:many], ports[many:]
     names = [",".join(symbols), ",".join(own)]
-    reports = [DAYS / f"live.{program}" for program in ("live", "follow")]
+    reports = [DAYS / f"live.{program}" for program in ("live", *(f"follow{at}" for at in range(many)))]
+    is_relayed = lose or many > 1
     with contextlib.ExitStack() as ending:
         programs = Programs(ending)
-        ways = (sent_a, sent_b) if lose else (a, b)
-        live = programs.start(reports[0], words.tapebox, "live", *names, port, *ways, retransmission, 1, SESSION)
+        ways = (sent_a, sent_b) if is_relayed else lines
+        live = programs.start(reports[0], words.tapebox, "live", *names, port, *ways, retransmission, many, SESSION)
         wait_bound(live, "tcp", retransmission)
-        counted = Retransmission(asked, retransmission)
-        counted.start()
-        if lose:
-            lossy = [TOOLS / "lossy_relay.py", "--lose", lose, "--seed", words.seed, sent_a, sent_b, a, b]
+        if is_relayed:
+            lossy = [TOOLS / "lossy_relay.py", "--lose", lose or "0", "--seed", words.seed, sent_a, sent_b, *lines]
             relay = programs.start(DAYS / "live.relay", sys.executable, *lossy)
             wait_bound(relay, "udp", sent_a, sent_b)
-        follow = programs.start(reports[1], words.tapebox, "follow", *names, a, b, asked, SESSION)
-        wait_bound(follow, "udp", a, b)
+        counted = [Retransmission(own_port, retransmission) for own_port in asked]
+        follows = []
+        for at in range(many):
+            counted[at].start()
+            own_lines = lines[2 * at : 2 * at + 2]
+            follows.append(programs.start(reports[1 + at], words.tapebox, "follow", *names, *own_lines, asked[at], SESSION))
+            wait_bound(follows[at], "udp", *own_lines)
         began = send_all(own, port)
-        followed = follow.wait()
+        followed = [follow.wait() for follow in follows]
         seconds = time.perf_counter() - began
         lived = live.wait()
-        if followed or lived:
+        if any(followed) or lived:
             sys.exit(f"follow ended with status {followed} and live with {lived} (-9: killed after {LIMIT_SECONDS} seconds)")
-        if lose:
+        if is_relayed:
             relay.terminate()
             relay.wait()
             print((DAYS / "live.relay").read_text(), end="")
@@ -204,6 +210,7 @@ def arguments():
     parser = argparse.ArgumentParser(description="Measures tapebox live and follow over a busy day.")
     parser.add_argument("--messages", type=int, default=200_000, help="how many messages the day has (200000)")
     parser.add_argument("--seed", type=int, default=1, help="the day's seed, and the losses' (1)")
+    parser.add_argument("--followers", type=int, default=1, help="how many followers there are, more than one behind the relay (1)")
     parser.add_argument("--lose", default="10", help="the percentage lost on each line (10)")
     parser.add_argument("--tapebox", type=Path, default=ROOT / "crates" / "tapebox" / "out" / "tapebox", help="the program")
     parser.add_argument("--no-build", action="store_true", help="take the maker of days that is there")
@@ -230,11 +237,12 @@ def main():
     right = True
     for name, lose in (("straight", None), (f"{words.lose} % lost on each line", words.lose)):
         seconds, counted, reports = live_run(words, symbols, own, lose)
-        live, follow = (report.read_text() for report in reports)
-        equal, agrees = live == follow, figures(live) == wanted
+        live, *follows = (report.read_text() for report in reports)
+        equal, agrees = all(live == follow for follow in follows), figures(live) == wanted
+        entries, requests = (" and ".join(f"{getattr(each, what):,}" for each in counted) for what in ("entries", "requests"))
         print(
-            f"{name}: {seconds:.3f} s, {messages / seconds:,.0f} messages a second, {counted.entries:,} entries retransmitted"
-            f" in {counted.requests:,} answers; reports {'equal' if equal else 'DIFFER'};"
+            f"{name}: {seconds:.3f} s, {messages / seconds:,.0f} messages a second, {entries} entries retransmitted"
+            f" in {requests} answers; reports {'equal' if equal else 'DIFFER'};"
             f" volumes and trades {'as' if agrees else 'NOT as'} the batch's;"
             f" {seconds / batch:.2f} times the batch" + (f", {seconds / wired:.2f} times wire" if wired else "")
         )

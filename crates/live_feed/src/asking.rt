@@ -11,7 +11,11 @@ use std::alloc::Global;
 use std::net::{Net, TcpListener, TcpStream};
 use std::sync::{Mutex, Wait};
 use std::thread::Parker;
+use std::time::Duration;
 use tape_frames::Request;
+
+/// How long a turn is for which what a line may still bring is waited for, in milliseconds.
+const TURN: u64 = 1;
 
 /// What asks, and where.
 #[derive(Drop)]
@@ -96,7 +100,8 @@ impl Asker {
         }
     }
 
-    /// Asks for what is missing until the run is over, and sleeps while nothing is missing. The connection is closed then.
+    /// Asks for what is missing until the run is over, and sleeps while nothing is missing. What one line lost is waited for
+    /// until the other has gone past it, or was waited for long enough. The connection is closed then.
     pub(crate) fn run<N: Followed, R: Net<Listener = TcpListener, Stream = TcpStream> + Wait>(
         self,
         rt: &R,
@@ -105,9 +110,13 @@ impl Asker {
     ) {
         let mut asker = self;
         for _ in rt.forever() {
-            let next = follower.lock(rt).next();
+            let next = follower.lock(rt).next_to_ask();
             match next {
                 Next::Read => bell.park(rt),
+                Next::Wait(number) => {
+                    bell.park_timeout(rt, Duration::from_millis(TURN));
+                    follower.lock(rt).waited(number);
+                }
                 Next::Ask(request) => {
                     let brought = asker.bring(&request);
                     follower.lock(rt).answer(&request, brought);

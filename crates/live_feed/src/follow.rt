@@ -114,7 +114,7 @@ fn follow<
 /// closed, and a new one starts with nothing, on a connection of its own. That the run ends is not claimed: it does not where
 /// both lines lose all that is left.
 ///
-/// The status is 0 exactly where the report was written whole and flushed. Else nothing was written, or some of the
+/// The status is 0 only where the report was written whole and flushed. Else nothing was written, or some of the
 /// report after a write that failed: 3 where a socket cannot be opened or read; 4 where a write fails; 5 where memory runs out;
 /// 6 where no thread can be started; 7 where the feed is no tape, carries other summaries, refuses or falsifies what is asked
 /// for, and for a limit outside 1 to `TAPE_MOST`.

@@ -7,8 +7,10 @@ ghost use Rattle.tape_core.specs.declared.refusal.Refusal.TheVariants.{OutOfMemo
 
 use crate::Fault;
 use crate::followed::Followed;
+use crate::heard::Heard;
 use crate::starting::fault_of_tape;
 use arbitration::Line;
+use reports::Unread;
 use sale_matrix::Matrix;
 use std::alloc::Global;
 use std::marker::PhantomData;
@@ -18,11 +20,16 @@ use tape_core::Refusal;
 use tape_frames::Request;
 use tape_types::Listing;
 
+/// Where the header of a packet has its number.
+const NUMBER_AT: usize = 10;
+
 /// What a run waits for, or what is to be done in it.
 #[derive(Clone, Copy)]
 pub(crate) enum Next {
     /// Packets have to come by the lines.
     Read,
+    /// The number is missing, and a line may still bring it.
+    Wait(u32),
     /// This is missing.
     Ask(Request),
     /// The subscriber is a new one, which asks on a connection of its own.
@@ -31,15 +38,19 @@ pub(crate) enum Next {
     End,
 }
 
-/// A subscriber of the tape that is followed, whether it has yet to be connected, and whether the run is over.
+/// A subscriber of the tape that is followed, how far its lines have come, whether it has yet to be connected, and whether the
+/// run is over.
 #[derive(Drop)]
 pub(crate) struct Follower<N: Followed> {
     alloc: Global,
     subscriber: Subscriber,
+    heard: Heard,
     session: u64,
     restart_after: Option<u32>,
     has_restarted: bool,
     over: Option<Result<(), Fault>>,
+    /// Whether what asks sleeps until it is rung.
+    is_asleep: bool,
     name: PhantomData<N>,
     ghost listed: { subscriber.tape.listing ≡ N.listing },
     ghost by_matrix: { subscriber.tape.matrix ≡ N.matrix },
@@ -86,13 +97,19 @@ fn copy_of(alloc: Global, listing: &Listing) -> Result<Listing, Fault>
     }
 }
 
-/// Has the subscriber take what came by a line. Bytes that are no packet of the day are dropped.
-fn deliver_to(subscriber: &mut Subscriber, line: Line, bytes: &[u8]) -> Result<(), Fault>
+/// The number in the header of a packet: that of its first entry, or the one that a beat or an end tells. 0 for fewer bytes.
+fn number_in(packet: &[u8]) -> u32 {
+    let rest = packet.get(NUMBER_AT..).unwrap_or(&[]);
+    Unread { rest }.u32(()).unwrap_or(0)
+}
+
+/// Has the subscriber take what came by a line, and tells whether it did. Bytes that are no packet of the day are dropped.
+fn deliver_to(subscriber: &mut Subscriber, line: Line, bytes: &[u8]) -> Result<bool, Fault>
     ensures { subscriber.new.tape ≡ subscriber.old.tape }
 {
     match subscriber.deliver(line, bytes) {
-        Ok(_) => Ok(()),
-        Err(DeliveryFault::NoPacket(_) | DeliveryFault::Refused(_)) => Ok(()),
+        Ok(_) => Ok(true),
+        Err(DeliveryFault::NoPacket(_) | DeliveryFault::Refused(_)) => Ok(false),
         Err(DeliveryFault::Failed) => Err(Fault::Disagrees),
     }
 }
@@ -134,17 +151,21 @@ impl<N: Followed> Follower<N> {
         Ok(Follower {
             alloc,
             subscriber,
+            heard: Heard::nothing(),
             session,
             restart_after,
             has_restarted: false,
             over: None,
+            is_asleep: false,
             name: PhantomData,
         })
     }
 
     /// Takes what came by a line, and replays what is ready. Bytes that are no packet of the day are dropped.
     fn take(&mut self, line: Line, bytes: &[u8]) -> Result<(), Fault> {
-        deliver_to(&mut self.subscriber, line, bytes)?;
+        if deliver_to(&mut self.subscriber, line, bytes)? {
+            self.heard.note(line, number_in(bytes));
+        }
         drain(&mut self.subscriber)
     }
 
@@ -175,6 +196,7 @@ impl<N: Followed> Follower<N> {
             self.session,
         )?;
         drop(mem::replace(&mut self.subscriber, next));
+        self.heard = Heard::nothing();
         self.restart_after = None;
         self.has_restarted = true;
         Ok(())
@@ -200,13 +222,21 @@ impl<N: Followed> Follower<N> {
         }
     }
 
-    /// Takes what came by a line, unless the run is over, and tells what is next.
+    /// Takes what came by a line, unless the run is over, and tells what is next. That a number is waited for is told once, to
+    /// whoever wakes what asks.
     pub(crate) fn deliver(&mut self, line: Line, bytes: &[u8]) -> Next {
         if self.over.is_none() {
             let taken = self.take(line, bytes);
             self.settle(taken);
         }
-        self.next()
+        match self.next() {
+            Next::Read => Next::Read,
+            Next::Wait(_) if !self.is_asleep => Next::Read,
+            next => {
+                self.is_asleep = false;
+                next
+            }
+        }
     }
 
     /// Takes what a request brought, unless the run is over, or the subscriber that lacked it was given up meanwhile.
@@ -221,8 +251,20 @@ impl<N: Followed> Follower<N> {
         self.settle(taken);
     }
 
+    /// What is next for what asks, which then sleeps until it is rung where nothing is missing.
+    pub(crate) fn next_to_ask(&mut self) -> Next {
+        let next = self.next();
+        self.is_asleep = matches!(next, Next::Read);
+        next
+    }
+
+    /// Takes note that this number was waited for, for a turn.
+    pub(crate) fn waited(&mut self, number: u32) {
+        self.heard.waited(number)
+    }
+
     /// What is next. A new subscriber gets its connection, which the retransmission awaits, even where the run is over by then.
-    pub(crate) fn next(&self) -> Next {
+    fn next(&self) -> Next {
         if self.has_restarted {
             return Next::Connect;
         }
@@ -230,6 +272,7 @@ impl<N: Followed> Follower<N> {
             return Next::End;
         }
         match self.subscriber.missing() {
+            Some(request) if self.heard.may_bring(request.from) => Next::Wait(request.from),
             Some(request) => Next::Ask(request),
             None => Next::Read,
         }

@@ -104,7 +104,7 @@ impl<'a, N: Followed> Run<'a, N> {
         for _ in rt.forever() {
             match followed.read(rt, &self.follower, &mut room) {
                 Next::Read => {}
-                Next::Ask(_) | Next::Connect => self.bell.unpark(),
+                Next::Wait(_) | Next::Ask(_) | Next::Connect => self.bell.unpark(),
                 Next::End => break,
             }
         }

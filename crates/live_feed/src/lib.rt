@@ -11,6 +11,7 @@ mod follow;
 mod followed;
 mod follower;
 mod following;
+mod heard;
 mod live;
 mod loss;
 mod pace;
