@@ -1,17 +1,15 @@
 """Programs of which one request for memory is refused."""
 
-import functools
 import os
-import subprocess
-import tempfile
 from collections import Counter
 from concurrent.futures import ThreadPoolExecutor
 from dataclasses import dataclass, replace
-from pathlib import Path
 
+from preloaded import built, preloading
 from support import OUT_OF_MEMORY, Case, run
 
-HEAP = Path(__file__).resolve().with_name("one_refusal.c")
+# The heap of which one request is refused.
+HEAP = "one_refusal.c"
 TOLD = b"a request was refused\n"
 # More requests than any test makes.
 MOST = 10_000
@@ -21,20 +19,9 @@ ENDED_BY_ERROR = 101
 REFUSED = b"refused 40 OutOfMemory\n"
 
 
-@functools.cache
-def heap():
-    """The heap of which one request is refused, built by the toolchain's own compiler, in a folder that is removed at the end."""
-    page = subprocess.run(["rt", "doc"], capture_output=True, text=True, check=True).stdout.strip()
-    folder = tempfile.TemporaryDirectory()
-    built = Path(folder.name) / "one_refusal.so"
-    compiler = Path(page).parent / "toolchain" / "bin" / "clang"
-    subprocess.run([compiler, "-O2", "-shared", "-fPIC", "-nostdlib", "-fuse-ld=lld", "-o", built, HEAP], check=True)
-    return folder, built
-
-
 def refusing(request):
     """The environment of a program whose request of this number is refused."""
-    return {"LD_PRELOAD": str(heap()[1]), "REFUSED_REQUEST": str(request)}
+    return preloading(HEAP) | {"REFUSED_REQUEST": str(request)}
 
 
 def without_told(ended):
@@ -88,7 +75,7 @@ class Sweeps(Case):
     @classmethod
     def setUpClass(cls):
         # Once, before the tests run beside each other.
-        heap()
+        built(HEAP)
 
     def sweep_all(self, program):
         """What the tests printed, each in its runs with one request refused. Each of them goes on after one of its requests at least."""

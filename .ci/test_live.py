@@ -12,7 +12,8 @@ import time
 import unittest
 from pathlib import Path
 
-from support import HOST, LIMIT, READ_FAULT, WRITE_FAULT, Case
+from preloaded import preloading
+from support import HOST, LIMIT, READ_FAULT, SAMPLES, WRITE_FAULT, Case
 from support import connect, ended, free_ports, is_refused, message, ports, report, reports, run, started, wait_bound
 
 # Asks Linux for the time at which each packet was taken, by the same number that its answer has.
@@ -267,6 +268,29 @@ class Served(Case):
                     answer += subscriber.recv(len(self.ANSWER) - len(answer))
                 self.assertEqual(answer, self.ANSWER)
             self.assertEqual(ended(live).status, 0)
+
+
+class Workers(Case):
+    THREAD = b"a thread was started\n"
+
+    def threads(self, *symbols):
+        """How many threads an empty day of these symbols starts."""
+        line, a, b, retransmission = ports(4)
+        words = ["live", ",".join(symbols), "N", line, a, b, retransmission, 0, 1]
+        with started(words, env=preloading("started_threads.c")) as day:
+            connect(line).close()
+            end = ended(day)
+        self.assertEqual((end.status, end.said.replace(self.THREAD, b"")), (0, b""))
+        return end.said.count(self.THREAD)
+
+    def test_the_workers_of_the_report(self):
+        """PROFILE, "A running day": four workers make the report, three of them in threads of their own. One symbol has one worker."""
+        self.assertEqual(self.threads("A", "B", "C", "D", "E", "F", "G", "H") - self.threads("A"), 3)
+
+    def test_a_batch(self):
+        """PROMISES, "What is only tested": the one worker of a batch's report starts no thread."""
+        day = (SAMPLES / "first-day.txt").read_bytes()
+        self.assert_writes(run(["batch"], day, env=preloading("started_threads.c")), (SAMPLES / "first-day.out").read_bytes())
 
 
 class Sockets(Case):

@@ -1,6 +1,7 @@
 """Each request for memory refused in turn: of the tests that are made for it, and of the built program."""
 
 import contextlib
+import re
 import select
 import socket
 import struct
@@ -11,8 +12,9 @@ from concurrent.futures import ThreadPoolExecutor
 from dataclasses import dataclass
 from typing import Optional
 
-from refused import Sweeps, end_of_batch, heap, refusing, run_refused, without_told
-from support import CRATES, HOST, NO_WORKER, OUT_OF_MEMORY, Case, Ended
+from preloaded import built
+from refused import HEAP, Sweeps, end_of_batch, refusing, run_refused, without_told
+from support import CRATES, HEADINGS, HOST, NO_WORKER, OUT_OF_MEMORY, READ_FAULT, WRITE_FAULT, Case, Ended
 from support import addresses, batch_line, ended, free_ports, report, reports, run, started, wait_bound
 
 # How many of a program's requests are refused in turn at most.
@@ -36,6 +38,9 @@ class Calls(Sweeps):
         """PROMISES, "What is only tested": the same of shared tapes and of lines, which give back each seat."""
         printed = self.sweep_all(CRATES / "memory_lines" / "out" / "memory_lines_tests")
         self.assert_printed(printed, "admitted again", "published again", "found again", "opened again", "told of 0, and then of all")
+        for pattern in (r"told of [1-9]\d*, and then of all$", r"a line again after \d+$"):
+            with self.subTest(pattern):
+                self.assertTrue(any(re.search(pattern, text) for text in printed), sorted(printed))
 
 
 class Batch(Case):
@@ -91,7 +96,7 @@ class RunningDays(Case):
     @classmethod
     def setUpClass(cls):
         # Once, before the lanes.
-        heap()
+        built(HEAP)
 
     @staticmethod
     def listens(day, port):
@@ -173,6 +178,15 @@ class RunningDays(Case):
         self.assertEqual(end.written, b"")
         self.assertIn((end.status, end.said), (OUT_OF_MEMORY, NO_WORKER))
 
+    def assert_given_up(self, follow):
+        """A follower whose day met a fault waits, or its connection was closed while it asked, or it reports what it holds."""
+        if follow and follow.status:
+            self.assertIn((follow.status, follow.said), (READ_FAULT, WRITE_FAULT))
+            self.assertEqual(follow.written, b"")
+        elif follow:
+            self.assertEqual(follow.said, b"")
+            self.assertTrue(follow.written.startswith(HEADINGS.encode()))
+
     def end_of_live(self, day):
         """What became of a day whose `live` was refused a request."""
         if day.live.status == 0:
@@ -180,6 +194,7 @@ class RunningDays(Case):
             self.assertEqual((day.live.said, self.is_whole(day.live.written)), (b"", True))
             return "done"
         self.assert_lacks(day.live)
+        self.assert_given_up(day.follow)
         if day.closed == 1:
             self.assert_fault(day.live, OUT_OF_MEMORY)
             return "a line ended at 40"
@@ -229,6 +244,7 @@ class Serving(Case):
     REPORTS = 20
     SESSION = 7
     UNPUBLISHED = b"\x48"
+    ANSWERED = b"\0"
     # How often the subscriber asks for what has not been published, and the seconds between.
     TRIES = 100
     REST = 0.01
@@ -253,25 +269,35 @@ class Serving(Case):
                 return self.first_byte(subscriber)
         return None
 
+    def ask_next(self, retransmission):
+        """What another subscriber is answered first, for which no request is refused any more; `None` where the day has ended."""
+        with contextlib.suppress(OSError):
+            with socket.create_connection((HOST, retransmission), timeout=SOON) as subscriber:
+                return self.first_byte(subscriber)
+        return None
+
     def day(self, row, request):
-        """Whether this request of the day was met, how the day ended, and what the subscriber was answered first."""
+        """Whether this request of the day was met, how the day ended, and what each of two subscribers was answered first."""
         line, a, b, retransmission = row
-        with started(["live", "AB", "N", line, a, b, retransmission, 1, self.SESSION], env=refusing(request)) as live:
-            first = self.ask(line, retransmission) if RunningDays.listens(live, retransmission) else None
-            return *without_told(ended(live, SOON)), first
+        with started(["live", "AB", "N", line, a, b, retransmission, 2, self.SESSION], env=refusing(request)) as live:
+            answers = None, None
+            if RunningDays.listens(live, retransmission):
+                answers = self.ask(line, retransmission), self.ask_next(retransmission)
+            return *without_told(ended(live, SOON)), answers
 
     def test_each_request(self):
-        """PROFILE, "Statuses", 5: a day of which memory runs out for an answer closes the subscriber's connection, and ends so."""
-        heap()
+        """PROFILE, "Statuses", 5: a day of which memory runs out for an answer closes the subscriber's connection, serves the next, and ends so."""
+        built(HEAP)
         unanswered = 0
         with ThreadPoolExecutor(self.LANES) as pool:
             for first in range(1, MOST + 1, self.LANES):
                 at = free_ports(self.PORTS * self.LANES)
                 rows = [range(port, port + self.PORTS) for port in range(at, at + self.PORTS * self.LANES, self.PORTS)]
                 days = list(pool.map(self.day, rows, range(first, first + self.LANES)))
-                for _, end, answer in days:
-                    if answer == b"":
+                for _, end, (first_answer, next_answer) in days:
+                    if first_answer == b"":
                         unanswered += 1
+                        self.assertEqual(next_answer, self.ANSWERED)
                         self.assert_fault(end, OUT_OF_MEMORY)
                 if not all(was_met for was_met, _, _ in days):
                     break
