@@ -1,12 +1,18 @@
 -- The worked days, computed.
-use Rattle.std.proofs.Common.{◌≡◌, Some, refl}
+use Rattle.std.proofs.Common.{◌≡◌, None, Some, refl}
 use Rattle.sale_matrix.specs.Matrix.{first_rows, second_rows, third_rows, fourth_rows, cells_of, is_within}
 use Rattle.sale_matrix.specs.declared.matrix.Matrix.TheVariants.{One}
+use Rattle.scratch_fold.specs.Fold.{empty_summary}
 use Rattle.tape_core.specs.declared.refusal.Refusal.TheVariants.{Stale}
 use Rattle.tape_core.specs.Standing.{symbol_summary}
 use Rattle.tape_core.specs.Tape.{messages_of, refusal, with_message}
 use Rattle.split_days.specs.Split.{AdmitsAll, part_of, tape_after}
 use Rattle.split_days.specs.Worked.{ab, ab_listed, ab_start, both_start, cd, figures_at, in_number, out_of_number, report}
+
+-- the whole admits the first message
+pub whole-begins : refusal both_start (report 2 cd) ≡ None
+unfolding first_rows second_rows third_rows fourth_rows cells_of is_within
+whole-begins = refl
 
 -- the whole refuses a number that is below its participant's last, whatever that was for
 pub whole-refuses : refusal (with_message both_start (report 2 cd)) (report 1 ab) ≡ Some Stale
@@ -17,6 +23,16 @@ whole-refuses = refl
 pub part-admits : AdmitsAll ab_start (part_of ab_listed out_of_number)
 unfolding first_rows second_rows third_rows fourth_rows cells_of is_within
 part-admits = (refl, tt)
+
+-- so the first symbol has no figure on the whole
+pub whole-lacks : symbol_summary One (messages_of (with_message both_start (report 2 cd)).entries) ab ≡ empty_summary
+unfolding first_rows second_rows third_rows fourth_rows cells_of is_within
+whole-lacks = refl
+
+-- and those of its report on the part
+pub part-has : symbol_summary One (messages_of (tape_after ab_start (part_of ab_listed out_of_number)).entries) ab ≡ figures_at 1
+unfolding first_rows second_rows third_rows fourth_rows cells_of is_within
+part-has = refl
 
 -- numbers that rise are admitted
 pub whole-admits : AdmitsAll both_start in_number
