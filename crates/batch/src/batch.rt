@@ -1,5 +1,5 @@
 //! A batch: a whole input answered line by line, and the report of the tape that it leaves.
-ghost use Rattle.std.specs.Prelude.{◌≡◌, ◌+◌, ◌++◌, ◌⊎◌, IfErr, IfOk, IfSome, OnOk, OnErr, Ok, Err, [], false};
+ghost use Rattle.std.specs.Prelude.{◌≡◌, ◌+◌, ◌⊎◌, IfErr, IfOk, IfSome, OnOk, OnErr, Err, [], false};
 ghost use Rattle.std.specs.Io.KnownBytes.{Appends, Keeps};
 ghost use Rattle.std.specs.List.{flat_map};
 ghost use Rattle.std.specs.Io.Take.{take_inner, take_limit};

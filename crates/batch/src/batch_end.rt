@@ -9,7 +9,7 @@ pub enum BatchEnd {
     Done,
     /// The header was refused, and its refusal was written.
     BadHeader,
-    /// The input is longer than 16,777,216 bytes, and nothing was written.
+    /// The input is longer than `INPUT_MOST` bytes, and nothing was written.
     TooLarge,
     /// A read failed, and nothing was written.
     ReadFault,

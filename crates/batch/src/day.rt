@@ -1,5 +1,5 @@
 //! A day: its tape, and the answers that it holds until its input has been read whole.
-ghost use Rattle.std.specs.Prelude.{◌≡◌, ◌≢◌, ◌≤◌, ◌+◌, ◌↔◌, [], ◌∷◌, false, Err, IsOk, IsTrue, IfErr, IfSome, OnOk, OnErr};
+ghost use Rattle.std.specs.Prelude.{◌≡◌, ◌≢◌, ◌≤◌, ◌↔◌, [], ◌∷◌, false, Err, IsOk, IsTrue, IfErr, IfSome, OnOk, OnErr};
 ghost use Rattle.tape_core.specs.declared.refusal.Refusal.TheVariants.{OutOfMemory};
 ghost use Rattle.batch.specs.Batch.{line_answer, tape_after_line};
 ghost use Rattle.batch.specs.Reading.{EndsReading, Fits};

@@ -1,5 +1,5 @@
 //! The header of a batch.
-ghost use Rattle.std.specs.Prelude.{◌≡◌, ◌≤◌, IfOk, IfErr, IfSome, OnOk, Ok, None, Some, is_some, true, unwrap_or};
+ghost use Rattle.std.specs.Prelude.{◌≡◌, IfOk, IfErr, IfSome, OnOk, Ok, None, Some, is_some, true, unwrap_or};
 ghost use Rattle.std.specs.Result.{result_err};
 ghost use Rattle.tape_types.specs.declared.listing_fault.ListingFault.TheVariants.{OutOfMemory};
 ghost use Rattle.batch.specs.Header.{all_named, header_listing, name_texts, participant_named, symbol_named};

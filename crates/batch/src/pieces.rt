@@ -1,5 +1,5 @@
 //! The pieces of a text between single spaces.
-ghost use Rattle.std.specs.Prelude.{◌≡◌, ℕ, [], Option, Some, None};
+ghost use Rattle.std.specs.Prelude.{◌≡◌};
 ghost use Rattle.std.specs.Iterator.{YieldsFirstRef, item_count};
 ghost use Rattle.batch.specs.Pieces.{pieces_left};
 ghost use Rattle.batch.specs.Header.{pieces_of};

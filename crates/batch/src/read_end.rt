@@ -1,5 +1,4 @@
 //! What the reading of an input can end with, before its end.
-ghost use Rattle.std.specs.Prelude.{◌≡◌};
 ghost use Rattle.batch.specs.Ends.{end_of_reading};
 ghost use Rattle.batch.specs.declared.read_end.ReadEnd.TheVariants.{OutOfMemory};
 
@@ -9,7 +8,7 @@ use std::alloc::AllocError;
 /// Why the reading of an input stopped before its end.
 #[derive(Clone, Copy, Debug, PartialEq, Eq)]
 pub enum ReadEnd {
-    /// The input is longer than 16,777,216 bytes.
+    /// The input is longer than `INPUT_MOST` bytes.
     TooLarge,
     /// A read failed.
     ReadFault,

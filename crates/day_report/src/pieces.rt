@@ -210,11 +210,11 @@ fn try_start<R: Threads>(rt: &R) -> Result<(), ReportFault>
 }
 
 /// The rows of a tape: by symbol in listing order the consolidated row, then in listing order one row for each
-/// participant with a report that stands there. They are the same for every number of workers, 1 to 64: each takes one
-/// piece of the listing after another and makes its rows, and one alone starts no thread.
+/// participant with a report that stands there. They are the same for every number of workers, 1 to `WORKERS_MOST`: each
+/// takes one piece of the listing after another and makes its rows, and one alone starts no thread.
 ///
-/// Refused: `BadWorkers` exactly outside 1 to 64, `Unstarted` where two workers or more were asked for and no thread can be
-/// started, `OutOfMemory` last. The tape is only read, and stays as it is.
+/// Refused: `BadWorkers` exactly outside 1 to `WORKERS_MOST`, `Unstarted` where two workers or more were asked for and no
+/// thread can be started, `OutOfMemory` last. The tape is only read, and stays as it is.
 ///
 /// The gate is called once after each symbol of a worker's pieces, with the worker's number from 0 and how many of its
 /// symbols are done, from 1.

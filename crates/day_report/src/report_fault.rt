@@ -10,7 +10,7 @@ use thiserror::Error;
 /// Why the rows of a report were not made, or its text was not written. It is printed as its name.
 #[derive(Clone, Copy, Debug, PartialEq, Eq, Error)]
 pub enum ReportFault {
-    /// There is no worker, or there are more than 64.
+    /// There is no worker, or there are more than `WORKERS_MOST`.
     BadWorkers = 95,
     /// No thread could be started for the workers.
     Unstarted = 96,

@@ -1,6 +1,4 @@
 //! A row of the report.
-ghost use Rattle.std.specs.Prelude.{◌≡◌, Some, true, slice_get};
-ghost use Rattle.tape_core.specs.Tape.{lists_participant};
 
 use scratch_fold::Summary;
 use summaries::Store;

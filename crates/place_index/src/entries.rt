@@ -1,6 +1,6 @@
 //! All entries of an index by rising place: some blocks, and the last one apart from them, since most entries come at a
 //! place above all others and are found there at once.
-ghost use Rattle.std.specs.Prelude.{◌≡◌, ◌<◌, ◌≤◌, ◌++◌, ◌∷◌, [], ℕ, length, take, drop, OnOk, OnErr, MatchOption, Some, None, IsSome};
+ghost use Rattle.std.specs.Prelude.{◌≡◌, ◌<◌, ◌≤◌, ◌++◌, ◌∷◌, [], length, take, drop, OnOk, OnErr, MatchOption, Some, None, IsSome};
 ghost use Rattle.std.specs.FinMap as map;
 ghost use Rattle.place_index.specs.Blocks.{all_values, BLOCK_MOST, GoesLast, HasLastBlock};
 ghost use Rattle.place_index.specs.Places.{IsVacant, IsFirstPlace, IsLastPlace};

@@ -1,7 +1,7 @@
 //! Rows of bytes read whole from a reader, and texts written whole to a writer, with what a failed call leaves.
 #![tactic(auto)]
 
-ghost use Rattle.std.specs.Prelude.{◌≡◌, ◌≤◌, ◌<◌, IfNone, IfSome, take, length};
+ghost use Rattle.std.specs.Prelude.{◌≤◌, ◌<◌, IfNone, IfSome, take, length};
 ghost use Rattle.std.specs.Io.KnownBytes.{Consumes, IsAtEnd};
 ghost use Rattle.row_reads.specs.FailedReads.{ReadsFewer};
 

@@ -119,7 +119,7 @@ impl Effect {
 }
 
 impl Summary {
-    ghost use Rattle.std.specs.Prelude.{◌≡◌, ◌+◌, ◌≤◌, ◌<◌, ◌^◌, if◌then◌else◌};
+    ghost use Rattle.std.specs.Prelude.{◌≡◌, ◌+◌, ◌≤◌, ◌<◌, ◌^◌};
     ghost use Rattle.scratch_fold.specs.Fold.{step, empty_summary};
 
     /// The summary of no report.

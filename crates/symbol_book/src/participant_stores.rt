@@ -1,6 +1,6 @@
 //! The participants' own stores of a book, in a row by letter, from `A`, as far as a report has needed it. The store of a
 //! letter in the row that has not reported is empty.
-ghost use Rattle.std.specs.Prelude.{◌≡◌, ◌+◌, ◌<◌, ℕ, length, OnOk, OnErr, IsSome, None};
+ghost use Rattle.std.specs.Prelude.{◌≡◌, ◌<◌, ℕ, length, OnOk, OnErr, IsSome, None};
 ghost use Rattle.std.specs.FinMap as map;
 ghost use Rattle.summaries.specs.Effects.{map_summary};
 ghost use Rattle.symbol_book.specs.Columns.{consolidated_effect_of, own_effect_of};

@@ -13,7 +13,7 @@ use std::marker::Model;
 /// How many numbers four bytes hold.
 pub const FOUR_BYTE_NUMBERS: u64 = 4_294_967_296;
 
-/// A number of 32 bits in its four bytes, the lowest first: 0 to 4,294,967,295.
+/// A number of 32 bits in its four bytes, the lowest first.
 ///
 /// It needs no place at a multiple of four, so that what holds it has no padding for it: a day keeps millions of them. Longer
 /// numbers are kept in two parts, of which the low one is such a number.

@@ -1,7 +1,7 @@
 //! The listing of a day.
 ghost use Rattle.std.specs.Prelude.{◌≡◌, position, None, unwrap_or, ◌==◌, false, IfOk, IfErr, OnOk, if◌then◌else◌};
 ghost use Rattle.std.specs.List.{list_any};
-ghost use Rattle.tape_types.specs.Names.{Names, names_fault, symbol_eq, has_repeat};
+ghost use Rattle.tape_types.specs.Names.{names_fault, symbol_eq, has_repeat};
 ghost use Rattle.std.specs.Slice.Iter.{iter_rest};
 ghost use Rattle.tape_types.specs.declared.listing_fault.ListingFault.TheVariants.{OutOfMemory, Repeated};
 
@@ -31,7 +31,7 @@ impl Model for Listing {
 }
 
 impl Listing {
-    /// A listing of 1 to 4,096 symbols and 1 to 26 participants, each list in its order.
+    /// A listing of 1 to `SYMBOLS_MOST` symbols and 1 to `PARTICIPANTS_MOST` participants, each list in its order.
     ///
     /// Refused, the first that applies: `Empty` where a list has no name, `TooMany` where one is too long, `Repeated`
     /// where a name stands twice in one, and `OutOfMemory` last.

@@ -10,7 +10,7 @@ use thiserror::Error;
 pub enum ListingFault {
     /// There is no symbol, or no participant.
     Empty = 1,
-    /// There are more than 4,096 symbols, or more than 26 participants.
+    /// There are more than `SYMBOLS_MOST` symbols, or more than `PARTICIPANTS_MOST` participants.
     TooMany = 2,
     /// A symbol or a participant stands twice.
     Repeated = 3,

@@ -6,7 +6,7 @@ use crate::NumberKey;
 use crate::four_bytes::FourBytes;
 use std::marker::Model;
 
-/// The number that a participant gave its message, of the message itself or of a target: 1 to 4,294,967,295.
+/// The number that a participant gave its message, of the message itself or of a target: any `u32` but 0.
 #[derive(Clone, Copy, Debug, PartialEq, Eq, PartialOrd, Ord, Hash)]
 pub struct MsgNumber {
     number: FourBytes,

@@ -13,7 +13,7 @@ use std::fmt;
 use std::hash::{Hash, Hasher};
 use std::marker::Model;
 
-/// A price, in ten-thousandths of a dollar: 1 to 999,999,999,999.
+/// A price, in ten-thousandths of a dollar: 1 to `PRICE_MOST`.
 ///
 /// Its forty bits are kept in five bytes, so that a price needs no place at a multiple of eight, and a figure of a summary
 /// no padding for it: a day keeps millions of them.
@@ -37,7 +37,7 @@ impl Model for Price {
 }
 
 impl Price {
-    /// The price of so many ten-thousandths of a dollar, or `None` outside 1 to 999,999,999,999.
+    /// The price of so many ten-thousandths of a dollar, or `None` outside 1 to `PRICE_MOST`.
     pub fn try_new(ten_thousandths: u64) -> Option<Self>
         ensures valid { IsSome result ↔ IsPrice ten_thousandths }
         ensures value { IfSome result (λ p. p ≡ ten_thousandths) }

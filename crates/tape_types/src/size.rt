@@ -6,7 +6,7 @@ use crate::SIZE_MOST;
 use crate::four_bytes::FourBytes;
 use std::marker::Model;
 
-/// A number of shares: 1 to 99,999,999.
+/// A number of shares: 1 to `SIZE_MOST`.
 #[derive(Clone, Copy, Debug, PartialEq, Eq, PartialOrd, Ord, Hash)]
 pub struct Size {
     shares: FourBytes,
@@ -23,7 +23,7 @@ impl Model for Size {
 }
 
 impl Size {
-    /// So many shares, or `None` outside 1 to 99,999,999.
+    /// So many shares, or `None` outside 1 to `SIZE_MOST`.
     pub fn try_new(shares: u32) -> Option<Self>
         ensures valid { IsSome result ↔ IsSize shares }
         ensures value { IfSome result (λ s. s ≡ shares) }

@@ -6,7 +6,7 @@ use crate::four_bytes::FourBytes;
 use crate::{NumberKey, TAPE_MOST};
 use std::marker::Model;
 
-/// A position on the tape: 1 to 16,777,216. A report's place is the tape number of its admission.
+/// A position on the tape: 1 to `TAPE_MOST`. A report's place is the tape number of its admission.
 #[derive(Clone, Copy, Debug, PartialEq, Eq, PartialOrd, Ord, Hash)]
 pub struct TapeNumber {
     position: FourBytes,
@@ -23,7 +23,7 @@ impl Model for TapeNumber {
 }
 
 impl TapeNumber {
-    /// The tape number, or `None` outside 1 to 16,777,216.
+    /// The tape number, or `None` outside 1 to `TAPE_MOST`.
     pub fn try_new(position: u32) -> Option<Self>
         ensures valid { IsSome result ↔ IsTapeNumber position }
         ensures value { IfSome result (λ t. t ≡ position) }

@@ -126,8 +126,8 @@ impl<'a> Words<'a> {
         }
     }
 
-    /// The last argument, if one is left, as the limit of a tape, 1 to 16,777,216 entries: 1,048,576 where none is. Refused
-    /// where another one follows.
+    /// The last argument, if one is left, as the limit of a tape, 1 to `TAPE_MOST` entries: `FEED_TAPE_MOST` where none is.
+    /// Refused where another one follows.
     fn limit(&mut self) -> Result<u32, CommandFault>
         ensures left_out { self.old.rest.now ≡ [] → result ≡ Ok FEED_TAPE_MOST }
         ensures range { IfOk result IsTapeNumber }

@@ -1,6 +1,4 @@
 //! Requests answered over memory: worked answers, bytes written out by hand, and answers that are read again.
-ghost use Rattle.std.specs.Prelude.{◌≡◌};
-ghost use Rattle.tape_frames.specs.Sources.{IsPublished};
 
 use super::feed::{Feed, equal_reports};
 use super::sending::{SESSION, VERSIONS};
