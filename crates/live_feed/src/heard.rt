@@ -66,6 +66,7 @@ impl Heard {
         ensures a { line ≡ A → (self.new.a ≡ Some (furthest self.old.a number)) × (self.new.b ≡ self.old.b) }
         ensures b { line ≡ B → (self.new.b ≡ Some (furthest self.old.b number)) × (self.new.a ≡ self.old.a) }
         ensures retransmission { line ≡ R → (self.new.a ≡ self.old.a) × (self.new.b ≡ self.old.b) }
+        ensures waited { (self.new.awaited ≡ self.old.awaited) × (self.new.turns ≡ self.old.turns) }
     {
         match line {
             Line::A => self.a = brought(self.a, number),
