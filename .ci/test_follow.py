@@ -1,5 +1,6 @@
 """Followers of a running day, as the built program runs them."""
 
+import contextlib
 import os
 import signal
 import socket
@@ -182,6 +183,30 @@ class HeldUp(Case):
                 follow.send_signal(signal.SIGCONT)
                 self.assert_equal_reports(live, follow)
 
+    def test_stopped_beyond_the_third_end(self):
+        """PROFILE, "What becomes of a peer that misbehaves": a follower that is stopped until the three ends have gone gets a later one."""
+        line, a, b, retransmission = ports(4)
+        with started(["live", "AB", "N", line, a, b, retransmission, 1, SESSION]) as live, connect(line) as participant:
+            with started(["follow", "AB", "N", a, b, retransmission, SESSION]) as follow:
+                wait_bound(follow, a, b)
+                wait_connected(follow, retransmission, 1)
+                follow.send_signal(signal.SIGSTOP)
+                participant.sendall(reports("N", self.REPORTS))
+                participant.close()
+                time.sleep(2.5)
+                follow.send_signal(signal.SIGCONT)
+                self.assert_equal_reports(live, follow)
+
+    def test_started_after_the_third_end(self):
+        """PROFILE, "What becomes of a peer that misbehaves": a follower that starts after the three ends gets a later one, and asks for all."""
+        line, a, b, retransmission = ports(4)
+        with started(["live", "AB", "N", line, a, b, retransmission, 1, SESSION]) as live, connect(line) as participant:
+            participant.sendall(reports("N", self.REPORTS))
+            participant.close()
+            time.sleep(2.5)
+            with started(["follow", "AB", "N", a, b, retransmission, SESSION]) as follow:
+                self.assert_equal_reports(live, follow)
+
     def wait_turn(self, second, relays, first):
         """Waits until the second follower's turn is to come: two seconds at least, and the end of the first one and of all packets."""
         time.sleep(2)
@@ -208,6 +233,57 @@ class HeldUp(Case):
                     self.wait_turn(second, relays, first)
                     between.close()
                     self.assert_equal_reports(live, first, second)
+
+
+class Gone(Case):
+    """Followers whose day is gone, or only quiet."""
+
+    REPORTS = 200
+    # Seconds in which nothing is sent: more than a follower whose connection was closed waits.
+    QUIET = 4
+
+    @contextlib.contextmanager
+    def day(self, serves):
+        """A day of one participant that sent its reports and goes on, and its follower."""
+        line, a, b, retransmission = ports(4)
+        with started(["live", "AB", "N", line, a, b, retransmission, serves, SESSION]) as live, connect(line) as participant:
+            with started(["follow", "AB", "N", a, b, retransmission, SESSION]) as follow:
+                wait_bound(follow, a, b)
+                wait_connected(follow, retransmission, 1)
+                participant.sendall(reports("N", self.REPORTS))
+                yield live, follow, participant
+
+    def test_killed(self):
+        """PROFILE, "What becomes of a peer that misbehaves": where a signal ends `live` in mid-day, a follower that is not asking ends too."""
+        for serves in (0, 1):
+            with self.subTest(serves), self.day(serves) as (live, follow, _):
+                time.sleep(0.5)
+                live.kill()
+                self.assert_fault(ended(follow, self.QUIET), READ_FAULT)
+
+    def test_quiet(self):
+        """PROFILE, "A running day": a day that is only quiet is waited for, whether the follower's connection was accepted yet or not."""
+        for serves in (0, 1):
+            with self.subTest(serves), self.day(serves) as (live, follow, participant):
+                time.sleep(self.QUIET)
+                self.assertIsNone(follow.poll())
+                participant.close()
+                ends = [ended(live), ended(follow)]
+                self.assertEqual([(end.status, end.said) for end in ends], [(0, b"")] * 2)
+                self.assertEqual(ends[0].written, ends[1].written)
+
+    def test_closed_while_lines_go_on(self):
+        """PROFILE, "A running day": a follower whose connection is closed takes what its lines still bring, and ends well at the end."""
+        a, b, retransmission = ports(3)
+        with socket.create_server((HOST, retransmission)) as server, socket.socket(socket.AF_INET, socket.SOCK_DGRAM) as sender:
+            server.settimeout(LIMIT)
+            with started(["follow", "AB", "N", a, b, retransmission, SESSION]) as follow:
+                server.accept()[0].close()
+                for number in range(1, 2 * self.QUIET + 1):
+                    sender.sendto(LateLines.packet(b"D", number, report("N", number)), (HOST, a))
+                    time.sleep(0.5)
+                sender.sendto(LateLines.packet(b"E", 2 * self.QUIET), (HOST, b))
+                self.assertEqual(ended(follow, self.QUIET).status, 0)
 
 
 class LossyDays(Case):

@@ -21,23 +21,10 @@ SO_TIMESTAMPNS = 35
 HEADER = struct.Struct(">BcQIB")
 
 
-class SentPackets(Case):
-    """One participant sends its reports at once, and nobody follows."""
+class Listeners(Case):
+    """Cases that hear both lines of a day of one participant."""
 
     SESSION = 4_294_967_303
-    REPORTS = 800
-    # More entries than two bytes count.
-    MANY = 100_100
-    ENTRIES_MOST = 8
-    # After how many packets the sender rests first, and how many more it sends before each rest after that, since nobody asks.
-    PACE_LEAST = 16
-    PACE_STEP = 2
-    # Seconds: a little less than the program rests, since a clock may be set back meanwhile.
-    REST = 0.0009
-    PAUSES = [0.24, 0.74]
-    # Seconds for which a subscriber asks: longer than all data takes, and shorter than the day waits for it.
-    ASKING = 3
-    UNPUBLISHED = bytes([72])
 
     @staticmethod
     def open_line(port):
@@ -73,21 +60,43 @@ class SentPackets(Case):
             self.take(line, taken)
         return packets
 
-    def look_at_data(self, taken, paces, entries):
-        """Each entry comes once, in order, in packets of at most eight and at least one of eight, with a rest at each of the sender's paces."""
+
+class SentPackets(Listeners):
+    """One participant sends its reports at once, and nobody follows."""
+
+    REPORTS = 4_000
+    # More entries than two bytes count.
+    MANY = 100_100
+    ENTRIES_MOST = 8
+    # How many packets the sender sends in a millisecond at first, and at least and at most.
+    PACE_FIRST = 64
+    PACE_LEAST = 16
+    PACE_MOST = 128
+    # Seconds: a little less than a turn of the sender's clock, since a clock may be set back meanwhile.
+    TURN = 0.0009
+    PAUSES = [0.24, 0.74]
+    # Seconds for which a subscriber asks: longer than all data takes, and shorter than the day waits for it.
+    ASKING = 3
+    UNPUBLISHED = bytes([72])
+
+    def look_at_data(self, taken, entries):
+        """Each entry comes once, in order, in packets of at most eight and at least one of eight, and never more than the greatest pace."""
         last, counts = 0, set()
-        rest = next(paces)
-        for at, (time, packet) in enumerate(taken):
+        for _, packet in taken:
             version, kind, session, first, count = HEADER.unpack_from(packet)
             self.assertEqual((version, kind, session, first), (2, b"D", self.SESSION, last + 1))
             self.assertTrue(1 <= count <= self.ENTRIES_MOST, count)
-            if at == rest:
-                self.assertGreaterEqual(time - taken[at - 1][0], self.REST)
-                rest += next(paces)
             last += count
             counts.add(count)
         self.assertEqual(last, entries)
         self.assertIn(self.ENTRIES_MOST, counts)
+        self.look_at_pace(taken, self.PACE_MOST)
+
+    def look_at_pace(self, taken, pace):
+        """No turn has more packets than this. A span as long as one may meet two of them."""
+        times = [time for time, _ in taken]
+        for before, after in zip(times, times[2 * pace :]):
+            self.assertGreaterEqual(after - before, self.TURN)
 
     def look_at_ends(self, taken, entries):
         """The end comes three times, with the day's length, and a pause before the second and the third."""
@@ -110,11 +119,11 @@ class SentPackets(Case):
         return packets
 
     def test_each_entry_once_and_three_ends(self):
-        """PROFILE, "A running day": what is sent on lines A and B, when the sender rests, and when the ends come."""
+        """PROFILE, "A running day": what is sent on lines A and B, and when the ends come. There is no beat while entries are sent, and none after."""
         a, b = self.hear(self.REPORTS)
         self.assertEqual([packet for _, packet in a], [packet for _, packet in b])
         for taken in (a, b):
-            self.look_at_data(taken[:-3], itertools.count(self.PACE_LEAST, self.PACE_STEP), self.REPORTS)
+            self.look_at_data(taken[:-3], self.REPORTS)
             self.look_at_ends(taken[-3:], self.REPORTS)
 
     def keep_asking(self, port, day):
@@ -129,12 +138,15 @@ class SentPackets(Case):
         threading.Thread(target=ask, args=[subscriber], daemon=True).start()
 
     def test_the_pace_of_who_asks(self):
-        """PROFILE, "A running day": while a subscriber asks, the sender rests after the least number of packets. A busy machine may keep the
-        subscriber from asking between two rests, so one of three days has to show it."""
+        """PROFILE, "A running day": while a subscriber asks, the sender sends the least number of packets in each turn but the first ones. A busy
+        machine may keep the subscriber from asking in a turn, so one of three days has to show it."""
         for tries_left in (2, 1, 0):
             try:
                 for taken in self.hear(self.REPORTS, 1, self.keep_asking):
-                    self.look_at_data(taken[:-3], itertools.repeat(self.PACE_LEAST), self.REPORTS)
+                    data = [(time, packet) for time, packet in taken if packet[1:2] == b"D"]
+                    self.look_at_data(data, self.REPORTS)
+                    self.look_at_pace(data[: 2 * self.PACE_FIRST], self.PACE_FIRST // 2)
+                    self.look_at_pace(data[2 * self.PACE_FIRST :], self.PACE_LEAST)
                 break
             except AssertionError:
                 if tries_left == 0:
@@ -147,16 +159,63 @@ class SentPackets(Case):
             self.assertEqual(subscriber.recv(1), self.UNPUBLISHED)
 
     def test_the_pace_after_a_request(self):
-        """PROFILE, "A running day": a request before the first rest keeps the pace down for that rest alone."""
-        paces = itertools.chain([self.PACE_LEAST], itertools.count(self.PACE_LEAST, self.PACE_STEP))
+        """PROFILE, "A running day": after a request that came before the first packet the first turn has half as many."""
         for taken in self.hear(self.REPORTS, 1, self.ask_once):
-            self.look_at_data(taken[:-3], paces, self.REPORTS)
-            paces = itertools.chain([self.PACE_LEAST], itertools.count(self.PACE_LEAST, self.PACE_STEP))
+            self.look_at_data(taken[:-3], self.REPORTS)
+            first, after = taken[0][0], taken[self.PACE_FIRST // 2][0]
+            self.assertGreaterEqual(after - first, self.TURN)
 
     def test_three_ends_of_a_long_day(self):
         """PROFILE, "A running day": a long day ends no other way. Of its entries some may be lost here."""
         for taken in self.hear(self.MANY):
             self.look_at_ends(taken[-3:], self.MANY)
+
+
+class QuietDays(Listeners):
+    """Days in which nothing is sent for a while, and days that wait for a subscriber after their end."""
+
+    # Seconds after which the beats of a quiet day come, each since what was sent before it, a little less than the program waits.
+    BEATS = [0.019, 0.19, 0.9, 0.9]
+
+    def listen(self, serves, act):
+        """The packets of each line of a day of one report, in which this is done between the report and the end of its line."""
+        port = free_ports(4)
+        lines = [self.open_line(port + 1), self.open_line(port + 2)]
+        self.addCleanup(lambda: [line.close() for line in lines])
+        with started(["live", "AB", "N", port, port + 1, port + 2, port + 3, serves, self.SESSION]) as day:
+            with connect(port) as participant:
+                time.sleep(0.5)
+                participant.sendall(report("N", 1))
+                act(port + 3, participant)
+            packets = self.receive(lines, day)
+            self.assertEqual(ended(day).status, 0)
+        return packets
+
+    def test_beats(self):
+        """PROFILE, "A running day": while nothing is sent, beats tell the last number, on both lines; there is none before the first entry."""
+        for taken in self.listen(0, lambda port, participant: time.sleep(sum(self.BEATS) + 0.5)):
+            kinds = [packet[1:2] for _, packet in taken]
+            self.assertEqual(kinds, [b"D", *len(self.BEATS) * [b"H"], *3 * [b"E"]])
+            for (before, _), (after, packet), pause in zip(taken, taken[1:], self.BEATS):
+                self.assertGreaterEqual(after - before, pause)
+                self.assertEqual(packet, HEADER.pack(2, b"H", self.SESSION, 1, 0))
+
+    def test_ends_while_a_subscriber_is_awaited(self):
+        """PROFILE, "A running day": the end is sent each second until all connections have ended, also while one has yet to come."""
+        def subscribe_late(port, participant):
+            def subscribe():
+                time.sleep(3.5)
+                with connect(port):
+                    time.sleep(1)
+            participant.shutdown(socket.SHUT_WR)
+            threading.Thread(target=subscribe, daemon=True).start()
+        began = time.monotonic()
+        for taken in self.listen(1, subscribe_late):
+            ends = [at for at, packet in taken if packet[1:2] == b"E"]
+            self.assertIn(len(ends), (6, 7))
+            for before, after in zip(ends[2:], ends[3:]):
+                self.assertGreaterEqual(after - before, 0.99)
+        self.assertLess(time.monotonic() - began, 12)
 
 
 class Peers(Case):

@@ -92,8 +92,9 @@ class FewFiles(Case):
     """Running days for which no connection is opened."""
 
     def test_a_lines_connection(self):
-        """PROFILE, "Statuses", 3: the standard streams, two listeners and a socket to send by are six files, and a line is a seventh."""
-        with started(live(ports(4), "N", 1), preexec_fn=limited(files=6)) as day:
+        """PROFILE, "Statuses", 3: the standard streams, two listeners, one of them by two handles, and a socket to send by are seven files, and a line
+        is an eighth."""
+        with started(live(ports(4), "N", 1), preexec_fn=limited(files=7)) as day:
             self.assert_fault(ended(day), READ_FAULT)
 
     def assert_subscriber_lacks(self, **output):

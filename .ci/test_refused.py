@@ -70,12 +70,13 @@ def reports_of_n(count):
 
 @dataclass(frozen=True)
 class DayEnds:
-    """Whether the request was met, how the two programs ended, the follower perhaps never, and how many lines were closed before they had ended."""
+    """Whether the request was met, how the two programs ended, the follower perhaps never, and how many lines were closed before they had ended;
+    none where a line did not come to be."""
 
     was_met: bool
     live: Ended
     follow: Optional[Ended] = None
-    closed: int = 0
+    closed: Optional[int] = 0
 
 
 class RunningDays(Case):
@@ -86,10 +87,12 @@ class RunningDays(Case):
     REPORTS = 20
     # How the consolidated row of the whole day ends: with the sizes and the trades of both participants.
     WHOLE = b",4000,40"
+    # And the row of one participant of whom all was admitted.
+    WHOLE_LINE = b",2000,20"
     # The session, the matrix and the limit.
     TERMS = [7, 1, 100]
     # Seconds in which a line that takes all that was sent is not closed.
-    OPEN = 0.3
+    OPEN = 0.6
     # Seconds that a follower has left once its day has ended. Where the day met a fault, it may wait forever.
     LEFT = 3
 
@@ -118,7 +121,7 @@ class RunningDays(Case):
         return True
 
     def send(self, ports):
-        """Sends the reports of N and Q, and returns how many of the two lines were closed though more might have come."""
+        """Sends the reports of N and Q, and returns how many of the two lines were closed though more might have come; `None` where one failed."""
         with contextlib.ExitStack() as stack, contextlib.suppress(ConnectionError):
             lines = [stack.enter_context(socket.create_connection((HOST, port), timeout=SOON)) for port in ports]
             for who, line in zip("NQ", lines):
@@ -127,7 +130,7 @@ class RunningDays(Case):
                 # The other one, too, where no line was started.
                 time.sleep(self.OPEN)
             return len(select.select(lines, [], [], 0)[0])
-        return 0
+        return None
 
     @staticmethod
     def end_of(program, limit):
@@ -173,19 +176,26 @@ class RunningDays(Case):
         """Whether the report is that of the whole day."""
         return any(row.startswith(b"AB,ALL,") and row.endswith(self.WHOLE) for row in report.splitlines())
 
+    def has_a_whole_line(self, report):
+        """Whether the report has all reports of a participant."""
+        return any(row.startswith((b"AB,N,", b"AB,Q,")) and row.endswith(self.WHOLE_LINE) for row in report.splitlines())
+
     def assert_lacks(self, end):
         """The program ended for want of memory, or of a thread, for which there was none."""
         self.assertEqual(end.written, b"")
         self.assertIn((end.status, end.said), (OUT_OF_MEMORY, NO_WORKER))
 
-    def assert_given_up(self, follow):
-        """A follower whose day met a fault waits, or its connection was closed while it asked, or it reports what it holds."""
+    def assert_given_up(self, day):
+        """A follower whose day met a fault waits, or its connection was closed while it asked, or it reports the whole day, as it was closed."""
+        follow = day.follow
         if follow and follow.status:
             self.assertIn((follow.status, follow.said), (READ_FAULT, WRITE_FAULT))
             self.assertEqual(follow.written, b"")
         elif follow:
             self.assertEqual(follow.said, b"")
             self.assertTrue(follow.written.startswith(HEADINGS.encode()))
+            # A line that ended at 40 leaves the other one whole. On a busy machine it may not be seen to be closed in time.
+            self.assertTrue(day.closed or self.is_whole(follow.written) or self.has_a_whole_line(follow.written), follow.written)
 
     def end_of_live(self, day):
         """What became of a day whose `live` was refused a request."""
@@ -194,11 +204,11 @@ class RunningDays(Case):
             self.assertEqual((day.live.said, self.is_whole(day.live.written)), (b"", True))
             return "done"
         self.assert_lacks(day.live)
-        self.assert_given_up(day.follow)
+        self.assert_given_up(day)
         if day.closed == 1:
             self.assert_fault(day.live, OUT_OF_MEMORY)
             return "a line ended at 40"
-        if day.closed == 0 and day.follow and day.follow.status == 0 and not self.is_whole(day.follow.written):
+        if day.closed == 0 and (not day.follow or day.follow.status):
             self.assert_fault(day.live, OUT_OF_MEMORY)
             return "the sender stopped"
         if day.closed == 2 and day.live.status == NO_WORKER[0]:
@@ -207,7 +217,7 @@ class RunningDays(Case):
 
     def test_live(self):
         """PROFILE, "Statuses", 5 and 6: a `live` that is refused a request ends soon, by a stated status and text, and writes no report then; so it
-        does where a line ends at 40, and where the sender stops. PROFILE, "A running day": the follower then writes the report of a prefix."""
+        does where a line ends at 40, and where the sender stops. PROFILE, "A running day": the follower gets no end then, and writes no report."""
         ends = Counter()
         for request, day in self.days("live"):
             with self.subTest(request):
@@ -286,7 +296,8 @@ class Serving(Case):
             return *without_told(ended(live, SOON)), answers
 
     def test_each_request(self):
-        """PROFILE, "Statuses", 5: a day of which memory runs out for an answer closes the subscriber's connection, serves the next, and ends so."""
+        """PROFILE, "Statuses", 5: a day of which memory runs out for an answer closes the subscriber's connection, serves the next, and ends so; one
+        whose sender stops closes the connection, serves nobody any more, and ends so."""
         built(HEAP)
         unanswered = 0
         with ThreadPoolExecutor(self.LANES) as pool:
@@ -296,8 +307,9 @@ class Serving(Case):
                 days = list(pool.map(self.day, rows, range(first, first + self.LANES)))
                 for _, end, (first_answer, next_answer) in days:
                     if first_answer == b"":
-                        unanswered += 1
-                        self.assertEqual(next_answer, self.ANSWERED)
+                        # Where the sender stopped, nobody else is served.
+                        unanswered += next_answer is not None
+                        self.assertIn(next_answer, (self.ANSWERED, None))
                         self.assert_fault(end, OUT_OF_MEMORY)
                 if not all(was_met for was_met, _, _ in days):
                     break

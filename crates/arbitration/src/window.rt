@@ -60,6 +60,13 @@ impl Window {
         })
     }
 
+    /// The session whose packets it takes.
+    pub fn session(&self) -> u64
+        ensures session { result ≡ self.now.session }
+    {
+        self.session
+    }
+
     /// How many entries were taken out: those numbered 1 to this.
     pub fn base(&self) -> u32
         ensures base { result ≡ self.now.base }

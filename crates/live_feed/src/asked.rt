@@ -5,7 +5,7 @@ use std::io::Read;
 use std::net::TcpStream;
 use std::sync::atomic::{AtomicBool, Ordering};
 
-/// Where the retransmission and the sender meet: that a subscriber sent something is noted, and the sender looks at its rests.
+/// That a subscriber sent something, which the retransmission notes and the sender looks at.
 #[derive(Drop)]
 pub(crate) struct Asked {
     since: AtomicBool,

@@ -4,18 +4,22 @@ ghost use Rattle.live_feed.specs.declared.fault.Fault.TheVariants.{Disagrees, Me
 ghost use Rattle.retransmit.specs.declared.ask_fault.AskFault.TheVariants.{OutOfMemory as AskOutOfMemory, ReadFault, WriteFault};
 
 use crate::followed::Followed;
-use crate::follower::{Follower, Next};
+use crate::follower::Next;
+use crate::following::Run;
 use crate::{Fault, here};
 use retransmit::{AskFault, ask};
 use std::alloc::Global;
+use std::io::ErrorKind;
 use std::net::{Net, TcpListener, TcpStream};
-use std::sync::{Mutex, Wait};
-use std::thread::Parker;
+use std::sync::Wait;
 use std::time::Duration;
 use tape_frames::Request;
 
 /// How long a turn is for which what a line may still bring is waited for, in milliseconds.
 const TURN: u64 = 1;
+
+/// How long what asks sleeps at most before it looks whether its connection was closed, in milliseconds.
+const LOOK: u64 = 1_000;
 
 /// What asks, and where.
 #[derive(Drop)]
@@ -85,43 +89,56 @@ impl Asker {
         }
     }
 
+    /// Whether the other side closed the connection, or it was lost. One that was not accepted yet is open. It does not wait.
+    fn is_closed(&self) -> bool {
+        let _ = self.connection.set_nonblocking(true);
+        let seen = self.connection.peek(&mut [0]);
+        let _ = self.connection.set_nonblocking(false);
+        match seen {
+            Ok(len) => len == 0,
+            Err(error) => !matches!(error.kind(), ErrorKind::WouldBlock | ErrorKind::Interrupted),
+        }
+    }
+
     /// Connects anew for a new subscriber. The connection of the one that was given up is closed.
     fn reconnect<N: Followed, R: Net<Listener = TcpListener, Stream = TcpStream> + Wait>(
         &mut self,
         rt: &R,
-        follower: &Mutex<Follower<N>>,
+        run: &Run<'_, N>,
     ) {
         match dial(rt, self.port) {
             Ok(connection) => {
                 self.connection = connection;
-                follower.lock(rt).connected(Ok(()));
+                run.connected(rt, Ok(()));
             }
-            Err(fault) => follower.lock(rt).connected(Err(fault)),
+            Err(fault) => run.connected(rt, Err(fault)),
         }
     }
 
     /// Asks for what is missing until the run is over, and sleeps while nothing is missing. What one line lost is waited for
-    /// until the other has gone past it, or was waited for long enough. The connection is closed then.
+    /// until the other has gone past it, or was waited for long enough. Each second of sleep it looks at the connection, and
+    /// ends the run where that was closed and nothing more comes. The connection is closed then.
     pub(crate) fn run<N: Followed, R: Net<Listener = TcpListener, Stream = TcpStream> + Wait>(
         self,
         rt: &R,
-        follower: &Mutex<Follower<N>>,
-        bell: &Parker,
+        run: &Run<'_, N>,
     ) {
         let mut asker = self;
         for _ in rt.forever() {
-            let next = follower.lock(rt).next_to_ask();
-            match next {
-                Next::Read => bell.park(rt),
+            match run.next_to_ask(rt) {
+                Next::Read => {
+                    run.rest(rt, Duration::from_millis(LOOK));
+                    run.looked(rt, asker.is_closed());
+                }
                 Next::Wait(number) => {
-                    bell.park_timeout(rt, Duration::from_millis(TURN));
-                    follower.lock(rt).waited(number);
+                    run.rest(rt, Duration::from_millis(TURN));
+                    run.waited(rt, number);
                 }
                 Next::Ask(request) => {
                     let brought = asker.bring(&request);
-                    follower.lock(rt).answer(&request, brought);
+                    run.answer(rt, &request, brought);
                 }
-                Next::Connect => asker.reconnect(rt, follower),
+                Next::Connect => asker.reconnect(rt, run),
                 Next::End => break,
             }
         }

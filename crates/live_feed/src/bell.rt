@@ -3,6 +3,7 @@
 use std::sync::Wait;
 use std::sync::atomic::{AtomicBool, Ordering};
 use std::thread::Parker;
+use std::time::Duration;
 use tape_types::Gate;
 
 /// Where the lines and the sender meet: the lines ring after each message, and once they ended. The sender alone waits for it.
@@ -36,6 +37,11 @@ impl Bell {
     /// Waits for a ring.
     pub(crate) fn wait<R: Wait>(&self, rt: &R) {
         self.parker.park(rt)
+    }
+
+    /// Waits for a ring, but no longer than for so many nanoseconds. It may return early.
+    pub(crate) fn wait_within<R: Wait>(&self, rt: &R, most: u64) {
+        self.parker.park_timeout(rt, Duration::from_nanos(most))
     }
 }
 

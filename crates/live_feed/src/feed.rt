@@ -1,7 +1,7 @@
 //! What a day is sent by.
 
 use std::alloc::Global;
-use std::net::{TcpListener, UdpSocket};
+use std::net::{TcpListener, TcpStream, UdpSocket};
 
 /// What the sender and the retransmission work with.
 #[derive(Drop)]
@@ -10,6 +10,8 @@ pub(crate) struct Feed<'a, L> {
     pub(crate) sender: &'a UdpSocket,
     /// Where subscribers connect for what was lost.
     pub(crate) retransmission: &'a TcpListener,
+    /// Another handle of that listener, by which it is shut down.
+    pub(crate) closing: &'a TcpStream,
     /// The ports of lines A and B.
     pub(crate) ports: [u16; 2],
     /// Which data packets are lost.

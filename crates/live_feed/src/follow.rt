@@ -43,11 +43,17 @@ fn start<N: Followed, R: Net<Listener = TcpListener, Stream = TcpStream>>(
 fn follow_to_end<
     N: Followed + Send,
     R: Threads + Wait + Net<Listener = TcpListener, Stream = TcpStream> + Sync,
->(rt: &R, sockets: &FollowSockets, asker: Asker, follower: Follower<N>) -> Result<Subscriber, Fault>
+>(
+    rt: &R,
+    alloc: Global,
+    sockets: &FollowSockets,
+    asker: Asker,
+    follower: Follower<N>,
+) -> Result<Subscriber, Fault>
     ensures listed { IfOk result (λ subscriber. subscriber.tape.listing ≡ N.listing) }
     ensures by_matrix { IfOk result (λ subscriber. subscriber.tape.matrix ≡ N.matrix) }
 {
-    let run = Run::new(follower, sockets)?;
+    let run = Run::new(alloc, follower, sockets)?;
     follow_at_once(rt, &run, asker);
     run.into_follower().into_subscriber()
 }
@@ -100,7 +106,7 @@ fn follow<
         sockets.retransmission,
         restart_after,
     )?;
-    let subscriber = follow_to_end(rt, sockets, asker, follower)?;
+    let subscriber = follow_to_end(rt, alloc, sockets, asker, follower)?;
     let written = report(rt, alloc, &subscriber, writer);
     drop(subscriber);
     written
@@ -112,11 +118,11 @@ fn follow<
 /// read on while an answer is awaited. Bytes that are no packet of the day are dropped. With `restart_after` the first
 /// subscriber is given up once it holds so many entries or more, which is looked at before the end is: its connection is
 /// closed, and a new one starts with nothing, on a connection of its own. That the run ends is not claimed: it does not where
-/// both lines lose all that is left.
+/// both lines lose all that is left while the connection stays open.
 ///
 /// The status is 0 only where the report was written whole and flushed. Else nothing was written, or some of the
-/// report after a write that failed: 3 where a socket cannot be opened or read; 4 where a write fails; 5 where memory runs out;
-/// 6 where no thread can be started; 7 where the feed is no tape, carries other summaries, refuses or falsifies what is asked
+/// report after a write that failed: 3 where a socket cannot be opened or read, or where the connection was closed and nothing
+/// more came; 4 where a write fails; 5 where memory runs out; 6 where no thread can be started; 7 where the feed is no tape, carries other summaries, refuses or falsifies what is asked
 /// for, and for a limit outside 1 to `TAPE_MOST`.
 pub fn follow_over<
     R: Threads + Wait + Net<Listener = TcpListener, Stream = TcpStream> + Sync,

@@ -8,6 +8,7 @@ ghost use Rattle.tape_core.specs.declared.refusal.Refusal.TheVariants.{OutOfMemo
 use crate::Fault;
 use crate::followed::Followed;
 use crate::heard::Heard;
+use crate::silence::Silence;
 use crate::starting::fault_of_tape;
 use arbitration::Line;
 use reports::Unread;
@@ -45,6 +46,7 @@ pub(crate) struct Follower<N: Followed> {
     alloc: Global,
     subscriber: Subscriber,
     heard: Heard,
+    silence: Silence,
     session: u64,
     restart_after: Option<u32>,
     has_restarted: bool,
@@ -152,6 +154,7 @@ impl<N: Followed> Follower<N> {
             alloc,
             subscriber,
             heard: Heard::nothing(),
+            silence: Silence::none(),
             session,
             restart_after,
             has_restarted: false,
@@ -161,10 +164,21 @@ impl<N: Followed> Follower<N> {
         })
     }
 
-    /// Takes what came by a line, and replays what is ready. Bytes that are no packet of the day are dropped.
+    /// Takes note that a line brought a packet of the day.
+    fn note(&mut self, line: Line, bytes: &[u8]) {
+        self.heard.note(line, number_in(bytes));
+        self.silence.broken();
+    }
+
+    /// Takes what came by a line, and replays what is ready. Bytes that are no packet of the day are dropped, and so are, before
+    /// they are decoded, those of a packet that brings what is held.
     fn take(&mut self, line: Line, bytes: &[u8]) -> Result<(), Fault> {
+        if self.subscriber.holds_all_of(bytes) {
+            self.note(line, bytes);
+            return Ok(());
+        }
         if deliver_to(&mut self.subscriber, line, bytes)? {
-            self.heard.note(line, number_in(bytes));
+            self.note(line, bytes);
         }
         drain(&mut self.subscriber)
     }
@@ -283,6 +297,13 @@ impl<N: Followed> Follower<N> {
         self.has_restarted = false;
         if let Err(fault) = connected {
             self.fail(fault);
+        }
+    }
+
+    /// Takes note of a look at the connection, and ends the run where the day is gone.
+    pub(crate) fn looked(&mut self, is_closed: bool) {
+        if self.silence.looked(is_closed) {
+            self.fail(Fault::Read);
         }
     }
 

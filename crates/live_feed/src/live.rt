@@ -21,7 +21,8 @@ use sale_matrix::Matrix;
 use std::alloc::Global;
 use std::io::Write;
 use std::marker::Brand;
-use std::net::TcpListener;
+use std::net::{TcpListener, TcpStream};
+use std::os::fd::OwnedFd;
 use std::rt::Clock;
 use std::sync::Wait;
 use std::thread::Threads;
@@ -260,9 +261,15 @@ pub fn live_over<R: Threads + Wait + Clock + Sync, L: Loss + Sync, W: Write>(
         sender,
         ports,
     } = sockets;
+    let Ok(handle) = retransmission.try_clone() else {
+        return Fault::Read.status();
+    };
+    // A listener can't be shut down by its own type.
+    let closing = TcpStream::from(OwnedFd::from(handle));
     let feed = Feed {
         sender: &sender,
         retransmission: &retransmission,
+        closing: &closing,
         ports,
         loss,
         session,

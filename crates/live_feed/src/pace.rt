@@ -1,15 +1,20 @@
-//! How many packets the sender sends between two rests.
-ghost use Rattle.std.specs.Prelude.{◌≡◌, ◌≤◌, ◌↔◌, ◌+◌, ◌-◌, ◌^◌, min, false, IsTrue};
-ghost use Rattle.live_feed.specs.Paces.{brink_after, packets_after};
-ghost use Rattle.live_feed.specs.declared.pace.TheConstants.{BRINK_LEAST, PACE_LEAST, PACE_MOST};
+//! How many packets the sender sends in a millisecond.
+ghost use Rattle.std.specs.Prelude.{◌≡◌, ◌≤◌};
+ghost use Rattle.live_feed.specs.Paces.{PaceState, brink_after, pace_after};
+ghost use Rattle.live_feed.specs.declared.pace.TheConstants.{BRINK_LEAST, PACE_FIRST, PACE_LEAST, PACE_MOST};
 
-/// The least pace, at which a sender starts: a follower whose buffer is small loses nothing at it.
+use std::marker::Model;
+
+/// The least pace: a follower that is slow, or whose buffer is small, loses nothing at it.
 const PACE_LEAST: u32 = 16;
+
+/// The pace at which a sender starts: in a turn half as many packets as a buffer holds where nobody asks for another.
+const PACE_FIRST: u32 = 64;
 
 /// The greatest pace: so many packets at once fit into the buffer that a socket has where nobody asks for another.
 const PACE_MOST: u32 = 128;
 
-/// How many packets more come before the next rest where nothing was asked for.
+/// How many packets more are sent in the next turn where nothing was asked for.
 const PACE_STEP: u32 = 2;
 
 /// The least that the pace may rise to: a pace below it is not what packets are lost by.
@@ -21,38 +26,42 @@ const CALM_LEAST: u32 = 16;
 /// After each so many such rests the pace may rise by a packet more.
 const CALM_RESTS: u32 = 64;
 
-/// How many packets are sent between two rests, and as far as that rises.
+/// How many packets are sent in a turn of the clock, and as far as that rises.
 #[derive(Clone, Copy)]
 pub(crate) struct Pace {
-    /// How many packets are sent between two rests.
+    /// How many packets are sent in a turn.
     packets: u32,
     /// As far as the pace rises, `BRINK_LEAST` at least: three quarters of the last one that was too fast, and some packets more.
     brink: u32,
     /// For how many rests nothing was asked for.
     calm: u32,
-    ghost at_least: { PACE_LEAST ≤ packets },
-    ghost up_to_brink: { packets ≤ brink },
-    ghost brink_at_least: { BRINK_LEAST ≤ brink },
-    ghost at_most: { brink ≤ PACE_MOST },
+}
+
+impl Model for Pace {
+    ghost Value = { PaceState };
+
+    ghost view = { λ p. record { packets = p.packets; brink = p.brink; calm = p.calm } };
+
+    ghost invariant = { λ p. (PACE_LEAST ≤ p.packets) × (p.packets ≤ p.brink) × (BRINK_LEAST ≤ p.brink) × (p.brink ≤ PACE_MOST) };
+
+    ghost inverse = { λ s. record { packets = s.packets; brink = s.brink; calm = s.calm } };
 }
 
 impl Pace {
-    /// The least pace, which may rise to the greatest.
-    pub(crate) fn least() -> Pace
-        ensures packets { result.packets ≡ PACE_LEAST }
-        ensures brink { result.brink ≡ PACE_MOST }
-        ensures calm { result.calm ≡ 0 }
+    /// The first pace, which may rise to the greatest.
+    pub(crate) fn first() -> Pace
+        ensures { result ≡ record { packets = PACE_FIRST; brink = PACE_MOST; calm = 0 } }
     {
         Pace {
-            packets: PACE_LEAST,
+            packets: PACE_FIRST,
             brink: PACE_MOST,
             calm: 0,
         }
     }
 
-    /// As far as the pace rises after a rest. A pace at which something was asked for after a calm was too fast.
+    /// As far as the pace rises next. A pace at which something was asked for after a calm was too fast.
     fn brink_after(self, was_asked: bool) -> u32
-        ensures { result ≡ brink_after was_asked self.calm self.packets self.brink }
+        ensures { result ≡ brink_after was_asked self }
     {
         if !was_asked && self.calm % CALM_RESTS == CALM_RESTS - 1 {
             (self.brink + 1).min(PACE_MOST)
@@ -63,12 +72,10 @@ impl Pace {
         }
     }
 
-    /// The pace after a rest: half of it where something was asked for since the rest before, else a step more, up to the brink.
+    /// The next pace: half of it where something was asked for, else a step more, up to the brink.
     pub(crate) fn after(self, was_asked: bool) -> Pace
-        ensures brink { result.brink ≡ brink_after was_asked self.calm self.packets self.brink }
-        ensures packets { result.packets ≡ packets_after was_asked result.brink self.packets }
-        ensures asked { IsTrue was_asked → result.calm ≡ 0 }
-        ensures calm { was_asked ≡ false → result.calm ≡ min (self.calm + 1) (2 ^ 32 - 1) }
+        ensures after { result ≡ pace_after was_asked self }
+        ensures some { PACE_LEAST ≤ result.packets }
     {
         let brink = self.brink_after(was_asked);
         let packets = if was_asked {
@@ -87,10 +94,10 @@ impl Pace {
         }
     }
 
-    /// Whether a sender that sent so many packets since its last rest is to rest.
-    pub(crate) fn is_reached(self, packets: u32) -> bool
-        ensures { IsTrue result ↔ (self.packets ≤ packets) }
+    /// How many packets are sent in a turn.
+    pub(crate) fn packets(self) -> u32
+        ensures { result ≡ self.packets }
     {
-        self.packets <= packets
+        self.packets
     }
 }

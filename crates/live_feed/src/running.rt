@@ -4,12 +4,12 @@ ghost use Rattle.std.specs.Thread.{IsSync};
 ghost use Rattle.line_ledger.specs.Cells.{FirstTokens};
 ghost use Rattle.line_ledger.specs.Ends.{whos};
 
-use crate::asked::Asked;
 use crate::bell::Bell;
 use crate::feed::Feed;
 use crate::retransmitting::serve_all;
 use crate::seated::{Ran, Waiting, run_all};
 use crate::sending::{Sent, send_day};
+use crate::serving::Serving;
 use crate::{Fault, Loss};
 use line_ledger::{DayName, SharedTape};
 use std::rt::Clock;
@@ -64,11 +64,11 @@ fn serve_and_send<D: DayName + Send + Sync, R: Threads + Wait + Clock + Sync, L:
 ) -> Sides
     ensures { FirstTokens shared.now result.sent.tokens.items }
 {
-    let asked = Asked::new();
+    let serving = Serving::new();
     let (served, sent) = join(
         rt,
-        || serve_all(feed, shared, &asked),
-        || send_day(rt, feed, shared, bell, &asked, text),
+        || serve_all(rt, feed, shared, &serving),
+        || send_day(rt, feed, shared, bell, &serving, text),
     );
     Sides { served, sent }
 }

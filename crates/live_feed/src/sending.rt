@@ -1,17 +1,20 @@
-//! The sender: what the lines admit is published and sent on both lines, and then the end.
-ghost use Rattle.std.specs.Prelude.{◌≡◌, ◌<◌, ◌≤◌, ◌+◌, ◌∷◌, [], IfOk, OnOk, None, length, ℕ};
+//! The sender: what the lines admit is published and sent on both lines, then beats while nothing is, and the end at last.
+ghost use Rattle.std.specs.Prelude.{◌≡◌, ◌<◌, ◌≤◌, ◌+◌, [], IfOk, IfSome, IsSome, OnOk, None, length, ℕ};
 ghost use Rattle.line_ledger.specs.Cells.{FirstTokens, shown};
 ghost use Rattle.line_ledger.specs.Publishing.{GoesOn};
 ghost use Rattle.line_ledger.specs.declared.publish_fault.PublishFault.TheVariants.{OutOfMemory, Unpublished};
 ghost use Rattle.tape_frames.specs.Sources.{IsPublished};
-ghost use Rattle.live_feed.specs.Faults.{IsLeast};
-ghost use Rattle.live_feed.specs.Sendings.{IsSent, data_text, end_text};
+ghost use Rattle.tape_frames.specs.Spelling.{packet_text};
+ghost use Rattle.tape_frames.specs.declared.version.Version.TheVariants.{Two};
+ghost use Rattle.live_feed.specs.Sendings.{IsSent, beat_text, data_text, end_text};
 ghost use Rattle.live_feed.specs.declared.fault.Fault.TheVariants.{Memory, Disagrees};
 
 use crate::asked::Asked;
 use crate::bell::Bell;
+use crate::budget::Budget;
 use crate::feed::Feed;
-use crate::pace::Pace;
+use crate::quiet::Quiet;
+use crate::serving::Serving;
 use crate::{Fault, Loss, here};
 use arbitration::Line;
 use line_ledger::{DayName, PublishFault, Published, SharedTape, Token};
@@ -25,12 +28,12 @@ use tape_frames::{EntryCount, LONGEST_PACKET, Packet, Source, Version, cut, writ
 /// How many entries are published at once, no more than a packet takes.
 const PUBLISHED_AT_ONCE: u32 = 8;
 
-/// How long the sender rests once it sent as many packets as its pace says, in milliseconds.
-const REST: u64 = 1;
-
-/// How long the sender waits before each end, in milliseconds: a reader whose buffer is full empties it meanwhile, and one that
+/// How long the sender waits before each of the first ends, in milliseconds: a reader whose buffer is full empties it meanwhile, and one that
 /// was held up for half a second still gets an end.
 const PAUSES_BEFORE_ENDS: [u64; 3] = [0, 250, 750];
+
+/// How long the sender waits before each later end, in milliseconds.
+const PAUSE_BEFORE_LATER_END: u64 = 1_000;
 
 /// The outcome of the sender.
 #[derive(Drop)]
@@ -44,22 +47,19 @@ pub(crate) struct Sent {
 }
 
 impl Sent {
-    /// The same once the end was sent, or met this fault.
-    fn ended(self, fault: Option<Fault>) -> Sent
-        ensures tokens { result.tokens.items ≡ self.tokens.items }
-        ensures number { result.number ≡ self.number }
-        ensures fault { IsLeast (self.fault ∷ fault ∷ []) result.fault }
+    /// The same with this fault, or with none.
+    fn with_fault(self, fault: Option<Fault>) -> Sent
+        ensures { result ≡ record self { fault = fault } }
     {
-        let Sent {
-            tokens,
-            number,
-            fault: met,
-        } = self;
-        Sent {
-            tokens,
-            number,
-            fault: Fault::least(met, fault),
-        }
+        Sent { fault, ..self }
+    }
+}
+
+/// The clock's time in nanoseconds, or 0 where it can't be read.
+fn nanos_of<R: Clock>(rt: &R) -> u64 {
+    match rt.monotonic() {
+        Ok(time) => u64::try_from(time.as_nanos()).unwrap_or(u64::MAX),
+        Err(_) => 0,
     }
 }
 
@@ -86,6 +86,33 @@ pub(crate) fn room_for_a_packet(alloc: Global) -> Result<Vec<u8>, Fault> {
 /// Sends bytes to a line's port. A failed send is a lost packet.
 fn send<L>(feed: &Feed<'_, L>, port: u16, bytes: &[u8]) {
     let _ = feed.sender.send_to(bytes, here(port));
+}
+
+/// Sends bytes to both ports. No line loses them before.
+fn send_to_both<L>(feed: &Feed<'_, L>, bytes: &[u8]) {
+    send(feed, feed.ports[0], bytes);
+    send(feed, feed.ports[1], bytes);
+}
+
+/// Makes the text that of a packet, whatever it was before.
+fn spell(packet: &Packet, text: &mut Vec<u8>) -> Result<(), Fault>
+    ensures { OnOk result (text.new.items ≡ packet_text packet.now) }
+{
+    text.clear();
+    match write_packet(packet, text) {
+        Ok(()) => Ok(()),
+        Err(_) => Err(Fault::Memory),
+    }
+}
+
+/// A number of entries as a packet tells it.
+fn count_of(number: u32) -> Result<EntryCount, Fault>
+    ensures { IfOk result (λ count. count ≡ record { version = Two; count = number }) }
+{
+    match EntryCount::try_new(Version::Two, number) {
+        Some(count) => Ok(count),
+        None => Err(Fault::Disagrees),
+    }
 }
 
 /// Sends the data packet of what is published from this number on to both lines, but for those that lose it.
@@ -121,10 +148,7 @@ fn send_from<D: DayName, L: Loss>(
     ensures last { IfOk result (λ last. (from ≤ last) × (last ≤ length (shown published.now.tokens))) }
 {
     let packet = cut(Version::Two, feed.session, from, published);
-    text.clear();
-    let Ok(()) = write_packet(&packet, text) else {
-        return Err(Fault::Memory);
-    };
+    spell(&packet, text)?;
     send_data(feed, published, from, text);
     Ok(packet.last())
 }
@@ -163,9 +187,67 @@ fn send_next<D: DayName, R: Wait, L: Loss>(
     Ok(sent)
 }
 
+/// Sends a beat to both lines, which tells how many entries are published: all of them were sent. No line loses it. The text is
+/// only room, and holds the beat then.
+fn send_beat<D: DayName, L>(
+    feed: &Feed<'_, L>,
+    published: &Published<'_, D>,
+    number: u32,
+    text: &mut Vec<u8>,
+) -> Result<(), Fault>
+    requires { number ≡ length (shown published.now.tokens) }
+    ensures { OnOk result (text.new.items ≡ beat_text feed.now.session (length (shown published.now.tokens))) }
+{
+    // Only the clauses speak of what is published.
+    let _ = published;
+    let beat = Packet::Beat {
+        session: feed.session,
+        last: count_of(number)?,
+    };
+    spell(&beat, text)?;
+    send_to_both(feed, text);
+    Ok(())
+}
+
+/// Takes note of a packet that was sent at this time, and rests where the budget of its turn is spent: the budget after that.
+fn keep_pace<R: Clock>(rt: &R, asked: &Asked, now: u64, budget: Budget) -> Budget {
+    let (budget, rest) = budget.at(now, asked.take()).after_packet(now);
+    if rest > 0 {
+        thread::sleep(rt, Duration::from_nanos(rest));
+    }
+    budget
+}
+
+/// Sleeps while there is nothing to send, until the bell rings or a beat is due, or sends the beat that is due: how long it has
+/// been quiet then. There is no beat before the first entry, which is all that a beat could tell of.
+fn keep_quiet<D: DayName, R: Wait + Clock, L>(
+    rt: &R,
+    feed: &Feed<'_, L>,
+    bell: &Bell,
+    published: &Published<'_, D>,
+    number: u32,
+    quiet: Quiet,
+    text: &mut Vec<u8>,
+) -> Result<Quiet, Fault>
+    requires { number ≡ length (shown published.now.tokens) }
+{
+    if number == 0 {
+        bell.wait(rt);
+        return Ok(quiet);
+    }
+    let now = nanos_of(rt);
+    let left = quiet.left(now);
+    if left > 0 {
+        bell.wait_within(rt, left);
+        return Ok(quiet);
+    }
+    send_beat(feed, published, number, text)?;
+    Ok(quiet.after_beat(now))
+}
+
 /// Publishes and sends until the lines have ended and all is sent: the number of the last entry that was sent, and why it did
-/// not go on to the last one. It sleeps while there is nothing to send, until the bell rings, and rests at the pace that its
-/// followers take.
+/// not go on to the last one. In a turn of the clock it sends as many packets as its followers take, and rests for what is left
+/// of it. While there is nothing to send it sleeps, until the bell rings, and sends a beat now and then.
 fn send_to_end<D: DayName, R: Wait + Clock, L: Loss>(
     rt: &R,
     feed: &Feed<'_, L>,
@@ -179,8 +261,8 @@ fn send_to_end<D: DayName, R: Wait + Clock, L: Loss>(
     ensures whole { result.1 ≡ None → result.0 ≡ length (shown published.new.tokens) }
 {
     let mut number = 0;
-    let mut pace = Pace::least();
-    let mut packets = 0u32;
+    let mut budget = Budget::first();
+    let mut quiet = Quiet::after_data(0);
     for _ in rt.forever() {
         // Looked at first: what was admitted before the end is published after it.
         let is_last = bell.has_ended();
@@ -190,16 +272,16 @@ fn send_to_end<D: DayName, R: Wait + Clock, L: Loss>(
         };
         if last != number {
             number = last;
-            packets = packets.wrapping_add(1);
-            if pace.is_reached(packets) {
-                thread::sleep(rt, Duration::from_millis(REST));
-                pace = pace.after(asked.take());
-                packets = 0;
-            }
+            let now = nanos_of(rt);
+            quiet = Quiet::after_data(now);
+            budget = keep_pace(rt, asked, now, budget);
         } else if is_last {
             return (number, None);
         } else {
-            bell.wait(rt);
+            quiet = match keep_quiet(rt, feed, bell, published, number, quiet, text) {
+                Ok(quiet) => quiet,
+                Err(met) => return (number, Some(met)),
+            };
         }
     }
     unreachable!()
@@ -226,50 +308,78 @@ fn send_entries<D: DayName, R: Wait + Clock, L: Loss>(
     }
 }
 
-/// Sends the end of a day of so many entries three times on each line, with a pause before each. No line loses it. The text is
-/// only room, and holds the end then.
-fn send_ends<R: Clock, L>(
+/// Sends the end of a day that was sent whole three times on each line, with a pause before each, and then again and again
+/// while a connection is served or awaited, since its peer may have missed all of them. No line loses it.
+fn repeat_end<R: Wait + Clock, L>(
     rt: &R,
     feed: &Feed<'_, L>,
-    number: u32,
-    text: &mut Vec<u8>,
-) -> Option<Fault>
-    ensures { result ≡ None → text.new.items ≡ end_text feed.now.session number }
+    serving: &Serving,
+    sent: &Sent,
+    end: &[u8],
+)
+    requires whole { sent.now.fault ≡ None }
+    requires many { length sent.now.tokens.items ≡ sent.now.number }
+    requires end { end.now ≡ end_text feed.now.session sent.now.number }
 {
-    let Some(count) = EntryCount::try_new(Version::Two, number) else {
-        return Some(Fault::Disagrees);
-    };
-    text.clear();
-    let end = Packet::End {
-        session: feed.session,
-        count,
-    };
-    let Ok(()) = write_packet(&end, text) else {
-        return Some(Fault::Memory);
-    };
+    // Only the clauses speak of what was sent.
+    let _ = sent;
     for pause in PAUSES_BEFORE_ENDS {
         thread::sleep(rt, Duration::from_millis(pause));
-        send(feed, feed.ports[0], text);
-        send(feed, feed.ports[1], text);
+        send_to_both(feed, end);
     }
-    None
+    for _ in rt.forever() {
+        if !serving.is_left_after(rt, Duration::from_millis(PAUSE_BEFORE_LATER_END)) {
+            return;
+        }
+        send_to_both(feed, end);
+    }
 }
 
-/// Sends the day: its entries while the lines admit them, and then its end, which comes after a fault too, so that
-/// subscribers go. The text is only room, and a packet that fits in it takes no memory.
+/// Sends the end of a day that was sent whole. The text is only room, and holds the end then.
+fn send_ends<R: Wait + Clock, L>(
+    rt: &R,
+    feed: &Feed<'_, L>,
+    serving: &Serving,
+    sent: &Sent,
+    text: &mut Vec<u8>,
+) -> Result<(), Fault>
+    requires whole { sent.now.fault ≡ None }
+    requires many { length sent.now.tokens.items ≡ sent.now.number }
+    ensures { OnOk result (text.new.items ≡ end_text feed.now.session sent.now.number) }
+{
+    let end = Packet::End {
+        session: feed.session,
+        count: count_of(sent.number)?,
+    };
+    spell(&end, text)?;
+    repeat_end(rt, feed, serving, sent, text);
+    Ok(())
+}
+
+/// Sends the day: its entries while the lines admit them, and then its end. After a fault there is no end, which would tell of
+/// a shorter day: the connections are ended instead, and the text is empty. The text is only room, and a packet that fits in it
+/// takes no memory.
 pub(crate) fn send_day<D: DayName, R: Wait + Clock, L: Loss>(
     rt: &R,
     feed: &Feed<'_, L>,
     shared: &SharedTape<D>,
     bell: &Bell,
-    asked: &Asked,
+    serving: &Serving,
     text: &mut Vec<u8>,
 ) -> Sent
     ensures first { FirstTokens shared.now result.tokens.items }
     ensures whole { result.fault ≡ None → length result.tokens.items ≡ result.number }
     ensures end { result.fault ≡ None → text.new.items ≡ end_text feed.now.session result.number }
+    ensures no_end { IsSome result.fault → text.new.items ≡ [] }
 {
-    let sent = send_entries(rt, feed, shared, bell, asked, text);
-    let fault = send_ends(rt, feed, sent.number, text);
-    sent.ended(fault)
+    let sent = send_entries(rt, feed, shared, bell, &serving.asked, text);
+    let fault = match sent.fault {
+        None => send_ends(rt, feed, serving, &sent, text).err(),
+        met => met,
+    };
+    if fault.is_some() {
+        text.clear();
+        serving.give_up(rt, feed.closing);
+    }
+    sent.with_fault(fault)
 }

@@ -1,5 +1,5 @@
 //! What holds over every schedule.
-ghost use Rattle.std.specs.Prelude.{◌≡◌, ℕ, ◌+◌, ◌≤◌, ◌<◌, ◌↔◌, ◌⊎◌, length, List, IsTrue, None, Some, Result, Err, false};
+ghost use Rattle.std.specs.Prelude.{◌≡◌, ℕ, ◌+◌, ◌≤◌, ◌<◌, ◌↔◌, ◌⊎◌, length, List, IsTrue, None, Some, Result, Err, IfOk, OnErr, false};
 ghost use Rattle.reports.specs.declared.message.Message.{Message};
 ghost use Rattle.tape_core.specs.declared.entry.Entry.{Entry};
 ghost use Rattle.tape_core.specs.declared.refusal.Refusal.{Refusal};
@@ -13,13 +13,13 @@ ghost use Rattle.tape_frames.specs.Spelling.{Spells};
 ghost use Rattle.arbitration.specs.declared.line.Line.{Line};
 ghost use Rattle.arbitration.specs.declared.taken.Taken.{Taken};
 ghost use Rattle.arbitration.specs.Deliveries.{Accepts};
-ghost use Rattle.arbitration.specs.Windows.{next_of, ready_entries};
+ghost use Rattle.arbitration.specs.Windows.{IsWindow, next_of, ready_entries};
 ghost use Rattle.arbitration.specs.Gaps.{IsGap};
 ghost use Rattle.subscriber.specs.declared.delivery_fault.DeliveryFault.{DeliveryFault};
 ghost use Rattle.subscriber.specs.declared.drain_fault.DrainFault.{DrainFault};
 ghost use Rattle.subscriber.specs.declared.drain_fault.Stop.TheVariants.{OtherSummary};
 ghost use Rattle.subscriber.specs.Subscribers.{SubscriberState, subscriber_after, subscriber_after_entry, own_entry, has_gap, NextIsOwn};
-ghost use Rattle.subscriber.specs.Drains.{Delivers, RefusesDelivery, DrainsAll, DrainStops, OwnFor, IsHonestStop};
+ghost use Rattle.subscriber.specs.Drains.{BringsHeld, Delivers, RefusesDelivery, DrainsAll, DrainStops, OwnFor, IsHonestStop};
 ghost use Rattle.subscriber.specs.Schedules.{World, Event, Comes, Drains, tape_after, world_after, held_prefix, LeadsTo, EndsIn, IsCut};
 ghost use Rattle.subscriber.specs.Schedules.{announced_by, IsSchedule, HasNoRestart, Brings, run};
 
@@ -90,4 +90,11 @@ pub fn schedule()
         → world_after w (Drains n) ≡ record w { subscriber = after } }
     ensures stopped { (w : World) (fault : DrainFault) (after : SubscriberState) → DrainStops fault w.subscriber after
         → world_after w (Drains fault.drained) ≡ record w { subscriber = after } }
+{}
+
+/// A packet of entries that are all held changes nothing, by whichever line it comes and whatever a delivery of it answers.
+pub fn held_again()
+    ensures idle { (s : SubscriberState) → s.window.base ≡ length s.tape.entries → IsWindow s.window → (packet : Packet) → BringsHeld s packet
+        → (bytes : List ℕ) → Spells bytes packet → (line : Line) (answer : Result Taken DeliveryFault) (after : SubscriberState)
+        → IfOk answer (λ taken. Delivers line bytes taken s after) → OnErr answer (after ≡ s) → after ≡ s }
 {}

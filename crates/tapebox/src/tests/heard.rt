@@ -14,7 +14,7 @@ use std::sync::atomic::{AtomicBool, AtomicU32, Ordering};
 use std::test::Fail;
 use std::thread;
 use std::thread::Threads;
-use tape_frames::{LONGEST_PACKET, Version, decode_packet};
+use tape_frames::{LONGEST_PACKET, Packet, Version, decode_packet};
 
 /// How many packets are read from a line, at most.
 const PACKETS_MOST: usize = 100;
@@ -70,19 +70,32 @@ struct Heard {
     b: Vec<u32>,
 }
 
-/// The first number of a packet of entries in version 2, 0 for what is none, and `None` for the day's end.
-fn first_of(bytes: &[u8]) -> Option<u32> {
+/// What a packet is of.
+enum Kind {
+    /// Entries in version 2, of which the first has this number.
+    Data(u32),
+    /// A beat, of which a busy machine has one more or less.
+    Beat,
+    /// The day's end.
+    End,
+    /// None of these.
+    Other,
+}
+
+/// What a packet is of.
+fn kind_of(bytes: &[u8]) -> Kind {
     let Ok(packet) = decode_packet(bytes) else {
-        return Some(0);
+        return Kind::Other;
     };
-    match (packet.version(), packet.entries()) {
-        _ if packet.end().is_some() => None,
-        (Version::Two, [entry, ..]) => Some(entry.number.value()),
-        _ => Some(0),
+    match (&packet, packet.version(), packet.entries()) {
+        (Packet::End { .. }, _, _) => Kind::End,
+        (Packet::Beat { .. }, Version::Two, _) => Kind::Beat,
+        (_, Version::Two, [entry, ..]) => Kind::Data(entry.number.value()),
+        _ => Kind::Other,
     }
 }
 
-/// The first numbers of the packets that came by a line before its end.
+/// The first numbers of the packets of entries that came by a line before its end, and 0 for what is no packet of the day.
 fn firsts(alloc: Global, line: &UdpSocket) -> Result<Vec<u32>, AllocError> {
     let mut room = [0u8; LONGEST_PACKET];
     let mut firsts = Vec::new(alloc);
@@ -90,10 +103,12 @@ fn firsts(alloc: Global, line: &UdpSocket) -> Result<Vec<u32>, AllocError> {
         let Ok((len, _)) = line.recv_from(&mut room) else {
             break;
         };
-        let Some(first) = first_of(&room[..len]) else {
-            break;
-        };
-        firsts.push(first)?;
+        match kind_of(&room[..len]) {
+            Kind::Data(first) => firsts.push(first)?,
+            Kind::Beat => {}
+            Kind::Other => firsts.push(0)?,
+            Kind::End => break,
+        }
     }
     Ok(firsts)
 }

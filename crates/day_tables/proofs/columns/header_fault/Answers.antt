@@ -1,0 +1,30 @@
+use Rattle.std.proofs.Common.{arith, sym}
+use Rattle.std.proofs.lemmas.List.{drop_all}
+use Rattle.csv.specs.Records.{fields_of}
+use Rattle.day_tables.proofs.ColumnLemmas.{drop-none, header_fault-none, header_fault-on, header_fault-repeated, header_fault-unknown}
+use Rattle.day_tables.proofs.columns.header_fault.Goals as goal
+
+pub loop-place-preserved : goal.loop-place-preserved
+loop-place-preserved c =
+    header_fault-on (fields_of c.args.names.now) c.in-Some.name.now c.loop-place.place c.loop-place.invariant (sym c.in-Some.ensures.value)
+    (sym c.if-not-is_column.ensures) (sym c.if-stands_before.ensures)
+
+pub returns-in_default : goal.returns-in_default
+returns-in_default c =
+    sym (header_fault-none (fields_of c.args.names.now) c.loop-place.place c.loop-place.invariant
+    (drop-none (fields_of c.args.names.now) c.loop-place.place (sym c.in_default.ensures.value)))
+
+pub returns-then-not-is_column : goal.returns-then-not-is_column
+returns-then-not-is_column c =
+    sym (header_fault-unknown (fields_of c.args.names.now) c.in-Some.name.now c.loop-place.place c.loop-place.invariant (sym c.in-Some.ensures.value)
+    (sym c.if-not-is_column.ensures))
+
+pub returns-then-stands_before : goal.returns-then-stands_before
+returns-then-stands_before c =
+    sym (header_fault-repeated (fields_of c.args.names.now) c.in-Some.name.now c.loop-place.place c.loop-place.invariant (sym c.in-Some.ensures.value)
+    (sym c.if-not-is_column.ensures) (sym c.if-stands_before.ensures))
+
+pub returns : goal.returns
+returns c =
+    sym (header_fault-none (fields_of c.args.names.now) c.loop-place.place c.loop-place.invariant
+    (drop_all c.loop-place.place (fields_of c.args.names.now) (omega (arith, c.len-place-end.ensures))))

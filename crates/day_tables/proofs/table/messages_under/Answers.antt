@@ -1,0 +1,30 @@
+use Rattle.std.proofs.Common.{◌≡◌, ◌∷◌, [], ap, arith, length, length-append, rules, true, sym}
+use Rattle.std.specs.Result.{is_ok}
+use Rattle.csv.specs.Records.{fields_of}
+use Rattle.day_tables.proofs.TableLemmas.{are_messages, has_messages-more, is_fault-record}
+use Rattle.day_tables.proofs.table.messages_under.Goals as goal
+
+pub loop-number-preserved : goal.loop-number-preserved
+loop-number-preserved g c =
+    let good : is_ok c.push.result ≡ true = search rules in
+    let items = rw good at c.push.ensures.items in
+    let had = c.loop-number.invariant in
+    record {
+      plain = search rules;
+      count = omega (arith, had.count, ap length items, length-append c.loop-number.messages.items (c.in-Ok.message ∷ []));
+      read = λ input names start. rw items (
+          has_messages-more g.R.Read.remaining c.loop-number.reader c.next_record.new.reader c.args.columns.now (fields_of c.next_record.new.fields)
+          c.loop-number.messages.items c.in-Ok.message c.loop-number.number had.count (sym c.in-Ok.ensures) (c.in_ok-next_record.ensures.more (search rules)) input names
+          (had.read input names start));
+    }
+
+pub returns-then-not-branch-clause-messages : goal.returns-then-not-branch-clause-messages
+returns-then-not-branch-clause-messages g c = λ input names start.
+    are_messages g.R.Read.remaining c.loop-number.reader c.args.columns.now c.loop-number.messages.items
+    (c.in_ok-next_record.ensures.end (search rules)) input names (c.loop-number.invariant.read input names start)
+
+pub returns-in-Err-clause-fault : goal.returns-in-Err-clause-fault
+returns-in-Err-clause-fault g c = λ input names start.
+    is_fault-record g.R.Read.remaining c.loop-number.reader c.next_record.new.reader c.args.columns.now (fields_of c.next_record.new.fields)
+    c.loop-number.messages.items c.in-Err.fault c.loop-number.number c.loop-number.invariant.count (sym c.in-Err.ensures)
+    (c.in_ok-next_record.ensures.more (search rules)) input names (c.loop-number.invariant.read input names start)

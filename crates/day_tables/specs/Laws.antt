@@ -1,0 +1,10 @@
+-- What is written reads back.
+use Rattle.std.specs.Prelude.{◌≡◌, Ok}
+use Rattle.reports.specs.Spelling.{IsMessage}
+use Rattle.reports.specs.declared.message.Message.{Message}
+use Rattle.day_tables.specs.Rows.{row_message}
+use Rattle.day_tables.specs.Writing.{row_of}
+
+-- the row of every message reads back as that message
+abbrev pub RowRoundTrip : Type 0
+RowRoundTrip = (m : Message) → IsMessage m → row_message (row_of m) ≡ Ok m

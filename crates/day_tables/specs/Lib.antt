@@ -1,0 +1,11 @@
+pub mod Columns
+pub mod Kinds
+pub mod Laws
+pub mod Numbers
+pub mod RowTexts
+pub mod Rows
+pub mod TableReading
+pub mod Spellings
+pub mod Tables
+pub mod Texts
+pub mod Writing

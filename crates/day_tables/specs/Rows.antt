@@ -1,0 +1,94 @@
+-- A row of a table: nine fields, and the message that they spell.
+use Rattle.std.specs.Prelude.{ℕ, ◌==◌, List, length, Option, Result, Ok, Err, ok_or, if◌then◌else◌}
+use Rattle.tape_types.specs.Ranges.{NUMBER_MOST, SIZE_MOST}
+use Rattle.sale_matrix.specs.declared.content.Content.{Content}
+use Rattle.reports.specs.Fields.{◌>>=◌}
+use Rattle.reports.specs.declared.message.Header.{Header}
+use Rattle.reports.specs.declared.message.Message.{Message}
+use Rattle.reports.specs.declared.message.Message.TheVariants as message
+use Rattle.day_tables.specs.Kinds.{kind_of}
+use Rattle.day_tables.specs.Numbers.{number_within, price_of}
+use Rattle.day_tables.specs.Texts.{condition_of, moment_of, participant_of, symbol_of}
+use Rattle.day_tables.specs.declared.column.Column.{Column}
+use Rattle.day_tables.specs.declared.column.Column.TheVariants as column
+use Rattle.day_tables.specs.declared.kind.Kind.{Kind}
+use Rattle.day_tables.specs.declared.kind.Kind.TheVariants as kind
+use Rattle.day_tables.specs.declared.row_fault.RowFault.{RowFault}
+use Rattle.day_tables.specs.declared.row_fault.RowFault.TheVariants.{Bad, Unused}
+
+-- the text of each field
+pub record RowText : Type 0 where
+  pub kind : List ℕ
+  pub participant : List ℕ
+  pub number : List ℕ
+  pub moment : List ℕ
+  pub symbol : List ℕ
+  pub target : List ℕ
+  pub price : List ℕ
+  pub size : List ℕ
+  pub condition : List ℕ
+
+-- the value of a column's field, if it is one
+abbrev pub field : {A : Type 0} → Column → Option A → Result A RowFault
+field of value = ok_or value (Bad of)
+
+-- a column's field that has to be empty
+unfoldable pub unused : Column → List ℕ → Result (Unit {0}) RowFault
+unused of text = if length text == 0 then Ok tt else Err (Unused of)
+
+-- what every row begins with
+unfoldable pub row_header : RowText → Result Header RowFault
+row_header row = do
+  participant ← field column.Participant (participant_of row.participant)
+  number ← field column.Number (number_within 1 NUMBER_MOST row.number)
+  moment ← field column.Moment (moment_of row.moment)
+  symbol ← field column.Symbol (symbol_of row.symbol)
+  Ok (record { participant = participant; number = number; moment = moment; symbol = symbol })
+
+-- the number of the report that is meant
+unfoldable pub row_target : RowText → Result ℕ RowFault
+row_target row = field column.Target (number_within 1 NUMBER_MOST row.target)
+
+-- what was traded, and how
+unfoldable pub row_content : RowText → Result Content RowFault
+row_content row = do
+  price ← field column.Price (price_of row.price)
+  size ← field column.Size (number_within 1 SIZE_MOST row.size)
+  condition ← field column.Condition (condition_of row.condition)
+  Ok (record { price = price; size = size; condition = condition })
+
+-- no content
+unfoldable pub row_no_content : RowText → Result (Unit {0}) RowFault
+row_no_content row = do
+  price ← unused column.Price row.price
+  size ← unused column.Size row.size
+  unused column.Condition row.condition
+
+-- the message of a row of this kind
+unfoldable pub row_message_of : Kind → RowText → Result Message RowFault
+row_message_of kind.Report row = do
+  header ← row_header row
+  target ← unused column.Target row.target
+  content ← row_content row
+  Ok (message.Report header content)
+row_message_of kind.Cancel row = do
+  header ← row_header row
+  target ← row_target row
+  content ← row_no_content row
+  Ok (message.Cancel header target)
+row_message_of kind.Correct row = do
+  header ← row_header row
+  target ← row_target row
+  content ← row_content row
+  Ok (message.Correct header target content)
+row_message_of kind.Reinstate row = do
+  header ← row_header row
+  target ← row_target row
+  content ← row_no_content row
+  Ok (message.Reinstate header target)
+
+-- the message that a row spells, or the first fault in the order of the columns
+unfoldable pub row_message : RowText → Result Message RowFault
+row_message row = do
+  kind ← field column.Kind (kind_of row.kind)
+  row_message_of kind row

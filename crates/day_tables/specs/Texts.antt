@@ -1,0 +1,40 @@
+-- How a table writes a participant, a symbol, a sale condition and a moment.
+use Rattle.std.specs.Prelude.{ℕ, ◌-◌, ◌^◌, ◌==◌, ◌&&◌, nat_le, nat_lt, List, [], ◌∷◌, ◌++◌, length, map, replicate, Option, Some, None, if◌then◌else◌}
+use Rattle.std.specs.List.{list_all, list_any}
+use Rattle.tape_types.specs.Ranges.{FIRST_PARTICIPANT, LAST_PARTICIPANT, is_name_byte}
+use Rattle.reports.specs.Texts.{is_condition}
+use Rattle.day_tables.specs.Numbers.{number_within, within}
+
+-- a participant by its name: one capital letter
+abbrev pub participant_of : List ℕ → Option ℕ
+participant_of [] = None
+participant_of (letter ∷ []) = within FIRST_PARTICIPANT LAST_PARTICIPANT letter
+participant_of (letter ∷ next ∷ rest) = None
+
+-- a symbol by its name: one to eight bytes that may stand in one, with spaces to the end
+abbrev pub symbol_of : List ℕ → Option (List ℕ)
+symbol_of name =
+    if nat_lt 0 (length name) && (nat_le (length name) 8 && list_all is_name_byte name)
+    then Some (name ++ replicate (8 - length name) 32)
+    else None
+
+-- a moment: a number, or nothing for 0
+abbrev pub moment_of : List ℕ → Option ℕ
+moment_of [] = Some 0
+moment_of (byte ∷ bytes) = number_within 0 (2 ^ 64 - 1) (byte ∷ bytes)
+
+-- a code as a condition has it, with a space for the blank that a table writes as `_`
+abbrev pub code_of : ℕ → ℕ
+code_of byte = if byte == 95 then 32 else byte
+
+-- a code as a table writes it
+abbrev pub code_byte : ℕ → ℕ
+code_byte code = if code == 32 then 95 else code
+
+-- codes that make a condition
+abbrev pub as_condition : List ℕ → Option (List ℕ)
+as_condition codes = if is_condition codes then Some codes else None
+
+-- the sale condition of four codes, with `_` for each blank and no space
+unfoldable pub condition_of : List ℕ → Option (List ℕ)
+condition_of text = if list_any (λ byte. byte == 32) text then None else as_condition (map code_of text)

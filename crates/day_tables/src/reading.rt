@@ -1,0 +1,146 @@
+//! A message read from a row.
+ghost use Rattle.std.specs.Prelude.{◌≡◌};
+ghost use Rattle.tape_types.specs.Ranges.{NUMBER_MOST};
+ghost use Rattle.day_tables.specs.Numbers.{number_within};
+ghost use Rattle.day_tables.specs.RowTexts.{text_of_row};
+ghost use Rattle.day_tables.specs.Rows.{field, row_content, row_header, row_message, row_message_of, row_no_content, unused};
+ghost use Rattle.day_tables.specs.Texts.{moment_of};
+
+use crate::condition::condition_of;
+use crate::named::{participant_of, symbol_of};
+use crate::number::number_within;
+use crate::price::price_of;
+use crate::{Column, Kind, RowFault, TableRow};
+use reports::{Header, Message, Moment};
+use sale_matrix::Content;
+use tape_types::{MsgNumber, SIZE_MOST, Size};
+
+/// A message number, 1 or above.
+#[tactic(auto, unfolding(crate::specs::Numbers::number_within))]
+fn message_number(column: Column, text: &[u8]) -> Result<MsgNumber, RowFault>
+    ensures { result ≡ field column (number_within 1 NUMBER_MOST text.now) }
+{
+    let Some(number) = number_within(1, u64::from(u32::MAX), text) else {
+        return Err(RowFault::Bad(column));
+    };
+    MsgNumber::try_new(number as u32).ok_or(RowFault::Bad(column))
+}
+
+/// A number of shares.
+#[tactic(auto, unfolding(crate::specs::Numbers::number_within))]
+fn size(text: &[u8]) -> Result<Size, RowFault>
+    ensures { result ≡ field Column.Size (number_within 1 SIZE_MOST text.now) }
+{
+    let Some(size) = number_within(1, u64::from(SIZE_MOST), text) else {
+        return Err(RowFault::Bad(Column::Size));
+    };
+    Size::try_new(size as u32).ok_or(RowFault::Bad(Column::Size))
+}
+
+/// A moment: a number, or nothing for 0.
+fn moment_of(text: &[u8]) -> Option<Moment>
+    ensures { result ≡ moment_of text.now }
+{
+    if text.is_empty() {
+        return Some(Moment::new(0));
+    }
+    let moment = number_within(0, u64::MAX, text)?;
+    Some(Moment::new(moment))
+}
+
+/// A field that has to be empty.
+#[tactic(auto, unfolding(crate::specs::Rows::unused))]
+fn unused(column: Column, text: &[u8]) -> Result<(), RowFault>
+    ensures { result ≡ unused column text.now }
+{
+    if text.is_empty() {
+        Ok(())
+    } else {
+        Err(RowFault::Unused(column))
+    }
+}
+
+/// What every row begins with.
+#[tactic(auto, unfolding(crate::specs::Rows::row_header))]
+fn header(row: &TableRow) -> Result<Header, RowFault>
+    ensures { result ≡ row_header (text_of_row row.now) }
+{
+    let participant = participant_of(row.participant).ok_or(RowFault::Bad(Column::Participant))?;
+    let number = message_number(Column::Number, row.number)?;
+    let moment = moment_of(row.moment).ok_or(RowFault::Bad(Column::Moment))?;
+    let symbol = symbol_of(row.symbol).ok_or(RowFault::Bad(Column::Symbol))?;
+    Ok(Header {
+        participant,
+        number,
+        moment,
+        symbol,
+    })
+}
+
+/// What was traded, and how.
+#[tactic(auto, unfolding(crate::specs::Rows::row_content))]
+fn content(row: &TableRow) -> Result<Content, RowFault>
+    ensures { result ≡ row_content (text_of_row row.now) }
+{
+    let price = price_of(row.price).ok_or(RowFault::Bad(Column::Price))?;
+    let size = size(row.size)?;
+    let condition = condition_of(row.condition).ok_or(RowFault::Bad(Column::Condition))?;
+    Ok(Content {
+        price,
+        size,
+        condition,
+    })
+}
+
+/// No content.
+#[tactic(auto, unfolding(crate::specs::Rows::row_no_content))]
+fn no_content(row: &TableRow) -> Result<(), RowFault>
+    ensures { result ≡ row_no_content (text_of_row row.now) }
+{
+    unused(Column::Price, row.price)?;
+    unused(Column::Size, row.size)?;
+    unused(Column::Condition, row.condition)
+}
+
+/// The message of a row of this kind.
+#[tactic(auto, unfolding(crate::specs::Rows::row_message_of, crate::specs::Rows::row_target))]
+fn message_of(kind: Kind, row: &TableRow) -> Result<Message, RowFault>
+    ensures { result ≡ row_message_of kind (text_of_row row.now) }
+{
+    let header = header(row)?;
+    match kind {
+        Kind::Report => {
+            unused(Column::Target, row.target)?;
+            let content = content(row)?;
+            Ok(Message::Report { header, content })
+        }
+        Kind::Cancel => {
+            let target = message_number(Column::Target, row.target)?;
+            no_content(row)?;
+            Ok(Message::Cancel { header, target })
+        }
+        Kind::Correct => {
+            let target = message_number(Column::Target, row.target)?;
+            let content = content(row)?;
+            Ok(Message::Correct {
+                header,
+                target,
+                content,
+            })
+        }
+        Kind::Reinstate => {
+            let target = message_number(Column::Target, row.target)?;
+            no_content(row)?;
+            Ok(Message::Reinstate { header, target })
+        }
+    }
+}
+
+/// The message that a row spells, or the first fault in the order of the columns.
+#[tactic(auto, unfolding(crate::specs::Rows::row_message))]
+pub fn read_row(row: &TableRow) -> Result<Message, RowFault>
+    ensures exact { result ≡ row_message (text_of_row row.now) }
+{
+    let kind = Kind::of_text(row.kind).ok_or(RowFault::Bad(Column::Kind))?;
+    message_of(kind, row)
+}

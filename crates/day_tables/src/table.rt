@@ -1,0 +1,122 @@
+//! A whole table, read.
+ghost use Rattle.std.specs.Prelude.{◌≡◌, ◌++◌, ◌∷◌, ◌⊎◌, [], ℕ, List, true, false, IfOk, IfErr, IfSome, OnOk};
+ghost use Rattle.csv.specs.Records.{fields_of};
+ghost use Rattle.day_tables.specs.TableReading.{AreMessagesUnder, HasColumns, HasRead, IsFaultUnder, IsHeaderFault, IsPlain};
+ghost use Rattle.day_tables.specs.Tables.{AreTableRecords, IsTable, IsTableFault, record_message};
+ghost use Rattle.day_tables.specs.declared.table_fault.TableFault.TheVariants.{OutOfMemory, ReadFault};
+
+use crate::{Column, ColumnFault, Columns, TableFault, read_row};
+use csv::{ByteRecord, ErrorKind, Reader, ReaderBuilder};
+use reports::Message;
+use std::alloc::Global;
+use std::io::Read;
+
+/// A reader of records, of which the first is read as any other, and each may have its own number of fields.
+fn records_in<R: Read>(alloc: Global, reader: R) -> Reader<R>
+    ensures plain { IsPlain result }
+    ensures start { IfSome (R.remaining reader) (λ input. HasRead R.remaining result input []) }
+{
+    ReaderBuilder::new()
+        .has_headers(false)
+        .flexible(true)
+        .from_reader(alloc, reader)
+}
+
+/// Reads the next record: whether there was one.
+fn next_record<R: Read>(reader: &mut Reader<R>, fields: &mut ByteRecord) -> Result<bool, TableFault>
+    requires plain { IsPlain reader.old }
+    ensures plain { OnOk result (IsPlain reader.new) }
+    ensures more { IfOk result (λ found. found ≡ true → (input : List ℕ) (records : List (List (List ℕ)))
+        → HasRead R.remaining reader.old input records → HasRead R.remaining reader.new input (records ++ fields_of fields.new ∷ [])) }
+    ensures end { IfOk result (λ found. found ≡ false → (input : List ℕ) (records : List (List (List ℕ)))
+        → HasRead R.remaining reader.old input records → AreTableRecords input records) }
+    ensures fault { IfErr result (λ fault. (fault ≡ ReadFault) ⊎ (fault ≡ OutOfMemory)) }
+{
+    match reader.read_byte_record(fields) {
+        Ok(found) => Ok(found),
+        Err(error) => match error.kind() {
+            ErrorKind::OutOfMemory => Err(TableFault::OutOfMemory),
+            _ => Err(TableFault::ReadFault),
+        },
+    }
+}
+
+/// The message of the record of this number, from 1.
+#[tactic(auto, unfolding(crate::specs::Tables::record_message))]
+fn read_record(columns: &Columns, number: u64, fields: &ByteRecord) -> Result<Message, TableFault>
+    ensures { result ≡ record_message columns.now number (fields_of fields.now) }
+{
+    if fields.len() != columns.width() {
+        return Err(TableFault::Fields(number));
+    }
+    match read_row(&columns.row(fields)) {
+        Ok(message) => Ok(message),
+        Err(fault) => Err(TableFault::Row(number, fault)),
+    }
+}
+
+/// The messages of the records behind a header row, by a record that is used again for each.
+fn messages_under<R: Read>(
+    alloc: Global,
+    columns: &Columns,
+    reader: &mut Reader<R>,
+    fields: &mut ByteRecord,
+) -> Result<Vec<Message>, TableFault>
+    requires plain { IsPlain reader.old }
+    ensures messages { IfOk result (λ messages. (input : List ℕ) (names : List (List ℕ))
+        → HasRead R.remaining reader.old input (names ∷ []) → AreMessagesUnder columns.now input names messages.items) }
+    ensures fault { IfErr result (λ fault. (input : List ℕ) (names : List (List ℕ))
+        → HasRead R.remaining reader.old input (names ∷ []) → IsFaultUnder columns.now input names fault) }
+{
+    let mut messages = Vec::new(alloc);
+    for number in 1..u64::MAX {
+        if !next_record(reader, fields)? {
+            return Ok(messages);
+        }
+        let message = match read_record(columns, number, fields) {
+            Ok(message) => message,
+            Err(fault) => return Err(fault),
+        };
+        if messages.push(message).is_err() {
+            return Err(TableFault::OutOfMemory);
+        }
+    }
+    Err(TableFault::OutOfMemory)
+}
+
+/// The columns that the header row names. A text without a record lacks the first one that every table has.
+fn read_columns<R: Read>(
+    reader: &mut Reader<R>,
+    fields: &mut ByteRecord,
+) -> Result<Columns, TableFault>
+    requires plain { IsPlain reader.old }
+    ensures plain { OnOk result (IsPlain reader.new) }
+    ensures columns { IfOk result (λ columns. (input : List ℕ)
+        → HasRead R.remaining reader.old input [] → HasColumns R.remaining reader.new input columns) }
+    ensures fault { IfErr result (λ fault. (input : List ℕ) → HasRead R.remaining reader.old input [] → IsHeaderFault input fault) }
+{
+    if !next_record(reader, fields)? {
+        // The text has no record.
+        return Err(TableFault::Header(ColumnFault::Missing(Column::Participant)));
+    }
+    match Columns::of_header(fields) {
+        Ok(columns) => Ok(columns),
+        Err(fault) => Err(TableFault::Header(fault)),
+    }
+}
+
+/// The messages of a table: a header row, and then a record for each message, in order. Blank lines are passed over.
+///
+/// Refused, the first that applies from the front: `Header` where the first record does not name the columns, `Fields` at a record
+/// with another number of fields, and `Row` at one that is no message. `ReadFault` and `OutOfMemory` may come at any record.
+pub fn read_table<R: Read + Drop>(alloc: Global, reader: R) -> Result<Vec<Message>, TableFault>
+    ensures messages { IfSome (R.remaining reader) (λ input. IfOk result (λ messages. IsTable input messages.items)) }
+    ensures fault { IfSome (R.remaining reader) (λ input. IfErr result (IsTableFault input)) }
+{
+    let mut reader = records_in(alloc, reader);
+    let mut fields = ByteRecord::new(alloc);
+    match read_columns(&mut reader, &mut fields) {
+        Ok(columns) => messages_under(alloc, &columns, &mut reader, &mut fields),
+        Err(fault) => Err(fault),
+    }
+}

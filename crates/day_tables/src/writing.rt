@@ -1,0 +1,157 @@
+//! A message written as its row.
+ghost use Rattle.std.specs.Prelude.{◌≡◌, ◌<◌, ◌++◌, ◌∷◌, [], OnOk, decimal};
+ghost use Rattle.csv.specs.Records.{fields_of, partial_of};
+ghost use Rattle.reports.specs.Messages.{brought_content, named_target};
+ghost use Rattle.tape_types.specs.Ranges.{name_of};
+ghost use Rattle.day_tables.specs.Laws.{RowRoundTrip};
+ghost use Rattle.day_tables.specs.Texts.{code_byte};
+ghost use Rattle.day_tables.specs.Writing.{condition_text, digit_at, kind_text, price_text, row_fields, row_of, text_or_none};
+
+use crate::price::DOLLAR;
+use csv::ByteRecord;
+use itoa::{Buffer, write_digits};
+use reports::Message;
+use sale_matrix::{Condition, Content};
+use std::alloc::AllocError;
+use tape_types::{MsgNumber, Price};
+
+/// How many digits the dollars of the greatest price have.
+const DOLLAR_DIGITS: usize = 8;
+
+/// Adds a number in decimal digits.
+fn push_number(row: &mut ByteRecord, number: u64) -> Result<(), AllocError>
+    requires { partial_of row.old ≡ [] }
+    ensures fields { OnOk result (fields_of row.new ≡ fields_of row.old ++ decimal number ∷ []) }
+    ensures partial { OnOk result (partial_of row.new ≡ []) }
+{
+    let mut digits = Buffer::new();
+    row.push_field(digits.format(number).as_bytes())
+}
+
+/// The word of a message's kind.
+fn kind_text(message: &Message) -> &'static [u8]
+    ensures { result.now ≡ kind_text message.now }
+{
+    match message {
+        Message::Report { .. } => b"report",
+        Message::Cancel { .. } => b"cancel",
+        Message::Correct { .. } => b"correct",
+        Message::Reinstate { .. } => b"reinstate",
+    }
+}
+
+/// The digit of a number at the place of this power of ten.
+fn digit_at(unit: u64, number: u64) -> u8
+    requires { 0 < unit }
+    ensures { result ≡ digit_at unit number }
+{
+    b'0' + (number / unit % 10) as u8
+}
+
+/// Adds a price in dollars: two decimals where it is whole cents, and four otherwise.
+#[tactic(auto, unfolding(crate::specs::Writing::price_text, crate::specs::Writing::decimals_text))]
+fn push_price(row: &mut ByteRecord, price: Price) -> Result<(), AllocError>
+    requires { partial_of row.old ≡ [] }
+    ensures fields { OnOk result (fields_of row.new ≡ fields_of row.old ++ price_text price ∷ []) }
+    ensures partial { OnOk result (partial_of row.new ≡ []) }
+{
+    let part = price.value() % DOLLAR;
+    let mut text = [
+        b'0',
+        b'0',
+        b'0',
+        b'0',
+        b'0',
+        b'0',
+        b'0',
+        b'0',
+        b'.',
+        digit_at(1000, part),
+        digit_at(100, part),
+        digit_at(10, part),
+        digit_at(1, part),
+    ];
+    let start = write_digits(price.value() / DOLLAR, &mut text, DOLLAR_DIGITS);
+    if part % 100 == 0 {
+        row.push_field(&text[start..11])
+    } else {
+        row.push_field(&text[start..])
+    }
+}
+
+/// A code as a table writes it.
+fn code_byte(code: u8) -> u8
+    ensures { result ≡ code_byte code }
+{
+    if code == b' ' { b'_' } else { code }
+}
+
+/// Adds a condition with `_` for each blank.
+fn push_condition(row: &mut ByteRecord, condition: Condition) -> Result<(), AllocError>
+    requires { partial_of row.old ≡ [] }
+    ensures fields { OnOk result (fields_of row.new ≡ fields_of row.old ++ condition_text condition ∷ []) }
+    ensures partial { OnOk result (partial_of row.new ≡ []) }
+{
+    let [first, second, third, fourth] = condition.value();
+    row.push_field(&[
+        code_byte(first),
+        code_byte(second),
+        code_byte(third),
+        code_byte(fourth),
+    ])
+}
+
+/// Adds the number of the report that is meant, or nothing.
+fn push_target(row: &mut ByteRecord, target: Option<MsgNumber>) -> Result<(), AllocError>
+    requires { partial_of row.old ≡ [] }
+    ensures fields { OnOk result (fields_of row.new ≡ fields_of row.old ++ text_or_none decimal target ∷ []) }
+    ensures partial { OnOk result (partial_of row.new ≡ []) }
+{
+    match target {
+        Some(target) => push_number(row, u64::from(target.value())),
+        None => row.push_field(b""),
+    }
+}
+
+/// Adds the price, the size and the condition, or nothing for each.
+fn push_content(row: &mut ByteRecord, content: Option<Content>) -> Result<(), AllocError>
+    requires { partial_of row.old ≡ [] }
+    ensures fields { OnOk result (fields_of row.new ≡ fields_of row.old ++ (
+        text_or_none (λ content. price_text content.price) content
+        ∷ text_or_none (λ content. decimal content.size) content
+        ∷ text_or_none (λ content. condition_text content.condition) content ∷ [])) }
+{
+    match content {
+        Some(content) => {
+            push_price(row, content.price)?;
+            push_number(row, u64::from(content.size.value()))?;
+            push_condition(row, content.condition)
+        }
+        None => {
+            row.push_field(b"")?;
+            row.push_field(b"")?;
+            row.push_field(b"")
+        }
+    }
+}
+
+/// Writes a message as its row, the fields in the order of the columns, into a record that may be used again.
+#[tactic(auto, unfolding(crate::specs::Writing::row_of))]
+pub fn write_row(message: &Message, row: &mut ByteRecord) -> Result<(), AllocError>
+    ensures fields { OnOk result (fields_of row.new ≡ row_fields (row_of message.now)) }
+{
+    let header = message.header();
+    row.clear();
+    row.push_field(kind_text(message))?;
+    row.push_field(&[header.participant.value()])?;
+    push_number(row, u64::from(header.number.value()))?;
+    push_number(row, header.moment.value())?;
+    row.push_field(header.symbol.name())?;
+    push_target(row, message.target())?;
+    push_content(row, message.content())
+}
+
+/// The row of every message reads back as that message.
+pub fn row_round_trip()
+    ensures holds { RowRoundTrip }
+{}
