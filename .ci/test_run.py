@@ -2,13 +2,20 @@
 
 import re
 import shutil
+import string
 import tempfile
+import unittest
 from pathlib import Path
 
-from support import ROOT, SAMPLES, TAPEBOX, Case, run
+from support import ROOT, SAMPLES, TAPEBOX, Case, Ended, batch_line, report, run
 
 # Seconds that the toolchain may take to compile the program without its proofs.
 COMPILING = 900
+# Message lines whose answers may pass 1 MiB, and fewer whose report may, of a row for each symbol and one for each message.
+LINES_TOO_MANY = 35_000
+ROWS_TOO_MANY = 5_000
+SYMBOLS = [f"S{at}" for at in range(4_096)]
+PARTICIPANTS = string.ascii_uppercase
 
 
 class Run(Case):
@@ -29,24 +36,52 @@ class Run(Case):
         """How `./run` ended in the copy."""
         return run(words, given, program=self.copy / "run", limit=COMPILING)
 
-    def test_forms_of_use(self):
-        """README, "A day": without arguments, or asked for help, it prints the three forms of use and ends with 2."""
-        for words in ([], ["-h"], ["--help"]):
-            with self.subTest(words):
-                ended = self.ran(*words)
-                self.assertEqual((ended.status, ended.written), (2, b""))
-                self.assertEqual(re.findall(rb"(?m)^tapebox (\w+) ", ended.said), [b"batch", b"live", b"follow"])
-
-    def test_proved_program(self):
-        """README, "A day": where the program was built from exactly this tree it runs at once."""
-        self.assert_writes(self.ran("batch", given=self.day), self.written)
-
-    def test_without_proofs(self):
-        """README, "A day": in a tree that differs the same program is compiled without its proofs, which one line says."""
+    def change_tree(self):
+        """Until the end of the case the copy's tree is another than the program was built from."""
         source = self.copy / "crates" / "tapebox" / "src" / "main.rt"
         text = source.read_text(encoding="utf-8")
         source.write_text(text + "\n", encoding="utf-8")
         self.addCleanup(source.write_text, text, encoding="utf-8")
+
+    def assert_wants_proof(self, ended):
+        """It said in one line that it wants the proved program, and how long the proof takes, and did nothing else."""
+        self.assertEqual((ended.status, ended.written), (2, b""))
+        self.assertRegex(ended.said, rb"\Arun: [^\n]* wants the proved program: \./run --prove [^\n]*(hour|minutes)[^\n]*\n\Z")
+
+    def test_forms_of_use(self):
+        """README, "A day": without words it prints the three forms of use and ends with 2; asked for help, it prints them with the rest."""
+        forms = [b"batch", b"live", b"follow"]
+        ended = self.ran()
+        self.assertEqual((ended.status, ended.written, re.findall(rb"(?m)^tapebox (\w+) ", ended.said)), (2, b"", forms))
+        for word in ("-h", "--help"):
+            with self.subTest(word):
+                ended = self.ran(word)
+                self.assertEqual((ended.status, ended.said, re.findall(rb"(?m)^tapebox (\w+) ", ended.written)), (0, b"", forms))
+
+    def test_proved_program(self):
+        """README, "A day": where the program was built from exactly this tree it runs at once."""
+        self.assert_writes(self.ran("batch", given=self.day), self.written)
+        self.assert_writes(self.ran("--which"), f"{self.out / 'tapebox'}\n".encode())
+        ended = self.ran("--prove")
+        self.assertEqual(ended, Ended(0, b"", b"run: tapebox is proved and built already\n"))
+
+    def test_without_proofs(self):
+        """README, "A day": in a tree that differs the same program is compiled without its proofs, which one line says."""
+        self.change_tree()
         ended = self.ran("batch", given=self.day)
         self.assertEqual((ended.status, ended.written), (0, self.written))
         self.assertRegex(ended.said, rb"\Arun: not proved: [^\n]*\./run --prove[^\n]*\n\Z")
+
+    @unittest.skipUnless(shutil.which("parallel"), "no GNU parallel")
+    def test_what_wants_the_proof(self):
+        """README, "A day": a running day, a day whose answers and report may be too long, and a split day want the proved program, which is said
+        before anything is compiled."""
+        self.change_tree()
+        long_day = b"AB\nN\n" + batch_line(report("N", 1)) * LINES_TOO_MANY
+        wide_day = " ".join(SYMBOLS).encode() + b"\n" + " ".join(PARTICIPANTS).encode() + b"\n" + batch_line(report("N", 1)) * ROWS_TOO_MANY
+        for words, given in [(["live"], b""), (["follow"], b""), (["batch"], long_day), (["batch", 2], wide_day), (["--which"], b"")]:
+            with self.subTest(words):
+                self.assert_wants_proof(self.ran(*words, given=given))
+        split = run([SAMPLES / "corrections.csv", 1], program=self.copy / "samples" / "split_day.sh")
+        self.assertEqual((split.status, split.written, split.said.count(b"\n")), (1, b"", 1))
+        self.assertRegex(split.said, rb"\Arun: split_day\.sh wants the proved program: \./run --prove ")

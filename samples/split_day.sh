@@ -1,27 +1,34 @@
 #!/bin/sh
-# A day over several tapes: split_day.sh TABLE.csv N
-#
-# Splits the table by its symbols into N, runs `tapebox batch` on each with the participants of all, side by side by GNU parallel, and
-# prints one report: the rows of all, in the order in which the symbols appear in the table. Where one tape over the whole table would refuse no message, that is its
-# report but for the places of the marks, which are numbers of each symbol's own tape. How many messages were
-# refused stands on standard error where it is not 0. If anything fails, the status is 1 and nothing is printed. Needs python3
-# and parallel.
-#
-#     TAPEBOX   the program (../crates/tapebox/out/tapebox, from here)
-#     MATRIX    the matrix, 1 or 2 (1)
-#     PARALLEL  options of parallel, as "--sshlogin HOST1,HOST2" for machines that have these scripts and the program in the same places
-
 samples=$(cd "$(dirname "$0")" && pwd) || exit 1
-tapebox=${TAPEBOX:-$samples/../crates/tapebox/out/tapebox}
 matrix=${MATRIX:-1}
+
+help() {
+    cat << 'END'
+A day over several tapes: split_day.sh TABLE.csv N
+
+Splits the table by its symbols into N, runs `tapebox batch` on each with the participants of all, side by side by GNU parallel, and
+prints one report: the rows of all, in the order in which the symbols appear in the table. If one tape over the whole table would refuse
+no message, that is its report but for the places of the marks, which are numbers of each symbol's own tape. How many messages were
+refused stands on standard error, unless none was. Needs python3 and parallel.
+
+    TAPEBOX   the program (the proved one, as ./run has it)
+    MATRIX    the matrix, 1 or 2 (1)
+    PARALLEL  options of parallel, as "--sshlogin HOST1,HOST2" for machines that have these scripts and the program in the same places
+
+Statuses: 0 if the report is printed; 1 if anything fails, and then nothing is printed; 2 if the words are others.
+END
+}
 
 fail() {
     echo "split_day.sh: $*" >&2
     exit 1
 }
 
-[ $# -eq 2 ] || fail "the words are TABLE.csv and N"
+case ${1-} in -h | --help) help; exit ;; esac
+[ $# -eq 2 ] || { echo "usage: split_day.sh TABLE.csv N" >&2; exit 2; }
 command -v parallel > /dev/null || fail "there is no GNU parallel"
+# ./run says what is wanted if there is none.
+tapebox=${TAPEBOX:-$("$samples/../run" --which split_day.sh)} || exit 1
 work=$(mktemp -d) || exit 1
 trap 'rm -rf "$work"' EXIT
 trap 'exit 1' HUP INT TERM
