@@ -1,0 +1,167 @@
+#!/usr/bin/env python3
+"""Proves programs and what they stand on, several crates at a time: prove.py PROGRAM..
+
+A crate is proved once all below it are, and of those that can be begun the one with the longest chain of others above it comes first. A
+line on standard error tells of each that is proved. What is proved is kept: stopped by Ctrl-C, or by a crate that is not proved, it goes
+on there the next time. It drives the module that the `rt` of the kit is made of. Where a kit's rt is made otherwise it says so and does
+nothing: `rt run` then proves one crate after the other.
+
+Statuses: 0 where all are proved, or left to `rt run`; 1 where a crate is not proved; 2 where a word names no program of the repository.
+"""
+
+import argparse
+import importlib.util
+import os
+import queue
+import shutil
+import signal
+import sys
+import tempfile
+import threading
+import time
+from pathlib import Path
+
+ROOT = Path(__file__).resolve().parent.parent
+# What is used of the kit's module, and of a crate of it.
+NAMES = ["Crate", "cores", "crates_below", "files_of", "fits", "guarded", "lock"]
+CALLS = ["below", "build_rlib", "check", "is_built", "makes_rlib", "need"]
+# How far the processes of other crates stand behind those of the crate that leads.
+NICENESS = 10
+
+
+def say(text):
+    """A line of progress."""
+    print(f"run: {text}", file=sys.stderr, flush=True)
+
+
+def kit_module():
+    """The module beside the command `rt`, or None where it lacks one of the names."""
+    path = Path(os.path.realpath(shutil.which("rt") or "rt")).with_name("rtlib.py")
+    if not path.exists():
+        return None
+    spec = importlib.util.spec_from_file_location("rtlib", path)
+    module = importlib.util.module_from_spec(spec)
+    sys.dont_write_bytecode = True
+    spec.loader.exec_module(module)
+    has_all = all(hasattr(module, name) for name in NAMES) and all(hasattr(module.Crate, name) for name in CALLS)
+    return module if has_all else None
+
+
+def lines_of(kit, crate):
+    """How many lines of code, definitions and proofs a crate has."""
+    return sum(Path(file).read_bytes().count(b"\n") for file in kit.files_of(crate.folder))
+
+
+def longest_chains(kit, crates):
+    """By crate, the lines of the longest chain of crates that stand on one another, with it at the bottom."""
+    chains = {}
+    # Each crate comes after those below it.
+    for crate in reversed(crates):
+        chains[crate] = lines_of(kit, crate) + max((chains[other] for other in crates if crate in other.deps), default=0)
+    return chains
+
+
+class Proving:
+    """Crates that are proved side by side."""
+
+    def __init__(self, kit, crates):
+        self.kit = kit
+        self.chains = longest_chains(kit, crates)
+        self.done = [crate for crate in crates if crate.makes_rlib() and crate.is_built()]
+        self.left = [crate for crate in sorted(crates, key=self.chains.get, reverse=True) if crate not in self.done]
+        self.running = []
+        self.ended = queue.SimpleQueue()
+        # Two thirds of what the kit names as likely at most for a check in batches, which no crate was seen to pass with four jobs.
+        self.memory = {crate: 2 * crate.need(batches=True) // 3 for crate in self.left}
+        self.began = time.monotonic()
+
+    def has_room_for(self, crate):
+        """Whether there are a processor and memory for a crate beside those that run, which have taken a part of theirs already."""
+        return not self.running or self.kit.fits(self.memory[crate], *(self.memory[other] // 2 for other in self.running))
+
+    def begin(self):
+        """Begins the crates that can be begun."""
+        for crate in [it for it in self.left if all(below in self.done for below in it.below())]:
+            if not self.has_room_for(crate):
+                return
+            leads = crate is max(self.left + self.running, key=self.chains.get)
+            self.left.remove(crate)
+            self.running.append(crate)
+            threading.Thread(target=self.prove, args=(crate, leads), daemon=True).start()
+
+    def prove(self, crate, leads):
+        """Proves a crate and puts down how that ended. The crate that leads has a process for each processor. The others have half as many, which
+        run where the first ones leave a processor idle, as they do while they load the crates below and at the last functions."""
+        if not leads:
+            # Linux keeps this for each thread, and hands it on to the commands that the thread starts.
+            os.setpriority(os.PRIO_PROCESS, 0, NICENESS)
+        jobs = self.kit.cores() if leads else max(self.kit.cores() // 2, 1)
+        os.makedirs(f"{crate.folder}/out", exist_ok=True)
+        with tempfile.TemporaryFile("w+", errors="replace") as crate.out:
+            try:
+                flags = ["--jobs", str(jobs)]
+                status = crate.build_rlib(flags, anew=False) if crate.makes_rlib() else crate.check(flags)
+            except (SystemExit, OSError) as fault:
+                status = fault
+            crate.out.seek(0)
+            self.ended.put((crate, status, crate.out.read()))
+
+    def prove_all(self):
+        """Proves all, and returns whether it did: the first crate that is not proved is the last, and what was said of it is printed."""
+        count = len(self.done) + len(self.left)
+        if self.done:
+            say(f"{len(self.done)} of {count} crates are proved already")
+        while self.left or self.running:
+            self.begin()
+            crate, status, said = self.ended.get()
+            self.running.remove(crate)
+            if status:
+                self.left.append(crate)
+                print(said, end="", file=sys.stderr)
+                say(f"{crate.name} is not proved (status {status})")
+                return False
+            self.done.append(crate)
+            minutes = (time.monotonic() - self.began) / 60
+            say(f"{len(self.done)} of {count} crates, {minutes:.1f} minutes: {crate.name} proved")
+        return True
+
+    def say_left(self):
+        """Says what is not proved, in the order in which it would have been."""
+        left = sorted(self.running + self.left, key=self.chains.get, reverse=True)
+        say(f"left: {', '.join(crate.name for crate in left)}; the next time it goes on there")
+
+
+def main():
+    parser = argparse.ArgumentParser(description=__doc__, formatter_class=argparse.RawDescriptionHelpFormatter)
+    parser.add_argument("programs", nargs="+", metavar="PROGRAM", help="a program's crate, as tapebox")
+    words = parser.parse_args()
+    kit = kit_module()
+    if not kit:
+        say("this kit's rt can't be driven for several crates at a time, so it proves one after the other")
+        return 0
+    # What the commands are put in, which end when this ends, is made before there are threads.
+    kit.guarded()
+    crates = kit.crates_below(str(ROOT / "crates"))
+    programs = [crate for crate in crates if crate.name in words.programs and not crate.makes_rlib()]
+    if len(programs) != len(set(words.programs)):
+        parser.error(f"{ROOT / 'crates.txt'} has no such program: {' '.join(words.programs)}")
+    needed = [crate for crate in crates if any(crate in [*program.below(), program] for program in programs)]
+    # Nobody else works in these crates as long as this is open.
+    held = kit.lock(needed)
+    proving = Proving(kit, needed)
+    try:
+        is_proved = proving.prove_all()
+    except KeyboardInterrupt:
+        proving.say_left()
+        # Ended by the signal, so that a script that called this ends too.
+        signal.signal(signal.SIGINT, signal.SIG_DFL)
+        os.kill(os.getpid(), signal.SIGINT)
+    if not is_proved:
+        proving.say_left()
+    for folder in held:
+        os.close(folder)
+    return 0 if is_proved else 1
+
+
+if __name__ == "__main__":
+    sys.exit(main())
