@@ -147,7 +147,8 @@ pub fn write_end(session: u64, count: u32, text: &mut Vec<u8>) {
     write_header(b'E', session, count, 0, text);
 }
 
-fn write_header(kind: u8, session: u64, number: u32, count: u8, text: &mut Vec<u8>) {
+/// Adds a packet's header, of version 2.
+pub fn write_header(kind: u8, session: u64, number: u32, count: u8, text: &mut Vec<u8>) {
     text.extend_from_slice(&[Version::Two.byte(), kind]);
     text.extend_from_slice(&session.to_be_bytes());
     text.extend_from_slice(&number.to_be_bytes());
@@ -162,7 +163,8 @@ fn write_entry(entry: &Entry, text: &mut Vec<u8>) {
     }
 }
 
-fn write_message(message: &Message, text: &mut Vec<u8>) {
+/// Adds a message with its length in front.
+pub fn write_message(message: &Message, text: &mut Vec<u8>) {
     let (len, kind) = match message.kind {
         Kind::Report(_) => (38, b'R'),
         Kind::Cancel { .. } => (26, b'X'),

@@ -1,15 +1,18 @@
 //! The batch of a trade tape as two plain programs, `indexed` with the whole tape kept and each summary exact after each
 //! message, and `least` with none: the input, answers and report of `tapebox batch [1|2]`, with nothing of its code. `feed`
-//! sends that tape on two lossy lines to a subscriber, `wire` sends its packets over two ports without a tape, and `read_lines`
-//! says what packets, messages, requests and answers are read from given bytes.
+//! sends that tape on two lossy lines to a subscriber, `wire` sends its packets over two ports without a tape, `forward`
+//! sends on what participants' lines bring without one, `latency` tells how long a message takes through it or through `tapebox live`, and
+//! `read_lines` says what packets, messages, requests and answers are read from given bytes.
 
 mod batch;
 mod day;
 mod feed;
+mod forward;
 mod frames;
 mod header;
 mod hex;
 mod keep;
+mod latency;
 mod lines;
 mod matrix;
 mod message;
@@ -26,8 +29,10 @@ mod wire;
 pub use batch::{BadHeader, batch};
 pub use day::Day;
 pub use feed::{Figures, feed};
+pub use forward::forward;
 pub use header::Names;
 pub use keep::{Entry, Keep, Reports, Tape};
+pub use latency::{Course, LATENCY_SYMBOLS, LatencyFigures, latency};
 pub use lines::{NoLine, Said};
 pub use matrix::{Cells, LastRule, Matrix};
 pub use message::{Content, Kind, Message};
