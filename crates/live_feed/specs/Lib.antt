@@ -2,6 +2,7 @@ pub mod Budgets
 pub mod Faults
 pub mod Followers
 pub mod Heard
+pub mod Nexts
 pub mod Paces
 pub mod Quiets
 pub mod Reports

@@ -89,6 +89,14 @@ impl Asker {
         }
     }
 
+    /// Another handle of the connection.
+    pub(crate) fn handle(&self) -> Result<TcpStream, Fault> {
+        match self.connection.try_clone() {
+            Ok(handle) => Ok(handle),
+            Err(_) => Err(Fault::Read),
+        }
+    }
+
     /// Whether the other side closed the connection, or it was lost. One that was not accepted yet is open. It does not wait.
     fn is_closed(&self) -> bool {
         let _ = self.connection.set_nonblocking(true);
@@ -109,14 +117,14 @@ impl Asker {
         match dial(rt, self.port) {
             Ok(connection) => {
                 self.connection = connection;
-                run.connected(rt, Ok(()));
+                run.connected(rt, self.handle());
             }
             Err(fault) => run.connected(rt, Err(fault)),
         }
     }
 
     /// Asks for what is missing until the run is over, and sleeps while nothing is missing. What one line lost is waited for
-    /// until the other has gone past it, or was waited for long enough. Each second of sleep it looks at the connection, and
+    /// until the other has gone past it, was waited for long enough, or is too late. Each second of sleep it looks at the connection, and
     /// ends the run where that was closed and nothing more comes. The connection is closed then.
     pub(crate) fn run<N: Followed, R: Net<Listener = TcpListener, Stream = TcpStream> + Wait>(
         self,

@@ -53,7 +53,14 @@ fn follow_to_end<
     ensures listed { IfOk result (λ subscriber. subscriber.tape.listing ≡ N.listing) }
     ensures by_matrix { IfOk result (λ subscriber. subscriber.tape.matrix ≡ N.matrix) }
 {
-    let run = Run::new(alloc, follower, sockets)?;
+    let connection = match asker.handle() {
+        Ok(connection) => connection,
+        Err(fault) => {
+            drop(follower);
+            return Err(fault);
+        }
+    };
+    let run = Run::new(alloc, follower, sockets, connection)?;
     follow_at_once(rt, &run, asker);
     run.into_follower().into_subscriber()
 }

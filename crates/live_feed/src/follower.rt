@@ -1,6 +1,7 @@
 //! What a follower comes to hold, which its lines and what asks for it share.
-ghost use Rattle.std.specs.Prelude.{◌≡◌, ◌≢◌, ◌↔◌, ◌≤◌, IfOk, IsSomeAnd, true};
+ghost use Rattle.std.specs.Prelude.{◌≡◌, ◌≢◌, ◌↔◌, ◌≤◌, ◌-◌, length, IfOk, IsSomeAnd, true};
 ghost use Rattle.live_feed.specs.Followers.{KeepsNames};
+ghost use Rattle.live_feed.specs.Nexts.{asked_of};
 ghost use Rattle.live_feed.specs.declared.fault.Fault.TheVariants.{Disagrees, Memory};
 ghost use Rattle.subscriber.specs.declared.drain_fault.Stop.TheVariants.{Refused};
 ghost use Rattle.tape_core.specs.declared.refusal.Refusal.TheVariants.{OutOfMemory};
@@ -37,6 +38,18 @@ pub(crate) enum Next {
     Connect,
     /// The run is over.
     End,
+}
+
+impl Next {
+    /// The first number that is to be asked for.
+    fn asked(&self) -> Option<u32>
+        ensures { result ≡ asked_of self.now }
+    {
+        match self {
+            Next::Ask(request) => Some(request.from),
+            Next::Read | Next::Wait(_) | Next::Connect | Next::End => None,
+        }
+    }
 }
 
 /// A subscriber of the tape that is followed, how far its lines have come, whether it has yet to be connected, and whether the
@@ -124,6 +137,13 @@ fn drain(subscriber: &mut Subscriber) -> Result<(), Fault>
         Ok(_) => Ok(()),
         Err(fault) => Err(fault_of_drain(fault)),
     }
+}
+
+/// How many numbers were announced above those that are held.
+fn ahead_of(subscriber: &Subscriber) -> usize
+    ensures { result ≡ subscriber.now.window.announced - length subscriber.now.tape.entries }
+{
+    (subscriber.announced() as usize).saturating_sub(subscriber.held().len())
 }
 
 /// Whether a subscriber that holds so many entries is given up: `restart_after` is that many or fewer.
@@ -265,9 +285,13 @@ impl<N: Followed> Follower<N> {
         self.settle(taken);
     }
 
-    /// What is next for what asks, which then sleeps until it is rung where nothing is missing.
+    /// What is next for what asks, which then sleeps until it is rung where nothing is missing. What it asks for was waited for in
+    /// vain where a line has not come to it.
     pub(crate) fn next_to_ask(&mut self) -> Next {
         let next = self.next();
+        if let Some(number) = next.asked() {
+            self.heard.asked(number);
+        }
         self.is_asleep = matches!(next, Next::Read);
         next
     }
@@ -285,8 +309,9 @@ impl<N: Followed> Follower<N> {
         if self.over.is_some() {
             return Next::End;
         }
+        let ahead = ahead_of(&self.subscriber);
         match self.subscriber.missing() {
-            Some(request) if self.heard.may_bring(request.from) => Next::Wait(request.from),
+            Some(request) if self.heard.may_bring(request.from, ahead) => Next::Wait(request.from),
             Some(request) => Next::Ask(request),
             None => Next::Read,
         }

@@ -1,16 +1,17 @@
 //! A follower's lines, each read until the run is over, beside what asks for what they lack.
-ghost use Rattle.std.specs.Prelude.{◌≤◌, IfOk};
+ghost use Rattle.std.specs.Prelude.{◌≡◌, ◌≤◌, ◌↔◌, IfOk, IsTrue};
+ghost use Rattle.live_feed.specs.declared.follower.Next.TheVariants.{End};
 ghost use Rattle.live_feed.specs.declared.following.TheConstants.{ROOM};
 
 use crate::asking::Asker;
 use crate::followed::Followed;
 use crate::follower::{Follower, Next};
-use crate::inbox::{Datagram, Inbox};
+use crate::shared::{Owed, Shared, Turn};
 use crate::{Fault, FollowSockets};
 use arbitration::Line;
 use std::alloc::Global;
 use std::io::ErrorKind;
-use std::net::{Net, SocketAddr, TcpListener, TcpStream, UdpSocket};
+use std::net::{Net, Shutdown, SocketAddr, TcpListener, TcpStream, UdpSocket};
 use std::sync::{Mutex, Wait};
 use std::thread;
 use std::thread::{Parker, Threads};
@@ -36,10 +37,9 @@ struct FollowedLine<'a> {
 /// and whoever lets go of the follower has it take what was kept. So no line waits for the follower, unless too much is kept.
 #[derive(Drop)]
 pub(crate) struct Run<'a, N: Followed> {
-    /// Where memory comes from.
-    alloc: Global,
-    follower: Mutex<Follower<N>>,
-    kept: Mutex<Inbox>,
+    shared: Shared<N>,
+    /// Another handle of the connection on which is asked, which ends what is open on it.
+    connection: Mutex<TcpStream>,
     /// Wakes what asks.
     bell: Parker,
     a: FollowedLine<'a>,
@@ -77,11 +77,12 @@ impl FollowedLine<'_> {
 }
 
 impl<'a, N: Followed> Run<'a, N> {
-    /// A run over these sockets.
+    /// A run over these sockets, and another handle of the connection on which is asked.
     pub(crate) fn new(
         alloc: Global,
         follower: Follower<N>,
         sockets: &'a FollowSockets,
+        connection: TcpStream,
     ) -> Result<Run<'a, N>, Fault> {
         let a = followed_line(Line::A, &sockets.a);
         let b = followed_line(Line::B, &sockets.b);
@@ -89,29 +90,31 @@ impl<'a, N: Followed> Run<'a, N> {
             drop(follower);
             return Err(Fault::Read);
         };
-        let Ok(kept) = Inbox::nothing(alloc) else {
-            drop(follower);
+        let Ok(shared) = Shared::new(alloc, follower) else {
             return Err(Fault::Memory);
         };
         Ok(Run {
-            alloc,
-            follower: Mutex::new(follower),
-            kept: Mutex::new(kept),
+            shared,
+            connection: Mutex::new(connection),
             bell: Parker::new(),
             a,
             b,
         })
     }
 
-    /// Wakes the lines and what asks. Each sees then that the run is over.
-    fn end(&self) {
+    /// Wakes the lines and what asks, and ends the request that is open, whose answer may be long in coming: the retransmission
+    /// may serve another subscriber. Each sees then that the run is over.
+    fn end<R: Wait>(&self, rt: &R) {
+        let _ = self.connection.lock(rt).shutdown(Shutdown::Both);
         self.a.wake();
         self.b.wake();
         self.bell.unpark();
     }
 
     /// Wakes whom what is next concerns, and tells whether the run is over.
-    fn tell(&self, next: Next) -> bool {
+    fn tell<R: Wait>(&self, rt: &R, next: &Next) -> bool
+        ensures { IsTrue result ↔ (next.now ≡ End) }
+    {
         match next {
             Next::Read => false,
             Next::Wait(_) | Next::Ask(_) | Next::Connect => {
@@ -119,65 +122,68 @@ impl<'a, N: Followed> Run<'a, N> {
                 false
             }
             Next::End => {
-                self.end();
+                self.end(rt);
                 true
             }
         }
     }
 
-    /// Keeps what a line brought, where there is room and memory.
-    fn keep<R: Wait>(&self, rt: &R, line: Line, bytes: &[u8]) -> bool {
-        match Datagram::new(self.alloc, line, bytes) {
-            Ok(datagram) => self.kept.lock(rt).keep(datagram).is_ok(),
-            Err(_) => false,
-        }
-    }
-
     /// Has the follower take what a line brought, or keeps it where another thread has the follower. Whether the run is over.
     fn bring<R: Wait>(&self, rt: &R, line: Line, bytes: &[u8]) -> bool {
-        let delivered = match self.follower.try_lock() {
-            Some(mut follower) => Some(follower.deliver(line, bytes)),
-            None => None,
-        };
-        let next = match delivered {
-            Some(next) => next,
-            None if self.keep(rt, line, bytes) => Next::Read,
-            None => self.follower.lock(rt).deliver(line, bytes),
-        };
-        self.tell(next) || self.work_off(rt)
-    }
-
-    /// Has the follower take what is kept, unless another thread has it: that one does so once it lets go. Whoever had the
-    /// follower calls this after it let go, and whoever kept something after that. Whether the run is over.
-    fn work_off<R: Wait>(&self, rt: &R) -> bool {
-        for _ in rt.forever() {
-            if self.kept.lock(rt).is_empty() {
-                return false;
-            }
-            match self.follower.try_lock() {
-                Some(mut follower) => {
-                    if self.take_kept(rt, &mut follower) {
-                        return true;
-                    }
-                }
-                None => return false,
-            }
+        if let Some(turn) = self.shared.turn_now() {
+            return self.deliver(rt, turn, line, bytes);
         }
-        false
+        match self.shared.keep(rt, line, bytes) {
+            Some(owed) => self.work_off(rt, owed),
+            None => self.deliver(rt, self.shared.turn(rt), line, bytes),
+        }
     }
 
-    /// Has the follower take what is kept, `TAKEN_AT_ONCE` datagrams at most. Whether the run is over.
-    fn take_kept<R: Wait>(&self, rt: &R, follower: &mut Follower<N>) -> bool {
-        for _turn in 0..TAKEN_AT_ONCE {
-            let kept = self.kept.lock(rt).next();
-            let Some(datagram) = kept else {
+    /// Has the follower take what a line brought, in this turn, and then what is kept. Whether the run is over.
+    fn deliver<R: Wait>(&self, rt: &R, turn: Turn<'_, N>, line: Line, bytes: &[u8]) -> bool {
+        let mut turn = turn;
+        let next = turn.follower.deliver(line, bytes);
+        let owed = turn.end();
+        if self.tell(rt, &next) {
+            owed.see_end(&next);
+            return true;
+        }
+        self.work_off(rt, owed)
+    }
+
+    /// Has the follower take what is kept until nothing is, unless another thread has it, which does so then. Whether the run is
+    /// over.
+    fn work_off<R: Wait>(&self, rt: &R, owed: Owed) -> bool {
+        let mut owed = owed;
+        for _ in rt.forever() {
+            let Some(turn) = self.shared.turn_owed(rt, owed) else {
                 return false;
             };
-            if self.tell(follower.deliver(datagram.line, &datagram.bytes)) {
+            let mut turn = turn;
+            let next = self.take_kept(rt, &mut turn.follower);
+            owed = turn.end();
+            if self.tell(rt, &next) {
+                owed.see_end(&next);
                 return true;
             }
         }
-        false
+        unreachable!()
+    }
+
+    /// Has the follower take what is kept, `TAKEN_AT_ONCE` datagrams at most, and tells what is next.
+    fn take_kept<R: Wait>(&self, rt: &R, follower: &mut Follower<N>) -> Next {
+        let mut told = Next::Read;
+        for _turn in 0..TAKEN_AT_ONCE {
+            let Some(datagram) = self.shared.next_kept(rt) else {
+                break;
+            };
+            match follower.deliver(datagram.line, &datagram.bytes) {
+                Next::Read => {}
+                Next::End => return Next::End,
+                next => told = next,
+            }
+        }
+        told
     }
 
     /// Reads a line until the run is over.
@@ -196,13 +202,14 @@ impl<'a, N: Followed> Run<'a, N> {
                 }
             }
         }
-        self.end();
+        self.end(rt);
     }
 
     /// What is next for what asks.
     pub(crate) fn next_to_ask<R: Wait>(&self, rt: &R) -> Next {
-        let next = self.follower.lock(rt).next_to_ask();
-        self.work_off(rt);
+        let mut turn = self.shared.turn(rt);
+        let next = turn.follower.next_to_ask();
+        self.work_off(rt, turn.end());
         next
     }
 
@@ -213,14 +220,16 @@ impl<'a, N: Followed> Run<'a, N> {
 
     /// Takes note that this number was waited for, for a turn.
     pub(crate) fn waited<R: Wait>(&self, rt: &R, number: u32) {
-        self.follower.lock(rt).waited(number);
-        self.work_off(rt);
+        let mut turn = self.shared.turn(rt);
+        turn.follower.waited(number);
+        self.work_off(rt, turn.end());
     }
 
     /// Takes note of a look at the connection.
     pub(crate) fn looked<R: Wait>(&self, rt: &R, is_closed: bool) {
-        self.follower.lock(rt).looked(is_closed);
-        self.work_off(rt);
+        let mut turn = self.shared.turn(rt);
+        turn.follower.looked(is_closed);
+        self.work_off(rt, turn.end());
     }
 
     /// Has the follower take what a request brought.
@@ -230,25 +239,35 @@ impl<'a, N: Followed> Run<'a, N> {
         request: &Request,
         brought: Result<Vec<Vec<u8>>, Fault>,
     ) {
-        self.follower.lock(rt).answer(request, brought);
-        self.work_off(rt);
+        let mut turn = self.shared.turn(rt);
+        turn.follower.answer(request, brought);
+        self.work_off(rt, turn.end());
     }
 
-    /// Takes note that the new subscriber has its connection, or of the fault that kept it from it.
-    pub(crate) fn connected<R: Wait>(&self, rt: &R, connected: Result<(), Fault>) {
-        self.follower.lock(rt).connected(connected);
-        self.work_off(rt);
+    /// Takes note that the new subscriber has its connection, by another handle of it, or of the fault that kept it from it.
+    pub(crate) fn connected<R: Wait>(&self, rt: &R, connected: Result<TcpStream, Fault>) {
+        let connected = match connected {
+            Ok(connection) => {
+                *self.connection.lock(rt) = connection;
+                Ok(())
+            }
+            Err(fault) => Err(fault),
+        };
+        let mut turn = self.shared.turn(rt);
+        turn.follower.connected(connected);
+        self.work_off(rt, turn.end());
     }
 
     /// Ends the run by a fault, unless it is over.
     fn fail<R: Wait>(&self, rt: &R, fault: Fault) {
-        self.follower.lock(rt).fail(fault);
-        self.work_off(rt);
+        let mut turn = self.shared.turn(rt);
+        turn.follower.fail(fault);
+        self.work_off(rt, turn.end());
     }
 
     /// The follower of a run that is over.
     pub(crate) fn into_follower(self) -> Follower<N> {
-        self.follower.into_inner()
+        self.shared.into_follower()
     }
 }
 
@@ -265,6 +284,6 @@ pub(crate) fn follow_at_once<
             run.fail(rt, Fault::Worker);
         }
         asker.run(rt, run);
-        run.end();
+        run.end(rt);
     });
 }

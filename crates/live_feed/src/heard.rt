@@ -1,61 +1,99 @@
 //! How far the lines of a follower have come, so that what one of them lost is not asked for while the other still brings it.
-ghost use Rattle.std.specs.Prelude.{◌≡◌, ◌≢◌, ◌↔◌, ◌⊎◌, ◌<◌, ◌≤◌, ◌+◌, false, None, Some, IsTrue};
-ghost use Rattle.live_feed.specs.Heard.{IsBehind, furthest};
-ghost use Rattle.live_feed.specs.declared.heard.TheConstants.{TURNS_MOST};
+ghost use Rattle.std.specs.Prelude.{◌≡◌, ◌↔◌, ◌⊎◌, ◌<◌, ◌≤◌, ◌+◌, ◌==◌, min, if◌then◌else◌, false, None, IsTrue};
+ghost use Rattle.live_feed.specs.Heard.{IsAwaited, IsBehind, once_brought};
+ghost use Rattle.live_feed.specs.declared.heard.TheConstants.{AHEAD_MOST, TURNS_MOST};
 ghost use Rattle.arbitration.specs.declared.line.Line.TheVariants.{A, B, R};
 
-use arbitration::Line;
+use arbitration::{Line, REACH};
 
 /// How many turns a line is waited for that has not come as far as the other.
 const TURNS_MOST: u32 = 5;
 
+/// How many numbers above those that are held may be announced while something is waited for. The window keeps twice as many, so
+/// that what comes while a request is answered fits too.
+const AHEAD_MOST: usize = REACH / 2;
+
+/// How far a line has come.
+#[derive(Clone, Copy)]
+pub(crate) struct Reached {
+    /// The greatest number that it brought: `None` where it brought none.
+    last: Option<u32>,
+    /// The number that it has to come to before something is awaited from it: one that was asked for because the line was late. 0
+    /// before there was one.
+    awaited_from: u32,
+}
+
 /// How far lines A and B have come, and what is waited for.
 #[derive(Clone, Copy)]
 pub(crate) struct Heard {
-    /// The greatest number that line A brought: `None` where it brought none, or was waited for in vain since.
-    a: Option<u32>,
-    /// The same of line B.
-    b: Option<u32>,
+    a: Reached,
+    b: Reached,
     /// The number that is waited for, or was last; 0 before there is one.
     awaited: u32,
     /// For how many turns it was.
     turns: u32,
 }
 
-/// Whether something is awaited from a line that has not come to this number.
-fn is_behind(line: Option<u32>, number: u32) -> bool
-    ensures { IsTrue result ↔ IsBehind number line }
-{
-    match line {
-        Some(last) => last < number,
-        None => false,
+impl Reached {
+    /// A line that brought nothing.
+    fn nothing() -> Reached
+        ensures last { result.last ≡ None }
+        ensures awaited_from { result.awaited_from ≡ 0 }
+    {
+        Reached {
+            last: None,
+            awaited_from: 0,
+        }
     }
-}
 
-/// The line, from which nothing is awaited any more where it is behind.
-fn unless_behind(line: Option<u32>, number: u32) -> Option<u32>
-    ensures behind { IsBehind number line → result ≡ None }
-    ensures other { ¬ (IsBehind number line) → result ≡ line }
-{
-    if is_behind(line, number) { None } else { line }
-}
+    /// Notes a number that the line brought.
+    fn bring(&mut self, number: u32)
+        ensures { self.new ≡ once_brought number self.old }
+    {
+        self.last = Some(self.last.unwrap_or(0).max(number));
+    }
 
-/// The line once it brought this number.
-fn brought(line: Option<u32>, number: u32) -> Option<u32>
-    ensures { result ≡ Some (furthest line number) }
-{
-    Some(line.unwrap_or(0).max(number))
+    /// Whether the line brought something, but has not come to this number.
+    fn is_behind(&self, number: u32) -> bool
+        ensures { IsTrue result ↔ IsBehind number self.now }
+    {
+        match self.last {
+            Some(last) => last < number,
+            None => false,
+        }
+    }
+
+    /// Whether this number is awaited from the line.
+    fn is_awaited(&self, number: u32) -> bool
+        ensures { IsTrue result ↔ IsAwaited number self.now }
+    {
+        match self.last {
+            Some(last) => self.awaited_from <= last && last < number,
+            None => false,
+        }
+    }
+
+    /// Notes that this number was asked for. Where the line has not come to it, nothing is awaited from the line before it does.
+    fn ask(&mut self, number: u32)
+        ensures late { IsBehind number self.old → self.new ≡ record self.old { awaited_from = number } }
+        ensures other { ¬ (IsBehind number self.old) → self.new ≡ self.old }
+    {
+        if self.is_behind(number) {
+            self.awaited_from = number;
+        }
+    }
 }
 
 impl Heard {
     /// Neither line has brought anything.
     pub(crate) fn nothing() -> Heard
-        ensures lines { (result.a ≡ None) × (result.b ≡ None) }
+        ensures lines { (result.a.last ≡ None) × (result.b.last ≡ None) }
+        ensures awaited_from { (result.a.awaited_from ≡ 0) × (result.b.awaited_from ≡ 0) }
         ensures awaited { result.awaited ≡ 0 }
     {
         Heard {
-            a: None,
-            b: None,
+            a: Reached::nothing(),
+            b: Reached::nothing(),
             awaited: 0,
             turns: 0,
         }
@@ -63,14 +101,13 @@ impl Heard {
 
     /// Notes the number that a packet of a line told. A retransmission is no line that is waited for.
     pub(crate) fn note(&mut self, line: Line, number: u32)
-        ensures a { line ≡ A → (self.new.a ≡ Some (furthest self.old.a number)) × (self.new.b ≡ self.old.b) }
-        ensures b { line ≡ B → (self.new.b ≡ Some (furthest self.old.b number)) × (self.new.a ≡ self.old.a) }
-        ensures retransmission { line ≡ R → (self.new.a ≡ self.old.a) × (self.new.b ≡ self.old.b) }
-        ensures waited { (self.new.awaited ≡ self.old.awaited) × (self.new.turns ≡ self.old.turns) }
+        ensures a { line ≡ A → self.new ≡ record self.old { a = once_brought number self.old.a } }
+        ensures b { line ≡ B → self.new ≡ record self.old { b = once_brought number self.old.b } }
+        ensures retransmission { line ≡ R → self.new ≡ self.old }
     {
         match line {
-            Line::A => self.a = brought(self.a, number),
-            Line::B => self.b = brought(self.b, number),
+            Line::A => self.a.bring(number),
+            Line::B => self.b.bring(number),
             Line::R => {}
         }
     }
@@ -82,33 +119,45 @@ impl Heard {
         self.awaited == number && TURNS_MOST <= self.turns
     }
 
-    /// Whether a line may still bring this number, which was not waited for long enough yet.
-    pub(crate) fn may_bring(&self, number: u32) -> bool
-        ensures may { IsTrue result → (IsBehind number self.now.a ⊎ IsBehind number self.now.b) }
+    /// Whether to wait for this number, the least that is missing, where so many are announced above those that are held: a line
+    /// may bring it yet, it was not waited for long enough, and what comes meanwhile fits into the window.
+    pub(crate) fn may_bring(&self, number: u32, ahead: usize) -> bool
+        ensures may { IsTrue result → (IsAwaited number self.now.a ⊎ IsAwaited number self.now.b) }
         ensures over { IsTrue result → self.now.awaited ≡ number → self.now.turns < TURNS_MOST }
-        ensures not { result ≡ false → (IsBehind number self.now.a ⊎ IsBehind number self.now.b) → (self.now.awaited ≡ number) × (TURNS_MOST ≤ self.now.turns) }
+        ensures fits { IsTrue result → ahead < AHEAD_MOST }
+        ensures not { result ≡ false → ahead < AHEAD_MOST → (IsAwaited number self.now.a ⊎ IsAwaited number self.now.b)
+            → (self.now.awaited ≡ number) × (TURNS_MOST ≤ self.now.turns) }
     {
-        !self.is_over(number) && (is_behind(self.a, number) || is_behind(self.b, number))
+        ahead < AHEAD_MOST
+            && !self.is_over(number)
+            && (self.a.is_awaited(number) || self.b.is_awaited(number))
     }
 
-    /// Counts a turn for which this number was waited. After `TURNS_MOST` of them nothing is awaited any more from a line that is
-    /// behind, until it brings something again.
+    /// Counts a turn for which this number was waited.
     pub(crate) fn waited(&mut self, number: u32)
-        ensures over { TURNS_MOST ≤ self.new.turns → ¬ (IsBehind number self.new.a) × ¬ (IsBehind number self.new.b) }
-        ensures kept_a { ¬ (IsBehind number self.old.a) → self.new.a ≡ self.old.a }
-        ensures kept_b { ¬ (IsBehind number self.old.b) → self.new.b ≡ self.old.b }
-        ensures first { self.old.awaited ≢ number → self.new.turns ≡ 1 }
-        ensures next { self.old.awaited ≡ number → self.old.turns < TURNS_MOST → self.new.turns ≡ self.old.turns + 1 }
         ensures awaited { self.new.awaited ≡ number }
+        ensures turns { self.new.turns ≡ (if self.old.awaited == number then min (self.old.turns + 1) TURNS_MOST else 1) }
+        ensures lines { (self.new.a ≡ self.old.a) × (self.new.b ≡ self.old.b) }
     {
-        if self.awaited != number {
-            self.awaited = number;
-            self.turns = 0;
-        }
-        self.turns = self.turns.saturating_add(1);
-        if TURNS_MOST <= self.turns {
-            self.a = unless_behind(self.a, number);
-            self.b = unless_behind(self.b, number);
-        }
+        let before = if self.awaited == number {
+            self.turns
+        } else {
+            0
+        };
+        self.awaited = number;
+        self.turns = before.saturating_add(1).min(TURNS_MOST);
+    }
+
+    /// Notes that this number was asked for: a line that has not come to it was waited for in vain, or is too late to be. So what
+    /// is missing next does not wait for that line again until it has made up for it.
+    pub(crate) fn asked(&mut self, number: u32)
+        ensures late_a { IsBehind number self.old.a → self.new.a ≡ record self.old.a { awaited_from = number } }
+        ensures other_a { ¬ (IsBehind number self.old.a) → self.new.a ≡ self.old.a }
+        ensures late_b { IsBehind number self.old.b → self.new.b ≡ record self.old.b { awaited_from = number } }
+        ensures other_b { ¬ (IsBehind number self.old.b) → self.new.b ≡ self.old.b }
+        ensures waited { (self.new.awaited ≡ self.old.awaited) × (self.new.turns ≡ self.old.turns) }
+    {
+        self.a.ask(number);
+        self.b.ask(number);
     }
 }

@@ -1,5 +1,5 @@
 //! What the lines of a follower brought while another thread had it.
-ghost use Rattle.std.specs.Prelude.{◌≡◌, ◌≤◌, ◌==◌, ◌∷◌, ◌++◌, [], IfErr, IfOk, OnOk};
+ghost use Rattle.std.specs.Prelude.{◌≡◌, ◌≤◌, ◌↔◌, ◌∷◌, ◌++◌, [], IfErr, IfOk, IsTrue, OnOk};
 ghost use Rattle.std.specs.Option.{option_to_list};
 ghost use Rattle.std.specs.VecDeque.{deque_capacity, deque_len};
 ghost use Rattle.live_feed.specs.declared.inbox.TheConstants.{KEPT_MOST};
@@ -67,7 +67,7 @@ impl Inbox {
 
     /// Whether nothing is kept.
     pub(crate) fn is_empty(&self) -> bool
-        ensures { result ≡ (deque_len self.now.datagrams == 0) }
+        ensures { IsTrue result ↔ (self.now.datagrams.items ≡ []) }
     {
         self.datagrams.is_empty()
     }

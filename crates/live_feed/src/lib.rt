@@ -23,6 +23,7 @@ mod running;
 mod seated;
 mod sending;
 mod serving;
+mod shared;
 mod silence;
 mod sockets;
 mod starting;
