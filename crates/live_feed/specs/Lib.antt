@@ -1,3 +1,4 @@
+pub mod Accepting
 pub mod Budgets
 pub mod Faults
 pub mod Followers

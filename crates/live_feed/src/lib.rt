@@ -2,6 +2,7 @@
 //! day at the other end.
 #![tactic(auto)]
 
+mod accepting;
 mod asked;
 mod asking;
 mod bell;

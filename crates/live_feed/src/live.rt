@@ -10,7 +10,7 @@ ghost use Rattle.live_feed.specs.declared.fault.Fault.TheVariants.{Disagrees, Wr
 
 use crate::bell::Bell;
 use crate::feed::Feed;
-use crate::running::{Joined, Sides, run_together};
+use crate::running::{Joined, run_together};
 use crate::seated::{Ran, Reader, Waiting, seated_lines};
 use crate::sending::room_for_a_packet;
 use crate::starting::{accept_all, can_start, prepare_day};
@@ -75,22 +75,23 @@ fn is_as_sent(day: &Day, tokens: &[Token], number: u32) -> bool
 /// Ends the day that was joined: the day, whose entries are those that were sent, or the fault of the least status that was met.
 fn finish_day<D: DayName>(shared: SharedTape<D>, joined: Joined<D>) -> Result<Day, Fault>
     requires seats { IsOneEach D.terms.listing.participants joined.ran.seats.items }
-    requires tokens { FirstTokens shared joined.sides.sent.tokens.items }
+    requires tokens { FirstTokens shared joined.sent.tokens.items }
     // With `least` and `met`, a fault that was met is answered by the least of all.
-    ensures none { IfOk result (λ _. (joined.sides.served ≡ None) × (joined.sides.sent.fault ≡ None) × (joined.ran.fault ≡ None)) }
-    ensures least { IfErr result (λ fault. NoneBefore fault joined.sides.served × NoneBefore fault joined.sides.sent.fault
+    ensures none { IfOk result (λ _. (joined.served ≡ None) × (joined.sent.fault ≡ None) × (joined.ran.fault ≡ None)) }
+    ensures least { IfErr result (λ fault. NoneBefore fault joined.served × NoneBefore fault joined.sent.fault
         × NoneBefore fault joined.ran.fault) }
-    ensures met { IfErr result (λ fault. (joined.sides.served ≡ Some fault) ⊎ (joined.sides.sent.fault ≡ Some fault)
+    ensures met { IfErr result (λ fault. (joined.served ≡ Some fault) ⊎ (joined.sent.fault ≡ Some fault)
         ⊎ (joined.ran.fault ≡ Some fault) ⊎ (fault ≡ Disagrees)) }
     ensures legal { IfOk result (λ day. IsLegal day.tape) }
     ensures listed { IfOk result (λ day. day.tape.listing ≡ D.terms.listing) }
     ensures by_matrix { IfOk result (λ day. day.tape.matrix ≡ D.terms.matrix) }
-    ensures number { IfOk result (λ day. length day.tape.entries ≡ joined.sides.sent.number) }
-    ensures sent { IfOk result (λ day. shown joined.sides.sent.tokens.items ≡ day.tape.entries) }
+    ensures number { IfOk result (λ day. length day.tape.entries ≡ joined.sent.number) }
+    ensures sent { IfOk result (λ day. shown joined.sent.tokens.items ≡ day.tape.entries) }
 {
     let Joined {
         ran: Ran { seats, fault },
-        sides: Sides { served, sent },
+        sent,
+        served,
     } = joined;
     let ended = end_day(shared, seats);
     let at_the_sides = Fault::least(served, sent.fault);
@@ -229,15 +230,16 @@ fn live<R: Threads + Wait + Clock + Sync, L: Loss + Sync, W: Write>(
 /// It waits for one connection of each participant, in listing order, closes the listener at which it came, and runs the lines
 /// at once. What they admit is published up to `PUBLISHED_AT_ONCE` entries at a time, and each publication is sent as one packet
 /// on lines A and B, unless `loss` drops it. The sender rests at a pace that rises while nothing is asked for again. Once the
-/// lines have ended, the end is sent three times on each. Beside that `serves` retransmission connections are served, one after
-/// the other; with 0 of them none is awaited. After all are joined the day is ended, each entry that was sent is confirmed, and
-/// the number that the end told is compared with the day's length.
+/// lines have ended, the end is sent three times on each, unless a line or the sender met a fault. Beside that `serves`
+/// retransmission connections are served, one after the other; with 0 of them none is awaited. After all are joined the day is
+/// ended, each entry that was sent is confirmed, and the number that the end told is compared with the day's length.
 ///
 /// The status is 0 only where the report was written whole and flushed. A connection whose peer misbehaves ends
 /// alone, and a packet that cannot be sent is lost. What else goes wrong is answered by the least status of all, and then
-/// there is no report, or some of it after a write that failed: 3 where a connection is not accepted, or there is not one
-/// listener for each participant; 4 for a failed write of the report; 5 where memory runs out; 6 where no thread can be
-/// started; 7 where the tape disagrees with what was told, sent or served of it, and for a limit outside 1 to `TAPE_MOST`.
+/// there is no report, or some of it after a write that failed: 3 where a participant's connection is not accepted, the listener
+/// of the retransmission is gone, or there is not one listener for each participant; 4 for a failed write of the report; 5 where
+/// memory runs out; 6 where no thread can be started for the lines; 7 where the tape disagrees with what was told, sent or served
+/// of it, and for a limit outside 1 to `TAPE_MOST`.
 pub fn live_over<R: Threads + Wait + Clock + Sync, L: Loss + Sync, W: Write>(
     rt: &R,
     alloc: Global,

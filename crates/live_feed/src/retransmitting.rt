@@ -1,15 +1,18 @@
 //! The retransmission: subscribers are served one after the other.
-ghost use Rattle.std.specs.Prelude.{◌≡◌, ◌≢◌, ◌⊎◌, None, Some, IfSome, true, false};
+ghost use Rattle.std.specs.Prelude.{◌≡◌, ◌≢◌, ◌⊎◌, None, Some, IfSome};
 ghost use Rattle.live_feed.specs.declared.fault.Fault.TheVariants.{Memory, Read};
 ghost use Rattle.retransmit.specs.declared.serve_end.Ended.TheVariants.{OutOfMemory};
 
 use crate::Fault;
+use crate::accepting::next_connection;
 use crate::asked::Requests;
 use crate::feed::Feed;
 use crate::serving::Serving;
 use line_ledger::{DayName, Published, SharedTape};
 use retransmit::{Ended, serve};
-use std::sync::Wait;
+use std::net::TcpStream;
+use std::rt::Clock;
+use std::sync::{Arc, Wait};
 use tape_frames::Version;
 
 /// The day's fault for the end of a connection. A peer that misbehaves ends its own connection alone.
@@ -24,38 +27,30 @@ fn fault_of_serving(ended: Ended) -> Option<Fault>
     }
 }
 
-/// The day's fault for a connection that could not be accepted: none where the sender gave the day up, which ends the listener.
-fn fault_of_accepting(is_given_up: bool) -> Option<Fault>
-    ensures given_up { is_given_up ≡ true → result ≡ None }
-    ensures other { is_given_up ≡ false → result ≡ Some Read }
-{
-    if is_given_up { None } else { Some(Fault::Read) }
-}
-
-/// Waits for the next connection, and answers what it asks for until it ends. However its peer behaves, that ends the
-/// connection alone.
-fn serve_next<D: DayName, R: Wait, L>(
+/// Answers what a connection asks for until it ends. However its peer behaves, that ends the connection alone.
+fn serve_connection<D: DayName, R: Wait, L>(
     rt: &R,
     feed: &Feed<'_, L>,
     shared: &SharedTape<D>,
     serving: &Serving,
+    stream: TcpStream,
 ) -> Option<Fault>
-    ensures few { IfSome result (λ fault. (fault ≡ Read) ⊎ (fault ≡ Memory)) }
+    ensures few { IfSome result (λ fault. fault ≡ Memory) }
 {
-    let Ok((stream, _)) = feed.retransmission.accept() else {
-        return fault_of_accepting(serving.is_given_up(rt));
+    let Ok(connection) = Arc::new(feed.alloc, stream) else {
+        return Some(Fault::Memory);
     };
-    let Ok(handle) = stream.try_clone() else {
-        return Some(Fault::Read);
+    let Ok(shared_connection) = Arc::try_clone(&connection) else {
+        return Some(Fault::Memory);
     };
-    if !serving.enter(rt, handle) {
+    if !serving.enter(rt, shared_connection) {
         return None;
     }
     // Each answer is one write, which need not wait for the one before to be acknowledged.
-    let _ = stream.set_nodelay(true);
+    let _ = connection.set_nodelay(true);
     let mut published = Published::new(shared);
     let mut requests = Requests {
-        connection: &stream,
+        connection: &connection,
         asked: &serving.asked,
     };
     let end = serve(
@@ -64,15 +59,31 @@ fn serve_next<D: DayName, R: Wait, L>(
         feed.session,
         Version::Two,
         &mut requests,
-        &mut &stream,
+        &mut &*connection,
     );
     serving.leave(rt);
     fault_of_serving(end.ended)
 }
 
+/// Waits for the next connection and serves it.
+fn serve_next<D: DayName, R: Wait + Clock, L>(
+    rt: &R,
+    feed: &Feed<'_, L>,
+    shared: &SharedTape<D>,
+    serving: &Serving,
+) -> Option<Fault>
+    ensures few { IfSome result (λ fault. (fault ≡ Read) ⊎ (fault ≡ Memory)) }
+{
+    match next_connection(rt, feed, serving) {
+        Ok(Some(stream)) => serve_connection(rt, feed, shared, serving, stream),
+        Ok(None) => None,
+        Err(fault) => Some(fault),
+    }
+}
+
 /// Serves as many connections as are awaited, one after the other, and answers the fault of the least status. After a fault
 /// the others are served all the same; none is once the sender gave the day up.
-pub(crate) fn serve_all<D: DayName, R: Wait, L>(
+pub(crate) fn serve_all<D: DayName, R: Wait + Clock, L>(
     rt: &R,
     feed: &Feed<'_, L>,
     shared: &SharedTape<D>,

@@ -1,11 +1,12 @@
 //! The sender: what the lines admit is published and sent on both lines, then beats while nothing is, and the end at last.
-ghost use Rattle.std.specs.Prelude.{◌≡◌, ◌<◌, ◌≤◌, ◌+◌, [], IfOk, IfSome, IsSome, OnOk, None, length, ℕ};
+ghost use Rattle.std.specs.Prelude.{◌≡◌, ◌<◌, ◌≤◌, ◌+◌, ◌⊎◌, [], ◌∷◌, IfOk, IfSome, IsSome, OnOk, None, length, ℕ};
 ghost use Rattle.line_ledger.specs.Cells.{FirstTokens, shown};
 ghost use Rattle.line_ledger.specs.Publishing.{GoesOn};
 ghost use Rattle.line_ledger.specs.declared.publish_fault.PublishFault.TheVariants.{OutOfMemory, Unpublished};
 ghost use Rattle.tape_frames.specs.Sources.{IsPublished};
 ghost use Rattle.tape_frames.specs.Spelling.{packet_text};
 ghost use Rattle.tape_frames.specs.declared.version.Version.TheVariants.{Two};
+ghost use Rattle.live_feed.specs.Faults.{IsLeast};
 ghost use Rattle.live_feed.specs.Sendings.{IsSent, beat_text, data_text, end_text};
 ghost use Rattle.live_feed.specs.declared.fault.Fault.TheVariants.{Memory, Disagrees};
 
@@ -42,7 +43,7 @@ pub(crate) struct Sent {
     pub(crate) tokens: Vec<Token>,
     /// The number of the last entry that was sent, which the end tells.
     pub(crate) number: u32,
-    /// Why it did not go on to the last entry, or sent no end.
+    /// Why it did not go on to the last entry, or sent no end: its own fault, or one that the lines met.
     pub(crate) fault: Option<Fault>,
 }
 
@@ -287,20 +288,25 @@ fn send_to_end<D: DayName, R: Wait + Clock, L: Loss>(
     unreachable!()
 }
 
-/// Publishes and sends until the lines have ended and all is sent.
-fn send_entries<D: DayName, R: Wait + Clock, L: Loss>(
+/// Sends the entries of the day while the lines admit them, and until they have ended and all is sent. After a fault the
+/// connections are ended. The text is only room, and a packet that fits in it takes no memory.
+pub(crate) fn send_entries<D: DayName, R: Wait + Clock, L: Loss>(
     rt: &R,
     feed: &Feed<'_, L>,
     shared: &SharedTape<D>,
     bell: &Bell,
-    asked: &Asked,
+    serving: &Serving,
     text: &mut Vec<u8>,
 ) -> Sent
     ensures first { FirstTokens shared.now result.tokens.items }
     ensures whole { result.fault ≡ None → length result.tokens.items ≡ result.number }
 {
     let mut published = Published::new(shared);
+    let asked = &serving.asked;
     let (number, fault) = send_to_end(rt, feed, shared, bell, asked, &mut published, text);
+    if fault.is_some() {
+        serving.give_up(rt, feed.closing);
+    }
     Sent {
         tokens: published.into_tokens(),
         number,
@@ -356,24 +362,27 @@ fn send_ends<R: Wait + Clock, L>(
     Ok(())
 }
 
-/// Sends the day: its entries while the lines admit them, and then its end. After a fault there is no end, which would tell of
-/// a shorter day: the connections are ended instead, and the text is empty. The text is only room, and a packet that fits in it
-/// takes no memory.
-pub(crate) fn send_day<D: DayName, R: Wait + Clock, L: Loss>(
+/// Sends the end of a day, where neither its lines nor the sender met a fault. Else there is none, since a follower would take it
+/// for that of a day which is reported, whole: the connections are ended instead, and the text is empty. The text is only room, and
+/// a packet that fits in it takes no memory.
+pub(crate) fn send_end<R: Wait + Clock, L>(
     rt: &R,
     feed: &Feed<'_, L>,
-    shared: &SharedTape<D>,
-    bell: &Bell,
     serving: &Serving,
+    sent: Sent,
+    lines: Option<Fault>,
     text: &mut Vec<u8>,
 ) -> Sent
-    ensures first { FirstTokens shared.now result.tokens.items }
-    ensures whole { result.fault ≡ None → length result.tokens.items ≡ result.number }
+    requires whole { sent.fault ≡ None → length sent.tokens.items ≡ sent.number }
+    ensures same { (result.tokens ≡ sent.tokens) × (result.number ≡ sent.number) }
+    ensures met { ((sent.fault ≡ None) × (lines ≡ None)) ⊎ IsLeast (sent.fault ∷ lines ∷ []) result.fault }
     ensures end { result.fault ≡ None → text.new.items ≡ end_text feed.now.session result.number }
     ensures no_end { IsSome result.fault → text.new.items ≡ [] }
+    ensures lines { IsSome lines → text.new.items ≡ [] }
 {
-    let sent = send_entries(rt, feed, shared, bell, &serving.asked, text);
-    let fault = match sent.fault {
+    let met = Fault::least(sent.fault, lines);
+    let sent = sent.with_fault(met);
+    let fault = match met {
         None => send_ends(rt, feed, serving, &sent, text).err(),
         met => met,
     };

@@ -4,7 +4,7 @@ use crate::asked::Asked;
 use std::mem;
 use std::net::{Shutdown, TcpStream};
 use std::sync::atomic::{AtomicBool, Ordering};
-use std::sync::{Mutex, Wait};
+use std::sync::{Arc, Mutex, Wait};
 use std::thread::Parker;
 use std::time::Duration;
 
@@ -13,8 +13,8 @@ use std::time::Duration;
 enum Served {
     /// Nobody now.
     Nobody,
-    /// The peer of this connection, of which this is another handle.
-    One(TcpStream),
+    /// The peer of this connection.
+    One(Arc<TcpStream>),
     /// Nobody any more.
     NobodyMore,
 }
@@ -62,13 +62,13 @@ impl Serving {
         self.is_on.load(Ordering::SeqCst)
     }
 
-    /// Takes note of a connection that is to be served, by another handle of it: whether it may be.
-    pub(crate) fn enter<R: Wait>(&self, rt: &R, handle: TcpStream) -> bool {
+    /// Takes note of a connection that is to be served: whether it may be.
+    pub(crate) fn enter<R: Wait>(&self, rt: &R, connection: Arc<TcpStream>) -> bool {
         let mut served = self.served.lock(rt);
         if matches!(*served, Served::NobodyMore) {
             return false;
         }
-        *served = Served::One(handle);
+        *served = Served::One(connection);
         true
     }
 

@@ -40,7 +40,7 @@ returns-in-Some-clause-least g c =
 pub returns-clause-sent : goal.returns-clause-sent
 returns-clause-sent g c =
     let entries = c.in_ok-day.day.tape.entries in
-    let tokens = c.args.joined.sides.sent.tokens.items in
+    let tokens = c.args.joined.sent.tokens.items in
     let many = c.is_as_sent.ensures.number c.if-not-is_as_sent.false in
     let has : HaveAll entries tokens =
     subst (λ (ts : List TokenState). HaveAll entries ts) c.deref.ensures.value (c.is_as_sent.ensures.tokens c.if-not-is_as_sent.false) in
