@@ -1,16 +1,16 @@
 #!/usr/bin/env python3
 """Stands between `tapebox live` and `tapebox follow` and makes the two lines lossy.
 
-    lossy_relay.py [--lose P] [--double P] [--reorder P] [--garble P] [--seed N] IN_A IN_B OUT_A OUT_B [OUT_A OUT_B ..]
+    lossy_relay.py [--lose P] [--double P] [--reorder P] [--garble P] [--late MS] [--seed N] IN_A IN_B OUT_A OUT_B [OUT_A OUT_B ..]
 
 It takes the UDP packets that come to ports IN_A and IN_B of 127.0.0.1 and sends them on to OUT_A and OUT_B, and to each further pair of ports
 what the first pair gets. Each P is a
 percentage from 0 to 100, or one for each line: `--lose 100,10` loses all of line A and a tenth of line B. Of the packets that are
 not lost, the doubled ones are sent twice, and the reordered ones are held back until three later ones of their line went on, or
 a fiftieth of a second passed. Before a garbled one, lost or not, goes a datagram of its own that is no packet of the day, but
-nothing on a line that loses all. What becomes of a line's packets is drawn from the seed, the line and their order alone.
+nothing on a line that loses all. Of a line that is late, `--late 0,20` for B, each packet goes on so many milliseconds later. What becomes of a line's packets is drawn from the seed, the line and their order alone.
 
-End packets go on at once and once, unless all of their line is lost: a follower that misses every end waits forever, so both
+End packets are neither held back nor doubled, and go on unless all of their line is lost: a follower that misses every end waits forever, so both
 lines together can't lose everything. Runs until it is told to end (SIGTERM or SIGINT), and then prints what became of each
 line's packets.
 """
@@ -18,6 +18,7 @@ line's packets.
 import argparse
 import collections
 import contextlib
+import itertools
 import random
 import selectors
 import signal
@@ -62,10 +63,13 @@ class Held:
 class Line:
     """One of the two lines: its sockets, its parts, and what became of its packets."""
 
-    def __init__(self, name, port, targets, parts, seed):
+    def __init__(self, name, port, targets, parts, late, seed):
         self.name = name
         self.targets = [(HOST, target) for target in targets]
         self.lose, self.double, self.reorder, self.garble = parts
+        self.late_seconds = late / 1000
+        # The packets that are late, each with the time at which it goes on, by rising time.
+        self.late = collections.deque()
         self.random = random.Random(f"{seed} {name}")
         self.garbling = random.Random(f"{seed} {name} garbled")
         self.held = collections.deque()
@@ -108,6 +112,13 @@ class Line:
             self.count_later()
 
     def send(self, packet, times):
+        """Sends a packet on, or lets it wait where the line is late."""
+        if self.late_seconds:
+            self.late.extend(times * [(time.monotonic() + self.late_seconds, packet)])
+        else:
+            self.send_now(packet, times)
+
+    def send_now(self, packet, times):
         for _ in range(times):
             for target in self.targets:
                 self.sender.sendto(packet, target)
@@ -119,8 +130,7 @@ class Line:
         other_session = bytes(byte ^ (at == SESSION_END) for at, byte in enumerate(packet))
         noise = self.garbling.randbytes(64)
         garbage = self.garbling.choice([b"", packet[:-1], packet + b"\0", other_session, noise])
-        for target in self.targets:
-            self.sender.sendto(garbage, target)
+        self.send(garbage, 1)
 
     def count_later(self):
         """Counts a packet that went on for those that are held back, and lets go the ones that waited for it."""
@@ -130,9 +140,15 @@ class Line:
             self.release()
 
     def release_old(self, now):
-        """Lets go what was held back for long enough."""
+        """Lets go what was held back for long enough, and what is late by now."""
         while self.held and self.held[0].until <= now:
             self.release()
+        while self.late and self.late[0][0] <= now:
+            self.send_now(self.late.popleft()[1], 1)
+
+    def times(self):
+        """When the next packet that is held back goes on, and the next that is late, where there are any."""
+        return [held.until for held in itertools.islice(self.held, 1)] + [until for until, _ in itertools.islice(self.late, 1)]
 
     def release(self):
         first = self.held.popleft()
@@ -149,7 +165,8 @@ def relay(lines):
     for line in lines:
         selector.register(line.receiver, selectors.EVENT_READ, line)
     while True:
-        wait = HOLD_SECONDS / 2 if any(line.held for line in lines) else None
+        times = [until for line in lines for until in line.times()]
+        wait = max(min(times) - time.monotonic(), 0) if times else None
         for key, _ in selector.select(wait):
             key.data.receive()
         now = time.monotonic()
@@ -165,6 +182,14 @@ def percentages(text):
     return parts[0], parts[-1]
 
 
+def milliseconds(text):
+    """The same of milliseconds."""
+    parts = [float(part) for part in text.split(",")]
+    if len(parts) > 2 or min(parts) < 0:
+        raise ValueError(text)
+    return parts[0], parts[-1]
+
+
 def port(text):
     if not text.isdecimal() or not 1 <= int(text) <= 65_535:
         raise ValueError(text)
@@ -175,6 +200,7 @@ def arguments():
     parser = argparse.ArgumentParser(description="Loses, doubles, reorders and garbles packets of the lines A and B.")
     for part in ("lose", "double", "reorder", "garble"):
         parser.add_argument(f"--{part}", type=percentages, default=(0, 0), metavar="P[,P]", help="percentage, or of A and B (0)")
+    parser.add_argument("--late", type=milliseconds, default=(0, 0), metavar="MS[,MS]", help="milliseconds, or of A and B (0)")
     parser.add_argument("--seed", type=int, default=1, metavar="N", help="seed of the random choices (1)")
     for name in ("IN_A", "IN_B"):
         parser.add_argument(name.lower(), type=port, metavar=name)
@@ -194,8 +220,8 @@ def main():
     parts = list(zip(words.lose, words.double, words.reorder, words.garble))
     try:
         lines = [
-            Line("A", words.in_a, words.out[::2], parts[0], words.seed),
-            Line("B", words.in_b, words.out[1::2], parts[1], words.seed),
+            Line("A", words.in_a, words.out[::2], parts[0], words.late[0], words.seed),
+            Line("B", words.in_b, words.out[1::2], parts[1], words.late[1], words.seed),
         ]
     except OSError as fault:
         sys.exit(f"lossy_relay.py: {fault}")

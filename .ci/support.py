@@ -1,6 +1,7 @@
 """What the cases share: the built programs and how they ended, ports, the peers of a running day, and messages' bytes."""
 
 import contextlib
+import functools
 import os
 import socket
 import subprocess
@@ -63,6 +64,22 @@ class Case(unittest.TestCase):
         if ended.written != written:
             pairs = enumerate(zip(ended.written.split(b"\n"), written.split(b"\n")), 1)
             self.fail(next((f"line {at}: {got}, not {wanted}" for at, (got, wanted) in pairs if got != wanted), "another length"))
+
+
+def tried(times):
+    """A case that is tried so many times at most: a busy machine may keep programs from what is wanted of them."""
+
+    def trying(case):
+        @functools.wraps(case)
+        def try_all(self):
+            for _ in range(times - 1):
+                with contextlib.suppress(AssertionError):
+                    return case(self)
+            return case(self)
+
+        return try_all
+
+    return trying
 
 
 def run(words, given=b"", program=TAPEBOX, limit=LIMIT, **options):
@@ -132,6 +149,12 @@ def wait_bound(program, *ports):
     """Waits until the program receives packets on the ports."""
     ends = [f":{port:04X}" for port in ports]
     wait_for(program, f"a socket on each of {ports}", lambda: all(any(row[1].endswith(end) for row in addresses("udp")) for end in ends))
+
+
+def wait_read(program, port):
+    """Waits until the program has read each packet that came to the port."""
+    end = f":{port:04X}"
+    wait_for(program, f"an empty queue at {port}", lambda: all(row[4].endswith(":00000000") for row in addresses("udp") if row[1].endswith(end)))
 
 
 def wait_connected(program, port, count):

@@ -1,53 +1,97 @@
 """Followers of a running day, as the built program runs them."""
 
 import contextlib
+import errno
 import os
 import signal
 import socket
 import struct
 import subprocess
+import sys
 import tempfile
 import threading
 import time
 from concurrent.futures import ThreadPoolExecutor
 from pathlib import Path
 
-from support import DISAGREES, HOST, LIMIT, READ_FAULT, SAMPLES, TAPEBOX, Case
-from support import connect, ended, ports, report, reports, run, started, wait_bound, wait_connected
+from preloaded import CALL_FAILED, failing
+from support import DISAGREES, HOST, LIMIT, READ_FAULT, SAMPLES, TAPEBOX, WRITE_FAULT, Case, Ended
+from support import connect, ended, ports, report, reports, run, started, tried, wait_bound, wait_connected, wait_read
 
 SESSION = 7
 LOSSY_DAY = Path(__file__).resolve().with_name("lossy_day.sh")
+LOSSY_RELAY = LOSSY_DAY.with_name("lossy_relay.py")
+# The spelling of a request: its session, the first number asked for, and how many.
+REQUEST = struct.Struct(">QIH")
+
+
+def packet(kind, number, *messages):
+    """A packet of version 1, by the number in its header and the messages of its entries."""
+    entries = b"".join(struct.pack(">I", number + at) + message for at, message in enumerate(messages))
+    return struct.pack(">BcQIB", 1, kind, SESSION, number, len(messages)) + entries
+
+
+def entries(first, last, price="10.00"):
+    """A packet of these entries, each a report of N under its own number."""
+    return packet(b"D", first, *(report("N", number, price=price) for number in range(first, last + 1)))
+
+
+def answer_of(*packets):
+    """An answer of the retransmission that has these packets."""
+    return struct.pack(">BB", 0, len(packets)) + b"".join(struct.pack(">H", len(each)) + each for each in packets)
+
+
+def row_of(count):
+    """The consolidated row of so many reports at 10.00."""
+    return f"AB,ALL,100000,1,100000,1,100000,1,100000,{count},{100 * count},{count}\n".encode()
+
+
+class Follower:
+    """A follower whose lines and retransmission are the case's own: its process, its connection once it has come, and what sends by each
+    line."""
+
+    def __init__(self, follow, connection, sender, lines):
+        self.follow = follow
+        self.connection = connection
+        self.ports = lines
+        self.by_a, self.by_b = (lambda packet, port=port: sender.sendto(packet, (HOST, port)) for port in lines)
+
+    def request(self):
+        """The first number and the count of the next request; none where the follower closes."""
+        taken = b""
+        while len(taken) < REQUEST.size and (more := self.connection.recv(REQUEST.size - len(taken))):
+            taken += more
+        return REQUEST.unpack(taken)[1:] if taken else None
+
+
+@contextlib.contextmanager
+def follower(**options):
+    """A follower with a connection to the case's own retransmission."""
+    a, b, retransmission = ports(3)
+    with socket.create_server((HOST, retransmission)) as server, socket.socket(socket.AF_INET, socket.SOCK_DGRAM) as sender:
+        server.settimeout(LIMIT)
+        with started(["follow", "AB", "N", a, b, retransmission, SESSION], **options) as follow:
+            connection, _ = server.accept()
+            with connection:
+                connection.settimeout(LIMIT)
+                yield Follower(follow, connection, sender, (a, b))
 
 
 class Answers(Case):
     """A beat announces four entries that never came, so the follower asks for them."""
 
     BEAT = bytes.fromhex("0148 0000000000000007 00000004 00")
-    REQUEST = bytes.fromhex("0000000000000007 00000001 0004")
     # One packet of 59 bytes, which has entry 2 alone.
     SECOND = bytes.fromhex("01 003b 0144 0000000000000007 00000002 01 00000002") + report("N", 1)
 
-    @staticmethod
-    def receive(connection, length):
-        """So many bytes, or fewer where the connection ends."""
-        taken = b""
-        while len(taken) < length and (more := connection.recv(length - len(taken))):
-            taken += more
-        return taken
-
     def follow(self, answer):
         """How a follower that is answered so ends."""
-        a, b, retransmission = ports(3)
-        with socket.create_server((HOST, retransmission)) as server:
-            server.settimeout(LIMIT)
-            with started(["follow", "AB", "N", a, b, retransmission, SESSION]) as follow:
-                connection, _ = server.accept()
-                with connection, socket.socket(socket.AF_INET, socket.SOCK_DGRAM) as sender:
-                    connection.settimeout(LIMIT)
-                    sender.sendto(self.BEAT, (HOST, a))
-                    self.assertEqual(self.receive(connection, len(self.REQUEST)), self.REQUEST)
-                    connection.sendall(answer)
-                return ended(follow)
+        with follower() as peer:
+            peer.by_a(self.BEAT)
+            self.assertEqual(peer.request(), (1, 4))
+            peer.connection.sendall(answer)
+            peer.connection.shutdown(socket.SHUT_WR)
+            return ended(peer.follow)
 
     def test_answers_that_are_none(self):
         """PROFILE, "Statuses", 3 and 7: a follower that is refused, or answered by bytes that are no answer or lack the first entry asked for,
@@ -55,6 +99,14 @@ class Answers(Case):
         for answer, fault in [(b"\x48", DISAGREES), (b"\x05", DISAGREES), (self.SECOND, DISAGREES), (b"", READ_FAULT)]:
             with self.subTest(answer.hex()):
                 self.assert_fault(self.follow(answer), fault)
+
+    def test_a_request_that_is_not_written(self):
+        """PROFILE, "Statuses", 4: a follower whose connection was reset can't write its request."""
+        with follower() as peer:
+            peer.connection.setsockopt(socket.SOL_SOCKET, socket.SO_LINGER, struct.pack("ii", 1, 0))
+            peer.connection.close()
+            peer.by_a(self.BEAT)
+            self.assert_fault(ended(peer.follow), WRITE_FAULT)
 
     def test_port_that_is_taken(self):
         """PROFILE, "Statuses", 3: a line's port that is taken is a read fault."""
@@ -64,54 +116,88 @@ class Answers(Case):
             self.assert_fault(run(["follow", "AB", "N", a, b, retransmission, SESSION]), READ_FAULT)
 
 
+class Packets(Case):
+    """Followers of packets that fail to be read, or are refused."""
+
+    def test_a_read_that_fails(self):
+        """PROFILE, "Statuses", 3: a line that can't be read is a read fault."""
+        with follower(env=failing(("recvfrom", 1, 1, errno.EIO))) as peer:
+            end = ended(peer.follow)
+        self.assertEqual(end, Ended(READ_FAULT[0], b"", CALL_FAILED + READ_FAULT[1]))
+
+    def test_a_read_that_is_interrupted(self):
+        """PROMISES, "What is only tested": a read that is interrupted is made again."""
+        with follower(env=failing(("recvfrom", 1, 10, errno.EINTR))) as peer:
+            peer.by_a(entries(1, 2))
+            peer.by_b(packet(b"E", 2))
+            end = ended(peer.follow)
+        self.assertEqual((end.status, end.said), (0, 10 * CALL_FAILED))
+        self.assertIn(row_of(2), end.written)
+
+    def test_packets_that_are_refused(self):
+        """PROFILE, "A subscriber": another entry under a number that waits, one past the end, and another end change nothing: the follower drops
+        them. Entry 2 is missing until all of them were read."""
+        with follower() as peer:
+            for sent in (entries(1, 1), entries(3, 3), entries(3, 3, "99.00"), packet(b"E", 4), entries(5, 5), packet(b"E", 5), entries(4, 4), b""):
+                peer.by_a(sent)
+            self.assertEqual(peer.request(), (2, 1))
+            wait_read(peer.follow, peer.ports[0])
+            peer.connection.sendall(answer_of(entries(2, 2)))
+            end = ended(peer.follow)
+        self.assertEqual((end.status, end.said), (0, b""))
+        self.assertIn(row_of(4), end.written)
+
+    def test_all_is_held_while_a_request_waits(self):
+        """PROFILE, "A running day": a follower that holds all and knows the end closes its connection and ends, though its request was not
+        answered."""
+        with follower() as peer:
+            peer.by_a(entries(1, 1))
+            peer.by_a(packet(b"E", 3))
+            self.assertEqual(peer.request(), (2, 2))
+            peer.by_b(entries(2, 3))
+            self.assertIsNone(peer.request())
+            end = ended(peer.follow)
+        self.assertEqual((end.status, end.said), (0, b""))
+        self.assertIn(row_of(3), end.written)
+
+
 class LateLines(Case):
     """A follower of packets of one report each, which asks on a connection of the case's own."""
 
     REPORTS = 200
 
     @staticmethod
-    def packet(kind, number, *messages):
-        """A packet of version 1, by the number in its header and the messages of its entries."""
-        entries = b"".join(struct.pack(">I", number + at) + message for at, message in enumerate(messages))
-        return struct.pack(">BcQIB", 1, kind, SESSION, number, len(messages)) + entries
-
-    def answer(self, connection):
+    def answer(peer):
         """Answers each request by the first entry asked for, until the follower closes: the numbers that were asked for."""
         asked = []
-        while request := connection.recv(14):
-            asked.append(struct.unpack(">QIH", request)[1])
-            packet = self.packet(b"D", asked[-1], report("N", asked[-1]))
-            connection.sendall(struct.pack(">BBH", 0, 1, len(packet)) + packet)
+        while request := peer.request():
+            asked.append(request[0])
+            peer.connection.sendall(answer_of(entries(asked[-1], asked[-1])))
         return asked
 
     def asked(self, count, send):
         """What a follower asks for of a day of so many reports, where this function sends the packets by the two lines given."""
-        a, b, retransmission = ports(3)
-        with socket.create_server((HOST, retransmission)) as server, socket.socket(socket.AF_INET, socket.SOCK_DGRAM) as sender:
-            server.settimeout(LIMIT)
-            with started(["follow", "AB", "N", a, b, retransmission, SESSION]) as follow:
-                connection, _ = server.accept()
-                with connection, ThreadPoolExecutor() as pool:
-                    connection.settimeout(LIMIT)
-                    asked = pool.submit(self.answer, connection)
-                    send(*(lambda packet, port=port: sender.sendto(packet, (HOST, port)) for port in (a, b)))
-                    ended_well = ended(follow)
-                    self.assertEqual((ended_well.status, ended_well.said), (0, b""))
-                    self.assertIn(f"AB,ALL,100000,1,100000,1,100000,1,100000,{count},{100 * count},{count}\n".encode(), ended_well.written)
-                    return asked.result()
+        with follower() as peer, ThreadPoolExecutor() as pool:
+            asked = pool.submit(self.answer, peer)
+            send(peer.by_a, peer.by_b)
+            ended_well = ended(peer.follow)
+            self.assertEqual((ended_well.status, ended_well.said), (0, b""))
+            self.assertIn(row_of(count), ended_well.written)
+            return asked.result()
 
+    @tried(5)
     def test_a_line_that_brings_the_rest_later(self):
         """PROFILE, "A running day": what line A lost and B brings a millisecond later is not asked for, but where the machine is held up."""
 
         def send(line_a, line_b):
             for number in range(1, self.REPORTS, 2):
-                line_a(self.packet(b"D", number, report("N", number)))
+                line_a(entries(number, number))
                 time.sleep(0.001)
                 for late in range(max(number - 1, 1), number + 1):
-                    line_b(self.packet(b"D", late, report("N", late)))
+                    line_b(entries(late, late))
             for line in (line_a, line_b):
-                line(self.packet(b"D", self.REPORTS, report("N", self.REPORTS)))
-                line(self.packet(b"E", self.REPORTS))
+                line(entries(self.REPORTS, self.REPORTS))
+                line(packet(b"E", self.REPORTS))
 
         self.assertLess(len(self.asked(self.REPORTS, send)), self.REPORTS // 4)
 
@@ -120,12 +206,87 @@ class LateLines(Case):
 
         def send(line_a, line_b):
             for line in (line_a, line_b):
-                line(self.packet(b"D", 1, report("N", 1)))
+                line(entries(1, 1))
             for number in (3, 5):
-                line_a(self.packet(b"D", number, report("N", number)))
-            line_a(self.packet(b"E", 5))
+                line_a(entries(number, number))
+            line_a(packet(b"E", 5))
 
         self.assertEqual(self.asked(5, send), [2, 4])
+
+
+class Counting(threading.Thread):
+    """Passes a follower's requests on, and the answers back, and counts the entries that are asked for."""
+
+    def __init__(self, port, target):
+        super().__init__(daemon=True)
+        self.listener = socket.create_server((HOST, port))
+        self.target = target
+        self.asked = 0
+
+    @staticmethod
+    def pass_back(live, follow):
+        """Passes the answers back."""
+        with contextlib.suppress(OSError):
+            while answer := live.recv(1 << 16):
+                follow.sendall(answer)
+
+    def run(self):
+        with self.listener:
+            follow, _ = self.listener.accept()
+        with follow, connect(self.target) as live:
+            for connection in (follow, live):
+                connection.setsockopt(socket.IPPROTO_TCP, socket.TCP_NODELAY, 1)
+            back = threading.Thread(target=self.pass_back, args=[live, follow], daemon=True)
+            back.start()
+            with contextlib.suppress(OSError), follow.makefile("rb") as requests:
+                while request := requests.read(REQUEST.size):
+                    self.asked += REQUEST.unpack(request)[2]
+                    live.sendall(request)
+            with contextlib.suppress(OSError):
+                live.shutdown(socket.SHUT_WR)
+            back.join()
+
+
+class LateDays(Case):
+    """Days at full speed through the relay, whose line B is late, or dead."""
+
+    REPORTS = 20_000
+    # So many times as much as of a dead line may be asked for of a late one, and as many again as this.
+    TIMES = 3
+    MORE = 2_000
+
+    @contextlib.contextmanager
+    def relay(self, ways, *options):
+        """The relay between the two lines' ports and the follower's."""
+        with started([LOSSY_RELAY, *options, *ways], program=sys.executable) as relay:
+            wait_bound(relay, *ways[:2])
+            yield
+
+    def asked(self, *options):
+        """How many entries are asked for of such a day, whose reports are equal."""
+        line, *ways, retransmission, counted = ports(7)
+        counting = Counting(counted, retransmission)
+        counting.start()
+        with started(["live", "AB", "N", line, *ways[:2], retransmission, 1, SESSION]) as live, connect(line) as participant:
+            with self.relay(ways, *options), started(["follow", "AB", "N", *ways[2:], counted, SESSION]) as follow:
+                wait_bound(follow, *ways[2:])
+                participant.sendall(reports("N", self.REPORTS))
+                participant.close()
+                ends = [ended(live), ended(follow)]
+        self.assertEqual([(end.status, end.said) for end in ends], [(0, b"")] * 2)
+        self.assertEqual(ends[0].written, ends[1].written)
+        self.assertIn(f",{100 * self.REPORTS},{self.REPORTS}\n".encode(), ends[1].written)
+        counting.join()
+        return counting.asked
+
+    @tried(3)
+    def test_a_late_line_costs_no_more_than_a_dead_one(self):
+        """PROFILE, "A running day": what a line lost is not waited for that long that the window overflows, and a line that is late is not waited for
+        again before it has come as far."""
+        dead = self.asked("--lose", "0,100")
+        for late in ("0,20", "0,200"):
+            asked = self.asked("--late", late)
+            self.assertLess(asked, self.TIMES * dead + self.MORE, (late, dead))
 
 
 class Relay(threading.Thread):
@@ -274,16 +435,13 @@ class Gone(Case):
 
     def test_closed_while_lines_go_on(self):
         """PROFILE, "A running day": a follower whose connection is closed takes what its lines still bring, and ends well at the end."""
-        a, b, retransmission = ports(3)
-        with socket.create_server((HOST, retransmission)) as server, socket.socket(socket.AF_INET, socket.SOCK_DGRAM) as sender:
-            server.settimeout(LIMIT)
-            with started(["follow", "AB", "N", a, b, retransmission, SESSION]) as follow:
-                server.accept()[0].close()
-                for number in range(1, 2 * self.QUIET + 1):
-                    sender.sendto(LateLines.packet(b"D", number, report("N", number)), (HOST, a))
-                    time.sleep(0.5)
-                sender.sendto(LateLines.packet(b"E", 2 * self.QUIET), (HOST, b))
-                self.assertEqual(ended(follow, self.QUIET).status, 0)
+        with follower() as peer:
+            peer.connection.close()
+            for number in range(1, 2 * self.QUIET + 1):
+                peer.by_a(entries(number, number))
+                time.sleep(0.5)
+            peer.by_b(packet(b"E", 2 * self.QUIET))
+            self.assertEqual(ended(peer.follow).status, 0)
 
 
 class LossyDays(Case):

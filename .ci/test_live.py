@@ -1,7 +1,7 @@
 """Running days, as the built program runs them."""
 
 import contextlib
-import itertools
+import errno
 import selectors
 import socket
 import string
@@ -12,9 +12,9 @@ import time
 import unittest
 from pathlib import Path
 
-from preloaded import preloading
-from support import HOST, LIMIT, READ_FAULT, SAMPLES, WRITE_FAULT, Case
-from support import connect, ended, free_ports, is_refused, message, ports, report, reports, run, started, wait_bound
+from preloaded import CALL_FAILED, EVER, failing, preloading
+from support import BAD_ARGUMENTS, HOST, LIMIT, READ_FAULT, SAMPLES, WRITE_FAULT, Case
+from support import connect, ended, free_ports, is_refused, message, ports, report, reports, run, started, tried, wait_bound
 
 # Asks Linux for the time at which each packet was taken, by the same number that its answer has.
 SO_TIMESTAMPNS = 35
@@ -118,6 +118,7 @@ class SentPackets(Listeners):
             self.assertEqual(ended(day).status, 0)
         return packets
 
+    @tried(3)
     def test_each_entry_once_and_three_ends(self):
         """PROFILE, "A running day": what is sent on lines A and B, and when the ends come. There is no beat while entries are sent, and none after."""
         a, b = self.hear(self.REPORTS)
@@ -137,20 +138,15 @@ class SentPackets(Listeners):
         subscriber = connect(port)
         threading.Thread(target=ask, args=[subscriber], daemon=True).start()
 
+    @tried(3)
     def test_the_pace_of_who_asks(self):
         """PROFILE, "A running day": while a subscriber asks, the sender sends the least number of packets in each turn but the first ones. A busy
         machine may keep the subscriber from asking in a turn, so one of three days has to show it."""
-        for tries_left in (2, 1, 0):
-            try:
-                for taken in self.hear(self.REPORTS, 1, self.keep_asking):
-                    data = [(time, packet) for time, packet in taken if packet[1:2] == b"D"]
-                    self.look_at_data(data, self.REPORTS)
-                    self.look_at_pace(data[: 2 * self.PACE_FIRST], self.PACE_FIRST // 2)
-                    self.look_at_pace(data[2 * self.PACE_FIRST :], self.PACE_LEAST)
-                break
-            except AssertionError:
-                if tries_left == 0:
-                    raise
+        for taken in self.hear(self.REPORTS, 1, self.keep_asking):
+            data = [(time, packet) for time, packet in taken if packet[1:2] == b"D"]
+            self.look_at_data(data, self.REPORTS)
+            self.look_at_pace(data[: 2 * self.PACE_FIRST], self.PACE_FIRST // 2)
+            self.look_at_pace(data[2 * self.PACE_FIRST :], self.PACE_LEAST)
 
     def ask_once(self, port, day):
         """A subscriber that asks once, before the first report, and goes."""
@@ -158,6 +154,7 @@ class SentPackets(Listeners):
             subscriber.sendall(struct.pack(">QIH", self.SESSION, 1, 1))
             self.assertEqual(subscriber.recv(1), self.UNPUBLISHED)
 
+    @tried(3)
     def test_the_pace_after_a_request(self):
         """PROFILE, "A running day": after a request that came before the first packet the first turn has half as many."""
         for taken in self.hear(self.REPORTS, 1, self.ask_once):
@@ -191,6 +188,7 @@ class QuietDays(Listeners):
             self.assertEqual(ended(day).status, 0)
         return packets
 
+    @tried(3)
     def test_beats(self):
         """PROFILE, "A running day": while nothing is sent, beats tell the last number, on both lines; there is none before the first entry."""
         for taken in self.listen(0, lambda port, participant: time.sleep(sum(self.BEATS) + 0.5)):
@@ -200,6 +198,7 @@ class QuietDays(Listeners):
                 self.assertGreaterEqual(after - before, pause)
                 self.assertEqual(packet, HEADER.pack(2, b"H", self.SESSION, 1, 0))
 
+    @tried(3)
     def test_ends_while_a_subscriber_is_awaited(self):
         """PROFILE, "A running day": the end is sent each second until all connections have ended, also while one has yet to come."""
         def subscribe_late(port, participant):
@@ -259,6 +258,43 @@ class Peers(Case):
         self.assertTrue(row.endswith(self.WANTED), row)
 
 
+class ManyRequests(Case):
+    SESSION = 7
+    REQUESTS_MOST = 65_536
+    # A request for the first entry, and the first bytes of its answers while it is not published and then.
+    REQUEST = struct.pack(">QIH", SESSION, 1, 1)
+    UNPUBLISHED = b"\x48"
+    ANSWERED = b"\0"
+
+    def all_answers(self, subscriber):
+        """All that a subscriber is answered that asks as often as one connection answers, until its connection ends."""
+        asking = threading.Thread(target=subscriber.sendall, args=[self.REQUESTS_MOST * self.REQUEST])
+        asking.start()
+        answers = b""
+        while more := subscriber.recv(1 << 16):
+            answers += more
+        asking.join()
+        return answers
+
+    def test_as_many_as_a_connection_answers(self):
+        """PROFILE, "What becomes of a peer that misbehaves": a connection ends with its last answer, the next one is served, and the day goes on."""
+        line, a, b, retransmission = ports(4)
+        with started(["live", "AB", "N", line, a, b, retransmission, 2, self.SESSION]) as day, connect(line) as participant:
+            with connect(retransmission) as subscriber:
+                self.assertEqual(self.all_answers(subscriber), self.REQUESTS_MOST * self.UNPUBLISHED)
+            participant.sendall(report("N", 1))
+            with connect(retransmission) as subscriber:
+                first = self.UNPUBLISHED
+                while first == self.UNPUBLISHED:
+                    subscriber.sendall(self.REQUEST)
+                    first = subscriber.recv(1)
+            self.assertEqual(first, self.ANSWERED)
+            participant.close()
+            end = ended(day)
+        self.assertEqual((end.status, end.said), (0, b""))
+        self.assertRegex(end.written, rb"(?m)^AB,ALL,.*,100,1$")
+
+
 class LongDay(Case):
     REPORTS = 70_000
     SYMBOLS = ["AB", *(f"S{at}" for at in range(1, 4_096))]
@@ -308,6 +344,20 @@ class Terms(Case):
         self.assertRegex(ends[0].written, rb"(?m)^AB,ALL,.*,100,1$")
 
 
+class Names(Case):
+    SYMBOLS = [f"S{at}" for at in range(4_097)]
+    LETTERS = [*string.ascii_uppercase, "A"]
+
+    def test_too_many(self):
+        """PROFILE, "Statuses", 2: more symbols than a listing takes, or more participants, are bad arguments of a running day and its follower."""
+        for symbols, participants in [(self.SYMBOLS, ["N"]), (["AB"], self.LETTERS)]:
+            names = [",".join(symbols), ",".join(participants)]
+            first, *row = ports(4)
+            for words in (["live", *names, first, *row, 0, 1], ["follow", *names, *row, 1]):
+                with self.subTest((words[0], len(symbols), len(participants))):
+                    self.assert_fault(run(words), BAD_ARGUMENTS)
+
+
 class Served(Case):
     # One packet of version 2 under session 7, which has entry 1 alone.
     ANSWER = bytes.fromhex("00 01 003b 0244 0000000000000007 00000001 01 00000001") + report("N", 1)
@@ -331,25 +381,59 @@ class Served(Case):
 
 class Workers(Case):
     THREAD = b"a thread was started\n"
+    SYMBOLS = "ABCDEFGH"
 
-    def threads(self, *symbols):
-        """How many threads an empty day of these symbols starts."""
+    @staticmethod
+    def day(symbols, environment):
+        """How a day of one report of the first of these symbols ends."""
         line, a, b, retransmission = ports(4)
-        words = ["live", ",".join(symbols), "N", line, a, b, retransmission, 0, 1]
-        with started(words, env=preloading("started_threads.c")) as day:
-            connect(line).close()
-            end = ended(day)
+        with started(["live", ",".join(symbols), "N", line, a, b, retransmission, 0, 1], env=environment) as day:
+            with connect(line) as participant:
+                participant.sendall(report("N", 1, symbol=symbols[0]))
+            return ended(day)
+
+    def threads(self, symbols):
+        """How many threads a day of these symbols starts."""
+        end = self.day(symbols, preloading("started_threads.c"))
         self.assertEqual((end.status, end.said.replace(self.THREAD, b"")), (0, b""))
         return end.said.count(self.THREAD)
 
     def test_the_workers_of_the_report(self):
-        """PROFILE, "A running day": four workers make the report, three of them in threads of their own. One symbol has one worker."""
-        self.assertEqual(self.threads("A", "B", "C", "D", "E", "F", "G", "H") - self.threads("A"), 3)
+        """PROFILE, "A running day": four workers make the report, three of them in threads of their own. One symbol has one worker. Where a thread
+        can't be started for the report, the first of which is only tried, the day is reported all the same."""
+        own = self.threads("A")
+        self.assertEqual(self.threads(self.SYMBOLS) - own, 3)
+        whole = self.day(self.SYMBOLS, None)
+        self.assertRegex(whole.written, rb"(?m)^A,ALL,.*,100,1$")
+        for first in range(own, own + 4):
+            end = self.day(self.SYMBOLS, failing(("pthread_create", first, EVER, errno.EAGAIN)))
+            with self.subTest(first):
+                self.assertEqual((end.status, end.written), (0, whole.written))
+                self.assertIn(CALL_FAILED, end.said)
 
     def test_a_batch(self):
         """PROMISES, "What is only tested": the one worker of a batch's report starts no thread."""
         day = (SAMPLES / "first-day.txt").read_bytes()
         self.assert_writes(run(["batch"], day, env=preloading("started_threads.c")), (SAMPLES / "first-day.out").read_bytes())
+
+
+class FailedSends(Case):
+    REPORTS = 100
+
+    def test_packets_that_are_not_sent(self):
+        """PROFILE, "A running day": a packet that can't be sent is a lost packet: the first one is by both lines, and a later one by one."""
+        line, a, b, retransmission = ports(4)
+        failed = failing(("sendto", 1, 2, errno.ENOBUFS), ("sendto", 5, 5, errno.EPERM))
+        with started(["live", "AB", "N", line, a, b, retransmission, 1, 7], env=failed) as live, connect(line) as participant:
+            with started(["follow", "AB", "N", a, b, retransmission, 7]) as follow:
+                wait_bound(follow, a, b)
+                participant.sendall(reports("N", self.REPORTS))
+                participant.close()
+                ends = [ended(live), ended(follow)]
+        self.assertEqual([end.status for end in ends], [0, 0])
+        self.assertEqual([end.said for end in ends], [3 * CALL_FAILED, b""])
+        self.assertEqual(ends[0].written, ends[1].written)
+        self.assertRegex(ends[0].written, f"(?m)^AB,ALL,.*,{100 * self.REPORTS},{self.REPORTS}$".encode())
 
 
 class Sockets(Case):

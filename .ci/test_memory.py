@@ -1,18 +1,20 @@
 """What is written and said where memory, threads or files run out."""
 
-import os
+import contextlib
+import errno
 import resource
-import shutil
 import socket
-import subprocess
-import tempfile
+import struct
 import unittest
 from collections import Counter
+from concurrent.futures import ThreadPoolExecutor
+from dataclasses import replace
 from pathlib import Path
 
+from preloaded import CALL_FAILED, EVER, failing
 from refused import end_of_batch
-from support import FEED_SPEED, HOST, NO_WORKER, READ_FAULT, SAMPLES, TAPEBOX
-from support import Case, batch_line, connect, ended, is_refused, ports, report, run, started
+from support import FEED_SPEED, HOST, NO_WORKER, READ_FAULT, SAMPLES
+from support import Case, batch_line, connect, ended, is_refused, ports, report, run, started, wait_bound
 
 REPORTS = 200_000
 MEGABYTES = range(16, 65, 4)
@@ -34,53 +36,15 @@ class LittleMemory(Case):
         self.assertGreater(ends["done"], 0, ends)
 
 
-# A user that runs nothing else: a limit of threads binds no superuser.
-USER = 61_000 + os.getpid() % 4_000
-IS_ROOT = os.geteuid() == 0
+def limit_files(files):
+    """Limits the files of the process that is to become the program."""
+    resource.setrlimit(resource.RLIMIT_NOFILE, (files, files))
 
 
-def become_user():
-    """Makes the process one of the user."""
-    if IS_ROOT:
-        os.setgroups([])
-        os.setgid(USER)
-        os.setuid(USER)
-
-
-def limited(files=None, threads=None):
-    """Limits the files and the threads of the process that is to become the program."""
-
-    def limit():
-        if threads is not None:
-            become_user()
-            resource.setrlimit(resource.RLIMIT_NPROC, (threads, threads))
-        if files is not None:
-            resource.setrlimit(resource.RLIMIT_NOFILE, (files, files))
-
-    return limit
-
-
-def threads_lack():
-    """Whether the limit lets a process become another program and start none beside it."""
-
-    def status(command):
-        return subprocess.run(["sh", "-c", command], preexec_fn=limited(threads=1), stderr=subprocess.DEVNULL, check=False).returncode
-
-    try:
-        return status(":") == 0 and status("sleep 0 & wait $!") != 0
-    except (OSError, subprocess.SubprocessError):
-        return False
-
-
-def forbid_files(running, is_users=False):
-    """Lets the program open no file more."""
-
-    def forbid():
-        if is_users:
-            become_user()
-        resource.prlimit(running.pid, resource.RLIMIT_NOFILE, (3, 3))
-
-    subprocess.run(["true"], preexec_fn=forbid, check=True)
+def ended_by_itself(running):
+    """How a program ended, without what was said of the calls that failed."""
+    end = ended(running)
+    return replace(end, said=end.said.replace(CALL_FAILED, b""))
 
 
 def live(row, participants, serves):
@@ -91,99 +55,132 @@ def live(row, participants, serves):
 class FewFiles(Case):
     """Running days for which no connection is opened."""
 
+    SESSION = 7
+    FEW = 3
+    MANY = 1_024
+    # Seconds in which a connection that can be accepted is.
+    PATIENCE = 0.5
+    # The entry that is asked for, and the first byte of its answer.
+    REQUEST = struct.pack(">QIH", SESSION, 1, 1)
+    ANSWERED = b"\0"
+
     def test_a_lines_connection(self):
         """PROFILE, "Statuses", 3: the standard streams, two listeners, one of them by two handles, and a socket to send by are seven files, and a line
         is an eighth."""
-        with started(live(ports(4), "N", 1), preexec_fn=limited(files=7)) as day:
-            self.assert_fault(ended(day), READ_FAULT)
-
-    def assert_subscriber_lacks(self, **output):
-        """The first subscriber's connection may be awaited when no file is left, and the second one's is not."""
-        row = ports(4)
-        with started(live(row, "N", 2), **output) as day, connect(row[0]) as line:
-            self.assertTrue(is_refused(row[0]))
-            forbid_files(day)
-            connect(row[3]).close()
-            line.sendall(report("N", 1))
-            line.close()
+        with started(live(ports(4), "N", 1), preexec_fn=lambda: limit_files(7)) as day:
             self.assert_fault(ended(day), READ_FAULT)
 
     def test_a_subscribers_connection(self):
-        """PROFILE, "Statuses", 3: a subscriber's connection that cannot be accepted is a read fault, and no report is written."""
-        self.assert_subscriber_lacks()
+        """PROFILE, "A running day": a subscriber that can't be accepted while all files are open waits, and is served once there are more."""
+        line, _, _, retransmission = row = ports(4)
+        with started(live(row, "N", 2)) as day, connect(line) as participant:
+            self.assertTrue(is_refused(line))
+            resource.prlimit(day.pid, resource.RLIMIT_NOFILE, (self.FEW, self.MANY))
+            participant.sendall(report("N", 1))
+            participant.close()
+            # One that was awaited before may still be accepted.
+            connect(retransmission).close()
+            with connect(retransmission) as subscriber:
+                subscriber.settimeout(self.PATIENCE)
+                subscriber.sendall(self.REQUEST)
+                with self.assertRaises(socket.timeout):
+                    subscriber.recv(1)
+                resource.prlimit(day.pid, resource.RLIMIT_NOFILE, (self.MANY, self.MANY))
+                subscriber.settimeout(None)
+                self.assertEqual(subscriber.recv(1), self.ANSWERED)
+            end = ended(day)
+        self.assertEqual((end.status, end.said), (0, b""))
+        self.assertRegex(end.written, rb"(?m)^AB,ALL,.*,100,1$")
+
+
+class Connections(Case):
+    """Running days for which the system does not accept a connection."""
+
+    # Each of the errors that may be gone at the next call. A call that was interrupted is made again at once.
+    FOR_NOW = [errno.ECONNABORTED, errno.EMFILE, errno.ENFILE, errno.ENOBUFS, errno.ENOMEM, errno.EINTR]
+
+    def test_one_that_fails_for_now(self):
+        """PROFILE, "A running day": a subscriber's connection that can't be accepted for now is tried again, and counts no turn."""
+        line, a, b, retransmission = row = ports(4)
+        failed = failing(*(("accept4", call, call, error) for call, error in enumerate(self.FOR_NOW, 2)))
+        with started(live(row, "N", 1), env=failed) as day, connect(line) as participant:
+            with started(["follow", "AB", "N", a, b, retransmission, 7]) as follow:
+                wait_bound(follow, a, b)
+                participant.sendall(report("N", 1))
+                participant.close()
+                ends = [ended(day), ended(follow)]
+        self.assertEqual(ends[0].said, len(self.FOR_NOW) * CALL_FAILED)
+        self.assertEqual([(end.status, end.written) for end in ends], [(0, ends[1].written)] * 2)
+        self.assertRegex(ends[0].written, rb"(?m)^AB,ALL,.*,100,1$")
+
+    def end_without_listener(self, **output):
+        """How a day of one report ends whose listener of the retransmission is gone."""
+        row = ports(4)
+        with started(live(row, "N", 1), env=failing(("accept4", 2, EVER, errno.EBADF)), **output) as day:
+            with connect(row[0]) as participant:
+                participant.sendall(report("N", 1))
+            return ended_by_itself(day)
+
+    def test_a_listener_that_is_gone(self):
+        """PROFILE, "Statuses", 3: a listener that is gone is a read fault, and no report is written."""
+        self.assert_fault(self.end_without_listener(), READ_FAULT)
 
     @unittest.skipUnless(Path("/dev/full").is_char_device(), "no /dev/full")
     def test_the_lesser_of_two_faults(self):
-        """PROFILE, "A running day": of two faults, a connection and the output, the one of the lesser status is told."""
+        """PROFILE, "A running day": of two faults, a listener and the output, the one of the lesser status is told."""
         with open("/dev/full", "wb") as full:
-            self.assert_subscriber_lacks(stdout=full)
+            self.assert_fault(self.end_without_listener(stdout=full), READ_FAULT)
 
 
-@unittest.skipUnless(threads_lack(), "a limit of threads binds no user that can be had here")
 class FewThreads(Case):
-    """Programs for which no thread is started. They run as a user of their own, from a folder that it can read."""
+    """Programs for which no thread is started, or none after some."""
 
-    # How often a day is started again, and after how many seconds.
-    TRIES = 5
-    PATIENCE = 10
+    # More threads than a day of one line starts.
+    MOST = 8
 
-    @classmethod
-    def setUpClass(cls):
-        folder = tempfile.TemporaryDirectory()
-        cls.addClassCleanup(folder.cleanup)
-        os.chmod(folder.name, 0o755)
-        cls.tapebox, cls.feed_speed = (shutil.copy(program, folder.name) for program in (TAPEBOX, FEED_SPEED))
-        for program in (cls.tapebox, cls.feed_speed):
-            os.chmod(program, 0o755)
+    @staticmethod
+    def lacking(first, last=EVER):
+        """The environment of a program that is refused these threads."""
+        return failing(("pthread_create", first, last, errno.EAGAIN))
 
     def test_follow(self):
-        """PROFILE, "Statuses", 6: a follower without a thread ends as one whose worker was not started."""
-        a, b, retransmission = ports(3)
-        with socket.create_server((HOST, retransmission)):
-            words = ["follow", "AB", "N", a, b, retransmission, 7]
-            with started(words, program=self.tapebox, preexec_fn=limited(threads=1)) as follow:
-                self.assert_fault(ended(follow), NO_WORKER)
+        """PROFILE, "Statuses", 6: a follower that lacks the thread of a line ends as one whose worker was not started."""
+        for first in (1, 2):
+            a, b, retransmission = ports(3)
+            with self.subTest(first), socket.create_server((HOST, retransmission)):
+                words = ["follow", "AB", "N", a, b, retransmission, 7]
+                with started(words, env=self.lacking(first)) as follow:
+                    self.assert_fault(ended_by_itself(follow), NO_WORKER)
 
-    def test_live(self):
-        """PROFILE, "Statuses", 6: so does a day without a thread."""
-        row = ports(4)
-        with started(live(row, "N", 1), program=self.tapebox, preexec_fn=limited(threads=1)) as day, connect(row[0]):
-            self.assert_fault(ended(day), NO_WORKER)
+    @staticmethod
+    def end_of_day(row, participants, refused):
+        """How a day on these ports ends whose participants send a report each and nobody follows. A line may be closed before."""
+        with started(live(row, participants, 0), env=refused) as day:
+            lines = [connect(port) for port in row[: len(participants)]]
+            for who, line in zip(participants, lines):
+                with line, contextlib.suppress(ConnectionError):
+                    line.sendall(report(who, 1))
+            return ended_by_itself(day)
+
+    def test_live_without_a_thread(self):
+        """PROFILE, "Statuses", 6: so does a day without a thread, and one of two lines that has too few for its lines."""
+        self.assert_fault(self.end_of_day(ports(4), "N", self.lacking(1)), NO_WORKER)
+        self.assert_fault(self.end_of_day(ports(5), "NQ", self.lacking(2)), NO_WORKER)
+
+    def test_live_with_ever_more_threads(self):
+        """PROFILE, "Statuses", 6: with each thread more a day ends as one whose worker was not started, or writes its whole report."""
+        every = ports(4 * self.MOST)
+        with ThreadPoolExecutor(self.MOST) as pool:
+            *ends, whole = pool.map(lambda at: self.end_of_day(every[4 * at : 4 * at + 4], "N", self.lacking(at + 1)), range(self.MOST))
+        self.assertEqual((whole.status, whole.said), (0, b""))
+        self.assertRegex(whole.written, rb"(?m)^AB,ALL,.*,100,1$")
+        for first, end in enumerate(ends, 1):
+            with self.subTest(first):
+                if end != whole:
+                    self.assert_fault(end, NO_WORKER)
 
     def test_rows(self):
         """PROFILE, "Refusals by number and name": of two workers of a report the first is refused its thread."""
-        with open(SAMPLES / "first-day.txt", "rb") as day:
-            done = run(["rows"], day, program=self.feed_speed, preexec_fn=limited(threads=1))
-        self.assert_fault(done, (1, b"Error: Unstarted\n"))
-
-    def start_with_one_thread(self, row, serves):
-        """A day whose two lines were given up, since they want a thread more than there is. Where the thread that the program tries first
-        goes too late, the lines get one and wait: then the day is started again."""
-        for _ in range(self.TRIES):
-            day = self.enterContext(started(live(row, "NQ", serves), program=self.tapebox, preexec_fn=limited(threads=2)))
-            with connect(row[0]) as n, connect(row[1]) as q:
-                n.settimeout(self.PATIENCE)
-                try:
-                    self.assertEqual((n.recv(1), q.recv(1)), (b"", b""))
-                    return day
-                except socket.timeout:
-                    day.kill()
-                    day.communicate()
-        return self.fail("the lines were never given up")
-
-    @unittest.skipUnless(IS_ROOT, "only the superuser can start it as another user")
-    def test_lines_with_one_thread(self):
-        """PROFILE, "Statuses", 6: two lines want two threads, and none runs with one."""
-        row = ports(5)
-        day = self.start_with_one_thread(row, 1)
-        connect(row[4]).close()
-        self.assert_fault(ended(day), NO_WORKER)
-
-    @unittest.skipUnless(IS_ROOT, "only the superuser can start it as another user")
-    def test_lines_with_one_thread_and_no_connection(self):
-        """PROFILE, "A running day": of two faults, a thread and a subscriber's connection, the one of the lesser status is told."""
-        row = ports(5)
-        day = self.start_with_one_thread(row, 2)
-        forbid_files(day, is_users=True)
-        connect(row[4]).close()
-        self.assert_fault(ended(day), READ_FAULT)
+        day = (SAMPLES / "first-day.txt").read_bytes()
+        done = run(["rows"], day, program=FEED_SPEED, env=self.lacking(1))
+        self.assertEqual((done.status, done.written, done.said.replace(CALL_FAILED, b"")), (1, b"", b"Error: Unstarted\n"))

@@ -14,13 +14,13 @@ from typing import Optional
 
 from preloaded import built
 from refused import HEAP, Sweeps, end_of_batch, refusing, run_refused, without_told
-from support import CRATES, HEADINGS, HOST, NO_WORKER, OUT_OF_MEMORY, READ_FAULT, WRITE_FAULT, Case, Ended
-from support import addresses, batch_line, ended, free_ports, report, reports, run, started, wait_bound
+from support import CRATES, HOST, NO_WORKER, OUT_OF_MEMORY, READ_FAULT, WRITE_FAULT, Case, Ended
+from support import addresses, batch_line, ended, ports, report, reports, run, started, wait_bound
 
 # How many of a program's requests are refused in turn at most.
 MOST = 1_000
-# Seconds until a program with a refused request must have ended.
-SOON = 10
+# Seconds until a program with a refused request must have ended. On a quiet machine the last of a row of days takes less than five.
+SOON = 30
 # The state of a socket in Linux's table that awaits connections.
 LISTENING = "0A"
 
@@ -70,11 +70,12 @@ def reports_of_n(count):
 
 @dataclass(frozen=True)
 class DayEnds:
-    """Whether the request was met, how the two programs ended, the follower perhaps never, and how many lines were closed before they had ended;
-    none where a line did not come to be."""
+    """Whether the request was met, how `live` ended, whether there was a follower then and how it ended, if it did, and how many lines were closed
+    before they had ended; none where a line did not come to be."""
 
     was_met: bool
     live: Ended
+    is_followed: bool = False
     follow: Optional[Ended] = None
     closed: Optional[int] = 0
 
@@ -87,14 +88,12 @@ class RunningDays(Case):
     REPORTS = 20
     # How the consolidated row of the whole day ends: with the sizes and the trades of both participants.
     WHOLE = b",4000,40"
-    # And the row of one participant of whom all was admitted.
-    WHOLE_LINE = b",2000,20"
     # The session, the matrix and the limit.
     TERMS = [7, 1, 100]
     # Seconds in which a line that takes all that was sent is not closed.
     OPEN = 0.6
-    # Seconds that a follower has left once its day has ended. Where the day met a fault, it may wait forever.
-    LEFT = 3
+    # How often a day is played again, alone, where a busy machine may have kept it from what is wanted.
+    AGAIN = 3
 
     @classmethod
     def setUpClass(cls):
@@ -112,18 +111,18 @@ class RunningDays(Case):
         return False
 
     @staticmethod
-    def is_bound(follow, ports):
-        """Whether the follower has bound its ports; it may have ended before."""
+    def is_bound(follow, lines):
+        """Whether the follower has bound its lines' ports; it may have ended before."""
         try:
-            wait_bound(follow, *ports)
+            wait_bound(follow, *lines)
         except TimeoutError:
             return False
         return True
 
-    def send(self, ports):
+    def send(self, row):
         """Sends the reports of N and Q, and returns how many of the two lines were closed though more might have come; `None` where one failed."""
         with contextlib.ExitStack() as stack, contextlib.suppress(ConnectionError):
-            lines = [stack.enter_context(socket.create_connection((HOST, port), timeout=SOON)) for port in ports]
+            lines = [stack.enter_context(socket.create_connection((HOST, port), timeout=SOON)) for port in row]
             for who, line in zip("NQ", lines):
                 line.sendall(reports(who, self.REPORTS))
             if select.select(lines, [], [], self.OPEN)[0]:
@@ -153,32 +152,45 @@ class RunningDays(Case):
                 self.is_bound(follow, (a, b))
                 closed = self.send(lines)
                 if refused == "live":
-                    return DayEnds(*without_told(ended(live, SOON)), self.end_of(follow, self.LEFT), closed)
+                    return DayEnds(*without_told(ended(live, SOON)), True, self.end_of(follow, SOON), closed)
                 was_met, followed = without_told(ended(follow, SOON))
                 with contextlib.suppress(ConnectionError):
                     # It may have ended before it connected, which the day awaits.
                     socket.create_connection((HOST, retransmission), timeout=SOON).close()
-                return DayEnds(was_met, ended(live, SOON), followed, closed)
+                return DayEnds(was_met, ended(live, SOON), True, followed, closed)
 
     def days(self, refused):
         """Each request of one of the programs with the day in which it was refused, up to the first one that was not met."""
         with ThreadPoolExecutor(self.LANES) as pool:
             for first in range(1, MOST + 1, self.LANES):
-                ports = free_ports(self.PORTS * self.LANES)
-                rows = [range(at, at + self.PORTS) for at in range(ports, ports + self.PORTS * self.LANES, self.PORTS)]
+                every = ports(self.PORTS * self.LANES)
+                rows = [every[at : at + self.PORTS] for at in range(0, len(every), self.PORTS)]
                 requests = range(first, first + self.LANES)
                 days = list(pool.map(lambda row, request: self.day(row, refused, request), rows, requests))
                 yield from zip(requests, days)
                 if not all(day.was_met for day in days):
                     return
 
+    def kind_of(self, end_of, day, refused, request):
+        """What became of the day, by what tells it. One that ended otherwise than is wanted is played again, alone: beside others a line may be seen
+        to be closed too late."""
+        for _ in range(self.AGAIN):
+            with contextlib.suppress(AssertionError):
+                return end_of(day)
+            day = self.day(ports(self.PORTS), refused, request)
+        return end_of(day)
+
+    def kinds(self, end_of, refused):
+        """How often each of this came, where each request of the program that is met is refused in turn."""
+        kinds = Counter()
+        for request, day in self.days(refused):
+            with self.subTest(request):
+                kinds[self.kind_of(end_of, day, refused, request)] += day.was_met
+        return kinds
+
     def is_whole(self, report):
         """Whether the report is that of the whole day."""
         return any(row.startswith(b"AB,ALL,") and row.endswith(self.WHOLE) for row in report.splitlines())
-
-    def has_a_whole_line(self, report):
-        """Whether the report has all reports of a participant."""
-        return any(row.startswith((b"AB,N,", b"AB,Q,")) and row.endswith(self.WHOLE_LINE) for row in report.splitlines())
 
     def assert_lacks(self, end):
         """The program ended for want of memory, or of a thread, for which there was none."""
@@ -186,16 +198,17 @@ class RunningDays(Case):
         self.assertIn((end.status, end.said), (OUT_OF_MEMORY, NO_WORKER))
 
     def assert_given_up(self, day):
-        """A follower whose day met a fault waits, or its connection was closed while it asked, or it reports the whole day, as it was closed."""
+        """A follower whose day met a fault got no end, and ends as one whose connection was closed; or the fault came after the end, and it
+        reports the whole day. It does not wait."""
         follow = day.follow
-        if follow and follow.status:
+        if not day.is_followed:
+            return
+        self.assertIsNotNone(follow, "the follower did not end")
+        if follow.status == 0:
+            self.assertEqual((day.closed, follow.said, self.is_whole(follow.written)), (0, b"", True))
+        else:
             self.assertIn((follow.status, follow.said), (READ_FAULT, WRITE_FAULT))
             self.assertEqual(follow.written, b"")
-        elif follow:
-            self.assertEqual(follow.said, b"")
-            self.assertTrue(follow.written.startswith(HEADINGS.encode()))
-            # A line that ended at 40 leaves the other one whole. On a busy machine it may not be seen to be closed in time.
-            self.assertTrue(day.closed or self.is_whole(follow.written) or self.has_a_whole_line(follow.written), follow.written)
 
     def end_of_live(self, day):
         """What became of a day whose `live` was refused a request."""
@@ -217,11 +230,9 @@ class RunningDays(Case):
 
     def test_live(self):
         """PROFILE, "Statuses", 5 and 6: a `live` that is refused a request ends soon, by a stated status and text, and writes no report then; so it
-        does where a line ends at 40, and where the sender stops. PROFILE, "A running day": the follower gets no end then, and writes no report."""
-        ends = Counter()
-        for request, day in self.days("live"):
-            with self.subTest(request):
-                ends[self.end_of_live(day)] += day.was_met
+        does where a line ends at 40, and where the sender stops. PROFILE, "A running day": the follower gets no end then, ends, and writes no
+        report."""
+        ends = self.kinds(self.end_of_live, "live")
         for kind in ("done", "a line ended at 40", "the sender stopped"):
             self.assertGreater(ends[kind], 0, ends)
         # A thread is tried when the lines have come, and once more when they are run. Before that want of memory is told as such. On a busy
@@ -239,10 +250,7 @@ class RunningDays(Case):
 
     def test_follow(self):
         """PROFILE, "Statuses", 5 and 6: a follower that is refused a request ends soon, by a stated status and text, and writes no report then."""
-        ends = Counter()
-        for request, day in self.days("follow"):
-            with self.subTest(request):
-                ends[self.end_of_follower(day)] += day.was_met
+        ends = self.kinds(self.end_of_follower, "follow")
         self.assertGreater(ends["a fault"], 0, ends)
 
 
@@ -255,8 +263,8 @@ class Serving(Case):
     SESSION = 7
     UNPUBLISHED = b"\x48"
     ANSWERED = b"\0"
-    # How often the subscriber asks for what has not been published, and the seconds between.
-    TRIES = 100
+    # How often the subscriber asks for what has not been published at most, and the seconds between.
+    TRIES = 1_000
     REST = 0.01
 
     def first_byte(self, subscriber):
@@ -302,8 +310,8 @@ class Serving(Case):
         unanswered = 0
         with ThreadPoolExecutor(self.LANES) as pool:
             for first in range(1, MOST + 1, self.LANES):
-                at = free_ports(self.PORTS * self.LANES)
-                rows = [range(port, port + self.PORTS) for port in range(at, at + self.PORTS * self.LANES, self.PORTS)]
+                every = ports(self.PORTS * self.LANES)
+                rows = [every[at : at + self.PORTS] for at in range(0, len(every), self.PORTS)]
                 days = list(pool.map(self.day, rows, range(first, first + self.LANES)))
                 for _, end, (first_answer, next_answer) in days:
                     if first_answer == b"":

@@ -1,0 +1,74 @@
+// Calls of the C library that fail. FAILING has rows with commas between them, each NAME:FIRST:LAST:ERROR: of the calls of NAME the FIRST to the
+// LAST one, counted from 1, fail with this number, and each is told on standard error.
+typedef __SIZE_TYPE__ size_t;
+typedef __PTRDIFF_TYPE__ ssize_t;
+typedef int accepting(int socket, void *address, unsigned *length, int flags);
+typedef ssize_t receiving(int socket, void *bytes, size_t size, int flags, void *address, unsigned *length);
+typedef ssize_t sending(int socket, const void *bytes, size_t size, int flags, const void *address, unsigned length);
+typedef int creating(void *thread, const void *attributes, void *(*routine)(void *), void *argument);
+
+void *dlsym(void *handle, const char *name);
+int *__errno_location(void);
+char *getenv(const char *name);
+size_t strlen(const char *text);
+int strncmp(const char *one, const char *other, size_t most);
+unsigned long strtoul(const char *text, char **end, int base);
+long write(int file, const void *bytes, size_t size);
+
+// The library that comes after this one.
+static void *const NEXT = (void *)-1L;
+
+// The number behind the next colon.
+static unsigned long number_behind(const char **text) {
+    char *end;
+    unsigned long number = strtoul(*text + 1, &end, 10);
+    *text = end;
+    return number;
+}
+
+// The error of this call, 0 where it does not fail.
+static int error_of(const char *name, unsigned long call) {
+    static const char told[] = "a call failed\n";
+    const char *row = getenv("FAILING");
+    size_t length = strlen(name);
+    for (; row != 0 && *row != 0; row += *row == ',') {
+        int is_own = strncmp(row, name, length) == 0 && row[length] == ':';
+        while (*row != ':')
+            row++;
+        unsigned long first = number_behind(&row), last = number_behind(&row), error = number_behind(&row);
+        if (is_own && first <= call && call <= last) {
+            write(2, told, sizeof told - 1);
+            return (int)error;
+        }
+    }
+    return 0;
+}
+
+// Counts a call, and answers its error, which errno has then too.
+static int failed(const char *name, unsigned long *calls) {
+    int error = error_of(name, __atomic_add_fetch(calls, 1, __ATOMIC_SEQ_CST));
+    if (error != 0)
+        *__errno_location() = error;
+    return error;
+}
+
+int accept4(int socket, void *address, unsigned *length, int flags) {
+    static unsigned long calls;
+    return failed("accept4", &calls) ? -1 : ((accepting *)dlsym(NEXT, "accept4"))(socket, address, length, flags);
+}
+
+ssize_t recvfrom(int socket, void *bytes, size_t size, int flags, void *address, unsigned *length) {
+    static unsigned long calls;
+    return failed("recvfrom", &calls) ? -1 : ((receiving *)dlsym(NEXT, "recvfrom"))(socket, bytes, size, flags, address, length);
+}
+
+ssize_t sendto(int socket, const void *bytes, size_t size, int flags, const void *address, unsigned length) {
+    static unsigned long calls;
+    return failed("sendto", &calls) ? -1 : ((sending *)dlsym(NEXT, "sendto"))(socket, bytes, size, flags, address, length);
+}
+
+int pthread_create(void *thread, const void *attributes, void *(*routine)(void *), void *argument) {
+    static unsigned long calls;
+    int error = failed("pthread_create", &calls);
+    return error ? error : ((creating *)dlsym(NEXT, "pthread_create"))(thread, attributes, routine, argument);
+}
