@@ -3,6 +3,7 @@
 import contextlib
 import functools
 import os
+import re
 import socket
 import subprocess
 import sys
@@ -206,3 +207,9 @@ def batch_line(text):
 def batch_of(table):
     """A batch's input, by a readable table."""
     return subprocess.check_output([SAMPLES / "encode_day.py", table])
+
+
+def transcripts(page):
+    """The commands that a page of docs/ shows after a dollar sign, each with what it shows below, without blanks at the end of a line."""
+    shown = re.findall(r"(?m)^    \$ (.*)\n((?:    (?!\$ ).*\n)*)", (ROOT / "docs" / page).read_text(encoding="utf-8"))
+    return [(command, re.sub("(?m)^    ", "", written)) for command, written in shown]

@@ -3,6 +3,7 @@
 import functools
 import os
 import random
+import re
 import shutil
 import subprocess
 import tempfile
@@ -10,7 +11,7 @@ import unittest
 from pathlib import Path
 
 import wire
-from support import ROOT, Case
+from support import ROOT, Case, transcripts
 from test_twin import plain_run
 
 SCRIPT = ROOT / "tools" / "tapebox.lua"
@@ -27,13 +28,17 @@ LINES = 6_000
 UNJOINED = ["-o", "tcp.desegment_tcp_streams:FALSE"]
 
 
+def unconfigured(home):
+    """An environment without preferences of whoever runs this."""
+    return os.environ | {"HOME": str(home), "WIRESHARK_CONFIG_DIR": str(home), "XDG_CONFIG_HOME": str(home), "LC_ALL": "C.UTF-8"}
+
+
 def tshark(capture, *words, ports=PORTS):
-    """What tshark writes of a capture by the dissector, with no preferences of whoever runs it."""
+    """What tshark writes of a capture by the dissector."""
     with tempfile.TemporaryDirectory() as home:
-        environment = os.environ | {"HOME": home, "WIRESHARK_CONFIG_DIR": home, "XDG_CONFIG_HOME": home, "LC_ALL": "C.UTF-8"}
         options = [word for port in ports for word in ("-o", f"tapebox.{port}")]
         command = ["tshark", "-X", f"lua_script:{SCRIPT}", *options, "-r", capture, *words]
-        return subprocess.run(command, capture_output=True, check=True, timeout=LIMIT, env=environment, text=True).stdout
+        return subprocess.run(command, capture_output=True, check=True, timeout=LIMIT, env=unconfigured(home), text=True).stdout
 
 
 def fields(capture, *names, only=PROTOCOLS, options=(), **ports):
@@ -80,10 +85,17 @@ class Dissector(Case):
     def test_kept_captures(self):
         """WIRESHARK: a day, one that a relay made lossy, a packet of each fault, connections in odd pieces, and a day that nobody followed are shown
         as the tables beside the captures have them."""
-        for path in sorted(CAPTURES.glob("*.pcap")):
-            with self.subTest(path.name):
-                table = "".join("|".join(row) + "\n" for row in fields(path, *COLUMNS))
-                self.assertEqual(table, path.with_suffix(".txt").read_text(encoding="utf-8"))
+        for table in sorted(CAPTURES.glob("*.txt")):
+            with self.subTest(table.name):
+                shown = "".join("|".join(row) + "\n" for row in fields(table.with_suffix(".pcap"), *COLUMNS))
+                self.assertEqual(shown, table.read_text(encoding="utf-8"))
+
+    def test_page(self):
+        """WIRESHARK: what its commands write is as it shows."""
+        for command, shown in transcripts("WIRESHARK.md"):
+            with self.subTest(command):
+                done = subprocess.run(["sh", "-c", command], cwd=ROOT, env=unconfigured(self.path.parent), capture_output=True, check=True, timeout=LIMIT)
+                self.assertEqual(re.sub("(?m) +$", "", done.stdout.decode()), shown)
 
     def test_each_fault(self):
         """PROFILE, "Packets": a packet of each fault is refused by its number and has its expert info, and every other packet has neither."""
@@ -102,7 +114,7 @@ class Dissector(Case):
             return wire.packet(number, wire.entry(number), **header)
 
         beat, end = (wire.packet(8, kind=kind) for kind in (b"H", b"E"))
-        late, gap, first = "Late or repeated: the next on this port is {}", "Gap: {} not seen on this port", "Begins within a day: {} not in this capture"
+        late, gap, first = "Late or repeated: the next on this port is {}", "Gap: {} not seen on this port", "Begins within a day: {} not seen on this port"
         day = [
             (A, data(4), first.format("1..3")),
             (A, data(5), ""),

@@ -238,7 +238,7 @@ local function show_order(root, pinfo, session, first, last)
         return wanted
     end)
     if not wanted then
-        if first > 1 then root:add_proto_expert_info(experts.first, "Begins within a day: " .. span(1, first - 1) .. " not in this capture") end
+        if first > 1 then root:add_proto_expert_info(experts.first, "Begins within a day: " .. span(1, first - 1) .. " not seen on this port") end
     elseif first > wanted then
         root:add_proto_expert_info(experts.gap, "Gap: " .. span(wanted, first - 1) .. " not seen on this port")
     elseif first < wanted then
