@@ -1,6 +1,8 @@
 -- How far the lines of a follower have come.
-use Rattle.std.specs.Prelude.{ℕ, ◌<◌, ◌≤◌, max, Some, IsSomeAnd, unwrap_or}
+use Rattle.std.specs.Prelude.{ℕ, ◌≡◌, ◌<◌, ◌≤◌, ◌⊎◌, max, Some, IsSomeAnd, unwrap_or}
+use Rattle.live_feed.specs.declared.heard.TheConstants.{AHEAD_MOST, TURNS_MOST}
 use Rattle.live_feed.specs.declared.heard.Reached.{Reached}
+use Rattle.live_feed.specs.declared.heard.Heard.{Heard}
 
 -- a line brought something, but no number as high as this one
 abbrev pub IsBehind : ℕ → Reached → Type 0
@@ -9,6 +11,12 @@ IsBehind number line = IsSomeAnd line.last (λ last. last < number)
 -- a line that is behind is awaited, once it has come to the number that it was waited for in vain
 abbrev pub IsAwaited : ℕ → Reached → Type 0
 IsAwaited number line = IsSomeAnd line.last (λ last. (line.awaited_from ≤ last) × (last < number))
+
+-- a number is to be waited for, where so many are announced above those that are held: a line may bring it yet, it was not waited for long
+-- enough, and what comes meanwhile fits into the window
+abbrev pub IsToWait : ℕ → ℕ → Heard → Type 0
+IsToWait number ahead h =
+    (ahead < AHEAD_MOST) × ¬ ((h.awaited ≡ number) × (TURNS_MOST ≤ h.turns)) × (IsAwaited number h.a ⊎ IsAwaited number h.b)
 
 -- a line once it brought this number
 abbrev pub once_brought : ℕ → Reached → Reached

@@ -1,5 +1,9 @@
 -- What is next in a follower's run.
-use Rattle.std.specs.Prelude.{ℕ, Option, None, Some}
+use Rattle.std.specs.Prelude.{ℕ, ◌≡◌, ◌-◌, Option, None, Some, length}
+use Rattle.arbitration.specs.Gaps.{IsGap, IsMissing}
+use Rattle.subscriber.specs.Subscribers.{SubscriberState}
+use Rattle.live_feed.specs.Heard.{IsToWait}
+use Rattle.live_feed.specs.declared.heard.Heard.{Heard}
 use Rattle.live_feed.specs.declared.follower.Next.{Next}
 use Rattle.live_feed.specs.declared.follower.Next.TheVariants.{Read, Wait, Ask, Connect, End}
 
@@ -10,3 +14,16 @@ asked_of (Wait number) = None
 asked_of (Ask request) = Some request.from
 asked_of Connect = None
 asked_of End = None
+
+-- how many numbers were announced above those that are held
+abbrev pub ahead_of : SubscriberState → ℕ
+ahead_of s = s.window.announced - length s.tape.entries
+
+-- while a run goes on, packets are read where nothing is missing; else what is missing first is waited for where it is to be, and asked for where it
+-- is not
+abbrev pub IsNext : SubscriberState → Heard → Next → Type 0
+IsNext s h Read = (n : ℕ) → ¬ (IsMissing s.window n)
+IsNext s h (Wait number) = (count : ℕ) × IsGap s.window number count × IsToWait number (ahead_of s) h
+IsNext s h (Ask request) = (request.session ≡ s.window.session) × IsGap s.window request.from request.count × ¬ (IsToWait request.from (ahead_of s) h)
+IsNext s h Connect = ⊥
+IsNext s h End = ⊥

@@ -1,7 +1,8 @@
 //! What a follower comes to hold, which its lines and what asks for it share.
-ghost use Rattle.std.specs.Prelude.{◌≡◌, ◌≢◌, ◌↔◌, ◌≤◌, ◌-◌, length, IfOk, IsSomeAnd, true};
+ghost use Rattle.std.specs.Prelude.{◌≡◌, ◌≢◌, ◌↔◌, ◌≤◌, length, Err, None, Some, IfErr, IfOk, IsSome, IsSomeAnd, IsTrue, true, false};
 ghost use Rattle.live_feed.specs.Followers.{KeepsNames};
-ghost use Rattle.live_feed.specs.Nexts.{asked_of};
+ghost use Rattle.live_feed.specs.Nexts.{IsNext, ahead_of, asked_of};
+ghost use Rattle.live_feed.specs.declared.follower.Next.TheVariants.{Connect, End, Read as ReadOn};
 ghost use Rattle.live_feed.specs.declared.fault.Fault.TheVariants.{Disagrees, Memory};
 ghost use Rattle.subscriber.specs.declared.drain_fault.Stop.TheVariants.{Refused};
 ghost use Rattle.tape_core.specs.declared.refusal.Refusal.TheVariants.{OutOfMemory};
@@ -141,7 +142,7 @@ fn drain(subscriber: &mut Subscriber) -> Result<(), Fault>
 
 /// How many numbers were announced above those that are held.
 fn ahead_of(subscriber: &Subscriber) -> usize
-    ensures { result ≡ subscriber.now.window.announced - length subscriber.now.tape.entries }
+    ensures { result ≡ ahead_of subscriber.now }
 {
     (subscriber.announced() as usize).saturating_sub(subscriber.held().len())
 }
@@ -237,7 +238,9 @@ impl<N: Followed> Follower<N> {
     }
 
     /// Whether the end is known and all is held.
-    fn has_all(&self) -> bool {
+    fn has_all(&self) -> bool
+        ensures { IsTrue result ↔ IsSomeAnd self.now.subscriber.window.ended (λ count. length self.now.subscriber.tape.entries ≡ count) }
+    {
         match self.subscriber.ended() {
             Some(count) => self.subscriber.held().len() == count as usize,
             None => false,
@@ -245,7 +248,9 @@ impl<N: Followed> Follower<N> {
     }
 
     /// Ends the run where what came was a fault, or where all is held. Whether to restart is looked at before that.
-    fn settle(&mut self, taken: Result<(), Fault>) {
+    fn settle(&mut self, taken: Result<(), Fault>)
+        ensures fault { IfErr taken (λ fault. self.new.over ≡ Some (Err fault)) }
+    {
         let settled = match taken {
             Ok(()) => self.restart(),
             Err(fault) => Err(fault),
@@ -287,7 +292,9 @@ impl<N: Followed> Follower<N> {
 
     /// What is next for what asks, which then sleeps until it is rung where nothing is missing. What it asks for was waited for in
     /// vain where a line has not come to it.
-    pub(crate) fn next_to_ask(&mut self) -> Next {
+    pub(crate) fn next_to_ask(&mut self) -> Next
+        ensures asleep { IsTrue self.new.is_asleep ↔ (result ≡ ReadOn) }
+    {
         let next = self.next();
         if let Some(number) = next.asked() {
             self.heard.asked(number);
@@ -302,7 +309,11 @@ impl<N: Followed> Follower<N> {
     }
 
     /// What is next. A new subscriber gets its connection, which the retransmission awaits, even where the run is over by then.
-    fn next(&self) -> Next {
+    fn next(&self) -> Next
+        ensures connect { self.now.has_restarted ≡ true → result ≡ Connect }
+        ensures end { self.now.has_restarted ≡ false → IsSome self.now.over → result ≡ End }
+        ensures going { self.now.has_restarted ≡ false → self.now.over ≡ None → IsNext self.now.subscriber self.now.heard result }
+    {
         if self.has_restarted {
             return Next::Connect;
         }
@@ -333,7 +344,10 @@ impl<N: Followed> Follower<N> {
     }
 
     /// Ends the run by a fault, unless it is over.
-    pub(crate) fn fail(&mut self, fault: Fault) {
+    pub(crate) fn fail(&mut self, fault: Fault)
+        ensures first { self.old.over ≡ None → self.new.over ≡ Some (Err fault) }
+        ensures later { IsSome self.old.over → self.new.over ≡ self.old.over }
+    {
         if self.over.is_none() {
             self.over = Some(Err(fault));
         }

@@ -1,7 +1,7 @@
 //! How far the lines of a follower have come, so that what one of them lost is not asked for while the other still brings it.
-ghost use Rattle.std.specs.Prelude.{◌≡◌, ◌↔◌, ◌⊎◌, ◌<◌, ◌≤◌, ◌+◌, ◌==◌, min, if◌then◌else◌, false, None, IsTrue};
-ghost use Rattle.live_feed.specs.Heard.{IsAwaited, IsBehind, once_brought};
-ghost use Rattle.live_feed.specs.declared.heard.TheConstants.{AHEAD_MOST, TURNS_MOST};
+ghost use Rattle.std.specs.Prelude.{◌≡◌, ◌↔◌, ◌≤◌, ◌+◌, ◌==◌, min, if◌then◌else◌, None, IsTrue};
+ghost use Rattle.live_feed.specs.Heard.{IsAwaited, IsBehind, IsToWait, once_brought};
+ghost use Rattle.live_feed.specs.declared.heard.TheConstants.{TURNS_MOST};
 ghost use Rattle.arbitration.specs.declared.line.Line.TheVariants.{A, B, R};
 
 use arbitration::{Line, REACH};
@@ -122,11 +122,7 @@ impl Heard {
     /// Whether to wait for this number, the least that is missing, where so many are announced above those that are held: a line
     /// may bring it yet, it was not waited for long enough, and what comes meanwhile fits into the window.
     pub(crate) fn may_bring(&self, number: u32, ahead: usize) -> bool
-        ensures may { IsTrue result → (IsAwaited number self.now.a ⊎ IsAwaited number self.now.b) }
-        ensures over { IsTrue result → self.now.awaited ≡ number → self.now.turns < TURNS_MOST }
-        ensures fits { IsTrue result → ahead < AHEAD_MOST }
-        ensures not { result ≡ false → ahead < AHEAD_MOST → (IsAwaited number self.now.a ⊎ IsAwaited number self.now.b)
-            → (self.now.awaited ≡ number) × (TURNS_MOST ≤ self.now.turns) }
+        ensures { IsTrue result ↔ IsToWait number ahead self.now }
     {
         ahead < AHEAD_MOST
             && !self.is_over(number)
