@@ -1,4 +1,6 @@
 mod Confirmed
+mod CursorRows
+mod Cursors
 mod Differences
 mod Endings
 mod OneDisagreement

@@ -1,10 +1,21 @@
 -- A disagreement is one.
-use Rattle.std.proofs.Common.{◌≡◌, ◌<◌, ℕ, List, length, slice_get, ap, subst, ◌∙◌, sym}
+use Rattle.std.proofs.Common.{◌≡◌, ◌<◌, ◌+◌, ℕ, List, length, slice_get, Some, inl, inr, ap, subst, ◌∙◌, sym, arith}
+use Rattle.std.proofs.lemmas.Bool.{cases_lt}
 use Rattle.std.proofs.lemmas.Option.{same_Some, slice_get_within}
 use Rattle.tape_core.specs.declared.entry.Entry.{Entry}
 use Rattle.line_ledger.specs.Seats.{SeatState}
 use Rattle.line_ledger.specs.Ends.{told_by, told_of, DiffersFirst, DisagreesAt, FirstTold}
 use Rattle.line_ledger.proofs.Differences.{differs_apart, differs_once, same_from}
+
+-- where the seat of the next participant was told its entries too
+pub told_more_seats : (n : ℕ) (participants : List ℕ) (entries : List Entry) (seats : List SeatState) (who : ℕ) → FirstTold n participants entries seats
+    → slice_get participants n ≡ Some who → told_by who seats ≡ told_of who entries → FirstTold (n + 1) participants entries seats
+told_more_seats n participants entries seats who told here same k other below at = elim (cases_lt k n) [
+  | inl less ↦ told k other less at
+  | inr most ↦
+      let is : n ≡ k = omega (arith, below, most) in
+      subst (λ w. told_by w seats ≡ told_of w entries) (same_Some who other (sym here ∙ ap (slice_get participants) is ∙ at)) same
+]
 
 module _ (participants : List ℕ) (entries : List Entry) (seats : List SeatState) where
   -- the seats of the participants before it were told their entries

@@ -1,5 +1,6 @@
 pub mod Admissions
 pub mod Cells
+pub mod Cursors
 pub mod Days
 pub mod Ends
 pub mod Faults

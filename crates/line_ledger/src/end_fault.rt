@@ -15,7 +15,7 @@ pub struct Unended<D: DayName> {
     pub seats: Vec<LineSeat<D>>,
 }
 
-/// An ended day whose tape is not what its seats were told.
+/// 92 Disagrees: an ended day whose tape is not what its seats were told.
 #[derive(Drop)]
 pub struct Disagreement {
     /// The first participant, in listing order, whose seat was told otherwise.
@@ -34,6 +34,22 @@ pub enum EndFault<D: DayName> {
     Disagrees(Disagreement),
 }
 
+impl Disagreement {
+    /// The number of the fault.
+    pub fn code(&self) -> u8
+        ensures number { result ≡ 92 }
+    {
+        92
+    }
+
+    /// The name of the fault, as in the profile.
+    pub fn name(&self) -> &'static str
+        ensures text { result.now ≡ codes "Disagrees" }
+    {
+        "Disagrees"
+    }
+}
+
 impl<D: DayName> EndFault<D> {
     /// The number of the fault.
     pub fn code(&self) -> u8
@@ -42,7 +58,7 @@ impl<D: DayName> EndFault<D> {
     {
         match self {
             EndFault::MissingSeat(_) => 91,
-            EndFault::Disagrees(_) => 92,
+            EndFault::Disagrees(disagreement) => disagreement.code(),
         }
     }
 
@@ -53,7 +69,7 @@ impl<D: DayName> EndFault<D> {
     {
         match self {
             EndFault::MissingSeat(_) => "MissingSeat",
-            EndFault::Disagrees(_) => "Disagrees",
+            EndFault::Disagrees(disagreement) => disagreement.name(),
         }
     }
 }

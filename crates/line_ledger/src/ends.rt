@@ -1,11 +1,12 @@
 //! What an end looks at: whether there is one seat of each participant, and whether each was told what the tape has.
 ghost use Rattle.std.specs.Prelude.{◌≡◌, ◌↔◌, length, IsTrue, MatchOption};
-ghost use Rattle.line_ledger.specs.Ends.{seats_of, told_by, IsOneEach, FirstTold, DisagreesAt};
+ghost use Rattle.line_ledger.specs.Cursors.{AllStandAt};
+ghost use Rattle.line_ledger.specs.Ends.{seats_of, IsOneEach, FirstTold, DisagreesAt};
 
-use crate::laws::first_difference;
-use crate::{DayName, LineSeat, Told};
+use crate::cursor::Cursors;
+use crate::{DayName, LineSeat};
 use summaries::IndexStore;
-use tape_core::Tape;
+use tape_core::{Entry, Tape};
 use tape_types::Participant;
 
 /// How many seats are the participant's.
@@ -36,16 +37,15 @@ pub(crate) fn is_one_each<D: DayName>(participants: &[Participant], seats: &[Lin
     true
 }
 
-/// What the participant's first seat was told, nothing where it has none.
-fn told_by<D: DayName>(seats: &[LineSeat<D>], who: Participant) -> &[Told]
-    ensures { result.now ≡ told_by who seats.now }
+/// Compares what the seats were told with the tape's entries, which are gone over once for all participants.
+fn compare<'a, D: DayName>(seats: &'a [LineSeat<D>], entries: &[Entry]) -> Cursors<'a>
+    ensures { AllStandAt result.row seats.now entries.now }
 {
-    for seat in seats {
-        if seat.participant() == who {
-            return seat.told();
-        }
+    let mut cursors = Cursors::new(seats);
+    for entry in entries {
+        cursors.pass(entry);
     }
-    &[]
+    cursors
 }
 
 /// The first participant, in listing order, whose seat was not told what the tape has, with the first position where.
@@ -58,8 +58,9 @@ pub(crate) fn find_disagreement<D: DayName>(
         (λ found. DisagreesAt listed tape.now.entries seats.now found.0 found.1) }
 {
     let participants = tape.listing().participants().as_slice();
+    let cursors = compare(seats, tape.entries());
     for who in participants {
-        if let Some(at) = first_difference(told_by(seats, *who), tape.entries(), *who) {
+        if let Some(at) = cursors.difference(*who) {
             return Some((*who, at));
         }
     }

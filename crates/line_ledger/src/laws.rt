@@ -13,6 +13,7 @@ ghost use Rattle.line_ledger.specs.Ends.{told_entry, told_of, whos, DiffersFirst
 ghost use Rattle.line_ledger.specs.Seats.{SeatState};
 
 use crate::Told;
+use crate::cursor::Cursor;
 use tape_core::Entry;
 use tape_types::Participant;
 
@@ -21,31 +22,13 @@ use tape_types::Participant;
 pub fn first_difference(told: &[Told], entries: &[Entry], who: Participant) -> Option<usize>
     ensures first { MatchOption result (told.now ≡ told_of who entries.now) (DiffersFirst told.now (told_of who entries.now)) }
 {
-    let mut at = 0;
+    let mut cursor = Cursor::new(told);
     for entry in entries {
-        if entry.message.header().participant != who {
-            continue;
+        if entry.message.header().participant == who {
+            cursor = cursor.pass(entry);
         }
-        if !tells(told, at, entry) {
-            return Some(at);
-        }
-        at += 1;
     }
-    if at == told.len() { None } else { Some(at) }
-}
-
-/// Whether this entry was told here.
-fn tells(told: &[Told], at: usize, entry: &Entry) -> bool
-    ensures { IsTrue result ↔ (slice_get told.now at ≡ Some (told_entry entry.now)) }
-{
-    at < told.len() && is_told(&told[at], entry)
-}
-
-/// Whether the entry is the one that was told.
-fn is_told(told: &Told, entry: &Entry) -> bool
-    ensures { IsTrue result ↔ (told.now ≡ told_entry entry.now) }
-{
-    told.number == entry.number && told.message == entry.message
+    cursor.difference()
 }
 
 /// Where there is exactly one seat of each participant, that stays so, whatever the seats are told.

@@ -3,6 +3,7 @@
 #![tactic(auto)]
 
 mod cell_row;
+mod cursor;
 mod day;
 mod end_fault;
 mod ends;

@@ -169,7 +169,7 @@ impl<D: DayName> SharedTape<D> {
     /// Ends the day, with the seats in any order. Where there is not exactly one seat of each participant it is 91 MissingSeat:
     /// shared tape and seats are handed back, and the tape stays open. Else the tape is closed and the seats are spent, and
     /// it is 92 Disagrees where a seat was not told what the tape has of its participant. It waits for nobody: the owner of the
-    /// shared tape has joined every thread that borrowed it. It goes over the tape once for each participant, and once over the
+    /// shared tape has joined every thread that borrowed it. It goes over the tape once for all participants, and once over the
     /// cells.
     pub fn end(self, seats: Vec<LineSeat<D>>) -> Result<Day, EndFault<D>>
         ensures ok { IfOk result (λ day. IsEnd D.terms seats.items day.tape) }
