@@ -27,8 +27,11 @@ const OTHER_SESSION: [u8; 14] = [0, 0, 0, 0, 0, 0, 0, 8, 0, 0, 0, 1, 0, 1];
 
 const IS_OTHER_SESSION: u8 = 71;
 
-/// How many turns of a hundredth of a second the day may take.
-const TURNS_MOST: u32 = 1_000;
+/// How many turns of a hundredth of a second the day may take: some ten seconds less than a test may.
+const TURNS_MOST: u32 = 5_000;
+
+/// How many turns of a millisecond a packet may take to go on its way: as long as the day.
+const PACKET_TURNS_MOST: u32 = 50_000;
 
 /// A report of 100 shares of AB at 10.00.
 const REPORT: [u8; 40] = [
@@ -143,7 +146,7 @@ fn send_line<R: Net<Listener = TcpListener, Stream = TcpStream>>(
 
 /// Waits until so many packets went on their way, and whether they did.
 fn is_reached<R: Clock>(rt: &R, packets: &AtomicU32, wanted: u32) -> bool {
-    for _ in 0..TURNS_MOST {
+    for _ in 0..PACKET_TURNS_MOST {
         if packets.load(Ordering::SeqCst) >= wanted {
             return true;
         }
@@ -325,18 +328,26 @@ fn send_lines<R: Threads + Clock + Net<Listener = TcpListener, Stream = TcpStrea
     first && second
 }
 
-/// Whether all was sent, and the connection of its own answered. A follower that is not awaited has a while to come first.
+/// Whether all was sent, and the connection of its own answered.
 pub fn send_all<R: Threads + Clock + Net<Listener = TcpListener, Stream = TcpStream> + Sync>(
     rt: &R,
     ports: [u16; 2],
     asked_at: u16,
     plan: &Plan<'_>,
 ) -> bool {
-    thread::sleep(rt, Duration::from_millis(200));
     send_lines(rt, ports, plan) && (!plan.is_asked || is_answered(rt, asked_at))
 }
 
-/// Plays a day in one process, and fails where it does not end in its turns.
+/// Another handle of a listener. Where there is none the test stops.
+fn handle_of<R: Abort>(rt: &R, listener: &TcpListener) -> TcpListener {
+    match listener.try_clone() {
+        Ok(handle) => handle,
+        Err(_) => panic!(rt; "no other handle of a listener"),
+    }
+}
+
+/// Plays a day in one process, and fails where it does not end in its turns. The listener of the retransmission is held until then, so that a
+/// follower which the day does not await is not refused, however late it comes; what the lines brought waits for it in its sockets.
 pub fn play<
     R: Abort + Threads + Wait + Clock + Net<Listener = TcpListener, Stream = TcpStream> + Sync,
     L: Loss + Sync,
@@ -347,6 +358,7 @@ pub fn play<
         ports,
     } = open_all(rt, alloc);
     let asked_at = follow.retransmission;
+    let held = handle_of(rt, &live.retransmission);
     let listings = (listing_of_two(rt, alloc), listing_of_two(rt, alloc));
     let (mut written, mut followed) = (Vec::new(alloc), Vec::new(alloc));
     let texts = (&mut written, &mut followed);
@@ -364,6 +376,7 @@ pub fn play<
             all
         },
     );
+    drop(held);
     Played {
         is_sent,
         statuses,

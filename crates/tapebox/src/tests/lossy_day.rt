@@ -2,9 +2,11 @@
 //! equal.
 
 use super::day::{Lossy, Plan, Played, STRAIGHT, play};
-use crate::NoLoss;
+use crate::{Loss, NoLoss};
+use arbitration::Line;
 use sale_matrix::Matrix;
 use std::process::Abort;
+use std::sync::atomic::{AtomicU32, Ordering};
 
 /// The beginning of each report, whose first symbol has none.
 const FIRST_ROWS: &[u8] = b"\
@@ -17,6 +19,53 @@ const EMPTY_DAY: &[u8] = b"\
 symbol,who,open,open_at,high,high_at,low,low_at,last,last_at,volume,trades\n\
 CD,ALL,,,,,,,,,0,0\n\
 AB,ALL,,,,,,,,,0,0\n";
+
+/// Loses as `Lossy` does, and counts how many packets went by each line, and how many by neither.
+#[derive(Drop)]
+struct Counted {
+    /// The packets that line B, the second one, was asked about.
+    packets: AtomicU32,
+    by_a: AtomicU32,
+    by_b: AtomicU32,
+    by_neither: AtomicU32,
+}
+
+impl Counted {
+    /// None went by yet.
+    fn none() -> Counted {
+        Counted {
+            packets: AtomicU32::new(0),
+            by_a: AtomicU32::new(0),
+            by_b: AtomicU32::new(0),
+            by_neither: AtomicU32::new(0),
+        }
+    }
+
+    /// How many went by A, by B and by neither.
+    fn counts(&self) -> (u32, u32, u32) {
+        (
+            self.by_a.load(Ordering::SeqCst),
+            self.by_b.load(Ordering::SeqCst),
+            self.by_neither.load(Ordering::SeqCst),
+        )
+    }
+}
+
+impl Loss for Counted {
+    fn drops(&self, line: Line, first: u32) -> bool {
+        let drops = Lossy.drops(line, first);
+        if line == Line::A {
+            self.by_a.fetch_add(u32::from(!drops), Ordering::SeqCst);
+            return drops;
+        }
+        let is_lost = drops && Lossy.drops(Line::A, first);
+        self.by_b.fetch_add(u32::from(!drops), Ordering::SeqCst);
+        self.by_neither
+            .fetch_add(u32::from(is_lost), Ordering::SeqCst);
+        self.packets.fetch_add(1, Ordering::SeqCst);
+        drops
+    }
+}
 
 /// Whether a report has a row that ends with this volume and these trades.
 fn has_row(report: &[u8], end: &[u8; 9]) -> bool {
@@ -37,17 +86,22 @@ fn assert_whole<R: Abort>(rt: &R, played: &Played) {
     assert_eq!(rt; played.written.as_slice(), played.followed.as_slice());
 }
 
+/// Each report waits for the one before, and has a packet of its own: of the 40, 20 come by line A, 10 of these by B too, and 20 by the retransmission
+/// alone.
 #[test]
 fn lossy_day(rt: HostRuntime) {
     for (matrix, code) in [(Matrix::One, b' '), (Matrix::Two, b'2')] {
+        let counted = Counted::none();
         let plan = Plan {
             matrices: [matrix, matrix],
             code,
+            pace: Some(&counted.packets),
             serves: 2,
             restart_after: Some(5),
             ..STRAIGHT
         };
-        assert_whole(&rt, &play(&rt, rt.alloc(), &plan, &Lossy));
+        assert_whole(&rt, &play(&rt, rt.alloc(), &plan, &counted));
+        assert!(rt; counted.counts() == (20, 10, 20));
     }
 }
 
