@@ -16,7 +16,7 @@ from pathlib import Path
 
 from preloaded import CALL_FAILED, failing
 from support import DISAGREES, HOST, LIMIT, READ_FAULT, SAMPLES, TAPEBOX, WRITE_FAULT, Case, Ended
-from support import connect, ended, ports, report, reports, run, started, tried, wait_bound, wait_connected, wait_read
+from support import connect, ended, ports, report, reports, run, started, tried, wait_bound, wait_connected, wait_for, wait_read
 
 SESSION = 7
 LOSSY_DAY = Path(__file__).resolve().with_name("lossy_day.sh")
@@ -247,6 +247,24 @@ class Counting(threading.Thread):
             back.join()
 
 
+class Tails(Case):
+    def test_what_was_lost_last(self):
+        """PROFILE, "A running day": what both lines lost last is asked for once a beat tells of it, while the day goes on."""
+        line, a, b, retransmission, counted = ports(5)
+        counting = Counting(counted, retransmission)
+        counting.start()
+        failed = failing(("sendto", 1, 2, errno.ENOBUFS))
+        with started(["live", "AB", "N", line, a, b, retransmission, 1, SESSION], env=failed) as live, connect(line) as participant:
+            with started(["follow", "AB", "N", a, b, counted, SESSION]) as follow:
+                wait_bound(follow, a, b)
+                participant.sendall(report("N", 1))
+                wait_for(follow, "a request", lambda: counting.asked == 1)
+                participant.close()
+                ends = [ended(live), ended(follow)]
+        self.assertEqual([(end.status, end.said) for end in ends], [(0, 2 * CALL_FAILED), (0, b"")])
+        self.assertIn(row_of(1), ends[1].written)
+
+
 class LateDays(Case):
     """Days at full speed through the relay, whose line B is late, or dead."""
 
@@ -345,7 +363,8 @@ class HeldUp(Case):
                 self.assert_equal_reports(live, follow)
 
     def test_stopped_beyond_the_third_end(self):
-        """PROFILE, "What becomes of a peer that misbehaves": a follower that is stopped until the three ends have gone gets a later one."""
+        """PROFILE, "What becomes of a peer that misbehaves": a follower that is stopped for five seconds, in which the three ends went, gets
+        a later one."""
         line, a, b, retransmission = ports(4)
         with started(["live", "AB", "N", line, a, b, retransmission, 1, SESSION]) as live, connect(line) as participant:
             with started(["follow", "AB", "N", a, b, retransmission, SESSION]) as follow:
@@ -354,7 +373,7 @@ class HeldUp(Case):
                 follow.send_signal(signal.SIGSTOP)
                 participant.sendall(reports("N", self.REPORTS))
                 participant.close()
-                time.sleep(2.5)
+                time.sleep(5)
                 follow.send_signal(signal.SIGCONT)
                 self.assert_equal_reports(live, follow)
 
@@ -420,7 +439,7 @@ class Gone(Case):
             with self.subTest(serves), self.day(serves) as (live, follow, _):
                 time.sleep(0.5)
                 live.kill()
-                self.assert_fault(ended(follow, self.QUIET), READ_FAULT)
+                self.assert_fault(ended(follow, 2 * self.QUIET), READ_FAULT)
 
     def test_quiet(self):
         """PROFILE, "A running day": a day that is only quiet is waited for, whether the follower's connection was accepted yet or not."""

@@ -1,10 +1,11 @@
 #!/usr/bin/env python3
 """Measures `tapebox live` and `tapebox follow` on this machine: a busy day over 15 participants' lines to followers, one unless told otherwise.
 
-    bench/live_load.py [--messages N] [--seed N] [--lose P] [--followers N] [--tapebox PROGRAM] [--no-build]
+    bench/live_load.py [--messages N] [--seed N] [--lose P] [--late] [--followers N] [--tapebox PROGRAM] [--no-build]
 
 The day is that of `make_day busy`, without the lines that no participant's line can bring (an odd digit, a letter that is not
-listed), up to N messages. It runs straight and through .ci/lossy_relay.py with P percent lost on each line. Prints for
+listed), up to N messages. It runs straight and through .ci/lossy_relay.py with P percent lost on each line; with --late in place of these
+through the relay with line B in time, late or dead, each without a loss and with one in a hundred packets of a line lost. Prints for
 each run the seconds from the first byte sent to the end of `follow`, the messages a second, how many entries the answers of the
 retransmission had, and whether both reports are equal; and first how long `tapebox batch` takes over the same messages, and how long
 their packets take over two ports without a tape, by `wire`, at several paces. Each run's seconds are also told as a multiple of the
@@ -38,6 +39,17 @@ BINDING_SECONDS = 10
 REQUEST_BYTES = 14
 # Where a data packet has its number of entries.
 COUNT_AT = 14
+# What the relay does to line B, and what of it is lost besides.
+LATE = [
+    ("B in time", ["--late", "0"]),
+    ("B 20 ms late", ["--late", "0,20"]),
+    ("B 200 ms late", ["--late", "0,200"]),
+    ("B dead", ["--lose", "0,100"]),
+    ("B in time, 1 % lost", ["--lose", "1"]),
+    ("B 20 ms late, 1 % lost", ["--late", "0,20", "--lose", "1"]),
+    ("B 200 ms late, 1 % lost", ["--late", "0,200", "--lose", "1"]),
+    ("B dead, 1 % lost", ["--lose", "1,100"]),
+]
 # After how many packets `wire` rests, and for how many milliseconds; and without a rest.
 PACES = (("16", "1"), ("64", "1"), ("128", "1"), ("256", "1"), ())
 
@@ -147,23 +159,24 @@ class Programs:
             program.kill()
 
 
-def live_run(words, symbols, own, lose):
-    """Runs the day once; answers the seconds, the counted retransmissions and the reports' files, or ends with the reason."""
+def live_run(words, symbols, own, options):
+    """Runs the day once, through the relay where there are options for it or several followers; answers the seconds, the counted retransmissions
+    and the reports' files, or ends with the reason."""
     many = words.followers
     port = free_ports(len(own) + 3 + 3 * many)
     retransmission, sent_a, sent_b, *ports = range(port + len(own), port + len(own) + 3 + 3 * many)
     asked, lines = ports[:many], ports[many:]
     names = [",".join(symbols), ",".join(own)]
     reports = [DAYS / f"live.{program}" for program in ("live", *(f"follow{at}" for at in range(many)))]
-    is_relayed = lose or many > 1
+    is_relayed = options or many > 1
     with contextlib.ExitStack() as ending:
         programs = Programs(ending)
         ways = (sent_a, sent_b) if is_relayed else lines
         live = programs.start(reports[0], words.tapebox, "live", *names, port, *ways, retransmission, many, SESSION)
         wait_bound(live, "tcp", retransmission)
         if is_relayed:
-            lossy = [TOOLS / "lossy_relay.py", "--lose", lose or "0", "--seed", words.seed, sent_a, sent_b, *lines]
-            relay = programs.start(DAYS / "live.relay", sys.executable, *lossy)
+            relaying = [TOOLS / "lossy_relay.py", *options, "--seed", words.seed, sent_a, sent_b, *lines]
+            relay = programs.start(DAYS / "live.relay", sys.executable, *relaying)
             wait_bound(relay, "udp", sent_a, sent_b)
         counted = [Retransmission(own_port, retransmission) for own_port in asked]
         follows = []
@@ -212,6 +225,7 @@ def arguments():
     parser.add_argument("--seed", type=int, default=1, help="the day's seed, and the losses' (1)")
     parser.add_argument("--followers", type=int, default=1, help="how many followers there are, more than one behind the relay (1)")
     parser.add_argument("--lose", default="10", help="the percentage lost on each line (10)")
+    parser.add_argument("--late", action="store_true", help="line B late or dead, in place of the other runs")
     parser.add_argument("--tapebox", type=Path, default=ROOT / "crates" / "tapebox" / "out" / "tapebox", help="the program")
     parser.add_argument("--no-build", action="store_true", help="take the maker of days that is there")
     words = parser.parse_args()
@@ -235,8 +249,9 @@ def main():
     wired = wire_seconds(day)
     wanted = figures((DAYS / "live.batch").read_text())
     right = True
-    for name, lose in (("straight", None), (f"{words.lose} % lost on each line", words.lose)):
-        seconds, counted, reports = live_run(words, symbols, own, lose)
+    runs = LATE if words.late else [("straight", []), (f"{words.lose} % lost on each line", ["--lose", words.lose])]
+    for name, options in runs:
+        seconds, counted, reports = live_run(words, symbols, own, options)
         live, *follows = (report.read_text() for report in reports)
         equal, agrees = all(live == follow for follow in follows), figures(live) == wanted
         entries, requests = (" and ".join(f"{getattr(each, what):,}" for each in counted) for what in ("entries", "requests"))
