@@ -3,8 +3,11 @@
 
 Each crate's public definitions are listed by file, with the comment over each; lemmas are left out. The order is that of `crates.txt`,
 of each `specs/Lib.antt`, and of the files.
+
+Statuses: 0 if the page is written; 2 if there are words.
 """
 
+import argparse
 import re
 import textwrap
 from pathlib import Path
@@ -52,6 +55,7 @@ def written():
 
 
 def main():
+    argparse.ArgumentParser(description=__doc__, formatter_class=argparse.RawDescriptionHelpFormatter).parse_args()
     by_hand, marker, _ = PAGE.read_text(encoding="utf-8").partition(MARKER)
     PAGE.write_text(by_hand + (marker or MARKER) + written(), encoding="utf-8")
 

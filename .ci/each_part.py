@@ -5,8 +5,11 @@ A shared edit breaks several functions, and is refused once one of them is. Its 
 '# part: NAME', become edits of their own here, so a part that a contract lets through is reported as NOT REFUSED. It is not a
 step of the gate: run it when a contract of such a function changes. Each crate is first checked whole, unless `rt check` has left
 its work in the repository; after that a part takes 10 to 60 seconds.
+
+Statuses: 0 if each part is refused; 1 if one is not; 2 if the words are others, as a crate that has no must-fail edits.
 """
 
+import argparse
 import pathlib
 import re
 import shutil
@@ -32,12 +35,13 @@ def keep_parts(edits):
     return len(parts)
 
 
-def main(names):
-    if not names:
-        sys.exit(__doc__)
+def main():
+    parser = argparse.ArgumentParser(description=__doc__, formatter_class=argparse.RawDescriptionHelpFormatter)
+    parser.add_argument("names", nargs="+", metavar="NAME", help="a crate")
+    names = list(dict.fromkeys(parser.parse_args().names))
     for name in names:
         if not (ROOT / "crates" / name / "must-fail").is_dir():
-            sys.exit(f"each_part.py: no crate {name} has must-fail edits")
+            parser.error(f"{ROOT / 'crates' / name / 'must-fail'}: there are no must-fail edits")
     with tempfile.TemporaryDirectory() as room:
         copy = pathlib.Path(room) / "copy"
         # With what was proved and built here, so that it need not be done again.
@@ -48,4 +52,4 @@ def main(names):
 
 
 if __name__ == "__main__":
-    sys.exit(main(list(dict.fromkeys(sys.argv[1:]))))
+    sys.exit(main())

@@ -2,8 +2,11 @@
 """Prints the first of COUNT ports in a row that are free on 127.0.0.1 for TCP and for UDP: free_ports.py COUNT
 
 They are looked for at random, below the ports that Linux gives to outgoing connections. Nothing keeps them free afterwards.
+
+Statuses: 0 if it is printed; 1 if there are none; 2 if the words are others.
 """
 
+import argparse
 import random
 import socket
 import sys
@@ -29,13 +32,16 @@ def free_ports(count):
         first = random.randint(LEAST, MOST - count)
         if all(is_free(port) for port in range(first, first + count)):
             return first
-    sys.exit(f"no {count} ports in a row are free")
+    sys.exit(f"free_ports.py: no {count} ports in a row are free")
 
 
 def main():
-    if len(sys.argv) != 2 or not sys.argv[1].isdecimal() or not 1 <= int(sys.argv[1]) <= MOST - LEAST:
-        sys.exit("usage: free_ports.py COUNT")
-    print(free_ports(int(sys.argv[1])))
+    parser = argparse.ArgumentParser(description=__doc__, formatter_class=argparse.RawDescriptionHelpFormatter)
+    parser.add_argument("count", type=int, metavar="COUNT")
+    count = parser.parse_args().count
+    if not 1 <= count <= MOST - LEAST:
+        parser.error(f"COUNT is 1 to {MOST - LEAST}")
+    print(free_ports(count))
 
 
 if __name__ == "__main__":

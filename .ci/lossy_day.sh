@@ -1,20 +1,29 @@
 #!/bin/sh
-# A day over sockets: lossy_day.sh [TABLE.csv]
-#
-# Starts `tapebox live`, a relay that loses, doubles and reorders packets and injects bytes that are no packet, and `tapebox follow`
-# behind it, sends the table's messages (without an argument, those of samples/corrections.csv), and compares the two reports byte for
-# byte. Prints the report once, and on standard error what the relay did. If anything fails, the reports differ or the time is
-# up, the status is 1 and the reason stands on standard error. Needs python3 and Linux, whose /proc/net tells which ports are bound.
-#
-#     TAPEBOX   the program (../crates/tapebox/out/tapebox, from here)
-#     FOLLOWED  1, or 0 for a day that nobody follows: `live` awaits no retransmission, and its report alone is printed (1)
-#     LOSE      the percentage of packets that is lost: of both lines, or as 100,10 of each (30)
-#     SEED      what the relay draws from (9, which loses the third packet of a line on both)
-#     PAUSE     seconds of rest after each message, so that each has a packet of its own (0.002)
-#     LIMIT     seconds until the day must have ended (60)
-
 tools=$(cd "$(dirname "$0")" && pwd) || exit 1
 samples=$tools/../samples
+
+help() {
+    cat << 'END'
+A day over sockets: lossy_day.sh [TABLE.csv]
+
+Starts `tapebox live`, a relay that loses, doubles and reorders packets and injects bytes that are no packet, and `tapebox follow`
+behind it, sends the table's messages (without an argument, those of samples/corrections.csv), and compares the two reports byte for
+byte. Prints the report once, and on standard error what the relay did. Needs python3 and Linux, whose /proc/net tells which ports
+are bound.
+
+    TAPEBOX   the program (../crates/tapebox/out/tapebox, from here)
+    FOLLOWED  1, or 0 for a day that nobody follows: `live` awaits no retransmission, and its report alone is printed (1)
+    LOSE      the percentage of packets that is lost: of both lines, or as 100,10 of each (30)
+    SEED      what the relay draws from (9, which loses the third packet of a line on both)
+    PAUSE     seconds of rest after each message, so that each has a packet of its own (0.002)
+    LIMIT     seconds until the day must have ended (60)
+
+Statuses: 0 if the reports are the same; 1 if anything fails, they differ or the time is up; 2 if the words are others.
+END
+}
+
+case ${1-} in -h | --help) help; exit ;; esac
+[ $# -le 1 ] || { echo "usage: lossy_day.sh [TABLE.csv]" >&2; exit 2; }
 table=${1:-$samples/corrections.csv}
 tapebox=${TAPEBOX:-$samples/../crates/tapebox/out/tapebox}
 followed=${FOLLOWED:-1}
@@ -94,7 +103,7 @@ ended() {
 
 [ -x "$tapebox" ] || fail "there is no program $tapebox"
 [ -r /proc/net/udp ] || fail "there is no /proc/net/udp"
-names=$("$samples/send_day.py" --names "$table") || fail "$table is no day"
+names=$("$samples/send_day.py" --names "$table") || exit 1
 symbols=$(echo "$names" | sed -n 1p)
 participants=$(echo "$names" | sed -n 2p)
 lines=$(echo "$participants" | tr ',' '\n' | wc -l)

@@ -13,6 +13,8 @@ nothing on a line that loses all. Of a line that is late, `--late 0,20` for B, e
 End packets are neither held back nor doubled, and go on unless all of their line is lost: a follower that misses every end waits forever, so both
 lines together can't lose everything. Runs until it is told to end (SIGTERM or SIGINT), and then prints what became of each
 line's packets.
+
+Statuses: 0 if it is told to end; 1 if a port can't be had; 2 if the words are others.
 """
 
 import argparse
@@ -197,7 +199,7 @@ def port(text):
 
 
 def arguments():
-    parser = argparse.ArgumentParser(description="Loses, doubles, reorders and garbles packets of the lines A and B.")
+    parser = argparse.ArgumentParser(description=__doc__, formatter_class=argparse.RawDescriptionHelpFormatter)
     for part in ("lose", "double", "reorder", "garble"):
         parser.add_argument(f"--{part}", type=percentages, default=(0, 0), metavar="P[,P]", help="percentage, or of A and B (0)")
     parser.add_argument("--late", type=milliseconds, default=(0, 0), metavar="MS[,MS]", help="milliseconds, or of A and B (0)")

@@ -1,7 +1,7 @@
 #!/usr/bin/env python3
-"""Turns a readable day into an input of `tapebox batch`: encode_day.py [FILE.csv] > day.txt
+"""Turns a readable day into an input of `tapebox batch`: encode_day.py [TABLE.csv] > day.txt
 
-The table has a header row with these columns, in any order; `kind` and `target` may be left out of a table of reports.
+Without a file it reads standard input. The table has a header row with these columns, in any order; `kind` and `target` may be left out of a table of reports.
 
     kind         report, cancel, correct or reinstate (or R, X, C, S, as the messages have it)
     participant  one letter, A to Z
@@ -13,13 +13,17 @@ The table has a header row with these columns, in any order; `kind` and `target`
     condition    four codes of the sale condition matrices, _ for a blank, as @_Z_; empty where the price is
 
 Every moment is 0. The two header lines have the symbols and the participants in the order of their appearance. Rows
-that the tape refuses, as a target that no report has, are encoded too. The first bad row ends the program with status 1
-and `line N: ..` on standard error, and nothing is written.
+that the tape refuses, as a target that no report has, are encoded too.
+
+Statuses: 0 if all was written; 1 if the table can't be read, or at its first bad row, whose line is named, and then nothing is
+written; 2 if the words are others.
 """
 
+import argparse
 import csv
 import re
 import sys
+from pathlib import Path
 
 KINDS = {"report": "R", "cancel": "X", "correct": "C", "reinstate": "S", "R": "R", "X": "X", "C": "C", "S": "S"}
 COLUMNS = ["participant", "number", "symbol", "price", "size", "condition"]
@@ -113,21 +117,30 @@ def encode(table):
     return "\n".join([" ".join(symbols), " ".join(participants), *lines, ""])
 
 
-def main():
-    if len(sys.argv) > 2:
-        sys.exit("usage: encode_day.py [FILE.csv] > day.txt")
-    source = sys.argv[1] if len(sys.argv) == 2 else 0
+def read_table(path, read):
+    """What `read` makes of the rows of a table, or of standard input without a path. Says which file or line is at fault, and ends the script."""
+    script = Path(sys.argv[0]).name
     try:
-        file = open(source, newline="", encoding="utf-8-sig", errors="replace")
+        file = open(path or 0, newline="", encoding="utf-8-sig", errors="replace")
     except OSError as fault:
-        sys.exit(f"encode_day.py: {fault}")
+        sys.exit(f"{script}: {path}: {fault.strerror}")
     with file:
         table = csv.reader(file)
         try:
-            text = encode(table)
+            return read(table)
         except (BadRow, csv.Error) as fault:
-            sys.exit(f"line {max(table.line_num, 1)}: {fault}")
-    sys.stdout.write(text)
+            sys.exit(f"{script}: {path or 'standard input'}, line {max(table.line_num, 1)}: {fault}")
+
+
+def parser_of(about):
+    """The reader of a script's words, whose help is what its file says of it."""
+    return argparse.ArgumentParser(description=about, formatter_class=argparse.RawDescriptionHelpFormatter)
+
+
+def main():
+    parser = parser_of(__doc__)
+    parser.add_argument("table", nargs="?", metavar="TABLE.csv")
+    sys.stdout.write(read_table(parser.parse_args().table, encode))
 
 
 if __name__ == "__main__":

@@ -4,12 +4,17 @@
 REPORT is what `tapebox` writes, with or without the answers of a batch before the report; without it standard input is read. Each
 symbol has a panel with a row for its consolidated figures and one for each participant: a bar from the low to the high, a ring at the
 open, a dot at the last, and the volume as a bar of its own. The first line counts the answers, refused ones by their names.
+
+Statuses: 0 if the picture was written; 1 if the report can't be read or there is none in what was read, and then nothing is written; 2
+if the words are others.
 """
 
 import collections
 import csv
 import sys
 from html import escape
+
+from encode_day import parser_of
 
 HEADINGS = "symbol,who,open,open_at,high,high_at,low,low_at,last,last_at,volume,trades"
 WIDTH = 760
@@ -42,11 +47,15 @@ STYLE = """
 """
 
 
-def read(text):
-    """The answers and the rows of what the program wrote."""
-    lines = text.splitlines()
+def read(path):
+    """The answers and the rows of what the program wrote, by a file's path, or without one by standard input."""
+    try:
+        with open(path or 0, encoding="utf-8", errors="replace") as file:
+            lines = file.read().splitlines()
+    except OSError as fault:
+        sys.exit(f"plot_day.py: {path}: {fault.strerror}")
     if HEADINGS not in lines:
-        sys.exit("plot_day.py: there is no report in what was read")
+        sys.exit(f"plot_day.py: {path or 'standard input'}: there is no report in it")
     at = lines.index(HEADINGS)
     return lines[:at], list(csv.DictReader(lines[at:]))
 
@@ -133,15 +142,9 @@ def draw(answers, rows):
 
 
 def main():
-    if len(sys.argv) > 2 or sys.argv[1:2] in (["-h"], ["--help"]):
-        sys.exit(__doc__)
-    source = sys.argv[1] if len(sys.argv) == 2 else 0
-    try:
-        with open(source, encoding="utf-8", errors="replace") as file:
-            text = file.read()
-    except OSError as fault:
-        sys.exit(f"plot_day.py: {fault}")
-    sys.stdout.write(draw(*read(text)))
+    parser = parser_of(__doc__)
+    parser.add_argument("report", nargs="?", metavar="REPORT")
+    sys.stdout.write(draw(*read(parser.parse_args().report)))
 
 
 if __name__ == "__main__":

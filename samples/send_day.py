@@ -10,17 +10,17 @@ appearance, which `--names` prints after the symbols, each list on a line of its
 listed participant without a row is connected too and sends nothing, since `live` waits for each.
 
 Messages leave in the order of the rows, but participants' lines run at once: without a pause after each message the tape may
-have another order between participants. Connecting is tried for ten seconds. The first bad row ends the program with status 1
-and `line N: ..` on standard error, and nothing is sent; so does the first row whose message could not be sent.
+have another order between participants. Connecting is tried for ten seconds.
+
+Statuses: 0 if all was sent, or printed; 1 if the table can't be read, at its first bad row, and then nothing is sent, if nothing
+listens, or at the first row whose message could not be sent; 2 if the words are others.
 """
 
-import argparse
-import csv
 import socket
 import sys
 import time
 
-from encode_day import BadRow, encode
+from encode_day import encode, parser_of, read_table
 
 HOST = "127.0.0.1"
 CONNECTING_SECONDS = 10
@@ -37,16 +37,7 @@ def parse_batch(text):
 
 def read_day(path):
     """The same of a readable table."""
-    try:
-        file = open(path, newline="", encoding="utf-8-sig", errors="replace")
-    except OSError as fault:
-        sys.exit(f"send_day.py: {fault}")
-    with file:
-        table = csv.reader(file)
-        try:
-            day = parse_batch(encode(table))
-        except (BadRow, csv.Error) as fault:
-            sys.exit(f"line {max(table.line_num, 1)}: {fault}")
+    day = parse_batch(read_table(path, encode))
     if not day[-1]:
         sys.exit(f"send_day.py: {path} has no row after its first")
     return day
@@ -75,31 +66,31 @@ def connect(participants, port):
     return {letter: dial(port + position, deadline) for position, letter in enumerate(participants)}
 
 
-def send(messages, connections, pause):
-    """Sends each message on its participant's connection, and then closes all."""
+def send(path, messages, connections, pause):
+    """Sends each message of a table on its participant's connection, and then closes all."""
     for line, (letter, message) in enumerate(messages, FIRST_ROW):
         try:
             connections[letter].sendall(message)
         except OSError as fault:
-            sys.exit(f"line {line}: not sent to participant {letter}'s line: {fault}")
+            sys.exit(f"send_day.py: {path}, line {line}: not sent to participant {letter}'s line: {fault}")
         time.sleep(pause)
     for connection in connections.values():
         connection.close()
 
 
-def listed(word, messages):
-    """The letters of PARTICIPANTS, which has every row's participant."""
+def listed(word, path, messages):
+    """The letters of PARTICIPANTS, which has the participant of every row of the table."""
     participants = word.split(",")
     if len(set(participants)) != len(participants) or not all(len(letter) == 1 for letter in participants):
         sys.exit(f"send_day.py: {word!r} is no list of different letters with commas between them")
     for line, (letter, _) in enumerate(messages, FIRST_ROW):
         if letter not in participants:
-            sys.exit(f"line {line}: participant {letter!r} is not among {word}")
+            sys.exit(f"send_day.py: {path}, line {line}: participant {letter!r} is not among {word}")
     return participants
 
 
 def arguments():
-    parser = argparse.ArgumentParser(description="Sends a readable day to a running tapebox live.")
+    parser = parser_of(__doc__)
     parser.add_argument("--names", action="store_true", help="print the table's symbols and participants, and send nothing")
     parser.add_argument("--pause", type=float, default=0, metavar="SECONDS", help="rest so long after each message (0)")
     parser.add_argument("table", metavar="TABLE.csv")
@@ -120,10 +111,10 @@ def main():
         print(",".join(symbols), ",".join(participants), sep="\n")
         return
     if words.participants is not None:
-        participants = listed(words.participants, messages)
+        participants = listed(words.participants, words.table, messages)
     if not 1 <= words.port <= 65_536 - len(participants):
         parser.error(f"there are no {len(participants)} ports from {words.port} on")
-    send(messages, connect(participants, words.port), words.pause)
+    send(words.table, messages, connect(participants, words.port), words.pause)
 
 
 if __name__ == "__main__":

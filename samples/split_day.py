@@ -7,32 +7,22 @@ the order of their appearance, one a line. The parts are balanced by their rows:
 far, the symbols with the most rows first.
 
 A symbol's figures are those of one tape over the whole table, but for the places of its marks, where that one tape refuses no row.
-The first bad row ends the program with status 1 and `line N: ..` on standard error, and nothing is written; so do fewer symbols than
-parts.
+Statuses: 0 if all was written; 1 if the table can't be read or has fewer symbols than parts, or at its first bad row, and then nothing
+is written, or if the folder can't be written to; 2 if the words are others.
 """
 
-import argparse
 import collections
 import csv
 import sys
 from pathlib import Path
 
-from encode_day import BadRow, columns_of, message
+from encode_day import BadRow, columns_of, message, parser_of, read_table
 
 
-def read_rows(path):
+def read_rows(table):
     """The header row, and each row with its symbol and its participant."""
-    try:
-        file = open(path, newline="", encoding="utf-8-sig", errors="replace")
-    except OSError as fault:
-        sys.exit(f"split_day.py: {fault}")
-    with file:
-        table = csv.reader(file)
-        try:
-            columns = columns_of(next(table, []))
-            return columns, [(*names(columns, fields), fields) for fields in table]
-        except (BadRow, csv.Error) as fault:
-            sys.exit(f"line {max(table.line_num, 1)}: {fault}")
+    columns = columns_of(next(table, []))
+    return columns, [(*names(columns, fields), fields) for fields in table]
 
 
 def names(columns, fields):
@@ -56,7 +46,7 @@ def part_of_each(symbols, parts):
 
 
 def arguments():
-    parser = argparse.ArgumentParser(description="Splits a readable day by its symbols.")
+    parser = parser_of(__doc__)
     parser.add_argument("table", metavar="TABLE.csv")
     parser.add_argument("parts", type=int, metavar="N", help="how many parts")
     parser.add_argument("folder", type=Path, metavar="FOLDER", help="a folder that is there")
@@ -66,21 +56,28 @@ def arguments():
     return words
 
 
+def write_parts(folder, columns, parts, names):
+    """Writes the rows of each part, and the names of the whole table."""
+    for number, rows in enumerate(parts, 1):
+        with open(folder / f"part-{number}.csv", "w", newline="", encoding="utf-8") as file:
+            csv.writer(file, lineterminator="\n").writerows([columns, *rows])
+    for name, listed in names.items():
+        (folder / f"{name}.txt").write_text("".join(f"{each}\n" for each in listed), encoding="utf-8")
+
+
 def main():
     words = arguments()
-    columns, rows = read_rows(words.table)
+    columns, rows = read_table(words.table, read_rows)
     symbols = collections.Counter(symbol for symbol, _, _ in rows)
     participants = dict.fromkeys(participant for _, participant, _ in rows)
     if len(symbols) < words.parts:
         sys.exit(f"split_day.py: {words.table} has {len(symbols)} symbols, too few for {words.parts} parts")
     part_of = part_of_each(symbols, words.parts)
-    for part in range(words.parts):
-        with open(words.folder / f"part-{part + 1}.csv", "w", newline="", encoding="utf-8") as file:
-            written = csv.writer(file, lineterminator="\n")
-            written.writerow(columns)
-            written.writerows(fields for symbol, _, fields in rows if part_of[symbol] == part)
-    for name, listed in (("symbols", symbols), ("participants", participants)):
-        (words.folder / f"{name}.txt").write_text("".join(f"{each}\n" for each in listed))
+    parts = [[fields for symbol, _, fields in rows if part_of[symbol] == part] for part in range(words.parts)]
+    try:
+        write_parts(words.folder, columns, parts, {"symbols": symbols, "participants": participants})
+    except OSError as fault:
+        sys.exit(f"split_day.py: {fault.filename}: {fault.strerror}")
 
 
 if __name__ == "__main__":

@@ -1,0 +1,86 @@
+"""What each script says of itself, of words that it does not take, and of files at fault."""
+
+import tempfile
+from pathlib import Path
+
+from support import ROOT, SAMPLES, Case, run
+
+CI = ROOT / ".ci"
+MISSING = "no-such-file"
+# What works without words and is not to be run here: it builds, installs, writes a page or runs a day.
+WITHOUT_WORDS = {"run", "set_up", "cases.py", "definitions.py", "lossy_day.sh"}
+READS_INPUT = {"encode_day.py", "plot_day.py"}
+# Scripts that read a table, by the words after its path.
+READERS = [
+    (SAMPLES / "encode_day.py", []),
+    (SAMPLES / "split_day.py", [1, "."]),
+    (SAMPLES / "split_day.sh", [1]),
+    (SAMPLES / "send_day.py", [9_000]),
+    (CI / "lossy_day.sh", []),
+]
+
+
+def scripts():
+    """Each script of the repository that people run."""
+    folders = [ROOT, CI, SAMPLES, ROOT / "tools"]
+    files = [path for folder in folders for path in sorted(folder.iterdir()) if path.is_file()]
+    return [path for path in files if path.read_bytes()[:2] == b"#!"]
+
+
+class Scripts(Case):
+    def ran(self, script, *words, given=b""):
+        """How a script ended in an empty folder."""
+        with tempfile.TemporaryDirectory() as folder:
+            return run(words, given, program=script, cwd=folder)
+
+    def assert_names(self, ended, fault):
+        """It ended with 1, wrote nothing, and said one line: a script's name, and what is at fault first."""
+        self.assertEqual((ended.status, ended.written), (1, b""))
+        self.assertRegex(ended.said.decode(), rf"\A[a-z_]+\.py: {fault}\b[^\n]*\n\Z")
+
+    def test_help(self):
+        """Asked for help, each script that can be run says what it does and what its statuses are, and does nothing else."""
+        self.assertGreaterEqual(len(scripts()), 12)
+        for script in scripts():
+            for word in ("--help", "-h"):
+                with self.subTest(script.name, word=word):
+                    ended = self.ran(script, word)
+                    self.assertEqual((ended.status, ended.said), (0, b""))
+                    self.assertRegex(ended.written.decode(), r"[Ss]tatuses")
+                    self.assertIn(script.name, ended.written.decode())
+
+    def test_no_words(self):
+        """Without the words that it needs a script shows them and ends with 2. One that reads standard input instead says that there is nothing in it."""
+        for script in scripts():
+            if script.name in WITHOUT_WORDS and script != ROOT / "run":
+                continue
+            with self.subTest(script.name):
+                ended = self.ran(script)
+                if script.name in READS_INPUT:
+                    self.assert_names(ended, "standard input")
+                else:
+                    self.assertEqual((ended.status, ended.written), (2, b""))
+                    self.assertRegex(ended.said, rb"usage: |tapebox batch")
+
+    def test_words_beyond(self):
+        """A word that a script does not take ends it with 2, before it does anything."""
+        for script in scripts():
+            if script != ROOT / "run":
+                with self.subTest(script.name):
+                    ended = self.ran(script, *["--bogus"] * 9)
+                    self.assertEqual((ended.status, ended.written), (2, b""))
+
+    def test_missing_file(self):
+        """A file that is not there ends a script with 1, and is named."""
+        for script, more in [*READERS, (SAMPLES / "plot_day.py", [])]:
+            with self.subTest(script.name):
+                self.assert_names(self.ran(script, MISSING, *more), MISSING)
+
+    def test_bad_row(self):
+        """The first bad row of a table ends a script with 1, and the file and the row's line are named."""
+        with tempfile.NamedTemporaryFile("w", suffix=".csv") as table:
+            table.write((SAMPLES / "corrections.csv").read_text(encoding="utf-8") + "report,N,4,AB,,10.00,0,@___\n")
+            table.flush()
+            for script, more in READERS:
+                with self.subTest(script.name):
+                    self.assert_names(self.ran(script, table.name, *more), f"{table.name}, line 7: size '0' is not a number")
