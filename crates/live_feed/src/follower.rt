@@ -1,6 +1,8 @@
 //! What a follower comes to hold, which its lines and what asks for it share.
-ghost use Rattle.std.specs.Prelude.{◌≡◌, ◌≢◌, ◌↔◌, ◌≤◌, length, Err, None, Some, IfErr, IfOk, IsSome, IsSomeAnd, IsTrue, true, false};
+ghost use Rattle.std.specs.Prelude.{◌≡◌, ◌≢◌, ◌↔◌, ◌≤◌, ◌<◌, length, Err, None, Some, IfErr, IfOk, IfSome, IsSome, IsSomeAnd, IsTrue, OnOk, true, false};
 ghost use Rattle.live_feed.specs.Followers.{KeepsNames};
+ghost use Rattle.live_feed.specs.Heard.{IsBehind};
+ghost use Rattle.live_feed.specs.declared.silence.TheConstants.{SILENT_MOST};
 ghost use Rattle.live_feed.specs.Nexts.{IsNext, ahead_of, asked_of};
 ghost use Rattle.live_feed.specs.declared.follower.Next.TheVariants.{Connect, End, Read as ReadOn};
 ghost use Rattle.live_feed.specs.declared.fault.Fault.TheVariants.{Disagrees, Memory};
@@ -263,7 +265,12 @@ impl<N: Followed> Follower<N> {
 
     /// Takes what came by a line, unless the run is over, and tells what is next. That a number is waited for is told once, to
     /// whoever wakes what asks.
-    pub(crate) fn deliver(&mut self, line: Line, bytes: &[u8]) -> Next {
+    pub(crate) fn deliver(&mut self, line: Line, bytes: &[u8]) -> Next
+        ensures end { self.new.has_restarted ≡ false → IsSome self.new.over → result ≡ End }
+        ensures connect { self.new.has_restarted ≡ true → result ≡ Connect }
+        ensures rung { ¬ (result ≡ ReadOn) → self.new.is_asleep ≡ false }
+        ensures over { IsSome self.old.over → self.new.subscriber ≡ self.old.subscriber }
+    {
         if self.over.is_none() {
             let taken = self.take(line, bytes);
             self.settle(taken);
@@ -279,7 +286,10 @@ impl<N: Followed> Follower<N> {
     }
 
     /// Takes what a request brought, unless the run is over, or the subscriber that lacked it was given up meanwhile.
-    pub(crate) fn answer(&mut self, request: &Request, brought: Result<Vec<Vec<u8>>, Fault>) {
+    pub(crate) fn answer(&mut self, request: &Request, brought: Result<Vec<Vec<u8>>, Fault>)
+        ensures over { IsSome self.old.over → self.new ≡ self.old }
+        ensures given_up { self.old.has_restarted ≡ true → self.new ≡ self.old }
+    {
         if self.over.is_some() || self.has_restarted {
             return;
         }
@@ -294,6 +304,9 @@ impl<N: Followed> Follower<N> {
     /// vain where a line has not come to it.
     pub(crate) fn next_to_ask(&mut self) -> Next
         ensures asleep { IsTrue self.new.is_asleep ↔ (result ≡ ReadOn) }
+        ensures going { self.old.has_restarted ≡ false → self.old.over ≡ None → IsNext self.old.subscriber self.old.heard result }
+        ensures late_a { IfSome (asked_of result) (λ n. IsBehind n self.old.heard.a → self.new.heard.a.awaited_from ≡ n) }
+        ensures late_b { IfSome (asked_of result) (λ n. IsBehind n self.old.heard.b → self.new.heard.b.awaited_from ≡ n) }
     {
         let next = self.next();
         if let Some(number) = next.asked() {
@@ -304,7 +317,9 @@ impl<N: Followed> Follower<N> {
     }
 
     /// Takes note that this number was waited for, for a turn.
-    pub(crate) fn waited(&mut self, number: u32) {
+    pub(crate) fn waited(&mut self, number: u32)
+        ensures { self.new.heard.awaited ≡ number }
+    {
         self.heard.waited(number)
     }
 
@@ -329,7 +344,11 @@ impl<N: Followed> Follower<N> {
     }
 
     /// Takes note that the new subscriber has its connection, or ends the run by the fault that kept it from it.
-    pub(crate) fn connected(&mut self, connected: Result<(), Fault>) {
+    pub(crate) fn connected(&mut self, connected: Result<(), Fault>)
+        ensures connected { self.new.has_restarted ≡ false }
+        ensures fault { IfErr connected (λ fault. IsSome self.new.over) }
+        ensures other { OnOk connected (self.new.over ≡ self.old.over) }
+    {
         self.has_restarted = false;
         if let Err(fault) = connected {
             self.fail(fault);
@@ -337,7 +356,11 @@ impl<N: Followed> Follower<N> {
     }
 
     /// Takes note of a look at the connection, and ends the run where the day is gone.
-    pub(crate) fn looked(&mut self, is_closed: bool) {
+    pub(crate) fn looked(&mut self, is_closed: bool)
+        ensures gone { SILENT_MOST ≤ self.new.silence.looks → IsSome self.new.over }
+        ensures other { self.new.silence.looks < SILENT_MOST → self.new.over ≡ self.old.over }
+        ensures open { is_closed ≡ false → self.new.silence.looks ≡ 0 }
+    {
         if self.silence.looked(is_closed) {
             self.fail(Fault::Read);
         }
@@ -347,6 +370,7 @@ impl<N: Followed> Follower<N> {
     pub(crate) fn fail(&mut self, fault: Fault)
         ensures first { self.old.over ≡ None → self.new.over ≡ Some (Err fault) }
         ensures later { IsSome self.old.over → self.new.over ≡ self.old.over }
+        ensures rest { (self.new.has_restarted ≡ self.old.has_restarted) × (self.new.silence ≡ self.old.silence) }
     {
         if self.over.is_none() {
             self.over = Some(Err(fault));
