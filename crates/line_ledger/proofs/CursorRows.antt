@@ -1,5 +1,5 @@
 -- The row of cursors.
-use Rattle.std.proofs.Common.{◌≡◌, ◌≢◌, ℕ, zero, suc, ◌+◌, ◌<◌, ◌≤◌, ◌==◌, true, false, List, [], ◌∷◌, ◌++◌, set, replicate, slice_get, Some, None}
+use Rattle.std.proofs.Common.{◌≡◌, ◌≢◌, ℕ, zero, suc, ◌+◌, ◌==◌, true, false, List, [], ◌∷◌, ◌++◌, set, replicate, slice_get, Some, None}
 use Rattle.std.proofs.Common.{append-nil, refl, ap, subst, ◌∙◌, sym, arith}
 use Rattle.std.specs.Prelude.{IfSome, IsTrue, MatchOption, Option}
 use Rattle.std.proofs.lemmas.Bool.Decides.{nat_tests}

@@ -2,14 +2,14 @@
 use Rattle.std.proofs.Common.{◌≡◌, ◌+◌, ◌≤◌, ◌<◌, ℕ, Bool, true, false, true≢false, List, [], ◌∷◌, ◌++◌, length, take, length-append, slice_get, Some}
 use Rattle.std.proofs.Common.{ap, ◌∙◌, sym, arith}
 use Rattle.std.proofs.lemmas.List.{take-append-le}
-use Rattle.std.proofs.lemmas.Option.{slice_get_within, same_Some}
+use Rattle.std.proofs.lemmas.Option.{slice_get_within}
 use Rattle.std.proofs.Math.ListN.{length-take}
 use Rattle.std.proofs.Math.Seq.{take-append_seam}
 use Rattle.tape_frames.specs.Lemmas.Numbers.{slice_get-append-lt, slice_get-append-add}
 use Rattle.line_ledger.specs.declared.told.Told.{Told}
 use Rattle.line_ledger.specs.Ends.{DiffersFirst}
 use Rattle.line_ledger.specs.Cursors.{Compared}
-use Rattle.line_ledger.proofs.Differences.{told_more, differs_past}
+use Rattle.line_ledger.proofs.Differences.{told_more}
 
 -- lists that differ differ in more entries too
 pub on : (told entries more : List Told) (at : ℕ) → DiffersFirst told entries at → at < length entries → DiffersFirst told (entries ++ more) at

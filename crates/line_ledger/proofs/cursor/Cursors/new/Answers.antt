@@ -1,4 +1,4 @@
-use Rattle.std.proofs.Common.{rules, ◌≡◌, ◌+◌, [], ◌++◌, ◌∷◌, length, append-nil, append_assoc, refl, ap, ◌∙◌, sym, subst, arith}
+use Rattle.std.proofs.Common.{rules, ◌≡◌, ◌+◌, [], ◌++◌, ◌∷◌, append-nil, append_assoc, ap, ◌∙◌, sym, subst}
 use Rattle.tape_types.specs.Ranges.{FIRST_PARTICIPANT}
 use Rattle.line_ledger.specs.Cursors.{Compared}
 use Rattle.line_ledger.proofs.CursorRows.{none_told, one_more}
