@@ -1,13 +1,13 @@
 #!/usr/bin/env python3
 """Measures `tapebox live` and `tapebox follow` on this machine: a busy day over 15 participants' lines to followers, one unless told otherwise.
 
-    bench/live_load.py [--messages N] [--seed N] [--lose P] [--late] [--followers N] [--tapebox PROGRAM] [--no-build]
+    bench/live_load.py [--messages N] [--lines N] [--seed N] [--lose P] [--late] [--followers N] [--tapebox PROGRAM] [--no-build]
 
-The day is that of `make_day busy`, without the lines that no participant's line can bring (an odd digit, a letter that is not
-listed), up to N messages. It runs straight and through .ci/lossy_relay.py with P percent lost on each line; with --late in place of these
-through the relay with line B in time, late or dead, each without a loss and with one in a hundred packets of a line lost. Prints for
-each run the seconds from the first byte sent to the end of `follow`, the messages a second, how many entries the answers of the
-retransmission had, and whether both reports are equal; and first how long `tapebox batch` takes over the same messages, and how long
+The day is that of `make_day busy`, or of `busy4` and so on for another number of lines, without the lines that no participant's line can
+bring (an odd digit, a letter that is not listed), up to N messages. It runs straight and through .ci/lossy_relay.py with P percent lost on each
+line; with --late in place of these through the relay with line B in time, late or dead, each without a loss and with one in a hundred packets of
+a line lost. Prints for each run the seconds from the first byte sent to the end of `follow`, the messages a second, how many entries the answers
+of the retransmission had, and whether both reports are equal; and first how long `tapebox batch` takes over the same messages, and how long
 their packets take over two ports without a tape, by `wire`, at several paces. Each run's seconds are also told as a multiple of the
 batch's, and of the least of `wire` that lost no entry. Which participant comes first differs from run to run, but volumes and numbers of
 trades don't, so these are compared with the batch's.
@@ -39,6 +39,8 @@ BINDING_SECONDS = 10
 REQUEST_BYTES = 14
 # Where a data packet has its number of entries.
 COUNT_AT = 14
+# The busy day of so many participants.
+LINES = {1: "busy1", 2: "busy2", 4: "busy4", 8: "busy8", 15: "busy", 26: "busy26"}
 # What the relay does to line B, and what of it is lost besides.
 LATE = [
     ("B in time", ["--late", "0"]),
@@ -54,9 +56,9 @@ LATE = [
 PACES = (("16", "1"), ("64", "1"), ("128", "1"), ("256", "1"), ())
 
 
-def busy_day(messages, seed):
+def busy_day(participants, messages, seed):
     """The file of the day's batch, its symbols, and the messages of each participant."""
-    lines = make("busy", seed).read_text().splitlines()
+    lines = make(LINES[participants], seed).read_text().splitlines()
     listed = set(lines[1].split())
     sendable = [line for line in lines[2:] if line[0] in listed and len(line) % 2 == 0]
     path = DAYS / "live.txt"
@@ -222,6 +224,7 @@ def figures(report):
 def arguments():
     parser = argparse.ArgumentParser(description="Measures tapebox live and follow over a busy day.")
     parser.add_argument("--messages", type=int, default=200_000, help="how many messages the day has (200000)")
+    parser.add_argument("--lines", type=int, choices=LINES, default=15, help="how many participants there are (15)")
     parser.add_argument("--seed", type=int, default=1, help="the day's seed, and the losses' (1)")
     parser.add_argument("--followers", type=int, default=1, help="how many followers there are, more than one behind the relay (1)")
     parser.add_argument("--lose", default="10", help="the percentage lost on each line (10)")
@@ -238,7 +241,7 @@ def main():
     if not words.no_build:
         subprocess.run(["cargo", "build", "--release", "--offline", "--quiet"], cwd=BENCH, check=True)
     DAYS.mkdir(parents=True, exist_ok=True)
-    day, symbols, own = busy_day(words.messages, words.seed)
+    day, symbols, own = busy_day(words.lines, words.messages, words.seed)
     messages = sum(map(len, own.values()))
     print(f"{messages:,} messages of {len(own)} participants in {len(symbols)} symbols")
     status, _, seconds, _ = run(words.tapebox, ["batch"], day, DAYS / "live.batch")

@@ -3,7 +3,7 @@
 //! - `one`: one symbol and one participant, plain reports alone.
 //! - `busy`: 400 symbols and 15 participants, mixed conditions; of 200 lines 3 are cancels, 2 corrections, 2 reinstatements and 2
 //!   refused.
-//! - `busy1`, `busy2`, `busy4`, `busy8`: the same with so many participants.
+//! - `busy1`, `busy2`, `busy4`, `busy8`, `busy26`: the same with so many participants.
 //! - `hostile`: every second message cancels, corrects or reinstates a report of one busy symbol.
 //! - `stored`: 20,000 reports with mixed conditions; BYTES is not looked at.
 //! - `odd`: every second line is changed somewhere, in its text or in its message's bytes.
@@ -36,6 +36,7 @@ fn main() -> ExitCode {
         Some("busy2") => maker.busy(2),
         Some("busy4") => maker.busy(4),
         Some("busy8") => maker.busy(8),
+        Some("busy26") => maker.busy(26),
         Some("hostile") => maker.hostile(),
         Some("stored") => maker.stored(),
         Some("odd") => maker.odd(),
@@ -50,7 +51,7 @@ fn main() -> ExitCode {
 }
 
 fn usage() -> ExitCode {
-    eprintln!("usage: make_day one|busy[1|2|4|8]|hostile|stored|odd|every|wide [SEED [BYTES]]");
+    eprintln!("usage: make_day one|busy[1|2|4|8|26]|hostile|stored|odd|every|wide [SEED [BYTES]]");
     ExitCode::FAILURE
 }
 
