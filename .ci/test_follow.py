@@ -90,7 +90,9 @@ class Answers(Case):
             peer.by_a(self.BEAT)
             self.assertEqual(peer.request(), (1, 4))
             peer.connection.sendall(answer)
-            peer.connection.shutdown(socket.SHUT_WR)
+            with contextlib.suppress(OSError):
+                # It may have ended by then.
+                peer.connection.shutdown(socket.SHUT_WR)
             return ended(peer.follow)
 
     def test_answers_that_are_none(self):

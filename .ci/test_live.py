@@ -47,18 +47,35 @@ class Listeners(Case):
             seconds, parts = struct.unpack("qq", told[0][2])
             packets.append((seconds + parts / 1e9, packet))
 
-    def receive(self, lines, day):
-        """The packets of each line until the day has ended."""
-        packets = [[] for _ in lines]
-        waiting = selectors.DefaultSelector()
-        for at, line in enumerate(lines):
-            waiting.register(line, selectors.EVENT_READ, at)
-        while day.poll() is None:
-            for key, _ in waiting.select(0.05):
-                self.take(key.fileobj, packets[key.data])
+    def receive(self, lines, packets, day, is_enough=lambda packets: False):
+        """Adds the packets of each line, until these are enough or the day has ended, which it does by the limit."""
+        until = time.monotonic() + LIMIT
+        with selectors.DefaultSelector() as waiting:
+            for at, line in enumerate(lines):
+                waiting.register(line, selectors.EVENT_READ, at)
+            while day.poll() is None and not is_enough(packets):
+                self.assertLess(time.monotonic(), until, "the day did not end")
+                for key, _ in waiting.select(0.05):
+                    self.take(key.fileobj, packets[key.data])
         for line, taken in zip(lines, packets):
             self.take(line, taken)
         return packets
+
+    @contextlib.contextmanager
+    def day(self, serves):
+        """A day of one participant that serves so many connections, and ends with status 0: its process, its participant's connection, the port of its
+        retransmission, and what hears its lines until they brought so many packets of a kind each, or until it has ended."""
+        port = free_ports(4)
+        packets = [[], []]
+        with self.open_line(port + 1) as a, self.open_line(port + 2) as b:
+            with started(["live", "AB", "N", port, port + 1, port + 2, port + 3, serves, self.SESSION]) as day, connect(port) as participant:
+                yield day, participant, port + 3, lambda *wanted: self.receive([a, b], packets, day, lambda packets: self.has_all(packets, *wanted))
+                self.assertEqual(ended(day).status, 0)
+
+    @staticmethod
+    def has_all(packets, kind=None, count=0):
+        """Whether each line brought so many packets of a kind, where one is named."""
+        return kind is not None and all(sum(packet[1:2] == kind for _, packet in taken) >= count for taken in packets)
 
 
 class SentPackets(Listeners):
@@ -107,16 +124,11 @@ class SentPackets(Listeners):
 
     def hear(self, count, serves=0, subscribe=lambda port, day: None):
         """The packets of each line of a day of so many reports. A subscriber may do something before the reports are sent."""
-        port = free_ports(4)
-        lines = [self.open_line(port + 1), self.open_line(port + 2)]
-        self.addCleanup(lambda: [line.close() for line in lines])
-        with started(["live", "AB", "N", port, port + 1, port + 2, port + 3, serves, self.SESSION]) as day:
-            with connect(port) as participant:
-                subscribe(port + 3, day)
-                participant.sendall(reports("N", count))
-            packets = self.receive(lines, day)
-            self.assertEqual(ended(day).status, 0)
-        return packets
+        with self.day(serves) as (day, participant, retransmission, hear):
+            subscribe(retransmission, day)
+            participant.sendall(reports("N", count))
+            participant.close()
+            return hear()
 
     @tried(3)
     def test_each_entry_once_and_three_ends(self):
@@ -169,31 +181,27 @@ class SentPackets(Listeners):
 
 
 class QuietDays(Listeners):
-    """Days in which nothing is sent for a while, and days that wait for a subscriber after their end."""
+    """Days of one report, in which nothing is sent for a while, and which wait for a subscriber after their end."""
 
     # Seconds after which the beats of a quiet day come, each since what was sent before it, a little less than the program waits.
     BEATS = [0.019, 0.19, 0.9, 0.9]
-
-    def listen(self, serves, act):
-        """The packets of each line of a day of one report, in which this is done between the report and the end of its line."""
-        port = free_ports(4)
-        lines = [self.open_line(port + 1), self.open_line(port + 2)]
-        self.addCleanup(lambda: [line.close() for line in lines])
-        with started(["live", "AB", "N", port, port + 1, port + 2, port + 3, serves, self.SESSION]) as day:
-            with connect(port) as participant:
-                time.sleep(0.5)
-                participant.sendall(report("N", 1))
-                act(port + 3, participant)
-            packets = self.receive(lines, day)
-            self.assertEqual(ended(day).status, 0)
-        return packets
+    # How many ends are sent though nobody is awaited, and the seconds between those after them, a little less than the program waits.
+    ENDS = 3
+    LATER_END = 0.99
 
     @tried(3)
     def test_beats(self):
         """PROFILE, "A running day": while nothing is sent, beats tell the last number, on both lines; there is none before the first entry."""
-        for taken in self.listen(0, lambda port, participant: time.sleep(sum(self.BEATS) + 0.5)):
+        with self.day(0) as (_, participant, _, hear):
+            time.sleep(0.5)
+            participant.sendall(report("N", 1))
+            hear(b"H", len(self.BEATS))
+            participant.close()
+            packets = hear()
+        for taken in packets:
             kinds = [packet[1:2] for _, packet in taken]
-            self.assertEqual(kinds, [b"D", *len(self.BEATS) * [b"H"], *3 * [b"E"]])
+            beats = len(kinds) - 1 - self.ENDS
+            self.assertEqual(kinds, [b"D", *beats * [b"H"], *self.ENDS * [b"E"]])
             for (before, _), (after, packet), pause in zip(taken, taken[1:], self.BEATS):
                 self.assertGreaterEqual(after - before, pause)
                 self.assertEqual(packet, HEADER.pack(2, b"H", self.SESSION, 1, 0))
@@ -201,20 +209,18 @@ class QuietDays(Listeners):
     @tried(3)
     def test_ends_while_a_subscriber_is_awaited(self):
         """PROFILE, "A running day": the end is sent each second until all connections have ended, also while one has yet to come."""
-        def subscribe_late(port, participant):
-            def subscribe():
-                time.sleep(3.5)
-                with connect(port):
-                    time.sleep(1)
-            participant.shutdown(socket.SHUT_WR)
-            threading.Thread(target=subscribe, daemon=True).start()
-        began = time.monotonic()
-        for taken in self.listen(1, subscribe_late):
+        with self.day(1) as (_, participant, retransmission, hear):
+            participant.sendall(report("N", 1))
+            participant.close()
+            hear(b"E", self.ENDS + 2)
+            with connect(retransmission):
+                hear(b"E", self.ENDS + 3)
+            packets = hear()
+        for taken in packets:
             ends = [at for at, packet in taken if packet[1:2] == b"E"]
-            self.assertIn(len(ends), (6, 7))
-            for before, after in zip(ends[2:], ends[3:]):
-                self.assertGreaterEqual(after - before, 0.99)
-        self.assertLess(time.monotonic() - began, 12)
+            self.assertGreaterEqual(len(ends), self.ENDS + 3)
+            for before, after in zip(ends[self.ENDS - 1 :], ends[self.ENDS :]):
+                self.assertGreaterEqual(after - before, self.LATER_END)
 
 
 class Peers(Case):
