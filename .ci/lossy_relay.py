@@ -4,11 +4,11 @@
     lossy_relay.py [--lose P] [--double P] [--reorder P] [--garble P] [--late MS] [--seed N] IN_A IN_B OUT_A OUT_B [OUT_A OUT_B ..]
 
 It takes the UDP packets that come to ports IN_A and IN_B of 127.0.0.1 and sends them on to OUT_A and OUT_B, and to each further pair of ports
-what the first pair gets. Each P is a
-percentage from 0 to 100, or one for each line: `--lose 100,10` loses all of line A and a tenth of line B. Of the packets that are
-not lost, the doubled ones are sent twice, and the reordered ones are held back until three later ones of their line went on, or
-a fiftieth of a second passed. Before a garbled one, lost or not, goes a datagram of its own that is no packet of the day, but
-nothing on a line that loses all. Of a line that is late, `--late 0,20` for B, each packet goes on so many milliseconds later. What becomes of a line's packets is drawn from the seed, the line and their order alone.
+what the first pair gets. Each P is a percentage from 0 to 100, or one for each line: `--lose 100,10` loses all of line A and a tenth of line B. Of
+the packets that are not lost, the doubled ones are sent twice, and the reordered ones are held back until three later ones of their line went on,
+or a fiftieth of a second passed. Before a garbled one, lost or not, goes a datagram of its own that is no packet of the day, but nothing on a line
+that loses all. Each packet of a line that is late, as line B with `--late 0,20`, goes on so many milliseconds later. What becomes of a line's
+packets is drawn from the seed, the line and their order alone.
 
 End packets are neither held back nor doubled, and go on unless all of their line is lost: a follower that misses every end waits forever, so both
 lines together can't lose everything. Runs until it is told to end (SIGTERM or SIGINT), and then prints what became of each

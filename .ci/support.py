@@ -2,7 +2,6 @@
 
 import contextlib
 import functools
-import os
 import re
 import socket
 import subprocess

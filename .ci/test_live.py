@@ -69,7 +69,8 @@ class Listeners(Case):
         packets = [[], []]
         with self.open_line(port + 1) as a, self.open_line(port + 2) as b:
             with started(["live", "AB", "N", port, port + 1, port + 2, port + 3, serves, self.SESSION]) as day, connect(port) as participant:
-                yield day, participant, port + 3, lambda *wanted: self.receive([a, b], packets, day, lambda packets: self.has_all(packets, *wanted))
+                hear = lambda *wanted: self.receive([a, b], packets, day, lambda packets: self.has_all(packets, *wanted))
+                yield day, participant, port + 3, hear
                 self.assertEqual(ended(day).status, 0)
 
     @staticmethod

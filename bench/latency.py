@@ -3,11 +3,11 @@
 
     bench/latency.py [--rates N,..] [--lines N,..] [--seconds S] [--turns N] [--tapebox PROGRAM] [--no-build]
 
-A plain sender puts its clock into each message's moment and sends so many messages a second over so many lines, and a plain reader of both lines takes the
-difference at the first copy of each entry (`latency`). In turns with `forward`, which sends the same packets without a tape. Prints for
-each rate and number of lines, in microseconds, the middle of the turns' p50, p90, p99 and p99.9 of either program, how many messages were lost in all
-turns, how many a second the sender sent, and then the ratios. Nobody asks for anything again. Needs cargo, Python and Linux, whose /proc/net tells
-which ports are bound.
+A plain sender puts its clock into each message's moment and sends so many messages a second over so many lines, and a plain reader of both lines
+takes the difference at the first copy of each entry (`latency`). In turns with `forward`, which sends the same packets without a tape. Prints for
+each rate and number of lines, in microseconds, the middle of the turns' p50, p90, p99 and p99.9 of either program, how many messages were lost in
+all turns, how many a second the sender sent, and then the ratios. Nobody asks for anything again. Needs cargo, Python and Linux, whose /proc/net
+tells which ports are bound.
 """
 
 import argparse
