@@ -69,12 +69,15 @@ class Listeners(Case):
         packets = [[], []]
         with self.open_line(port + 1) as a, self.open_line(port + 2) as b:
             with started(["live", "AB", "N", port, port + 1, port + 2, port + 3, serves, self.SESSION]) as day, connect(port) as participant:
-                hear = lambda *wanted: self.receive([a, b], packets, day, lambda packets: self.has_all(packets, *wanted))
+
+                def hear(kind=None, count=0):
+                    return self.receive([a, b], packets, day, lambda packets: self.has_all(packets, kind, count))
+
                 yield day, participant, port + 3, hear
                 self.assertEqual(ended(day).status, 0)
 
     @staticmethod
-    def has_all(packets, kind=None, count=0):
+    def has_all(packets, kind, count):
         """Whether each line brought so many packets of a kind, where one is named."""
         return kind is not None and all(sum(packet[1:2] == kind for _, packet in taken) >= count for taken in packets)
 
