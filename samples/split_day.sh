@@ -13,15 +13,24 @@ refused stands on standard error, unless none was. Needs python3 and parallel.
 
     TAPEBOX   the program (the proved one, as ./run has it)
     MATRIX    the matrix, 1 or 2 (1)
-    PARALLEL  options of parallel, as "--sshlogin HOST1,HOST2" for machines that have these scripts and the program in the same places
+    PARALLEL  options of parallel, as "--sshlogin HOST1,HOST2" for several machines; docs/SCALE.md says what each needs
+    PARALLEL_SSH  how they are called (ssh, which asks for no password and gives a host up that is silent for 15 seconds)
 
-Statuses: 0 if the report is printed; 1 if anything fails, and then nothing is printed; 2 if the words are others.
+Statuses: 0 if the report is printed; 1 if anything fails, which names the machine, and then nothing is printed; 2 if the words are
+others.
 END
 }
 
 fail() {
     echo "split_day.sh: $*" >&2
     exit 1
+}
+
+# Where the first part failed, by what status, and the first line that was said of it.
+why_failed() {
+    where=$(awk -F '\t' 'NR > 1 && ($7 != 0 || $8 != 0) { print "on " ($2 == ":" ? "this machine" : $2) ", status " $7; exit }' "$work/jobs")
+    words=$(sed '/^parallel: This job failed/,+1d; /^parallel: /d' "$work/said" | head -n 1 | tr -d '\r')
+    echo "$where${words:+: $words}"
 }
 
 case ${1-} in -h | --help) help; exit ;; esac
@@ -36,10 +45,11 @@ trap 'exit 1' HUP INT TERM
 "$samples/split_day.py" "$1" "$2" "$work" || exit 1
 # The second line of a batch input has the participants: each part lists all, in one order.
 participants=$(paste -s -d ' ' "$work/participants.txt")
-parallel --halt now,fail=1 --trc '{.}.out' \
+export PARALLEL_SSH="${PARALLEL_SSH:-ssh -o BatchMode=yes -o ConnectTimeout=10 -o ServerAliveInterval=5 -o ServerAliveCountMax=3}"
+parallel --halt now,fail=1 --joblog "$work/jobs" --trc '{.}.out' \
     "$samples/encode_day.py {} > {.}.txt && sed '2s/.*/$participants/' {.}.txt | $tapebox batch $matrix > {.}.out && rm {.}.txt" \
     ::: "$work"/part-*.csv > "$work/said" 2>&1 ||
-    fail "a part failed: $(cat "$work/said")"
+    fail "a part failed $(why_failed)"
 refused=$(cat "$work"/part-*.out | grep -c '^refused ')
 [ "$refused" -eq 0 ] || echo "split_day.sh: $refused messages were refused" >&2
 awk -F , '
