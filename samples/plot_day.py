@@ -1,20 +1,25 @@
 #!/usr/bin/env python3
-"""Draws the report of a day as a picture: plot_day.py [REPORT] > day.svg
+"""Draws a day as a picture: plot_day.py [REPORT] > day.svg, or plot_day.py --symbol SYMBOL [TAPE] > symbol.svg
 
 REPORT is what `tapebox` writes, with or without the answers of a batch before the report; without it standard input is read. Each
 symbol has a panel with a row for its consolidated figures and one for each participant: a bar from the low to the high, a ring at the
 open, a dot at the last, and the volume as a bar of its own. The first line counts the answers, refused ones by their names.
 
-Statuses: 0 if the picture was written; 1 if the report can't be read or there is none in what was read, and then nothing is written; 2
-if the words are others.
+TAPE is a table of the day whose column `tape` has each row's tape number, or anything else where the row was refused. The picture has
+the symbol's trades by tape number and price: a dot for each that stands, a cross for one that was cancelled, and for one that was
+corrected a ring at each price that it had, with a line to the last one. Where the table has a column `last`, a line follows it.
+
+Statuses: 0 if the picture was written; 1 if the file can't be read or has no report, or no row of the symbol, and then nothing is
+written; 2 if the words are others.
 """
 
 import collections
 import csv
 import sys
+from dataclasses import dataclass, field
 from html import escape
 
-from encode_day import parser_of
+from encode_day import BadRow, parser_of, ten_thousandths
 
 HEADINGS = "symbol,who,open,open_at,high,high_at,low,low_at,last,last_at,volume,trades"
 WIDTH = 760
@@ -26,6 +31,8 @@ ROW, HEAD, FOOT = 26, 34, 14
 # How many kinds of refusal are named.
 NAMES_MOST = 4
 TOP = 66
+# How high the picture of a tape is.
+TAPE_HEIGHT = 380
 STYLE = """
     text { font: 13px system-ui, sans-serif; fill: #333a44; }
     .title { font-size: 15px; font-weight: 600; }
@@ -45,17 +52,36 @@ STYLE = """
       .last { fill: #f0a35e; }
     }
 """
+TAPE_STYLE = """    .cancelled { fill: none; stroke: #c0392b; stroke-width: 2; }
+    .former { fill: none; stroke: #1a66c2; stroke-width: 1.5; }
+    .moved { stroke: #1a66c2; stroke-opacity: .6; }
+    .follows { fill: none; stroke: #8b94a1; }
+    @media (prefers-color-scheme: dark) {
+      .cancelled { stroke: #ff8a7a; }
+      .former, .moved { stroke: #6db1ff; }
+    }
+"""
+
+
+def fail(path, why):
+    """Says what is wrong with the file, or standard input, and ends the script."""
+    sys.exit(f"plot_day.py: {path or 'standard input'}{why}")
+
+
+def read_lines(path):
+    """The lines of a file, or without a path of standard input."""
+    try:
+        with open(path or 0, encoding="utf-8", errors="replace") as file:
+            return file.read().splitlines()
+    except OSError as fault:
+        return fail(path, f": {fault.strerror}")
 
 
 def read(path):
-    """The answers and the rows of what the program wrote, by a file's path, or without one by standard input."""
-    try:
-        with open(path or 0, encoding="utf-8", errors="replace") as file:
-            lines = file.read().splitlines()
-    except OSError as fault:
-        sys.exit(f"plot_day.py: {path}: {fault.strerror}")
+    """The answers and the rows of what the program wrote."""
+    lines = read_lines(path)
     if HEADINGS not in lines:
-        sys.exit(f"plot_day.py: {path or 'standard input'}: there is no report in it")
+        fail(path, ": there is no report in it")
     at = lines.index(HEADINGS)
     return lines[:at], list(csv.DictReader(lines[at:]))
 
@@ -137,14 +163,110 @@ def draw(answers, rows):
     for symbol, figures in symbols.items():
         panel, y = draw_panel(symbol, figures, y)
         lines += panel
-    size = f'viewBox="0 0 {WIDTH} {y}" width="{WIDTH}" height="{y}"'
-    return f'<svg xmlns="http://www.w3.org/2000/svg" {size} role="img">\n  <title>The report of a day</title>\n  <style>{STYLE}  </style>\n  ' + "\n  ".join(lines) + "\n</svg>\n"
+    return picture("The report of a day", lines, y)
+
+
+def picture(title, lines, height, style=STYLE):
+    """A whole picture of these lines."""
+    size = f'viewBox="0 0 {WIDTH} {height}" width="{WIDTH}" height="{height}"'
+    head = f'<svg xmlns="http://www.w3.org/2000/svg" {size} role="img">\n  <title>{title}</title>\n  <style>{style}  </style>\n  '
+    return head + "\n  ".join(lines) + "\n</svg>\n"
+
+
+@dataclass
+class Trade:
+    """A report: its tape number, whose it is, the prices that it had, and whether it stands."""
+
+    at: int
+    who: str
+    prices: list = field(default_factory=list)
+    stands: bool = True
+
+
+def read_tape(path, symbol):
+    """The trades of a symbol, and what was last after each row, by tape number."""
+    rows = csv.DictReader(read_lines(path))
+    missing = {"tape", "kind", "participant", "number", "symbol", "target", "price"} - {*(rows.fieldnames or [])}
+    if missing:
+        fail(path, f": no column {', '.join(sorted(missing))}")
+    trades, lasts = {}, []
+    for row in rows:
+        if row["symbol"] != symbol or not row["tape"].isdecimal():
+            continue
+        try:
+            follow(trades, row)
+            lasts += [(int(row["tape"]), ten_thousandths({"price": row["last"]}))] if row.get("last") else []
+        except (BadRow, KeyError) as fault:
+            fail(path, f", line {rows.line_num}: {fault if isinstance(fault, BadRow) else 'no such report before it'}")
+    if not trades:
+        fail(path, f": no trade of {symbol}")
+    return list(trades.values()), lasts
+
+
+def follow(trades, row):
+    """Lets an admitted row change the trades, by their participants and numbers."""
+    if row["kind"] == "report":
+        trades[row["participant"], row["number"]] = Trade(int(row["tape"]), f"{row['participant']} {row['number']}", [ten_thousandths(row)])
+        return
+    trade = trades[row["participant"], row["target"]]
+    trade.stands = row["kind"] != "cancel"
+    trade.prices += [ten_thousandths(row)] if row["kind"] == "correct" else []
+
+
+def draw_trade(trade, x, place):
+    """A trade's signs, and its words for who points at it."""
+    former, latest = trade.prices[:-1], place(trade.prices[-1])
+    yield f"<g><title>{escape(trade.who)}: {', '.join(map(dollars, trade.prices))}{'' if trade.stands else ', cancelled'}</title>"
+    for price in former:
+        yield f'<line class="moved" x1="{x:.1f}" y1="{place(price):.1f}" x2="{x:.1f}" y2="{latest:.1f}"/>'
+        yield f'<circle class="former" cx="{x:.1f}" cy="{place(price):.1f}" r="3.5"/>'
+    if trade.stands:
+        yield f'<circle class="last" cx="{x:.1f}" cy="{latest:.1f}" r="3.5"/>'
+    else:
+        yield f'<path class="cancelled" d="M{x - 4:.1f} {latest - 4:.1f}l8 8m0 -8l-8 8"/>'
+    yield "</g>"
+
+
+def tape_legend(symbol, trades):
+    """The first lines: how many trades there are of each kind, and their signs."""
+    stand, corrected = sum(trade.stands for trade in trades), sum(len(trade.prices) > 1 for trade in trades)
+    words = f"{symbol}: {len(trades):,} trades, {stand:,} stand, {len(trades) - stand:,} cancelled, {corrected:,} corrected"
+    return [
+        f'<text x="{EDGE}" y="22">{escape(words)}</text>',
+        '<circle class="last" cx="96" cy="40" r="3.5"/><text class="small" x="106" y="44">stands</text>',
+        '<path class="cancelled" d="M172 36l8 8m0 -8l-8 8"/><text class="small" x="186" y="44">cancelled</text>',
+        '<line class="moved" x1="266" y1="34" x2="266" y2="46"/><circle class="former" cx="266" cy="34" r="3.5"/>'
+        '<text class="small" x="276" y="44">price before a correction</text>',
+    ]
+
+
+def draw_tape(symbol, trades, lasts):
+    """The picture of a symbol's trades as text."""
+    prices = [price for trade in trades for price in trade.prices]
+    ends = [trade.at for trade in trades] + [at for at, _ in lasts]
+    across, place = scale(min(ends), max(ends), (LEFT, WIDTH - RIGHT)), scale(min(prices), max(prices), (TAPE_HEIGHT - 40, TOP + 10))
+    lines = tape_legend(symbol, trades)
+    for price in sorted({min(prices), (min(prices) + max(prices)) // 2, max(prices)}):
+        lines.append(f'<line class="grid" x1="{LEFT - 8}" y1="{place(price):.1f}" x2="{WIDTH - RIGHT}" y2="{place(price):.1f}"/>')
+        lines.append(f'<text class="small" x="{LEFT - 14}" y="{place(price) + 4:.1f}" text-anchor="end">{dollars(price)}</text>')
+    for at in sorted({min(ends), max(ends)}):
+        lines.append(f'<text class="small" x="{across(at):.1f}" y="{TAPE_HEIGHT - 12}" text-anchor="middle">tape {at:,}</text>')
+    steps = "".join(f"H{across(at):.1f}V{place(price):.1f}" for at, price in lasts[1:])
+    lines += [f'<path class="follows" d="M{across(lasts[0][0]):.1f} {place(lasts[0][1]):.1f}{steps}"/>'] if lasts else []
+    for trade in trades:
+        lines += draw_trade(trade, across(trade.at), place)
+    return picture(f"The trades of {escape(symbol)}", lines, TAPE_HEIGHT, STYLE + TAPE_STYLE)
 
 
 def main():
     parser = parser_of(__doc__)
-    parser.add_argument("report", nargs="?", metavar="REPORT")
-    sys.stdout.write(draw(*read(parser.parse_args().report)))
+    parser.add_argument("--symbol", metavar="SYMBOL", help="draw the trades of this symbol on a tape")
+    parser.add_argument("file", nargs="?", metavar="REPORT|TAPE")
+    words = parser.parse_args()
+    if words.symbol:
+        sys.stdout.write(draw_tape(words.symbol, *read_tape(words.file, words.symbol)))
+    else:
+        sys.stdout.write(draw(*read(words.file)))
 
 
 if __name__ == "__main__":
