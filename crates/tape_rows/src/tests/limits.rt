@@ -1,6 +1,6 @@
-//! The greatest listing, and a tape that is filled to its limit of a million entries.
+//! The greatest listing, and a tape that is filled to a limit beyond the numbers of version 1's packets.
 
-use super::steps::Kind::{Cancel, Correct, Report};
+use super::steps::Kind::{Cancel, Correct, Reinstate, Report};
 use super::steps::Step::{Consolidated, Sends};
 use super::steps::Told::{Number, Shows};
 use super::steps::{AB, Figures, Point, Step, Told, fills, indexed, participants, told_so};
@@ -8,7 +8,7 @@ use sale_matrix::Matrix;
 use std::alloc::Global;
 use summaries::IndexStore;
 use tape_core::Tape;
-use tape_types::{Listing, Symbol};
+use tape_types::{Listing, ListingFault, Symbol};
 
 const LETTERS: &[u8; 26] = b"ABCDEFGHIJKLMNOPQRSTUVWXYZ";
 
@@ -28,10 +28,20 @@ fn symbols(alloc: Global, count: usize) -> Option<Vec<Symbol>> {
     Some(symbols)
 }
 
-fn listing(alloc: Global, count: usize) -> Option<Listing> {
+/// The listing of as many symbols and of every participant, or why there is none.
+fn listed(alloc: Global, count: usize) -> Option<Result<Listing, ListingFault>> {
     let symbols = symbols(alloc, count)?;
     let participants = participants(alloc, LETTERS)?;
-    Listing::new(alloc, symbols.as_slice(), participants.as_slice()).ok()
+    Some(Listing::new(alloc, symbols.as_slice(), participants.as_slice()))
+}
+
+fn listing(alloc: Global, count: usize) -> Option<Listing> {
+    listed(alloc, count)?.ok()
+}
+
+/// Why there is no listing of so many symbols.
+fn fault_of_many(alloc: Global, count: usize) -> Option<ListingFault> {
+    listed(alloc, count)?.err()
 }
 
 /// A tape of as many symbols and of every participant, over the indexes.
@@ -61,11 +71,16 @@ fn the_greatest_listing_makes_a_tape(rt: HostRuntime) {
         sizes_of_new(rt.alloc(), 4_096, 4_095),
         Some((4_095, 4_096, 26))
     );
-    assert_eq!(rt; sizes_of_new(rt.alloc(), 4_097, 0), None);
+    let one_more = fault_of_many(rt.alloc(), 4_097);
+    assert_eq!(rt; one_more, Some(ListingFault::TooMany));
 }
 
-/// How many reports stand on the tape before its first and its last one are corrected.
-const REPORTS: u32 = 1_048_571;
+/// How many reports stand on the tape before its first and its last one are corrected. The last ones have tape numbers that no packet
+/// of version 1 has.
+const REPORTS: u32 = 1_048_580;
+
+/// The most entries of the tape: the reports, and what comes after them.
+const LIMIT: u32 = 1_048_587;
 
 /// The first report has the lowest price from now on, and the last one the highest, with two hundred shares more.
 const CORRECTED: Figures = Figures {
@@ -73,7 +88,7 @@ const CORRECTED: Figures = Figures {
     high: Some(Point(110_000, REPORTS, b'N')),
     low: Some(Point(90_000, 1, b'N')),
     last: Some(Point(110_000, REPORTS, b'N')),
-    volume: 104_857_300,
+    volume: 104_858_200,
     trades: REPORTS,
 };
 
@@ -82,34 +97,40 @@ const CANCELLED: Figures = Figures {
     opening: Some(Point(100_000, 2, b'N')),
     high: Some(Point(100_000, 2, b'N')),
     low: Some(Point(100_000, 2, b'N')),
-    last: Some(Point(100_000, 1_048_570, b'N')),
-    volume: 104_856_900,
-    trades: 1_048_569,
+    last: Some(Point(100_000, 1_048_579, b'N')),
+    volume: 104_857_800,
+    trades: 1_048_578,
 };
 
 /// What comes after the reports, up to the last place of the tape and one beyond it.
-const TO_THE_LIMIT: [(Step, Told); 8] = [
+const TO_THE_LIMIT: [(Step, Told); 11] = [
     (
-        Sends(b'N', 1_048_572, AB, Correct(1, b"@   ", 90_000, 100)),
-        Number(1_048_572),
+        Sends(b'N', 1_048_581, AB, Correct(1, b"@   ", 90_000, 100)),
+        Number(1_048_581),
     ),
     (
-        Sends(b'N', 1_048_573, AB, Correct(REPORTS, b"@   ", 110_000, 300)),
-        Number(1_048_573),
+        Sends(b'N', 1_048_582, AB, Correct(REPORTS, b"@   ", 110_000, 300)),
+        Number(1_048_582),
     ),
     (Consolidated, Shows(CORRECTED)),
-    (Sends(b'N', 1_048_574, AB, Cancel(1)), Number(1_048_574)),
+    (Sends(b'N', 1_048_583, AB, Cancel(1)), Number(1_048_583)),
     (
-        Sends(b'N', 1_048_575, AB, Cancel(REPORTS)),
-        Number(1_048_575),
+        Sends(b'N', 1_048_584, AB, Cancel(REPORTS)),
+        Number(1_048_584),
     ),
     (Consolidated, Shows(CANCELLED)),
+    (Sends(b'N', 1_048_585, AB, Reinstate(1)), Number(1_048_585)),
     (
-        Sends(b'N', 1_048_576, AB, Report(b"@   ", 100_000)),
-        Number(1_048_576),
+        Sends(b'N', 1_048_586, AB, Reinstate(REPORTS)),
+        Number(1_048_586),
+    ),
+    (Consolidated, Shows(CORRECTED)),
+    (
+        Sends(b'N', 1_048_587, AB, Report(b"@   ", 100_000)),
+        Number(LIMIT),
     ),
     (
-        Sends(b'N', 1_048_577, AB, Report(b"@   ", 100_000)),
+        Sends(b'N', 1_048_588, AB, Report(b"@   ", 100_000)),
         Number(32),
     ),
 ];
@@ -122,11 +143,11 @@ fn filled(tape: &mut Tape<IndexStore>) -> (u32, usize) {
 
 /// The same of a new tape whose limit is the last step's place.
 fn filled_anew(alloc: Global) -> Option<(u32, usize)> {
-    Some(filled(&mut indexed(alloc, 1_048_576, Matrix::One)?))
+    Some(filled(&mut indexed(alloc, LIMIT, Matrix::One)?))
 }
 
 #[test]
-fn a_full_tape_is_corrected_and_cancelled_at_both_ends(rt: HostRuntime) {
+fn a_full_tape_is_corrected_cancelled_and_reinstated_at_both_ends(rt: HostRuntime) {
     let filled = filled_anew(rt.alloc());
     assert_eq!(rt; filled, Some((REPORTS, TO_THE_LIMIT.len())));
 }
