@@ -2,8 +2,8 @@
 use Rattle.std.proofs.Common.{◌≡◌, ◌+◌, ◌∙◌, ◌∷◌, [], ℕ, zero, suc, List, Some, None, true, false, refl, ap, arith, drop}
 use Rattle.std.specs.List.{position_from}
 use Rattle.std.specs.Str.{bytes_eq}
-use Rattle.day_tables.specs.Columns.{fault_from, header_fault, is_before, is_column, place_of}
-use Rattle.day_tables.specs.declared.column_fault.ColumnFault.TheVariants.{Unknown, Repeated}
+use Rattle.day_tables.specs.Columns.{fault_from, header_fault, name_fault, place_of}
+use Rattle.day_tables.specs.declared.column_fault.ColumnFault.{ColumnFault}
 use Rattle.csv.specs.Records.{field_at}
 
 -- a field stands in front of those behind it
@@ -56,22 +56,14 @@ pub header_fault-none : (names : List (List ℕ)) (place : ℕ) → IsFaultOfRes
 unfolding fault_from
 header_fault-none names place rest absent = rest ∙ ap (fault_from names place) absent
 
--- the next name is no column's
-pub header_fault-unknown : (names : List (List ℕ)) (name : List ℕ) (place : ℕ) → IsFaultOfRest names place → field_at names place ≡ Some name
-    → is_column name ≡ false → header_fault names ≡ Some Unknown
+-- the next name is wrong
+pub header_fault-here : (names : List (List ℕ)) (name : List ℕ) (place : ℕ) (fault : ColumnFault) → IsFaultOfRest names place → field_at names place ≡ Some name
+    → name_fault names place name ≡ Some fault → header_fault names ≡ Some fault
 unfolding fault_from
-header_fault-unknown names name place rest there unknown = rest ∙ ap (fault_from names place) (drop-field names place name there) ∙ rw unknown refl
-
--- the next name stands before, too
-pub header_fault-repeated : (names : List (List ℕ)) (name : List ℕ) (place : ℕ) → IsFaultOfRest names place → field_at names place ≡ Some name
-    → is_column name ≡ true → is_before place (place_of names name) ≡ true → header_fault names ≡ Some Repeated
-unfolding fault_from
-header_fault-repeated names name place rest there known before =
-    rest ∙ ap (fault_from names place) (drop-field names place name there) ∙ rw (known, before) refl
+header_fault-here names name place fault rest there wrong = rest ∙ ap (fault_from names place) (drop-field names place name there) ∙ rw wrong refl
 
 -- nothing is wrong with the next name
 pub header_fault-on : (names : List (List ℕ)) (name : List ℕ) (place : ℕ) → IsFaultOfRest names place → field_at names place ≡ Some name
-    → is_column name ≡ true → is_before place (place_of names name) ≡ false → IsFaultOfRest names (place + 1)
+    → name_fault names place name ≡ None → IsFaultOfRest names (place + 1)
 unfolding fault_from
-header_fault-on names name place rest there known before =
-    rest ∙ ap (fault_from names place) (drop-field names place name there) ∙ rw (known, before) refl
+header_fault-on names name place rest there fine = rest ∙ ap (fault_from names place) (drop-field names place name there) ∙ rw fine refl

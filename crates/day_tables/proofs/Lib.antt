@@ -1,7 +1,10 @@
 pub mod ColumnLemmas
+pub mod CutLemmas
 pub mod NumeralLemmas
 pub mod PriceSpelling
 pub mod RoundTrip
+pub mod SpelledValues
 pub mod SpellingLemmas
 pub mod SymbolLemmas
 pub mod TableLemmas
+pub mod TextLemmas

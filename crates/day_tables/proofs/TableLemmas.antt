@@ -1,24 +1,21 @@
 -- What a reader of a table's records has read.
-use Rattle.std.proofs.Common.{◌≡◌, ◌∷◌, ◌++◌, [], ℕ, List, Option, Some, None, true, false, refl, sym, ap, IfSome, IfOk, IfErr, ◌+◌, ◌∙◌, ◌⊎◌, Ok, Err, length, inl, inr, Bool, Result, ◌==◌, if◌then◌else◌}
+use Rattle.std.proofs.Common.{◌≡◌, ◌∷◌, ◌++◌, [], ℕ, List, Option, Some, None, true, false, refl, sym, arith, IfSome, IfOk, IfErr, ◌+◌, ◌∙◌, ◌⊎◌, Ok, Err, length, inl, inr, Result, ◌==◌}
 use Rattle.std.specs.Option.{option_map}
-use Rattle.csv.specs.Machine.{Read, next_record}
+use Rattle.std.proofs.lemmas.Bool.{eqb-true}
+use Rattle.std.proofs.lemmas.List.Sums.{fold_push}
 use Rattle.csv.specs.Reading.{Reached, ReadRecord, default_config, reader_config, reader_state, source_of, strip_bom}
 use Rattle.csv.specs.declared.parser.State.TheVariants as st
 use Rattle.csv.specs.declared.reader.Reader.{Reader}
 use Rattle.csv.proofs.ReadFacts.{rows-end, rows-more}
-use Rattle.std.proofs.lemmas.List.Sums.{fold_push}
 use Rattle.reports.specs.declared.message.Message.{Message}
-use Rattle.day_tables.specs.Columns.{fault_from, header_columns, place_of, row_text_of}
-use Rattle.day_tables.specs.Rows.{row_message}
+use Rattle.day_tables.specs.Columns.{header_columns}
+use Rattle.day_tables.specs.TableReading.{HasColumns, HasMessages, HasRead, IsFaultUnder, IsHeaderFault, IsRecordFaultUnder, IsWholeUnder}
+use Rattle.day_tables.specs.Tables.{AreFirstRecords, AreTableRecords, FIRST_ROW, IsRecordFault, IsTable, IsTableFault, IsWholeFault, as_row, fields_message, record_message, records_messages, rows_messages, some_messages, table_messages, with_record}
 use Rattle.day_tables.specs.declared.column_fault.ColumnFault.{ColumnFault}
-use Rattle.day_tables.specs.declared.row_fault.RowFault.{RowFault}
-use Rattle.day_tables.specs.TableReading.{AreMessagesUnder, HasColumns, HasMessages, HasRead, IsFaultUnder, IsHeaderFault, IsRecordFaultUnder}
-use Rattle.day_tables.specs.Tables.{AreFirstRecords, AreTableRecords, IsRecordFault, IsTable, IsTableFault, as_row, header_names, names_read, record_message, records_messages, table_messages, with_record}
 use Rattle.day_tables.specs.declared.columns.Columns.{Columns}
-use Rattle.day_tables.specs.declared.column.Column.TheVariants.{Participant}
-use Rattle.day_tables.specs.declared.column_fault.ColumnFault.TheVariants.{Missing}
+use Rattle.day_tables.specs.declared.row_fault.RowFault.{RowFault}
 use Rattle.day_tables.specs.declared.table_fault.TableFault.{TableFault}
-use Rattle.day_tables.specs.declared.table_fault.TableFault.TheVariants.{Header, Fields, Row, ReadFault, OutOfMemory}
+use Rattle.day_tables.specs.declared.table_fault.TableFault.TheVariants.{Header, NoRow, Row, ReadFault, OutOfMemory}
 
 -- a reader at the start of a text
 pub has_read-none : {R : Type 0} (remaining : R → Option (List ℕ)) (r : Reader R) (known : Option (List ℕ)) → source_of remaining r ≡ option_map strip_bom known
@@ -42,7 +39,7 @@ pub has_read-all : {R : Type 0} (remaining : R → Option (List ℕ)) (old new :
 has_read-all remaining old new fields config read input records had =
     (reader_state old, had.rest, had.reached, rows-end remaining old new fields default_config had.rest config had.source read)
 
--- ## The records behind a header row
+-- ## The rows below a header row
 
 -- one record more
 records_messages-more : (columns : Columns) (rows : List (List (List ℕ))) (fields : List (List ℕ))
@@ -52,7 +49,7 @@ records_messages-more columns rows fields = fold_push (with_record columns) (Ok 
 -- the messages of one record more
 pub has_messages-more : {R : Type 0} (remaining : R → Option (List ℕ)) (old new : Reader R) (columns : Columns) (fields : List (List ℕ)) (messages : List Message)
     (message : Message) (number : ℕ)
-    → number ≡ length messages + 1 → record_message columns number fields ≡ Ok message
+    → number ≡ length messages + FIRST_ROW → record_message columns number fields ≡ Ok message
     → ((input : List ℕ) (records : List (List (List ℕ))) → HasRead remaining old input records → HasRead remaining new input (records ++ fields ∷ []))
     → (input : List ℕ) (names : List (List ℕ)) → HasMessages remaining old columns input names messages
     → HasMessages remaining new columns input names (messages ++ message ∷ [])
@@ -62,44 +59,51 @@ has_messages-more remaining old new columns fields messages message number count
     (rows ++ fields ∷ [], more input (names ∷ rows) read, records_messages-more columns rows fields ∙ rw (before, ← count, is) refl)
 
 -- all records were read
-pub are_messages : {R : Type 0} (remaining : R → Option (List ℕ)) (old : Reader R) (columns : Columns) (messages : List Message)
+pub is_whole_under : {R : Type 0} (remaining : R → Option (List ℕ)) (old : Reader R) (columns : Columns) (messages : List Message)
     → ((input : List ℕ) (records : List (List (List ℕ))) → HasRead remaining old input records → AreTableRecords input records)
-    → (input : List ℕ) (names : List (List ℕ)) → HasMessages remaining old columns input names messages → AreMessagesUnder columns input names messages
-are_messages remaining old columns messages all input names had =
+    → (input : List ℕ) (names : List (List ℕ)) → HasMessages remaining old columns input names messages
+    → IsWholeUnder columns input names (some_messages messages)
+unfolding rows_messages
+is_whole_under remaining old columns messages all input names had =
     let (rows, read, before) = had in
-    (rows, all input (names ∷ rows) read, before)
+    (rows, all input (names ∷ rows) read, rw before refl)
 
--- no record has a header row's fault
-no_header : (columns : Columns) (number : ℕ) (fields : List (List ℕ)) (fault : ColumnFault) → record_message columns number fields ≡ Err (Header fault) → ⊥
+-- one row or more
+pub some_messages-some : (messages : List Message) → (length messages == 0) ≡ false → some_messages messages ≡ Ok messages
+some_messages-some [] none = cc none
+some_messages-some (m ∷ ms) some = refl
+
+-- no row
+pub some_messages-none : (messages : List Message) → (length messages == 0) ≡ true → some_messages messages ≡ Err NoRow
+some_messages-none [] none = refl
+some_messages-none (m ∷ ms) some = absurd (omega (arith, eqb-true (length (m ∷ ms)) 0 some))
+
+-- a fault of a record is that of its row
+record-fault : (columns : Columns) (number : ℕ) (fields : List (List ℕ)) (fault : TableFault) → record_message columns number fields ≡ Err fault
+    → (under : RowFault) × (fault ≡ Row number under)
 unfolding record_message
-no_header columns number fields fault is = cases (length fields == columns.width) (row_message (row_text_of columns fields)) is
+record-fault columns number fields fault is = cases (fields_message columns fields) is
   where
-    cases : (same : Bool) (read : Result Message RowFault) → (if same then as_row number read else Err (Fields number)) ≡ Err (Header fault) → ⊥
-    cases true (Ok message) is = cc
-    cases true (Err f) is = cc
-    cases false read is = cc
+    cases : (read : Result Message RowFault) → as_row number read ≡ Err fault → (under : RowFault) × (fault ≡ Row number under)
+    cases (Ok message) is = cc
+    cases (Err under) is = (under, cc)
 
 -- a record that is no message
 pub is_fault-record : {R : Type 0} (remaining : R → Option (List ℕ)) (old new : Reader R) (columns : Columns) (fields : List (List ℕ)) (messages : List Message)
     (fault : TableFault) (number : ℕ)
-    → number ≡ length messages + 1 → record_message columns number fields ≡ Err fault
+    → number ≡ length messages + FIRST_ROW → record_message columns number fields ≡ Err fault
     → ((input : List ℕ) (records : List (List (List ℕ))) → HasRead remaining old input records → HasRead remaining new input (records ++ fields ∷ []))
     → (input : List ℕ) (names : List (List ℕ)) → HasMessages remaining old columns input names messages → IsFaultUnder columns input names fault
-unfolding with_record
+unfolding with_record rows_messages
 is_fault-record remaining old new columns fields messages fault number count is more input names had =
     let (rows, read, before) = had in
     let now = more input (names ∷ rows) read in
     let first : AreFirstRecords input (names ∷ (rows ++ fields ∷ [])) = (reader_state new, now.rest, now.reached) in
     let told : records_messages columns (rows ++ fields ∷ []) ≡ Err fault = records_messages-more columns rows fields ∙ rw (before, ← count, is) refl in
-    by_fault fault is (rows ++ fields ∷ [], first, told)
-  where
-    by_fault : (fault : TableFault) → record_message columns number fields ≡ Err fault → IsRecordFaultUnder columns input names fault
-        → IsFaultUnder columns input names fault
-    by_fault (Header f) is under = absurd (no_header columns number fields f is)
-    by_fault (Fields n) is under = under
-    by_fault (Row n f) is under = under
-    by_fault ReadFault is under = tt
-    by_fault OutOfMemory is under = tt
+    let whole : rows_messages columns (rows ++ fields ∷ []) ≡ Err fault = rw told refl in
+    let (under, same) = record-fault columns number fields fault is in
+    let there : IsRecordFaultUnder columns input names fault = (rows ++ fields ∷ [], first, whole) in
+    rw same (rw same at there)
 
 -- a read failed, or memory ran out
 pub is_fault-read : (columns : Columns) (fault : TableFault) → (fault ≡ ReadFault) ⊎ (fault ≡ OutOfMemory) → (input : List ℕ) (names : List (List ℕ))
@@ -116,38 +120,29 @@ pub has_columns : {R : Type 0} (remaining : R → Option (List ℕ)) (old new : 
     → (input : List ℕ) → HasRead remaining old input [] → HasColumns remaining new input columns
 has_columns remaining old new names columns is more input had = (names, more input [] had, is)
 
--- the first record of a text has the names of its header row
-header_names-read : {R : Type 0} (remaining : R → Option (List ℕ)) (r : Reader R) (input : List ℕ) (names : List (List ℕ)) → HasRead remaining r input (names ∷ [])
-    → header_names input ≡ names
-unfolding Reached
-header_names-read remaining r input names had =
-    let (read, is, same, rest) = had.reached in
-    ap names_read is ∙ sym same
-
 -- a fault of a header row that was read
 pub is_header_fault : {R : Type 0} (remaining : R → Option (List ℕ)) (old new : Reader R) (names : List (List ℕ)) (fault : ColumnFault)
     → header_columns names ≡ Err fault
     → ((input : List ℕ) (records : List (List (List ℕ))) → HasRead remaining old input records → HasRead remaining new input (records ++ names ∷ []))
     → (input : List ℕ) → HasRead remaining old input [] → IsHeaderFault input (Header fault)
+unfolding table_messages
 is_header_fault remaining old new names fault is more input had =
-    ap header_columns (header_names-read remaining new input names (more input [] had)) ∙ is
+    let now = more input [] had in
+    (names ∷ [], (reader_state new, now.rest, now.reached), rw is refl)
 
--- a text with no record lacks the first column that every table has
+-- a text with no record has no row
 pub is_header_fault-none : {R : Type 0} (remaining : R → Option (List ℕ)) (old : Reader R)
     → ((input : List ℕ) (records : List (List (List ℕ))) → HasRead remaining old input records → AreTableRecords input records)
-    → (input : List ℕ) → HasRead remaining old input [] → IsHeaderFault input (Header (Missing Participant))
-unfolding header_columns fault_from place_of Reached
-is_header_fault-none remaining old all input had =
-    let (s, rest, reached, end) = all input [] had in
-    let none : next_record default_config st.StartRecord [] [] (strip_bom input) ≡ None = rw (reached.0, reached.1) end in
-    ap (λ (read : Option Read). header_columns (names_read read)) none
+    → (input : List ℕ) → HasRead remaining old input [] → IsHeaderFault input NoRow
+unfolding table_messages
+is_header_fault-none remaining old all input had = ([], all input [] had, refl)
 
 -- ## A whole table
 
 -- the messages of a whole table
 pub is_table : {R : Type 0} (remaining : R → Option (List ℕ)) (r : Reader R) (columns : Columns) (input : List ℕ) (messages : List Message)
     → HasColumns remaining r input columns
-    → ((input : List ℕ) (names : List (List ℕ)) → HasRead remaining r input (names ∷ []) → AreMessagesUnder columns input names messages)
+    → ((input : List ℕ) (names : List (List ℕ)) → HasRead remaining r input (names ∷ []) → IsWholeUnder columns input names (Ok messages))
     → IsTable input messages
 unfolding table_messages
 is_table remaining r columns input messages had under =
@@ -158,7 +153,7 @@ is_table remaining r columns input messages had under =
 -- a fault of its header row
 pub is_table_fault-header : (input : List ℕ) (fault : TableFault) → IsHeaderFault input fault → IsTableFault input fault
 is_table_fault-header input (Header f) is = is
-is_table_fault-header input (Fields n) is = absurd is
+is_table_fault-header input NoRow is = is
 is_table_fault-header input (Row n f) is = absurd is
 is_table_fault-header input ReadFault is = tt
 is_table_fault-header input OutOfMemory is = tt
@@ -173,6 +168,11 @@ is_table_fault remaining r columns input fault had under =
     let (names, read, named) = had in
     by_fault names named fault (under input names read)
   where
+    whole : (names : List (List ℕ)) → header_columns names ≡ Ok columns → (fault : TableFault) → IsWholeUnder columns input names (Err fault) → IsWholeFault input fault
+    whole names named fault below =
+        let (rows, all, is) = below in
+        (names ∷ rows, all, rw named is)
+
     told : (names : List (List ℕ)) → header_columns names ≡ Ok columns → (fault : TableFault) → IsRecordFaultUnder columns input names fault → IsRecordFault input fault
     told names named fault below =
         let (rows, first, is) = below in
@@ -180,7 +180,7 @@ is_table_fault remaining r columns input fault had under =
 
     by_fault : (names : List (List ℕ)) → header_columns names ≡ Ok columns → (fault : TableFault) → IsFaultUnder columns input names fault → IsTableFault input fault
     by_fault names named (Header f) below = absurd below
-    by_fault names named (Fields n) below = told names named (Fields n) below
+    by_fault names named NoRow below = whole names named NoRow below
     by_fault names named (Row n f) below = told names named (Row n f) below
     by_fault names named ReadFault below = tt
     by_fault names named OutOfMemory below = tt
@@ -190,7 +190,7 @@ pub is_table-known : {R A : Type 0} (remaining : R → Option (List ℕ)) (start
     (known : Option (List ℕ)) (result : Result A TableFault)
     → IfSome known (λ input. HasRead remaining start input [])
     → ((input : List ℕ) → HasRead remaining start input [] → HasColumns remaining r input columns)
-    → IfOk result (λ messages. (input : List ℕ) (names : List (List ℕ)) → HasRead remaining r input (names ∷ []) → AreMessagesUnder columns input names (items messages))
+    → IfOk result (λ messages. (input : List ℕ) (names : List (List ℕ)) → HasRead remaining r input (names ∷ []) → IsWholeUnder columns input names (Ok (items messages)))
     → IfSome known (λ input. IfOk result (λ messages. IsTable input (items messages)))
 is_table-known remaining start r columns items None result begun named under = tt
 is_table-known remaining start r columns items (Some input) (Err fault) begun named under = tt

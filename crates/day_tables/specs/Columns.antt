@@ -1,9 +1,12 @@
 -- The columns of a table: by which names, and where, a header row has them.
-use Rattle.std.specs.Prelude.{ℕ, ◌+◌, ◌||◌, Bool, false, not, nat_lt, List, [], ◌∷◌, length, codes, Option, Some, None, Result, Ok, Err, ok_or, unwrap_or, if◌then◌else◌}
+use Rattle.std.specs.Prelude.{ℕ, ◌+◌, ◌==◌, Bool, false, nat_lt, List, [], ◌∷◌, length, take, codes, Option, Some, None, Result, Ok, Err, ok_or, unwrap_or, if◌then◌else◌}
 use Rattle.std.specs.List.{position_from}
+use Rattle.std.specs.Option.{option_or}
 use Rattle.std.specs.Str.{bytes_eq}
 use Rattle.csv.specs.Records.{field_at}
 use Rattle.reports.specs.Fields.{◌>>=◌}
+use Rattle.day_tables.specs.ColumnNames.{column_name, column_named}
+use Rattle.day_tables.specs.FaultTexts.{FAULT_TEXT_MOST}
 use Rattle.day_tables.specs.Rows.{RowText}
 use Rattle.day_tables.specs.declared.column.Column.{Column}
 use Rattle.day_tables.specs.declared.column.Column.TheVariants as column
@@ -11,19 +14,10 @@ use Rattle.day_tables.specs.declared.column_fault.ColumnFault.{ColumnFault}
 use Rattle.day_tables.specs.declared.column_fault.ColumnFault.TheVariants.{Unknown, Repeated, Missing}
 use Rattle.day_tables.specs.declared.columns.Columns.{Columns}
 
--- a name is that of a column which a table may lack
-abbrev pub is_optional : List ℕ → Bool
-is_optional name = bytes_eq name (codes "kind") || (bytes_eq name (codes "moment") || bytes_eq name (codes "target"))
-
--- a name is that of a column which every table has
-abbrev pub is_required : List ℕ → Bool
-is_required name =
-    bytes_eq name (codes "participant") || (bytes_eq name (codes "number") || (bytes_eq name (codes "symbol")
-    || (bytes_eq name (codes "price") || (bytes_eq name (codes "size") || bytes_eq name (codes "condition")))))
-
--- a name is a column's
-unfoldable pub is_column : List ℕ → Bool
-is_column name = is_optional name || is_required name
+-- a remark's name, which begins with `#`
+abbrev pub is_remark : List ℕ → Bool
+is_remark [] = false
+is_remark (first ∷ rest) = first == 35
 
 -- the first place of a name in a header row
 unfoldable pub place_of : List (List ℕ) → List ℕ → Option ℕ
@@ -34,13 +28,19 @@ abbrev pub is_before : ℕ → Option ℕ → Bool
 is_before place None = false
 is_before place (Some first) = nat_lt first place
 
--- the first fault from a place of a header row on: a name that is no column's, or that stands before it too
+-- what is wrong with a column's name at a place of a header row, if anything
+abbrev pub named_fault : List (List ℕ) → ℕ → List ℕ → Option Column → Option ColumnFault
+named_fault names place name None = Some (Unknown (take FAULT_TEXT_MOST name))
+named_fault names place name (Some column) = if is_before place (place_of names name) then Some (Repeated column) else None
+
+-- what is wrong with the name at a place of a header row, if anything
+unfoldable pub name_fault : List (List ℕ) → ℕ → List ℕ → Option ColumnFault
+name_fault names place name = if is_remark name then None else named_fault names place name (column_named name)
+
+-- the first fault from a place of a header row on
 unfoldable pub fault_from : List (List ℕ) → ℕ → List (List ℕ) → Option ColumnFault
 fault_from names place [] = None
-fault_from names place (name ∷ rest) =
-    if not (is_column name) then Some Unknown
-    else if is_before place (place_of names name) then Some Repeated
-    else fault_from names (place + 1) rest
+fault_from names place (name ∷ rest) = option_or (name_fault names place name) (fault_from names (place + 1) rest)
 
 -- what is wrong with the names of a header row, if anything
 abbrev pub header_fault : List (List ℕ) → Option ColumnFault
@@ -52,26 +52,26 @@ faultless None = Ok tt
 faultless (Some fault) = Err fault
 
 -- the place of a column that every table has
-abbrev pub required : Column → Option ℕ → Result ℕ ColumnFault
-required column place = ok_or place (Missing column)
+abbrev pub required : List (List ℕ) → Column → Result ℕ ColumnFault
+required names column = ok_or (place_of names (column_name column)) (Missing column)
 
 -- the columns of a header row, or what is wrong with it
 unfoldable pub header_columns : List (List ℕ) → Result Columns ColumnFault
 header_columns names = do
   fine ← faultless (header_fault names)
-  participant ← required column.Participant (place_of names (codes "participant"))
-  number ← required column.Number (place_of names (codes "number"))
-  symbol ← required column.Symbol (place_of names (codes "symbol"))
-  price ← required column.Price (place_of names (codes "price"))
-  size ← required column.Size (place_of names (codes "size"))
-  condition ← required column.Condition (place_of names (codes "condition"))
+  participant ← required names column.Participant
+  number ← required names column.Number
+  symbol ← required names column.Symbol
+  price ← required names column.Price
+  size ← required names column.Size
+  condition ← required names column.Condition
   Ok (record {
-    kind = place_of names (codes "kind");
+    kind = place_of names (column_name column.Kind);
     participant = participant;
     number = number;
-    moment = place_of names (codes "moment");
+    moment = place_of names (column_name column.Moment);
     symbol = symbol;
-    target = place_of names (codes "target");
+    target = place_of names (column_name column.Target);
     price = price;
     size = size;
     condition = condition;

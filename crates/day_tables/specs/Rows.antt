@@ -1,11 +1,12 @@
 -- A row of a table: nine fields, and the message that they spell.
-use Rattle.std.specs.Prelude.{ℕ, ◌==◌, List, length, Option, Result, Ok, Err, ok_or, if◌then◌else◌}
+use Rattle.std.specs.Prelude.{ℕ, ◌==◌, List, length, take, Option, Result, Ok, Err, ok_or, if◌then◌else◌}
 use Rattle.tape_types.specs.Ranges.{NUMBER_MOST, SIZE_MOST}
 use Rattle.sale_matrix.specs.declared.content.Content.{Content}
 use Rattle.reports.specs.Fields.{◌>>=◌}
 use Rattle.reports.specs.declared.message.Header.{Header}
 use Rattle.reports.specs.declared.message.Message.{Message}
 use Rattle.reports.specs.declared.message.Message.TheVariants as message
+use Rattle.day_tables.specs.FaultTexts.{FAULT_TEXT_MOST}
 use Rattle.day_tables.specs.Kinds.{kind_of}
 use Rattle.day_tables.specs.Numbers.{number_within, price_of}
 use Rattle.day_tables.specs.Texts.{condition_of, moment_of, participant_of, symbol_of}
@@ -28,33 +29,33 @@ pub record RowText : Type 0 where
   pub size : List ℕ
   pub condition : List ℕ
 
--- the value of a column's field, if it is one
-abbrev pub field : {A : Type 0} → Column → Option A → Result A RowFault
-field of value = ok_or value (Bad of)
+-- the value of a column's field, or the fault of a text that writes none
+abbrev pub field : {A : Type 0} → Column → List ℕ → Option A → Result A RowFault
+field of text value = ok_or value (Bad of (take FAULT_TEXT_MOST text))
 
 -- a column's field that has to be empty
 unfoldable pub unused : Column → List ℕ → Result (Unit {0}) RowFault
-unused of text = if length text == 0 then Ok tt else Err (Unused of)
+unused of text = if length text == 0 then Ok tt else Err (Unused of (take FAULT_TEXT_MOST text))
 
 -- what every row begins with
 unfoldable pub row_header : RowText → Result Header RowFault
 row_header row = do
-  participant ← field column.Participant (participant_of row.participant)
-  number ← field column.Number (number_within 1 NUMBER_MOST row.number)
-  moment ← field column.Moment (moment_of row.moment)
-  symbol ← field column.Symbol (symbol_of row.symbol)
+  participant ← field column.Participant row.participant (participant_of row.participant)
+  number ← field column.Number row.number (number_within 1 NUMBER_MOST row.number)
+  moment ← field column.Moment row.moment (moment_of row.moment)
+  symbol ← field column.Symbol row.symbol (symbol_of row.symbol)
   Ok (record { participant = participant; number = number; moment = moment; symbol = symbol })
 
 -- the number of the report that is meant
 unfoldable pub row_target : RowText → Result ℕ RowFault
-row_target row = field column.Target (number_within 1 NUMBER_MOST row.target)
+row_target row = field column.Target row.target (number_within 1 NUMBER_MOST row.target)
 
 -- what was traded, and how
 unfoldable pub row_content : RowText → Result Content RowFault
 row_content row = do
-  price ← field column.Price (price_of row.price)
-  size ← field column.Size (number_within 1 SIZE_MOST row.size)
-  condition ← field column.Condition (condition_of row.condition)
+  price ← field column.Price row.price (price_of row.price)
+  size ← field column.Size row.size (number_within 1 SIZE_MOST row.size)
+  condition ← field column.Condition row.condition (condition_of row.condition)
   Ok (record { price = price; size = size; condition = condition })
 
 -- no content
@@ -90,5 +91,5 @@ row_message_of kind.Reinstate row = do
 -- the message that a row spells, or the first fault in the order of the columns
 unfoldable pub row_message : RowText → Result Message RowFault
 row_message row = do
-  kind ← field column.Kind (kind_of row.kind)
+  kind ← field column.Kind row.kind (kind_of row.kind)
   row_message_of kind row

@@ -1,8 +1,12 @@
--- How a number and a price are spelled, by the number, where `Numbers` reads them by the text.
+-- How each value is spelled, by the value, where `Numbers`, `Texts` and `Kinds` read it by the text.
 use Rattle.std.specs.Prelude.{◌≡◌, ◌<◌, ◌≤◌, ◌-◌, ◌/◌, ◌%◌, ◌^◌, ◌↔◌, ◌⊎◌, ℕ, List, [], ◌∷◌, ◌++◌, length, replicate, decimal, Some}
-use Rattle.tape_types.specs.Ranges.{IsPrice}
+use Rattle.tape_types.specs.Ranges.{IsParticipant, IsPrice, IsSymbol, name_of}
+use Rattle.sale_matrix.specs.Matrix.{IsCondition}
+use Rattle.day_tables.specs.Kinds.{kind_letter, kind_of, kind_word}
 use Rattle.day_tables.specs.Numbers.{DIGITS_MOST, DOLLAR, number_within, price_of}
-use Rattle.day_tables.specs.Writing.{digit_at}
+use Rattle.day_tables.specs.Texts.{condition_of, moment_of, participant_of, symbol_of}
+use Rattle.day_tables.specs.Writing.{condition_text, digit_at}
+use Rattle.day_tables.specs.declared.kind.Kind.{Kind}
 
 -- zeros, if any, and then the number's decimal digits
 pub record SpellsNumber (text : List ℕ) (number : ℕ) : Type 0 where
@@ -41,3 +45,26 @@ SpellsPrice text price = (SpellsNumber text (price / DOLLAR) × (price % DOLLAR 
 -- a price is read from a text exactly where the text spells it
 abbrev pub PriceIsSpelled : Type 0
 PriceIsSpelled = (price : ℕ) (text : List ℕ) → (price_of text ≡ Some price) ↔ (IsPrice price × SpellsPrice text price)
+
+-- a moment is read from a text exactly where the text spells it: as a number, or by nothing where it is 0
+abbrev pub MomentIsSpelled : Type 0
+MomentIsSpelled = (moment : ℕ) (text : List ℕ)
+    → (moment_of text ≡ Some moment) ↔ (((text ≡ []) × (moment ≡ 0)) ⊎ ((moment < 2 ^ 64) × SpellsNumber text moment))
+
+-- a kind is read from a text exactly where the text is its word or its letter
+abbrev pub KindIsSpelled : Type 0
+KindIsSpelled = (kind : Kind) (text : List ℕ) → (kind_of text ≡ Some kind) ↔ ((text ≡ kind_word kind) ⊎ (text ≡ kind_letter kind ∷ []))
+
+-- a participant is read from a text exactly where the text is its letter
+abbrev pub ParticipantIsSpelled : Type 0
+ParticipantIsSpelled = (participant : ℕ) (text : List ℕ)
+    → (participant_of text ≡ Some participant) ↔ (IsParticipant participant × (text ≡ participant ∷ []))
+
+-- a symbol is read from a text exactly where the text is its name
+abbrev pub SymbolIsSpelled : Type 0
+SymbolIsSpelled = (symbol text : List ℕ) → (symbol_of text ≡ Some symbol) ↔ (IsSymbol symbol × (text ≡ name_of symbol))
+
+-- a condition is read from a text exactly where the text is its four codes, with `_` for a blank
+abbrev pub ConditionIsSpelled : Type 0
+ConditionIsSpelled = (condition text : List ℕ)
+    → (condition_of text ≡ Some condition) ↔ (IsCondition condition × (text ≡ condition_text condition))

@@ -1,15 +1,15 @@
 -- A reader of a table's records, between two of them.
-use Rattle.std.specs.Prelude.{◌≡◌, ℕ, List, [], ◌∷◌, Option, Some, Ok, Err}
+use Rattle.std.specs.Prelude.{◌≡◌, ℕ, List, [], ◌∷◌, Option, Some, Result, Ok, Err}
 use Rattle.csv.specs.Reading.{Reached, Ready, default_config, reader_config, reader_state, reader_trim, source_of, strip_bom}
 use Rattle.csv.specs.declared.parser.State.TheVariants as st
 use Rattle.csv.specs.declared.reader.Reader.{Reader}
 use Rattle.csv.specs.declared.reader.Trim.TheVariants as trim
 use Rattle.reports.specs.declared.message.Message.{Message}
 use Rattle.day_tables.specs.Columns.{header_columns}
-use Rattle.day_tables.specs.Tables.{AreFirstRecords, AreTableRecords, header_names, records_messages}
+use Rattle.day_tables.specs.Tables.{AreFirstRecords, AreTableRecords, IsRecordFault, IsWholeFault, records_messages, rows_messages}
 use Rattle.day_tables.specs.declared.columns.Columns.{Columns}
 use Rattle.day_tables.specs.declared.table_fault.TableFault.{TableFault}
-use Rattle.day_tables.specs.declared.table_fault.TableFault.TheVariants.{Header, Fields, Row, ReadFault, OutOfMemory}
+use Rattle.day_tables.specs.declared.table_fault.TableFault.TheVariants.{Header, NoRow, Row, ReadFault, OutOfMemory}
 
 -- the reader gives each record as it stands, by csv's defaults
 pub record IsPlain {R : Type 0} (r : Reader R) : Type 0 where
@@ -28,10 +28,10 @@ abbrev pub HasColumns : {R : Type 0} → (R → Option (List ℕ)) → Reader R 
 HasColumns remaining r input columns =
     (names : List (List ℕ)) × HasRead remaining r input (names ∷ []) × (header_columns names ≡ Ok columns)
 
--- a fault of a header row; or a read failed, or memory ran out
+-- a fault of a header row, or there is none; or a read failed, or memory ran out
 abbrev pub IsHeaderFault : List ℕ → TableFault → Type 0
-IsHeaderFault input (Header fault) = header_columns (header_names input) ≡ Err fault
-IsHeaderFault input (Fields number) = ⊥
+IsHeaderFault input (Header fault) = IsRecordFault input (Header fault)
+IsHeaderFault input NoRow = IsWholeFault input NoRow
 IsHeaderFault input (Row number fault) = ⊥
 IsHeaderFault input ReadFault = Unit {0}
 IsHeaderFault input OutOfMemory = Unit {0}
@@ -41,20 +41,20 @@ abbrev pub HasMessages : {R : Type 0} → (R → Option (List ℕ)) → Reader R
 HasMessages remaining r columns input names messages =
     (rows : List (List (List ℕ))) × HasRead remaining r input (names ∷ rows) × (records_messages columns rows ≡ Ok messages)
 
--- these are the messages of all records behind a header row
-abbrev pub AreMessagesUnder : Columns → List ℕ → List (List ℕ) → List Message → Type 0
-AreMessagesUnder columns input names messages =
-    (rows : List (List (List ℕ))) × AreTableRecords input (names ∷ rows) × (records_messages columns rows ≡ Ok messages)
+-- this is what all records behind a header row come to
+abbrev pub IsWholeUnder : Columns → List ℕ → List (List ℕ) → Result (List Message) TableFault → Type 0
+IsWholeUnder columns input names read =
+    (rows : List (List (List ℕ))) × AreTableRecords input (names ∷ rows) × (rows_messages columns rows ≡ read)
 
 -- the first records behind a header row have this fault
 abbrev pub IsRecordFaultUnder : Columns → List ℕ → List (List ℕ) → TableFault → Type 0
 IsRecordFaultUnder columns input names fault =
-    (rows : List (List (List ℕ))) × AreFirstRecords input (names ∷ rows) × (records_messages columns rows ≡ Err fault)
+    (rows : List (List (List ℕ))) × AreFirstRecords input (names ∷ rows) × (rows_messages columns rows ≡ Err fault)
 
--- a fault of the first records behind a header row; or a read failed, or memory ran out
+-- a fault of the first rows behind a header row, or there is none; or a read failed, or memory ran out
 abbrev pub IsFaultUnder : Columns → List ℕ → List (List ℕ) → TableFault → Type 0
 IsFaultUnder columns input names (Header fault) = ⊥
-IsFaultUnder columns input names (Fields number) = IsRecordFaultUnder columns input names (Fields number)
+IsFaultUnder columns input names NoRow = IsWholeUnder columns input names (Err NoRow)
 IsFaultUnder columns input names (Row number fault) = IsRecordFaultUnder columns input names (Row number fault)
 IsFaultUnder columns input names ReadFault = Unit {0}
 IsFaultUnder columns input names OutOfMemory = Unit {0}

@@ -1,7 +1,6 @@
 -- A whole table: a header row and records, and the messages that they spell.
-use Rattle.std.specs.Prelude.{◌≡◌, ℕ, ◌+◌, ◌==◌, List, [], ◌∷◌, ◌++◌, length, fold, Option, Some, None, Result, Ok, Err, if◌then◌else◌}
+use Rattle.std.specs.Prelude.{◌≡◌, ℕ, ◌+◌, ◌==◌, List, [], ◌∷◌, ◌++◌, length, fold, Result, Ok, Err, if◌then◌else◌}
 use Rattle.csv.specs.Reading.{AreRecords, Reached, default_config, strip_bom}
-use Rattle.csv.specs.Machine.{Read, next_record}
 use Rattle.csv.specs.declared.parser.State.{State}
 use Rattle.csv.specs.declared.parser.State.TheVariants as st
 use Rattle.reports.specs.Fields.{◌>>=◌}
@@ -12,7 +11,8 @@ use Rattle.day_tables.specs.declared.column_fault.ColumnFault.{ColumnFault}
 use Rattle.day_tables.specs.declared.columns.Columns.{Columns}
 use Rattle.day_tables.specs.declared.row_fault.RowFault.{RowFault}
 use Rattle.day_tables.specs.declared.table_fault.TableFault.{TableFault}
-use Rattle.day_tables.specs.declared.table_fault.TableFault.TheVariants.{Header, Fields, Row, ReadFault, OutOfMemory}
+use Rattle.day_tables.specs.declared.row_fault.RowFault.TheVariants.{Fields}
+use Rattle.day_tables.specs.declared.table_fault.TableFault.TheVariants.{Header, NoRow, Row, ReadFault, OutOfMemory}
 
 -- a header row's fault as a table's
 abbrev pub as_header : Result Columns ColumnFault → Result Columns TableFault
@@ -24,35 +24,45 @@ abbrev pub as_row : ℕ → Result Message RowFault → Result Message TableFaul
 as_row number (Ok message) = Ok message
 as_row number (Err fault) = Err (Row number fault)
 
--- the message of the record of this number
+-- the number of the first row below the header row, which is itself the first row of all
+abbrev pub FIRST_ROW : ℕ
+FIRST_ROW = 2
+
+-- the message of a record's fields
+unfoldable pub fields_message : Columns → List (List ℕ) → Result Message RowFault
+fields_message columns fields =
+    if length fields == columns.width then row_message (row_text_of columns fields) else Err (Fields (length fields) columns.width)
+
+-- the message of the row of this number
 unfoldable pub record_message : Columns → ℕ → List (List ℕ) → Result Message TableFault
-record_message columns number fields =
-    if length fields == columns.width then as_row number (row_message (row_text_of columns fields)) else Err (Fields number)
+record_message columns number fields = as_row number (fields_message columns fields)
 
 -- the messages of records and of one more
 unfoldable pub with_record : Columns → Result (List Message) TableFault → List (List ℕ) → Result (List Message) TableFault
 with_record columns read fields = do
   messages ← read
-  message ← record_message columns (length messages + 1) fields
+  message ← record_message columns (length messages + FIRST_ROW) fields
   Ok (messages ++ message ∷ [])
 
 -- the messages of the records under a header row, or the first fault
 abbrev pub records_messages : Columns → List (List (List ℕ)) → Result (List Message) TableFault
 records_messages columns records = fold (with_record columns) (Ok []) records
 
+-- the messages of one row or more
+abbrev pub some_messages : List Message → Result (List Message) TableFault
+some_messages [] = Err NoRow
+some_messages (m ∷ ms) = Ok (m ∷ ms)
+
+-- the messages of all rows under a header row, or the first fault
+unfoldable pub rows_messages : Columns → List (List (List ℕ)) → Result (List Message) TableFault
+rows_messages columns records = records_messages columns records >>= some_messages
+
 -- the messages of a table's records, of which the first is its header row, or the first fault
 unfoldable pub table_messages : List (List (List ℕ)) → Result (List Message) TableFault
-table_messages [] = as_header (header_columns []) >>= λ columns. Ok []
-table_messages (names ∷ records) = as_header (header_columns names) >>= λ columns. records_messages columns records
-
--- what a read gives as names: nothing where it gives no record
-abbrev pub names_read : Option Read → List (List ℕ)
-names_read None = []
-names_read (Some read) = read.0
-
--- the names of a text's header row; of nothing where the text has no record
-abbrev pub header_names : List ℕ → List (List ℕ)
-header_names input = names_read (next_record default_config st.StartRecord [] [] (strip_bom input))
+table_messages [] = Err NoRow
+table_messages (names ∷ records) = do
+  columns ← as_header (header_columns names)
+  rows_messages columns records
 
 -- all records of a text, which may begin with a byte order mark
 abbrev pub AreTableRecords : List ℕ → List (List (List ℕ)) → Type 0
@@ -70,10 +80,14 @@ IsTable input messages = (records : List (List (List ℕ))) × AreTableRecords i
 abbrev pub IsRecordFault : List ℕ → TableFault → Type 0
 IsRecordFault input fault = (records : List (List (List ℕ))) × AreFirstRecords input records × (table_messages records ≡ Err fault)
 
--- why a text is not read as a table: a fault of its header row or of a record; or a read failed, or memory ran out
+-- all records of a text have this fault
+abbrev pub IsWholeFault : List ℕ → TableFault → Type 0
+IsWholeFault input fault = (records : List (List (List ℕ))) × AreTableRecords input records × (table_messages records ≡ Err fault)
+
+-- why a text is not read as a table: a fault of its header row or of a row, or there is no row; or a read failed, or memory ran out
 abbrev pub IsTableFault : List ℕ → TableFault → Type 0
-IsTableFault input (Header fault) = header_columns (header_names input) ≡ Err fault
-IsTableFault input (Fields number) = IsRecordFault input (Fields number)
+IsTableFault input (Header fault) = IsRecordFault input (Header fault)
+IsTableFault input NoRow = IsWholeFault input NoRow
 IsTableFault input (Row number fault) = IsRecordFault input (Row number fault)
 IsTableFault input ReadFault = Unit {0}
 IsTableFault input OutOfMemory = Unit {0}

@@ -52,6 +52,10 @@ row_of m = record {
   condition = text_or_none (λ content. condition_text content.condition) (brought_content m);
 }
 
+-- the fields that every row begins with
+abbrev pub header_fields : RowText → List (List ℕ)
+header_fields row = row.kind ∷ row.participant ∷ row.number ∷ row.moment ∷ row.symbol ∷ []
+
 -- the fields of a row in the order of the columns
 abbrev pub row_fields : RowText → List (List ℕ)
 row_fields row =

@@ -1,10 +1,11 @@
 //! Where a table has its columns.
 ghost use Rattle.std.specs.Prelude.{◌≡◌};
 ghost use Rattle.csv.specs.Records.{fields_of};
-ghost use Rattle.day_tables.specs.Columns.{header_columns, header_fault, is_before, is_column, is_optional, is_required, place_of, required, row_text_of, text_at, text_or};
+ghost use Rattle.day_tables.specs.ColumnNames.{column_name};
+ghost use Rattle.day_tables.specs.Columns.{header_columns, header_fault, is_before, is_remark, name_fault, place_of, required, row_text_of, text_at, text_or};
 ghost use Rattle.day_tables.specs.RowTexts.{text_of_row};
 
-use crate::{Column, ColumnFault, TableRow};
+use crate::{Column, ColumnFault, FaultText, TableRow};
 use csv::ByteRecord;
 
 /// Where a table has its columns, by the names in its header row.
@@ -22,31 +23,14 @@ pub struct Columns {
     width: usize,
 }
 
-/// Whether a name is a column's.
-#[tactic(auto, unfolding(crate::specs::Columns::is_column))]
-fn is_column(name: &[u8]) -> bool
-    ensures { result ≡ is_column name.now }
+/// Whether a column of this name is a remark, which is read over.
+fn is_remark(name: &[u8]) -> bool
+    ensures { result ≡ is_remark name.now }
 {
-    is_optional(name) || is_required(name)
-}
-
-/// Whether a name is that of a column which a table may lack.
-fn is_optional(name: &[u8]) -> bool
-    ensures { result ≡ is_optional name.now }
-{
-    name == b"kind".as_slice() || name == b"moment".as_slice() || name == b"target".as_slice()
-}
-
-/// Whether a name is that of a column which every table has.
-fn is_required(name: &[u8]) -> bool
-    ensures { result ≡ is_required name.now }
-{
-    name == b"participant".as_slice()
-        || name == b"number".as_slice()
-        || name == b"symbol".as_slice()
-        || name == b"price".as_slice()
-        || name == b"size".as_slice()
-        || name == b"condition".as_slice()
+    match name {
+        [first, ..] => *first == b'#',
+        [] => false,
+    }
 }
 
 /// The first place of a name in a header row.
@@ -74,6 +58,23 @@ fn stands_before(names: &ByteRecord, place: usize, name: &[u8]) -> bool
     }
 }
 
+/// What is wrong with the name at a place of a header row, if anything.
+#[tactic(auto, unfolding(crate::specs::Columns::name_fault))]
+fn name_fault(names: &ByteRecord, place: usize, name: &[u8]) -> Option<ColumnFault>
+    ensures { result ≡ name_fault (fields_of names.now) place name.now }
+{
+    if is_remark(name) {
+        return None;
+    }
+    let Some(column) = Column::of_name(name) else {
+        return Some(ColumnFault::Unknown(FaultText::new(name)));
+    };
+    if stands_before(names, place, name) {
+        return Some(ColumnFault::Repeated(column));
+    }
+    None
+}
+
 /// What is wrong with the names of a header row, if anything: the first fault from the left.
 fn header_fault(names: &ByteRecord) -> Option<ColumnFault>
     ensures { result ≡ header_fault (fields_of names.now) }
@@ -82,25 +83,33 @@ fn header_fault(names: &ByteRecord) -> Option<ColumnFault>
         let Some(name) = names.get(place) else {
             return None;
         };
-        if !is_column(name) {
-            return Some(ColumnFault::Unknown);
-        }
-        if stands_before(names, place, name) {
-            return Some(ColumnFault::Repeated);
+        if let Some(fault) = name_fault(names, place, name) {
+            return Some(fault);
         }
     }
     None
 }
 
-/// The place of a column that every table has.
-fn required(names: &ByteRecord, column: Column, name: &[u8]) -> Result<usize, ColumnFault>
-    ensures { result ≡ required column (place_of (fields_of names.now) name.now) }
+/// The place of a column, if the table has it.
+fn optional(names: &ByteRecord, column: Column) -> Option<usize>
+    ensures { result ≡ place_of (fields_of names.now) (column_name column) }
 {
-    place_of(names, name).ok_or(ColumnFault::Missing(column))
+    place_of(names, column.name().as_bytes())
+}
+
+/// The place of a column that every table has.
+fn required(names: &ByteRecord, column: Column) -> Result<usize, ColumnFault>
+    ensures { result ≡ required (fields_of names.now) column }
+{
+    optional(names, column).ok_or(ColumnFault::Missing(column))
 }
 
 impl Columns {
-    /// The columns of a header row: each name once, in any order, and only `kind`, `moment` and `target` left out.
+    /// The columns of a header row: each name once, in any order, and only `kind`, `moment` and `target` left out. A name that
+    /// begins with `#` is a remark's, which is read over; several may have one name.
+    ///
+    /// Refused with the first name from the left that is no column's (`Unknown`) or stands there twice (`Repeated`), and else with
+    /// the first column of the required ones that is missing (`Missing`).
     #[tactic(auto, unfolding(crate::specs::Columns::header_columns))]
     pub fn of_header(names: &ByteRecord) -> Result<Columns, ColumnFault>
         ensures columns { result ≡ header_columns (fields_of names.now) }
@@ -108,19 +117,19 @@ impl Columns {
         if let Some(fault) = header_fault(names) {
             return Err(fault);
         }
-        let participant = required(names, Column::Participant, b"participant")?;
-        let number = required(names, Column::Number, b"number")?;
-        let symbol = required(names, Column::Symbol, b"symbol")?;
-        let price = required(names, Column::Price, b"price")?;
-        let size = required(names, Column::Size, b"size")?;
-        let condition = required(names, Column::Condition, b"condition")?;
+        let participant = required(names, Column::Participant)?;
+        let number = required(names, Column::Number)?;
+        let symbol = required(names, Column::Symbol)?;
+        let price = required(names, Column::Price)?;
+        let size = required(names, Column::Size)?;
+        let condition = required(names, Column::Condition)?;
         Ok(Columns {
-            kind: place_of(names, b"kind"),
+            kind: optional(names, Column::Kind),
             participant,
             number,
-            moment: place_of(names, b"moment"),
+            moment: optional(names, Column::Moment),
             symbol,
-            target: place_of(names, b"target"),
+            target: optional(names, Column::Target),
             price,
             size,
             condition,
@@ -128,7 +137,7 @@ impl Columns {
         })
     }
 
-    /// How many fields a record of the table has.
+    /// How many fields a row of the table has, with those of remarks.
     pub fn width(&self) -> usize
         ensures width { result ≡ self.now.width }
     {

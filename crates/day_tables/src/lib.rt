@@ -5,6 +5,7 @@ mod column;
 mod column_fault;
 mod columns;
 mod condition;
+mod fault_text;
 mod kind;
 mod named;
 mod number;
@@ -15,16 +16,26 @@ mod spelling;
 mod table;
 mod table_fault;
 mod table_row;
+mod table_text;
+mod table_write_fault;
+#[cfg(test)]
+mod tests;
 mod writing;
 
 pub use column::Column;
 pub use column_fault::ColumnFault;
 pub use columns::Columns;
+pub use fault_text::{FAULT_TEXT_MOST, FaultText};
 pub use kind::Kind;
 pub use reading::read_row;
 pub use row_fault::RowFault;
-pub use spelling::{number_is_spelled, price_is_spelled};
-pub use table::read_table;
+pub use spelling::{
+    condition_is_spelled, kind_is_spelled, moment_is_spelled, number_is_spelled,
+    participant_is_spelled, price_is_spelled, symbol_is_spelled,
+};
+pub use table::{FIRST_ROW, read_table};
 pub use table_fault::TableFault;
 pub use table_row::TableRow;
-pub use writing::{row_round_trip, write_row};
+pub use table_text::{table_round_trip, write_table};
+pub use table_write_fault::TableWriteFault;
+pub use writing::{push_row, row_round_trip, write_row};

@@ -1,40 +1,46 @@
 //! A message read from a row.
 ghost use Rattle.std.specs.Prelude.{◌≡◌};
-ghost use Rattle.tape_types.specs.Ranges.{NUMBER_MOST};
+ghost use Rattle.tape_types.specs.Ranges.{NUMBER_MOST, SIZE_MOST};
 ghost use Rattle.day_tables.specs.Numbers.{number_within};
 ghost use Rattle.day_tables.specs.RowTexts.{text_of_row};
-ghost use Rattle.day_tables.specs.Rows.{field, row_content, row_header, row_message, row_message_of, row_no_content, unused};
+ghost use Rattle.day_tables.specs.Rows.{field, row_content, row_header, row_message, row_message_of, row_no_content, row_target, unused};
 ghost use Rattle.day_tables.specs.Texts.{moment_of};
 
 use crate::condition::condition_of;
 use crate::named::{participant_of, symbol_of};
 use crate::number::number_within;
 use crate::price::price_of;
-use crate::{Column, Kind, RowFault, TableRow};
+use crate::{Column, FaultText, Kind, RowFault, TableRow};
 use reports::{Header, Message, Moment};
 use sale_matrix::Content;
 use tape_types::{MsgNumber, SIZE_MOST, Size};
 
+/// The value of a field, or the fault of a text that writes none.
+fn field<T: Copy>(column: Column, text: &[u8], value: Option<T>) -> Result<T, RowFault>
+    ensures { result ≡ field column text.now value }
+{
+    match value {
+        Some(value) => Ok(value),
+        None => Err(RowFault::Bad(column, FaultText::new(text))),
+    }
+}
+
 /// A message number, 1 or above.
 #[tactic(auto, unfolding(crate::specs::Numbers::number_within))]
-fn message_number(column: Column, text: &[u8]) -> Result<MsgNumber, RowFault>
-    ensures { result ≡ field column (number_within 1 NUMBER_MOST text.now) }
+fn message_number(text: &[u8]) -> Option<MsgNumber>
+    ensures { result ≡ number_within 1 NUMBER_MOST text.now }
 {
-    let Some(number) = number_within(1, u64::from(u32::MAX), text) else {
-        return Err(RowFault::Bad(column));
-    };
-    MsgNumber::try_new(number as u32).ok_or(RowFault::Bad(column))
+    let number = number_within(1, u64::from(u32::MAX), text)?;
+    MsgNumber::try_new(number as u32)
 }
 
 /// A number of shares.
 #[tactic(auto, unfolding(crate::specs::Numbers::number_within))]
-fn size(text: &[u8]) -> Result<Size, RowFault>
-    ensures { result ≡ field Column.Size (number_within 1 SIZE_MOST text.now) }
+fn size(text: &[u8]) -> Option<Size>
+    ensures { result ≡ number_within 1 SIZE_MOST text.now }
 {
-    let Some(size) = number_within(1, u64::from(SIZE_MOST), text) else {
-        return Err(RowFault::Bad(Column::Size));
-    };
-    Size::try_new(size as u32).ok_or(RowFault::Bad(Column::Size))
+    let size = number_within(1, u64::from(SIZE_MOST), text)?;
+    Size::try_new(size as u32)
 }
 
 /// A moment: a number, or nothing for 0.
@@ -56,7 +62,7 @@ fn unused(column: Column, text: &[u8]) -> Result<(), RowFault>
     if text.is_empty() {
         Ok(())
     } else {
-        Err(RowFault::Unused(column))
+        Err(RowFault::Unused(column, FaultText::new(text)))
     }
 }
 
@@ -65,10 +71,14 @@ fn unused(column: Column, text: &[u8]) -> Result<(), RowFault>
 fn header(row: &TableRow) -> Result<Header, RowFault>
     ensures { result ≡ row_header (text_of_row row.now) }
 {
-    let participant = participant_of(row.participant).ok_or(RowFault::Bad(Column::Participant))?;
-    let number = message_number(Column::Number, row.number)?;
-    let moment = moment_of(row.moment).ok_or(RowFault::Bad(Column::Moment))?;
-    let symbol = symbol_of(row.symbol).ok_or(RowFault::Bad(Column::Symbol))?;
+    let participant = field(
+        Column::Participant,
+        row.participant,
+        participant_of(row.participant),
+    )?;
+    let number = field(Column::Number, row.number, message_number(row.number))?;
+    let moment = field(Column::Moment, row.moment, moment_of(row.moment))?;
+    let symbol = field(Column::Symbol, row.symbol, symbol_of(row.symbol))?;
     Ok(Header {
         participant,
         number,
@@ -77,14 +87,26 @@ fn header(row: &TableRow) -> Result<Header, RowFault>
     })
 }
 
+/// The number of the report that is meant.
+#[tactic(auto, unfolding(crate::specs::Rows::row_target))]
+fn target(row: &TableRow) -> Result<MsgNumber, RowFault>
+    ensures { result ≡ row_target (text_of_row row.now) }
+{
+    field(Column::Target, row.target, message_number(row.target))
+}
+
 /// What was traded, and how.
 #[tactic(auto, unfolding(crate::specs::Rows::row_content))]
 fn content(row: &TableRow) -> Result<Content, RowFault>
     ensures { result ≡ row_content (text_of_row row.now) }
 {
-    let price = price_of(row.price).ok_or(RowFault::Bad(Column::Price))?;
-    let size = size(row.size)?;
-    let condition = condition_of(row.condition).ok_or(RowFault::Bad(Column::Condition))?;
+    let price = field(Column::Price, row.price, price_of(row.price))?;
+    let size = field(Column::Size, row.size, size(row.size))?;
+    let condition = field(
+        Column::Condition,
+        row.condition,
+        condition_of(row.condition),
+    )?;
     Ok(Content {
         price,
         size,
@@ -103,7 +125,7 @@ fn no_content(row: &TableRow) -> Result<(), RowFault>
 }
 
 /// The message of a row of this kind.
-#[tactic(auto, unfolding(crate::specs::Rows::row_message_of, crate::specs::Rows::row_target))]
+#[tactic(auto, unfolding(crate::specs::Rows::row_message_of))]
 fn message_of(kind: Kind, row: &TableRow) -> Result<Message, RowFault>
     ensures { result ≡ row_message_of kind (text_of_row row.now) }
 {
@@ -115,12 +137,12 @@ fn message_of(kind: Kind, row: &TableRow) -> Result<Message, RowFault>
             Ok(Message::Report { header, content })
         }
         Kind::Cancel => {
-            let target = message_number(Column::Target, row.target)?;
+            let target = target(row)?;
             no_content(row)?;
             Ok(Message::Cancel { header, target })
         }
         Kind::Correct => {
-            let target = message_number(Column::Target, row.target)?;
+            let target = target(row)?;
             let content = content(row)?;
             Ok(Message::Correct {
                 header,
@@ -129,7 +151,7 @@ fn message_of(kind: Kind, row: &TableRow) -> Result<Message, RowFault>
             })
         }
         Kind::Reinstate => {
-            let target = message_number(Column::Target, row.target)?;
+            let target = target(row)?;
             no_content(row)?;
             Ok(Message::Reinstate { header, target })
         }
@@ -141,6 +163,6 @@ fn message_of(kind: Kind, row: &TableRow) -> Result<Message, RowFault>
 pub fn read_row(row: &TableRow) -> Result<Message, RowFault>
     ensures exact { result ≡ row_message (text_of_row row.now) }
 {
-    let kind = Kind::of_text(row.kind).ok_or(RowFault::Bad(Column::Kind))?;
+    let kind = field(Column::Kind, row.kind, Kind::of_text(row.kind))?;
     message_of(kind, row)
 }

@@ -1,12 +1,45 @@
 //! Why a row is no message.
+ghost use Rattle.std.specs.Prelude.{Some};
+ghost use Rattle.day_tables.specs.FaultLines.{row_fault_text};
 
-use crate::Column;
+use crate::{Column, FaultText};
+use std::fmt;
+use thiserror::Error;
 
 /// Why a row is no message: the first thing wrong, in the order of the columns.
-#[derive(Clone, Copy, Debug, PartialEq, Eq)]
+#[derive(Clone, Copy, Debug, PartialEq, Eq, Error)]
 pub enum RowFault {
+    /// The row has another number of fields than the header row.
+    Fields {
+        /// How many fields the row has.
+        found: usize,
+        /// How many the header row has.
+        wanted: usize,
+    },
     /// The field of this column is none of its values.
-    Bad(Column),
+    Bad(Column, FaultText),
     /// The field of this column has to be empty in a row of this kind.
-    Unused(Column),
+    Unused(Column, FaultText),
+}
+
+impl fmt::Display for RowFault {
+    ghost output = { λ fault. Some (row_fault_text fault) };
+
+    fn fmt<W: fmt::Write>(&self, f: &mut fmt::Formatter<W>) -> fmt::Result {
+        match self {
+            RowFault::Fields { found, wanted } => {
+                write!(f, "{found} fields, and the header row has {wanted}")
+            }
+            RowFault::Bad(column, text) => {
+                let rule = column.rule();
+                write!(f, "{column} \"{text}\" is not {rule}")
+            }
+            RowFault::Unused(column, text) => {
+                write!(
+                    f,
+                    "{column} \"{text}\" is not empty, as in a row of this kind"
+                )
+            }
+        }
+    }
 }

@@ -1,15 +1,19 @@
 //! A whole table, read.
 ghost use Rattle.std.specs.Prelude.{◌≡◌, ◌++◌, ◌∷◌, ◌⊎◌, [], ℕ, List, true, false, IfOk, IfErr, IfSome, OnOk};
 ghost use Rattle.csv.specs.Records.{fields_of};
-ghost use Rattle.day_tables.specs.TableReading.{AreMessagesUnder, HasColumns, HasRead, IsFaultUnder, IsHeaderFault, IsPlain};
-ghost use Rattle.day_tables.specs.Tables.{AreTableRecords, IsTable, IsTableFault, record_message};
+ghost use Rattle.day_tables.specs.TableReading.{HasColumns, HasRead, IsFaultUnder, IsHeaderFault, IsPlain, IsWholeUnder};
+ghost use Rattle.day_tables.specs.Tables.{AreTableRecords, FIRST_ROW, IsTable, IsTableFault, fields_message, record_message};
 ghost use Rattle.day_tables.specs.declared.table_fault.TableFault.TheVariants.{OutOfMemory, ReadFault};
 
-use crate::{Column, ColumnFault, Columns, TableFault, read_row};
+use crate::{Columns, RowFault, TableFault, read_row};
 use csv::{ByteRecord, ErrorKind, Reader, ReaderBuilder};
 use reports::Message;
 use std::alloc::Global;
 use std::io::Read;
+
+/// The number of the first row below the header row: as in a spreadsheet, the header row itself is the first of all. A blank line
+/// is no row.
+pub const FIRST_ROW: u64 = 2;
 
 /// A reader of records, of which the first is read as any other, and each may have its own number of fields.
 fn records_in<R: Read>(alloc: Global, reader: R) -> Reader<R>
@@ -41,21 +45,32 @@ fn next_record<R: Read>(reader: &mut Reader<R>, fields: &mut ByteRecord) -> Resu
     }
 }
 
-/// The message of the record of this number, from 1.
+/// The message of a record.
+#[tactic(auto, unfolding(crate::specs::Tables::fields_message))]
+fn fields_message(columns: &Columns, fields: &ByteRecord) -> Result<Message, RowFault>
+    ensures { result ≡ fields_message columns.now (fields_of fields.now) }
+{
+    if fields.len() != columns.width() {
+        return Err(RowFault::Fields {
+            found: fields.len(),
+            wanted: columns.width(),
+        });
+    }
+    read_row(&columns.row(fields))
+}
+
+/// The message of the row of this number.
 #[tactic(auto, unfolding(crate::specs::Tables::record_message))]
 fn read_record(columns: &Columns, number: u64, fields: &ByteRecord) -> Result<Message, TableFault>
     ensures { result ≡ record_message columns.now number (fields_of fields.now) }
 {
-    if fields.len() != columns.width() {
-        return Err(TableFault::Fields(number));
-    }
-    match read_row(&columns.row(fields)) {
+    match fields_message(columns, fields) {
         Ok(message) => Ok(message),
         Err(fault) => Err(TableFault::Row(number, fault)),
     }
 }
 
-/// The messages of the records behind a header row, by a record that is used again for each.
+/// The messages of the rows below a header row, by a record that is used again for each.
 fn messages_under<R: Read>(
     alloc: Global,
     columns: &Columns,
@@ -64,13 +79,16 @@ fn messages_under<R: Read>(
 ) -> Result<Vec<Message>, TableFault>
     requires plain { IsPlain reader.old }
     ensures messages { IfOk result (λ messages. (input : List ℕ) (names : List (List ℕ))
-        → HasRead R.remaining reader.old input (names ∷ []) → AreMessagesUnder columns.now input names messages.items) }
+        → HasRead R.remaining reader.old input (names ∷ []) → IsWholeUnder columns.now input names (Ok messages.items)) }
     ensures fault { IfErr result (λ fault. (input : List ℕ) (names : List (List ℕ))
         → HasRead R.remaining reader.old input (names ∷ []) → IsFaultUnder columns.now input names fault) }
 {
     let mut messages = Vec::new(alloc);
-    for number in 1..u64::MAX {
+    for number in FIRST_ROW..u64::MAX {
         if !next_record(reader, fields)? {
+            if messages.is_empty() {
+                return Err(TableFault::NoRow);
+            }
             return Ok(messages);
         }
         let message = match read_record(columns, number, fields) {
@@ -84,7 +102,7 @@ fn messages_under<R: Read>(
     Err(TableFault::OutOfMemory)
 }
 
-/// The columns that the header row names. A text without a record lacks the first one that every table has.
+/// The columns that the header row names.
 fn read_columns<R: Read>(
     reader: &mut Reader<R>,
     fields: &mut ByteRecord,
@@ -96,8 +114,7 @@ fn read_columns<R: Read>(
     ensures fault { IfErr result (λ fault. (input : List ℕ) → HasRead R.remaining reader.old input [] → IsHeaderFault input fault) }
 {
     if !next_record(reader, fields)? {
-        // The text has no record.
-        return Err(TableFault::Header(ColumnFault::Missing(Column::Participant)));
+        return Err(TableFault::NoRow);
     }
     match Columns::of_header(fields) {
         Ok(columns) => Ok(columns),
@@ -105,10 +122,12 @@ fn read_columns<R: Read>(
     }
 }
 
-/// The messages of a table: a header row, and then a record for each message, in order. Blank lines are passed over.
+/// The messages of a table: a header row, and then a row for each message, in order. The message at a place of the list, from 0, is
+/// that of the row of the number `FIRST_ROW` and the place. A byte order mark and blank lines are read over.
 ///
-/// Refused, the first that applies from the front: `Header` where the first record does not name the columns, `Fields` at a record
-/// with another number of fields, and `Row` at one that is no message. `ReadFault` and `OutOfMemory` may come at any record.
+/// Refused, the first that applies from the front: `Header` where the first row does not name the columns, `Row` at one that has
+/// another number of fields or is no message, and `NoRow` at the end where no row was read. `ReadFault` and `OutOfMemory` may come
+/// at any row. What was read is dropped.
 pub fn read_table<R: Read + Drop>(alloc: Global, reader: R) -> Result<Vec<Message>, TableFault>
     ensures messages { IfSome (R.remaining reader) (λ input. IfOk result (λ messages. IsTable input messages.items)) }
     ensures fault { IfSome (R.remaining reader) (λ input. IfErr result (IsTableFault input)) }

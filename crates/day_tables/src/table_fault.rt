@@ -1,18 +1,36 @@
 //! Why a table was not read.
+ghost use Rattle.std.specs.Prelude.{Some};
+ghost use Rattle.day_tables.specs.FaultLines.{table_fault_text};
 
 use crate::{ColumnFault, RowFault};
+use std::fmt;
+use thiserror::Error;
 
-/// Why a table was not read. Records are counted from 1 for the first after the header row.
-#[derive(Clone, Copy, Debug, PartialEq, Eq)]
+/// Why a table was not read.
+#[derive(Clone, Copy, Debug, PartialEq, Eq, Error)]
 pub enum TableFault {
     /// The header row names no table.
     Header(ColumnFault),
-    /// This record has another number of fields than the header row.
-    Fields(u64),
-    /// This record is no message.
+    /// No row stands below the header row, or there is not even that.
+    NoRow,
+    /// The row of this number is no message. The row below the header row has the number `FIRST_ROW`, and a blank line has none.
     Row(u64, RowFault),
     /// A read failed.
     ReadFault,
     /// Memory ran out.
     OutOfMemory,
+}
+
+impl fmt::Display for TableFault {
+    ghost output = { λ fault. Some (table_fault_text fault) };
+
+    fn fmt<W: fmt::Write>(&self, f: &mut fmt::Formatter<W>) -> fmt::Result {
+        match self {
+            TableFault::Header(fault) => write!(f, "header row: {fault}"),
+            TableFault::NoRow => f.write_str("the table has no row"),
+            TableFault::Row(number, fault) => write!(f, "row {number}: {fault}"),
+            TableFault::ReadFault => f.write_str("a read failed"),
+            TableFault::OutOfMemory => f.write_str("out of memory"),
+        }
+    }
 }

@@ -5,7 +5,7 @@ ghost use Rattle.reports.specs.Messages.{brought_content, named_target};
 ghost use Rattle.tape_types.specs.Ranges.{name_of};
 ghost use Rattle.day_tables.specs.Laws.{RowRoundTrip};
 ghost use Rattle.day_tables.specs.Texts.{code_byte};
-ghost use Rattle.day_tables.specs.Writing.{condition_text, digit_at, kind_text, price_text, row_fields, row_of, text_or_none};
+ghost use Rattle.day_tables.specs.Writing.{condition_text, header_fields, digit_at, kind_text, price_text, row_fields, row_of, text_or_none};
 
 use crate::price::DOLLAR;
 use csv::ByteRecord;
@@ -120,6 +120,7 @@ fn push_content(row: &mut ByteRecord, content: Option<Content>) -> Result<(), Al
         text_or_none (λ content. price_text content.price) content
         ∷ text_or_none (λ content. decimal content.size) content
         ∷ text_or_none (λ content. condition_text content.condition) content ∷ [])) }
+    ensures partial { OnOk result (partial_of row.new ≡ []) }
 {
     match content {
         Some(content) => {
@@ -135,20 +136,39 @@ fn push_content(row: &mut ByteRecord, content: Option<Content>) -> Result<(), Al
     }
 }
 
-/// Writes a message as its row, the fields in the order of the columns, into a record that may be used again.
+/// Adds what every row begins with, up to the target.
 #[tactic(auto, unfolding(crate::specs::Writing::row_of))]
-pub fn write_row(message: &Message, row: &mut ByteRecord) -> Result<(), AllocError>
-    ensures fields { OnOk result (fields_of row.new ≡ row_fields (row_of message.now)) }
+fn push_header(row: &mut ByteRecord, message: &Message) -> Result<(), AllocError>
+    requires { partial_of row.old ≡ [] }
+    ensures fields { OnOk result (fields_of row.new ≡ fields_of row.old ++ header_fields (row_of message.now)) }
+    ensures partial { OnOk result (partial_of row.new ≡ []) }
 {
     let header = message.header();
-    row.clear();
     row.push_field(kind_text(message))?;
     row.push_field(&[header.participant.value()])?;
     push_number(row, u64::from(header.number.value()))?;
     push_number(row, header.moment.value())?;
-    row.push_field(header.symbol.name())?;
+    row.push_field(header.symbol.name())
+}
+
+/// Adds the nine fields of a message's row, in the order of the columns. Where memory runs out, some of them may have been added.
+#[tactic(auto, unfolding(crate::specs::Writing::row_of))]
+pub fn push_row(row: &mut ByteRecord, message: &Message) -> Result<(), AllocError>
+    requires { partial_of row.old ≡ [] }
+    ensures fields { OnOk result (fields_of row.new ≡ fields_of row.old ++ row_fields (row_of message.now)) }
+    ensures partial { OnOk result (partial_of row.new ≡ []) }
+{
+    push_header(row, message)?;
     push_target(row, message.target())?;
     push_content(row, message.content())
+}
+
+/// Writes a message as its row in place of what a record holds, which may so be used again.
+pub fn write_row(message: &Message, row: &mut ByteRecord) -> Result<(), AllocError>
+    ensures fields { OnOk result (fields_of row.new ≡ row_fields (row_of message.now)) }
+{
+    row.clear();
+    push_row(row, message)
 }
 
 /// The row of every message reads back as that message.

@@ -1,28 +1,23 @@
 use Rattle.std.proofs.Common.{arith, sym}
 use Rattle.std.proofs.lemmas.List.{drop_all}
 use Rattle.csv.specs.Records.{fields_of}
-use Rattle.day_tables.proofs.ColumnLemmas.{drop-none, header_fault-none, header_fault-on, header_fault-repeated, header_fault-unknown}
+use Rattle.day_tables.proofs.ColumnLemmas.{drop-none, header_fault-here, header_fault-none, header_fault-on}
 use Rattle.day_tables.proofs.columns.header_fault.Goals as goal
 
 pub loop-place-preserved : goal.loop-place-preserved
 loop-place-preserved c =
     header_fault-on (fields_of c.args.names.now) c.in-Some.name.now c.loop-place.place c.loop-place.invariant (sym c.in-Some.ensures.value)
-    (sym c.if-not-is_column.ensures) (sym c.if-stands_before.ensures)
+    (sym c.in_default-name_fault.ensures)
 
 pub returns-in_default : goal.returns-in_default
 returns-in_default c =
     sym (header_fault-none (fields_of c.args.names.now) c.loop-place.place c.loop-place.invariant
     (drop-none (fields_of c.args.names.now) c.loop-place.place (sym c.in_default.ensures.value)))
 
-pub returns-then-not-is_column : goal.returns-then-not-is_column
-returns-then-not-is_column c =
-    sym (header_fault-unknown (fields_of c.args.names.now) c.in-Some.name.now c.loop-place.place c.loop-place.invariant (sym c.in-Some.ensures.value)
-    (sym c.if-not-is_column.ensures))
-
-pub returns-then-stands_before : goal.returns-then-stands_before
-returns-then-stands_before c =
-    sym (header_fault-repeated (fields_of c.args.names.now) c.in-Some.name.now c.loop-place.place c.loop-place.invariant (sym c.in-Some.ensures.value)
-    (sym c.if-not-is_column.ensures) (sym c.if-stands_before.ensures))
+pub returns-in-Some-name_fault : goal.returns-in-Some-name_fault
+returns-in-Some-name_fault c =
+    sym (header_fault-here (fields_of c.args.names.now) c.in-Some.name.now c.loop-place.place c.in-Some-name_fault.fault c.loop-place.invariant (sym c.in-Some.ensures.value)
+    (sym c.in-Some-name_fault.ensures))
 
 pub returns : goal.returns
 returns c =

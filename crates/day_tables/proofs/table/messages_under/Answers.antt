@@ -1,7 +1,9 @@
-use Rattle.std.proofs.Common.{◌≡◌, ◌∷◌, [], ap, arith, length, length-append, rules, true, sym}
+use Rattle.std.proofs.Common.{◌≡◌, ◌∷◌, ◌==◌, [], ap, arith, length, length-append, rules, true, false, sym, Ok, Err}
 use Rattle.std.specs.Result.{is_ok}
 use Rattle.csv.specs.Records.{fields_of}
-use Rattle.day_tables.proofs.TableLemmas.{are_messages, has_messages-more, is_fault-record}
+use Rattle.day_tables.proofs.TableLemmas.{has_messages-more, is_fault-record, is_whole_under, some_messages-none, some_messages-some}
+use Rattle.day_tables.specs.Tables.{some_messages}
+use Rattle.day_tables.specs.declared.table_fault.TableFault.TheVariants.{NoRow}
 use Rattle.day_tables.proofs.table.messages_under.Goals as goal
 
 pub loop-number-preserved : goal.loop-number-preserved
@@ -20,8 +22,19 @@ loop-number-preserved g c =
 
 pub returns-then-not-branch-clause-messages : goal.returns-then-not-branch-clause-messages
 returns-then-not-branch-clause-messages g c = λ input names start.
-    are_messages g.R.Read.remaining c.loop-number.reader c.args.columns.now c.loop-number.messages.items
-    (c.in_ok-next_record.ensures.end (search rules)) input names (c.loop-number.invariant.read input names start)
+    let messages = c.loop-number.messages.items in
+    let some : (length messages == 0) ≡ false = search rules in
+    let same : some_messages messages ≡ Ok messages = some_messages-some messages some in
+    rw same at (is_whole_under g.R.Read.remaining c.loop-number.reader c.args.columns.now messages
+    (c.in_ok-next_record.ensures.end (search rules)) input names (c.loop-number.invariant.read input names start))
+
+pub returns-then-is_empty-clause-fault : goal.returns-then-is_empty-clause-fault
+returns-then-is_empty-clause-fault g c = λ input names start.
+    let messages = c.loop-number.messages.items in
+    let none : (length messages == 0) ≡ true = search rules in
+    let same : some_messages messages ≡ Err NoRow = some_messages-none messages none in
+    rw same at (is_whole_under g.R.Read.remaining c.loop-number.reader c.args.columns.now messages
+    (c.in_ok-next_record.ensures.end (search rules)) input names (c.loop-number.invariant.read input names start))
 
 pub returns-in-Err-clause-fault : goal.returns-in-Err-clause-fault
 returns-in-Err-clause-fault g c = λ input names start.

@@ -6,7 +6,7 @@ use Rattle.day_tables.proofs.table.messages_under.Given as goal
 abbrev pub invariant-loop-number : goal.invariant-loop-number
 invariant-loop-number g l = record {
   plain : IsPlain l.reader;
-  count : l.number ≡ length l.messages.items + 1;
+  count : l.number ≡ length l.messages.items + 2;
   read : (input : List ℕ) (names : List (List ℕ)) → HasRead g.R.Read.remaining l.fn.reader input (names ∷ [])
       → HasMessages g.R.Read.remaining l.reader l.columns input names l.messages.items;
 }

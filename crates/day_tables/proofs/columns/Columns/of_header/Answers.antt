@@ -13,9 +13,9 @@ returns c = record {
     ← c.in_ok-price.ensures,
     ← c.in_ok-size.ensures,
     ← c.in_ok-condition.ensures,
-    c.place_of.ensures,
-    c.place_of-2.ensures,
-    c.place_of-3.ensures,
+    c.optional.ensures,
+    c.optional-2.ensures,
+    c.optional-3.ensures,
     c.len.ensures,
   ) refl;
 }

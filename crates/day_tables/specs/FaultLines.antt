@@ -1,0 +1,37 @@
+-- What a fault of a table is printed as.
+use Rattle.std.specs.Prelude.{ℕ, List, ◌++◌, codes, decimal}
+use Rattle.day_tables.specs.ColumnNames.{column_name, column_rule}
+use Rattle.day_tables.specs.declared.column_fault.ColumnFault.{ColumnFault}
+use Rattle.day_tables.specs.declared.column_fault.ColumnFault.TheVariants.{Unknown, Repeated, Missing}
+use Rattle.day_tables.specs.declared.row_fault.RowFault.{RowFault}
+use Rattle.day_tables.specs.declared.row_fault.RowFault.TheVariants.{Fields, Bad, Unused}
+use Rattle.day_tables.specs.declared.table_fault.TableFault.{TableFault}
+use Rattle.day_tables.specs.declared.table_fault.TableFault.TheVariants.{Header, NoRow, Row, ReadFault, OutOfMemory}
+use Rattle.day_tables.specs.declared.table_write_fault.TableWriteFault.{TableWriteFault}
+use Rattle.day_tables.specs.declared.table_write_fault.TableWriteFault.TheVariants as write
+use Rattle.day_tables.specs.FaultTexts.{shown}
+
+-- what a fault of a header row is printed as
+abbrev pub column_fault_text : ColumnFault → List ℕ
+column_fault_text (Unknown name) = codes "column \"" ++ (shown name ++ codes "\" is unknown")
+column_fault_text (Repeated column) = codes "column " ++ (column_name column ++ codes " stands twice")
+column_fault_text (Missing column) = codes "column " ++ (column_name column ++ codes " is missing")
+
+-- what a fault of a row is printed as
+abbrev pub row_fault_text : RowFault → List ℕ
+row_fault_text (Fields found wanted) = decimal found ++ (codes " fields, and the header row has " ++ decimal wanted)
+row_fault_text (Bad column text) = column_name column ++ (codes " \"" ++ (shown text ++ (codes "\" is not " ++ column_rule column)))
+row_fault_text (Unused column text) = column_name column ++ (codes " \"" ++ (shown text ++ codes "\" is not empty, as in a row of this kind"))
+
+-- what a fault of a table is printed as
+abbrev pub table_fault_text : TableFault → List ℕ
+table_fault_text (Header fault) = codes "header row: " ++ column_fault_text fault
+table_fault_text NoRow = codes "the table has no row"
+table_fault_text (Row number fault) = codes "row " ++ (decimal number ++ (codes ": " ++ row_fault_text fault))
+table_fault_text ReadFault = codes "a read failed"
+table_fault_text OutOfMemory = codes "out of memory"
+
+-- what a fault of writing a table is printed as
+abbrev pub table_write_fault_text : TableWriteFault → List ℕ
+table_write_fault_text write.OutOfMemory = codes "out of memory"
+table_write_fault_text write.WriteFault = codes "a write failed"
