@@ -21,10 +21,10 @@ class Samples(Case):
                 self.assert_writes(run(["batch"], day), (SAMPLES / f"{name}.out").read_bytes())
 
     def test_corrected_day(self):
-        """README, "A day": the table's day has the rows that README shows."""
+        """README, "A day": the table's day has the answers and rows that README shows."""
         ended = run(["batch"], batch_of(SAMPLES / "corrections.csv"))
         rows = "AB,ALL,99500,1,100500,3,99500,1,99500,1,250,2\nAB,N,99500,1,100500,3,99500,1,99500,1,250,2\n"
-        self.assert_writes(ended, f"1\n2\n3\n4\n5\n{HEADINGS}\n{rows}".encode())
+        self.assert_writes(ended, f"1\n2\n3\n4\nrefused 35 Stale\n5\n{HEADINGS}\n{rows}".encode())
 
 
 class Headers(Case):

@@ -83,4 +83,4 @@ class Scripts(Case):
             table.flush()
             for script, more in READERS:
                 with self.subTest(script.name):
-                    self.assert_names(self.ran(script, table.name, *more), f"{table.name}, line 7: size '0' is not a number")
+                    self.assert_names(self.ran(script, table.name, *more), f"{table.name}, line 8: size '0' is not a number")

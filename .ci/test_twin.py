@@ -74,7 +74,7 @@ class Tables(Case):
             file.write((SAMPLES / "corrections.csv").read_bytes() + b"reinstate,Q,3,AB,1,,,\n")
             file.flush()
             rows = ["AB,ALL,99500,1,101000,2,99500,1,101000,2,450,3", "AB,N,99500,1,100500,3,99500,1,99500,1,250,2"]
-            wanted = [*"123456", *rows, "AB,Q,101000,2,101000,2,101000,2,101000,2,200,1"]
+            wanted = [*"1234", "refused 35 Stale", *"56", *rows, "AB,Q,101000,2,101000,2,101000,2,101000,2,200,1"]
             self.assert_day([], file.name, wanted)
 
 
