@@ -21,7 +21,6 @@ def has_pandas():
     return bool(python) and subprocess.run([python, "-c", "import pandas"], check=False, capture_output=True).returncode == 0
 
 
-@unittest.skipUnless(shutil.which("sqlite3"), "no sqlite3")
 class Reports(Case):
     def setUp(self):
         folder = tempfile.TemporaryDirectory()
@@ -41,6 +40,7 @@ class Reports(Case):
                     done = subprocess.run(["sh", "-c", command], cwd=self.folder, env=environment, capture_output=True, check=True, timeout=LIMIT)
                     self.assertEqual(re.sub("(?m) +$", "", done.stdout.decode()), shown)
 
+    @unittest.skipUnless(shutil.which("sqlite3"), "no sqlite3")
     def test_sqlite(self):
         """REPORTS: the volume by symbol, who set the high, what a cancel changed, and the picture of a symbol's trades, as the page shows them."""
         self.assert_page(lambda command: "pandas" not in command)

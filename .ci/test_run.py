@@ -4,7 +4,6 @@ import re
 import shutil
 import string
 import tempfile
-import unittest
 from pathlib import Path
 
 from support import ROOT, SAMPLES, TAPEBOX, Case, Ended, batch_line, report, run
@@ -72,7 +71,6 @@ class Run(Case):
         self.assertEqual((ended.status, ended.written), (0, self.written))
         self.assertRegex(ended.said, rb"\Arun: not proved: [^\n]*\./run --prove[^\n]*\n\Z")
 
-    @unittest.skipUnless(shutil.which("parallel"), "no GNU parallel")
     def test_what_wants_the_proof(self):
         """README, "A day": a running day, a day whose answers and report may be too long, and a split day want the proved program, which is said
         before anything is compiled."""

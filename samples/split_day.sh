@@ -35,9 +35,9 @@ why_failed() {
 
 case ${1-} in -h | --help) help; exit ;; esac
 [ $# -eq 2 ] || { echo "usage: split_day.sh TABLE.csv N" >&2; exit 2; }
-command -v parallel > /dev/null || fail "there is no GNU parallel"
 # ./run says what is wanted if there is none.
 tapebox=${TAPEBOX:-$("$samples/../run" --which split_day.sh)} || exit 1
+command -v parallel > /dev/null || fail "there is no GNU parallel"
 work=$(mktemp -d) || exit 1
 trap 'rm -rf "$work"' EXIT
 trap 'exit 1' HUP INT TERM
