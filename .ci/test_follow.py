@@ -5,6 +5,7 @@ import errno
 import os
 import signal
 import socket
+import statistics
 import struct
 import subprocess
 import sys
@@ -167,6 +168,13 @@ class LateLines(Case):
     """A follower of packets of one report each, which asks on a connection of the case's own."""
 
     REPORTS = 200
+    # How many gaps are looked at, and how many entries a packet of version 1 has at most.
+    GAPS = 40
+    ENTRIES_MOST = 8
+    # How many numbers above those that are held leave no time to wait for a line.
+    AHEAD = 600
+    # Seconds: less than the turns for which a line is waited for, and more than a request takes.
+    AT_ONCE = 0.004
 
     @staticmethod
     def answer(peer):
@@ -214,6 +222,59 @@ class LateLines(Case):
             line_a(packet(b"E", 5))
 
         self.assertEqual(self.asked(5, send), [2, 4])
+
+
+    @tried(3)
+    def test_a_line_that_stays_late(self):
+        """PROFILE, "A running day": a line that was waited for in vain is not waited for again, whatever it brings, before it has come to the number that
+        was asked for: but for the first gap the request comes at once."""
+        seconds = []
+        with follower() as peer:
+            for line in (peer.by_a, peer.by_b):
+                line(entries(1, 1))
+            for number in range(2, 2 * self.GAPS + 1, 2):
+                began = time.monotonic()
+                peer.by_b(entries(1, 1))
+                peer.by_a(entries(number + 1, number + 1))
+                self.assertEqual(peer.request(), (number, 1))
+                seconds.append(time.monotonic() - began)
+                peer.connection.sendall(answer_of(entries(number, number)))
+            peer.by_a(packet(b"E", number + 1))
+            end = ended(peer.follow)
+        self.assertEqual((end.status, end.said), (0, b""))
+        self.assertIn(row_of(number + 1), end.written)
+        self.assertLess(statistics.median(seconds), self.AT_ONCE)
+
+    def bring(self, peer, last):
+        """Answers requests until the follower holds so many entries, and returns when the first of them came."""
+        first = None
+        held = 0
+        while held < last:
+            number, count = peer.request()
+            first = first or time.monotonic()
+            held = number + count - 1
+            starts = range(number, held + 1, self.ENTRIES_MOST)
+            peer.connection.sendall(answer_of(*(entries(start, min(start + self.ENTRIES_MOST - 1, held)) for start in starts)))
+        return first
+
+    @tried(3)
+    def test_a_gap_that_fills_the_window(self):
+        """PROFILE, "A running day": a line is not waited for, though it was in time, once more than half of the window is announced."""
+        seconds = []
+        with follower() as peer:
+            for number in range(1, self.GAPS // 4 * self.AHEAD, self.AHEAD + 1):
+                for line in (peer.by_a, peer.by_b):
+                    line(entries(number, number))
+                for port in peer.ports:
+                    wait_read(peer.follow, port)
+                began = time.monotonic()
+                peer.by_a(packet(b"H", number + self.AHEAD))
+                seconds.append(self.bring(peer, number + self.AHEAD) - began)
+            peer.by_a(packet(b"E", number + self.AHEAD))
+            end = ended(peer.follow)
+        self.assertEqual((end.status, end.said), (0, b""))
+        self.assertIn(row_of(number + self.AHEAD), end.written)
+        self.assertLess(statistics.median(seconds), self.AT_ONCE)
 
 
 class Counting(threading.Thread):
@@ -271,9 +332,9 @@ class LateDays(Case):
     """Days at full speed through the relay, whose line B is late, or dead."""
 
     REPORTS = 20_000
-    # So many times as much as of a dead line may be asked for of a late one, and as many again as this.
+    # So many times as much as of a dead line may be asked for of a late one, and a quarter of the day: what a busy machine's sockets lose.
     TIMES = 3
-    MORE = 2_000
+    MORE = REPORTS // 4
 
     @contextlib.contextmanager
     def relay(self, ways, *options):
@@ -301,8 +362,8 @@ class LateDays(Case):
 
     @tried(3)
     def test_a_late_line_costs_no_more_than_a_dead_one(self):
-        """PROFILE, "A running day": what a line lost is not waited for that long that the window overflows, and a line that is late is not waited for
-        again before it has come as far."""
+        """PROFILE, "A running day": a line that is late by 20 or 200 milliseconds costs not much more than one that is dead, and the reports are
+        equal."""
         dead = self.asked("--lose", "0,100")
         for late in ("0,20", "0,200"):
             asked = self.asked("--late", late)
