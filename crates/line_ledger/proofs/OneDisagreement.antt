@@ -1,11 +1,15 @@
 -- A disagreement is one.
-use Rattle.std.proofs.Common.{◌≡◌, ◌<◌, ◌+◌, ℕ, List, length, slice_get, Some, inl, inr, ap, subst, ◌∙◌, sym, arith}
+use Rattle.std.proofs.Common.{◌≡◌, ◌<◌, ◌+◌, ℕ, List, length, slice_get, Some, get_or, inl, inr, refl, ap, subst, ◌∙◌, sym, arith}
 use Rattle.std.proofs.lemmas.Bool.{cases_lt}
-use Rattle.std.proofs.lemmas.Option.{same_Some, slice_get_within}
+use Rattle.std.proofs.lemmas.Option.{same_Some, slice_get_read, slice_get_within}
 use Rattle.tape_core.specs.declared.entry.Entry.{Entry}
 use Rattle.line_ledger.specs.Seats.{SeatState}
 use Rattle.line_ledger.specs.Ends.{told_by, told_of, DiffersFirst, DisagreesAt, FirstTold}
 use Rattle.line_ledger.proofs.Differences.{differs_apart, differs_once, same_from}
+
+-- the participant that was read at a place of the list
+pub listed_at : (read listed : List ℕ) (k who : ℕ) → read ≡ listed → k < length read → who ≡ get_or read k who → slice_get listed k ≡ Some who
+listed_at read listed k who same within is = subst (λ ps. slice_get ps k ≡ Some who) same (slice_get_read read (length read) k who refl within is)
 
 -- where the seat of the next participant was told its entries too
 pub told_more_seats : (n : ℕ) (participants : List ℕ) (entries : List Entry) (seats : List SeatState) (who : ℕ) → FirstTold n participants entries seats
