@@ -9,8 +9,8 @@ use arbitration::{Line, REACH};
 /// How many turns a line is waited for that has not come as far as the other.
 const TURNS_MOST: u32 = 5;
 
-/// How many numbers above those that are held may be announced while something is waited for. The window keeps twice as many, so
-/// that what comes while a request is answered fits too.
+/// How many numbers have to be announced above those that are held for nothing to be waited for any more: half of what the window
+/// keeps, so that what comes while a request is answered fits too.
 const AHEAD_MOST: usize = REACH / 2;
 
 /// How far a line has come.
