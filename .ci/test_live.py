@@ -268,6 +268,20 @@ class Peers(Case):
         self.assertTrue(row.endswith(self.WANTED), row)
 
 
+    def test_a_stray_connection(self):
+        """PROFILE, "What becomes of a peer that misbehaves": the first connection to a participant's port is that participant's, whoever it is: where it
+        ends without a message, the day has none of the participant."""
+        port = free_ports(5)
+        with started(["live", "AB", "N,Q", port, port + 2, port + 3, port + 4, 0, self.SESSION]) as day:
+            connect(port).close()
+            self.assertTrue(is_refused(port))
+            with connect(port + 1) as q:
+                q.sendall(report("Q", 1))
+            end = ended(day)
+        self.assertEqual((end.status, end.said), (0, b""))
+        self.assertEqual(end.written.splitlines()[1:], [b"AB,ALL,100000,1,100000,1,100000,1,100000,1,100,1", b"AB,Q,100000,1,100000,1,100000,1,100000,1,100,1"])
+
+
 class ManyRequests(Case):
     SESSION = 7
     REQUESTS_MOST = 65_536
