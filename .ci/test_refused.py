@@ -38,6 +38,7 @@ class Calls(Sweeps):
         """PROMISES, "What is only tested": the same of shared tapes and of lines, which give back each seat."""
         printed = self.sweep_all(CRATES / "memory_lines" / "out" / "memory_lines_tests")
         self.assert_printed(printed, "admitted again", "published again", "found again", "opened again", "told of 0, and then of all")
+        self.assert_printed(printed, "not started: Memory", "not started: Worker")
         for pattern in (r"told of [1-9]\d*, and then of all$", r"a line again after \d+$"):
             with self.subTest(pattern):
                 self.assertTrue(any(re.search(pattern, text) for text in printed), sorted(printed))

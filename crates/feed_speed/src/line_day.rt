@@ -83,7 +83,7 @@ fn run_all<D: DayName + Send + Sync, R: Threads + Wait + Sync>(
             Unstarted {
                 ends,
                 lines,
-                lack: _,
+                why: _,
             },
         ) => {
             ends.destroy_empty();

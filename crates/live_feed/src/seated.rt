@@ -121,13 +121,13 @@ fn not_started<D: DayName>(unstarted: Unstarted<D, Reader>, room: Vec<LineSeat<D
     requires none { unstarted.ends.items ≡ [] }
     ensures seats { result.seats.items ≡ map (λ l. l.0) unstarted.lines.items }
     ensures whos { whos result.seats.items ≡ map (λ l. l.0.who) unstarted.lines.items }
-    ensures fault { result.fault ≡ Some (lack_fault unstarted.lack) }
+    ensures fault { result.fault ≡ Some (lack_fault unstarted.why) }
 {
-    let Unstarted { ends, lines, lack } = unstarted;
+    let Unstarted { ends, lines, why } = unstarted;
     ends.destroy_empty();
     Ran {
         seats: seats_of_lines(lines, room),
-        fault: Some(fault_of_lack(lack)),
+        fault: Some(fault_of_lack(why)),
     }
 }
 

@@ -162,20 +162,20 @@ pub fn run_lines<
         (slice_index_or ends.items i e).refused (slice_index_or ends.items i e).ended (slice_index_or ends.items i e).seat) }
     ensures same { IfOk result (λ ends. map (λ e. e.seat.who) ends.items ≡ map (λ l. l.0.who) lines.items) }
     ensures back { IfErr result (λ unstarted. (unstarted.ends.items ≡ []) × (unstarted.lines.items ≡ lines.items)) }
-    ensures lack { IfErr result (λ unstarted. unstarted.lack ≡ Worker → 2 ≤ length lines.items) }
+    ensures why { IfErr result (λ unstarted. unstarted.why ≡ Worker → 2 ≤ length lines.items) }
 {
     let Ok(ends) = Vec::with_capacity(alloc, lines.len()) else {
         return Err(Unstarted {
             ends: Vec::new(alloc),
             lines,
-            lack: Lack::Memory,
+            why: Lack::Memory,
         });
     };
     if lines.len() > 1 && !can_start(rt) {
         return Err(Unstarted {
             ends,
             lines,
-            lack: Lack::Worker,
+            why: Lack::Worker,
         });
     }
     let mut running = match running_lines(alloc, lines) {
@@ -184,7 +184,7 @@ pub fn run_lines<
             return Err(Unstarted {
                 ends,
                 lines,
-                lack: Lack::Memory,
+                why: Lack::Memory,
             });
         }
     };

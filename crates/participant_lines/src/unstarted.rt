@@ -19,5 +19,5 @@ pub struct Unstarted<D: DayName, R> {
     /// The lines that were not started, with their seats and readers.
     pub lines: Vec<(LineSeat<D>, R)>,
     /// Why they were not.
-    pub lack: Lack,
+    pub why: Lack,
 }

@@ -101,7 +101,7 @@ pub(super) fn run_all<
             Unstarted {
                 ends,
                 lines,
-                lack: _,
+                why: _,
             },
         ) => {
             ends.destroy_empty();

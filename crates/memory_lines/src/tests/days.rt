@@ -1,4 +1,4 @@
-//! Days of the symbol AB and the participants N and Q, the bytes of their reports, and the end of a day.
+//! Days of the symbols AB and CD and the participants N and Q, the bytes of their reports, and the end of a day.
 
 use line_ledger::{DayName, EndFault, LineSeat, OpenFault, Prepared, SharedTape, prepare};
 use sale_matrix::Matrix;
@@ -11,6 +11,9 @@ use tape_types::{Listing, Participant, Symbol};
 
 /// How many reports a participant has.
 pub(super) const REPORTS: u8 = 12;
+
+/// The symbols of a day. Each report is of the first.
+pub(super) const SYMBOLS: [[u8; 8]; 2] = [*b"AB      ", *b"CD      "];
 
 /// How many bytes a report has.
 pub(super) const LENGTH: usize = 40;
@@ -38,7 +41,7 @@ pub(super) fn bytes_of(alloc: Global, who: u8) -> Option<Vec<u8>> {
 
 /// An empty tape of N and Q.
 fn tape(alloc: Global) -> Option<Tape<IndexStore>> {
-    let symbols = [Symbol::try_new(*b"AB      ")?];
+    let symbols = [Symbol::try_new(SYMBOLS[0])?, Symbol::try_new(SYMBOLS[1])?];
     let participants = [Participant::try_new(b'N')?, Participant::try_new(b'Q')?];
     let listing = Listing::new(alloc, &symbols, &participants).ok()?;
     Tape::new(alloc, listing, 100, Matrix::One).ok()

@@ -47,8 +47,9 @@ fn told<D: DayName>(ends: &[LineEnd<D>]) -> u32 {
     many
 }
 
-/// Runs the lines: the seats after it, and how many messages they were told of, which are none where no line was started.
-fn run_all<D: DayName + Send + Sync, T: Threads + Wait + Sync>(
+/// Runs the lines: the seats after it, and how many messages they were told of, which are none where no line was started. Why none
+/// was is printed.
+fn run_all<D: DayName + Send + Sync, T: Threads + Wait + Print + Sync>(
     rt: &T,
     alloc: Global,
     shared: &SharedTape<D>,
@@ -63,13 +64,8 @@ fn run_all<D: DayName + Send + Sync, T: Threads + Wait + Sync>(
             let many = told(&ends);
             (seats_of_ends(ends, room), many)
         }
-        Err(
-            Unstarted {
-                ends,
-                lines,
-                lack: _,
-            },
-        ) => {
+        Err(Unstarted { ends, lines, why }) => {
+            let _ = println!(rt; "not started: {why:?}");
             ends.destroy_empty();
             (seats_of_lines(lines, room), 0)
         }
@@ -77,7 +73,7 @@ fn run_all<D: DayName + Send + Sync, T: Threads + Wait + Sync>(
 }
 
 /// Runs the lines that the seats have, with room for them. Without memory for that the seats come back as they are.
-fn run_seats<D: DayName + Send + Sync, T: Threads + Wait + Abort + Sync>(
+fn run_seats<D: DayName + Send + Sync, T: Threads + Wait + Abort + Print + Sync>(
     rt: &T,
     alloc: Global,
     shared: &SharedTape<D>,
@@ -99,7 +95,7 @@ fn run_seats<D: DayName + Send + Sync, T: Threads + Wait + Abort + Sync>(
 
 /// Runs the lines of a day, and ends it: how many messages its seats were told of, none where the day could not be opened. The
 /// day has as many entries.
-fn run_day<D: DayName + Send + Sync, T: Threads + Wait + Abort + Sync>(
+fn run_day<D: DayName + Send + Sync, T: Threads + Wait + Abort + Print + Sync>(
     rt: &T,
     alloc: Global,
     prepared: Prepared,
@@ -119,7 +115,7 @@ fn run_day<D: DayName + Send + Sync, T: Threads + Wait + Abort + Sync>(
 }
 
 /// The same of a day under a name of its own.
-fn run_new_day<T: Threads + Wait + Abort + Sync>(
+fn run_new_day<T: Threads + Wait + Abort + Print + Sync>(
     rt: &T,
     alloc: Global,
     prepared: Prepared,

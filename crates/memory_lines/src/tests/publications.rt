@@ -2,32 +2,88 @@
 ghost use Rattle.std.specs.Prelude.{◌≡◌};
 ghost use Rattle.line_ledger.specs.Days.{terms_of};
 
-use super::days::{REPORTS, day, ended, report};
+use super::days::{REPORTS, SYMBOLS, day, ended, report};
 use line_ledger::{
-    DayName, LineRefusal, LineSeat, OpenFault, Prepared, PublishFault, Published, SharedTape,
+    DayName, LineRefusal, LineSeat, OpenFault, Prepared, PublishFault, Published, SharedTape, Told,
 };
 use reports::{Message, decode};
+use scratch_fold::Summary;
 use std::marker::Brand;
 use std::process::Abort;
 use std::sync::Wait;
 use std::test::Fail;
 use tape_core::Refusal;
 use tape_frames::Source;
+use tape_types::Symbol;
 
-/// Admits a message by the seat, again where memory was refused, which tells the seat nothing.
+/// What a seat's holder is shown of a symbol: how many entries the tape has, how many of them are its own, and the summary.
+type Shown = (u32, u32, Summary);
+
+/// The same of one of the day's symbols.
+fn shown_of<D: DayName, W: Wait>(
+    rt: &W,
+    shared: &SharedTape<D>,
+    seat: &LineSeat<D>,
+    name: [u8; 8],
+) -> Option<Shown> {
+    let symbol = Symbol::try_new(name)?;
+    let view = shared.view(rt, seat, symbol).ok()?;
+    Some((view.count(), view.mine(), view.summary()))
+}
+
+/// The same of each of the day's symbols.
+fn shown<D: DayName, W: Wait>(
+    rt: &W,
+    shared: &SharedTape<D>,
+    seat: &LineSeat<D>,
+) -> [Option<Shown>; 2] {
+    [
+        shown_of(rt, shared, seat, SYMBOLS[0]),
+        shown_of(rt, shared, seat, SYMBOLS[1]),
+    ]
+}
+
+/// Whether this was told of Q's report of the number, which is the tape's entry of the same number.
+fn is_report(told: &Told, number: u8) -> bool {
+    match decode(&report(b'Q', number)) {
+        Ok((message, _)) => told.message == message && told.number.value() == u32::from(number),
+        Err(_) => false,
+    }
+}
+
+/// Whether the seat was told of Q's first so many reports, in order, and has their sizes and their last number.
+fn is_told<D: DayName>(seat: &LineSeat<D>, many: u8) -> bool {
+    for (told, number) in seat.told().iter().zip(1..=REPORTS) {
+        if !is_report(told, number) {
+            return false;
+        }
+    }
+    seat.told().len() == usize::from(many)
+        && seat.sizes() == 100 * u64::from(many)
+        && seat.last() == u32::from(many)
+}
+
+/// Admits Q's report of a number by its seat, again where memory was refused. That tells the seat nothing, and each symbol is as it
+/// was.
 fn admit<D: DayName, W: Wait + Abort + Print>(
     rt: &W,
     shared: &SharedTape<D>,
     seat: &mut LineSeat<D>,
     message: &Message,
+    number: u8,
 ) {
-    let before = seat.count();
+    let before = shown(rt, shared, seat);
+    assert!(rt; matches!(before, [Some(_), Some(_)]));
     for _ in 0..2 {
         match shared.admit(rt, seat, *message) {
-            Ok(_) => return,
+            Ok(receipt) => {
+                assert_eq!(rt; receipt.number().value(), u32::from(number));
+                return;
+            }
             Err(why) => {
                 assert!(rt; why == LineRefusal::Refused(Refusal::OutOfMemory));
-                assert_eq!(rt; seat.count(), before);
+                assert!(rt; is_told(seat, number.saturating_sub(1)));
+                assert!(rt; shown(rt, shared, seat) == before);
                 let _ = println!(rt; "admitted again");
             }
         }
@@ -73,7 +129,7 @@ fn play<D: DayName, W: Wait + Abort + Print>(
         let Ok((message, _)) = decode(&report(b'Q', number)) else {
             panic!(rt; "the bytes are no message")
         };
-        admit(rt, shared, seat, &message);
+        admit(rt, shared, seat, &message, number);
         if number % 4 == 0 {
             publish(rt, shared);
             let all = found(rt, &mut published);

@@ -1,4 +1,4 @@
-use Rattle.std.proofs.Common.{◌≡◌, List, subst}
+use Rattle.std.proofs.Common.{List, subst}
 use Rattle.tape_core.specs.declared.entry.Entry.{Entry}
 use Rattle.line_ledger.specs.Cursors.{AllStandAt}
 use Rattle.line_ledger.proofs.OneDisagreement.{listed_at, told_more_seats}
