@@ -6,7 +6,7 @@ import string
 import tempfile
 from pathlib import Path
 
-from support import ROOT, SAMPLES, TAPEBOX, Case, Ended, batch_line, report, run
+from support import CRATES, ROOT, SAMPLES, Case, Ended, batch_line, report, run
 
 # Seconds that the toolchain may take to compile the program without its proofs.
 COMPILING = 900
@@ -24,10 +24,11 @@ class Run(Case):
         cls.addClassCleanup(folder.cleanup)
         cls.copy = Path(folder.name) / "tapebox"
         shutil.copytree(ROOT, cls.copy, ignore=shutil.ignore_patterns(".git", "out", "target", "__pycache__"))
-        cls.out = cls.copy / "crates" / "tapebox" / "out"
-        cls.out.mkdir()
-        for built in (TAPEBOX, TAPEBOX.with_name("tapebox.tree")):
-            shutil.copy(built, cls.out)
+        cls.programs = [name for name in ("tapebox", "tapedesk") if (CRATES / name).is_dir()]
+        for name in cls.programs:
+            (cls.copy / "crates" / name / "out").mkdir()
+            for built in (name, f"{name}.tree"):
+                shutil.copy(CRATES / name / "out" / built, cls.copy / "crates" / name / "out")
         cls.day = (SAMPLES / "first-day.txt").read_bytes()
         cls.written = (SAMPLES / "first-day.out").read_bytes()
 
@@ -60,9 +61,8 @@ class Run(Case):
     def test_proved_program(self):
         """README, "A day": where the program was built from exactly this tree it runs at once."""
         self.assert_writes(self.ran("batch", given=self.day), self.written)
-        self.assert_writes(self.ran("--which"), f"{self.out / 'tapebox'}\n".encode())
-        ended = self.ran("--prove")
-        self.assertEqual(ended, Ended(0, b"", b"run: tapebox is proved and built already\n"))
+        self.assert_writes(self.ran("--which"), f"{self.copy}/crates/tapebox/out/tapebox\n".encode())
+        self.assertEqual(self.ran("--prove"), Ended(0, b"", f"run: proved and built already: {' '.join(self.programs)}\n".encode()))
 
     def test_without_proofs(self):
         """README, "A day": in a tree that differs the same program is compiled without its proofs, which one line says."""
@@ -83,3 +83,13 @@ class Run(Case):
         split = run([SAMPLES / "corrections.csv", 1], program=self.copy / "samples" / "split_day.sh")
         self.assertEqual((split.status, split.written, split.said.count(b"\n")), (1, b"", 1))
         self.assertRegex(split.said, rb"\Arun: split_day\.sh wants the proved program: \./run --prove ")
+
+    def test_tables_that_want_the_proof(self):
+        """`./run tape` and `./run report` want the proved program too, if a table is too long for one without proofs."""
+        if "tapedesk" not in self.programs:
+            self.skipTest("no tapedesk")
+        self.change_tree()
+        table = b"participant,number,symbol,price,size,condition\n" + b"N,1,AB,10.00,100,@___\n" * LINES_TOO_MANY
+        for word in ("report", "tape"):
+            with self.subTest(word):
+                self.assert_wants_proof(self.ran(word, given=table))
