@@ -1,19 +1,21 @@
 #!/usr/bin/env python3
 """Turns a readable day into an input of `tapebox batch`: encode_day.py [TABLE.csv] > day.txt
 
-Without a file it reads standard input. The table has a header row with these columns, in any order; `kind` and `target` may be left out of a table of reports.
+Without a file it reads standard input. The table has a header row with these columns, in any order; `kind` and `target` may be left out
+of a table of reports, and `moment` of any. Columns whose names begin with # are passed over.
 
     kind         report, cancel, correct or reinstate (or R, X, C, S, as the messages have it)
     participant  one letter, A to Z
     number       the participant's number of this message, 1 to 4294967295
+    moment       0 to 18446744073709551615, 0 where empty
     symbol       1 to 8 of A to Z, 0 to 9 and the full stop
     target       the number of the participant's report that is cancelled, corrected or reinstated; empty in a report
     price        dollars, with at most four decimals; empty in a cancel and a reinstatement
     size         1 to 99999999; empty where the price is
     condition    four codes of the sale condition matrices, _ for a blank, as @_Z_; empty where the price is
 
-Every moment is 0. The two header lines have the symbols and the participants in the order of their appearance. Rows
-that the tape refuses, as a target that no report has, are encoded too.
+The two header lines have the symbols and the participants in the order of their appearance. Rows that the tape refuses, as a target that
+no report has, are encoded too.
 
 Statuses: 0 if all was written; 1 if the table can't be read, or at its first bad row, whose line is named, and then nothing is
 written; 2 if the words are others.
@@ -34,11 +36,11 @@ class BadRow(Exception):
     """Says what is wrong with a row."""
 
 
-def whole(row, column, most):
-    """The column's number, from 1 to `most`."""
+def whole(row, column, most, least=1):
+    """The column's number, from 1 or another least one to `most`."""
     text = row.get(column, "")
-    if not re.fullmatch("[0-9]{1,20}", text) or not 1 <= int(text) <= most:
-        raise BadRow(f"{column} {text!r} is not a number from 1 to {most}")
+    if not re.fullmatch("[0-9]{1,20}", text) or not least <= int(text) <= most:
+        raise BadRow(f"{column} {text!r} is not a number from {least} to {most}")
     return int(text)
 
 
@@ -74,8 +76,8 @@ def header(row, kind):
     if not re.fullmatch("[A-Z0-9.]{1,8}", symbol):
         raise BadRow(f"symbol {symbol!r} is not 1 to 8 of A to Z, 0 to 9 and the full stop")
     number = whole(row, "number", 4_294_967_295)
-    moment = bytes(8)
-    return kind.encode() + participant.encode() + number.to_bytes(4, "big") + moment + symbol.ljust(8).encode()
+    moment = whole(row, "moment", 2**64 - 1, 0) if row.get("moment") else 0
+    return kind.encode() + participant.encode() + number.to_bytes(4, "big") + moment.to_bytes(8, "big") + symbol.ljust(8).encode()
 
 
 def message(row):
@@ -98,9 +100,9 @@ def message(row):
 
 def columns_of(names):
     """The header row's names, each once and none unknown or missing."""
-    allowed = ["kind", "target", *COLUMNS]
-    if len(set(names)) != len(names) or not set(COLUMNS) <= set(names) <= set(allowed):
-        raise BadRow(f"the columns are {', '.join(allowed)}, each once; kind and target may be left out")
+    allowed, read = ["kind", "target", "moment", *COLUMNS], [name for name in names if not name.startswith("#")]
+    if len(set(read)) != len(read) or not set(COLUMNS) <= set(read) <= set(allowed):
+        raise BadRow(f"the columns are {', '.join(allowed)}, each once; kind, target and moment may be left out")
     return names
 
 
