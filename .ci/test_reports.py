@@ -8,7 +8,7 @@ import tempfile
 import unittest
 from pathlib import Path
 
-from support import ROOT, SAMPLES, Case, run, transcripts
+from support import CRATES, ROOT, SAMPLES, Case, run, transcripts
 
 # The system's own Python has what the system's packages bring.
 OWN_PYTHON = "/usr/bin"
@@ -23,6 +23,8 @@ def has_pandas():
 
 class Reports(Case):
     def setUp(self):
+        if not (CRATES / "tapedesk" / "out" / "tapedesk").exists():
+            self.skipTest("no tapedesk")
         folder = tempfile.TemporaryDirectory()
         self.addCleanup(folder.cleanup)
         self.folder = Path(folder.name)

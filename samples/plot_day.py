@@ -227,8 +227,8 @@ def draw_trade(trade, x, place):
     yield "</g>"
 
 
-def tape_legend(symbol, trades):
-    """The first lines: how many trades there are of each kind, and their signs."""
+def tape_legend(symbol, trades, has_lasts):
+    """The first lines: how many trades there are of each kind, and what the signs mean."""
     stand, corrected = sum(trade.stands for trade in trades), sum(len(trade.prices) > 1 for trade in trades)
     words = f"{symbol}: {len(trades):,} trades, {stand:,} stand, {len(trades) - stand:,} cancelled, {corrected:,} corrected"
     return [
@@ -237,7 +237,7 @@ def tape_legend(symbol, trades):
         '<path class="cancelled" d="M172 36l8 8m0 -8l-8 8"/><text class="small" x="186" y="44">cancelled</text>',
         '<line class="moved" x1="266" y1="34" x2="266" y2="46"/><circle class="former" cx="266" cy="34" r="3.5"/>'
         '<text class="small" x="276" y="44">price before a correction</text>',
-    ]
+    ] + ['<line class="follows" x1="440" y1="40" x2="464" y2="40"/><text class="small" x="474" y="44">last</text>'] * has_lasts
 
 
 def draw_tape(symbol, trades, lasts):
@@ -245,7 +245,7 @@ def draw_tape(symbol, trades, lasts):
     prices = [price for trade in trades for price in trade.prices]
     ends = [trade.at for trade in trades] + [at for at, _ in lasts]
     across, place = scale(min(ends), max(ends), (LEFT, WIDTH - RIGHT)), scale(min(prices), max(prices), (TAPE_HEIGHT - 40, TOP + 10))
-    lines = tape_legend(symbol, trades)
+    lines = tape_legend(symbol, trades, bool(lasts))
     for price in sorted({min(prices), (min(prices) + max(prices)) // 2, max(prices)}):
         lines.append(f'<line class="grid" x1="{LEFT - 8}" y1="{place(price):.1f}" x2="{WIDTH - RIGHT}" y2="{place(price):.1f}"/>')
         lines.append(f'<text class="small" x="{LEFT - 14}" y="{place(price) + 4:.1f}" text-anchor="end">{dollars(price)}</text>')
