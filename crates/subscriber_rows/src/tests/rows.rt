@@ -2,7 +2,7 @@
 
 use super::feed;
 use super::figures::{at, consolidated};
-use super::packets::{CORRECTION_PACKET, REINSTATEMENT_PACKET, as_second};
+use super::packets::{CANCEL_PACKET, CORRECTION_PACKET, REINSTATEMENT_PACKET, as_second};
 use super::sending::{SESSION, Sending, VERSIONS, WAYS};
 use super::steps::Sent::{
     Beat, End, Front, OtherPrices, OtherSession, OtherVolume, Reports, UnknownTarget,
@@ -400,4 +400,25 @@ fn a_reinstatement_is_cut_as_its_vector_in_each_version(rt: HostRuntime) {
     let second = as_second(REINSTATEMENT_PACKET);
     assert!(rt; is_the_reinstatement(rt.alloc(), Version::One, &REINSTATEMENT_PACKET));
     assert!(rt; is_the_reinstatement(rt.alloc(), Version::Two, &second));
+}
+
+/// The packet of the cancel of a tape's only report.
+fn cancelling(alloc: Global, version: Version) -> Option<Vec<u8>> {
+    let tape = feed::cancelled(alloc, 1)?;
+    feed::packet(alloc, version, &tape, SESSION, 2)
+}
+
+/// Whether it is the vector.
+fn is_the_cancel(alloc: Global, version: Version, bytes: &[u8]) -> bool {
+    match cancelling(alloc, version) {
+        Some(text) => text.as_slice() == bytes,
+        None => false,
+    }
+}
+
+#[test]
+fn a_cancel_that_leaves_nothing_is_cut_as_its_vector_in_each_version(rt: HostRuntime) {
+    let second = as_second(CANCEL_PACKET);
+    assert!(rt; is_the_cancel(rt.alloc(), Version::One, &CANCEL_PACKET));
+    assert!(rt; is_the_cancel(rt.alloc(), Version::Two, &second));
 }
