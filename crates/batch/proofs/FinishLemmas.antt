@@ -1,22 +1,25 @@
 -- What was written of what was read is right for the input, and stays so when it is flushed.
-use Rattle.std.proofs.Common.{◌≡◌, ◌⊎◌, ◌≤◌, ℕ, List, Option, Some, None, IfSome, Result, Ok, Err, inl, inr, length, refl}
+use Rattle.std.proofs.Common.{◌≡◌, ◌⊎◌, ◌≤◌, ℕ, List, Option, Some, None, IfSome, Result, Ok, Err, inl, inr, length, refl, sym, true, false, ◌∙◌}
 use Rattle.std.specs.Io.KnownBytes.{Keeps}
 use Rattle.std.proofs.KnownBytes.{Appends-kept, Keeps-refl}
 use Rattle.std.specs.List.{flat_map}
+use Rattle.std.specs.Option.{option_map}
 use Rattle.tape_types.specs.Names.{Names}
 use Rattle.sale_matrix.specs.declared.matrix.Matrix.{Matrix}
 use Rattle.batch.specs.Batch.{INPUT_MOST, answer_line, fault_line, input_listing, message_lines}
 use Rattle.batch.specs.BatchEnds.{EndsAt, Wrote, WroteForMemory}
 use Rattle.batch.specs.Ends.{end_of_reading}
-use Rattle.batch.specs.Finish.{Finishes, report_unless}
-use Rattle.batch.specs.Reading.{ReadsBatch}
+use Rattle.batch.specs.Finish.{EndsAfterStop, Finishes, report_unless}
+use Rattle.batch.specs.Reading.{GoesOn, ReadsBatch}
 use Rattle.batch.specs.declared.batch_end.BatchEnd.{BatchEnd}
 use Rattle.batch.specs.declared.batch_end.BatchEnd.TheVariants.{Done, BadHeader, TooLarge, ReadFault, WriteFault, OutOfMemory}
+use Rattle.batch.specs.declared.day.Day.{Day}
 use Rattle.batch.specs.declared.header_fault.HeaderFault.{HeaderFault}
 use Rattle.batch.specs.declared.read_end.ReadEnd.{ReadEnd}
 use Rattle.batch.specs.declared.read_end.ReadEnd.TheVariants.{TooLarge as ReadTooLarge, ReadFault as ReadFailed, OutOfMemory as ReadOutOfMemory}
 use Rattle.batch.specs.declared.reading.Batch.{Batch}
 use Rattle.batch.specs.declared.reading.Batch.TheVariants.{Answered, HeaderRefused}
+use Rattle.batch.specs.declared.reading.Unread.{Unread}
 use Rattle.batch.proofs.BatchLemmas.{Appends-same}
 use Rattle.row_reads.specs.Lemmas.WriteLemmas.{WritesPrefix-kept, WritesPrefix-longer, WritesPrefix-whole}
 use Rattle.batch.proofs.WrittenDay.{ReadsBatch-may, ReadsBatch-stop, ReadsBatch-text}
@@ -107,3 +110,25 @@ reading-wrote matrix (Some input) ReadOutOfMemory held = without (input_listing 
     without : (listing : Result Names HeaderFault) → WroteForMemory matrix listing (message_lines input) held held
     without (Ok names) = inl (Keeps-refl held)
     without (Err fault) = Keeps-refl held
+
+-- a day at one of whose lines memory ran out ends as it has to where it was read whole
+pub Finishes-stopped : (read : Batch) (end : BatchEnd) (old new : Option (List ℕ)) → Finishes read end old new → EndsAfterStop read end old new
+Finishes-stopped (Answered day) Done old new h = λ stops. let clash : false ≡ true = sym h.0 ∙ stops in cc clash
+Finishes-stopped (Answered day) OutOfMemory old new h = λ stops. h
+Finishes-stopped (Answered day) WriteFault old new h = λ stops. tt
+Finishes-stopped (Answered day) BadHeader old new h = absurd h
+Finishes-stopped (Answered day) TooLarge old new h = absurd h
+Finishes-stopped (Answered day) ReadFault old new h = absurd h
+Finishes-stopped (HeaderRefused fault) end old new h = tt
+
+-- and where reading stopped before
+pub reading-stopped : (unread : Unread) (read : Option Batch) (held : Option (List ℕ)) → GoesOn unread → read ≡ option_map (λ (day : Day). Answered day) unread.day
+    → IfSome read (λ read. EndsAfterStop read (end_of_reading unread.end) held held)
+reading-stopped unread read held goes_on is = rw is (at unread.end unread.day goes_on)
+  where
+    at : (end : ReadEnd) (day : Option Day) → (end ≡ ReadOutOfMemory → IfSome day (λ d. d.is_stopped ≡ false))
+        → IfSome (option_map (λ (day : Day). Answered day) day) (λ read. EndsAfterStop read (end_of_reading end) held held)
+    at end None goes_on = tt
+    at ReadTooLarge (Some day) goes_on = λ stops. tt
+    at ReadFailed (Some day) goes_on = λ stops. tt
+    at ReadOutOfMemory (Some day) goes_on = λ stops. let clash : false ≡ true = sym (goes_on refl) ∙ stops in cc clash

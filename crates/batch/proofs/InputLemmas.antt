@@ -1,6 +1,6 @@
 -- What an input loses while it is read.
 use Rattle.std.proofs.Common.{◌≡◌, ◌≤◌, ◌<◌, ◌+◌, ◌++◌, ◌-◌, ◌==◌, ◌∷◌, ◌∙◌, [], ℕ, suc, List, true, nat_lt, Option, Some, None, IfSome, if◌then◌else◌}
-use Rattle.std.proofs.Common.{length-append, ap, arith, length, sym, refl, append_assoc, get_or, inl, inr}
+use Rattle.std.proofs.Common.{length-append, ap, arith, length, sym, refl, append_assoc, get_or, inl, inr, subst}
 use Rattle.std.proofs.lemmas.Bool.{cases_Bool, lt-ltb}
 use Rattle.std.specs.Io.BufRead.{take_through, drop_through, strip_last, DropsThrough}
 use Rattle.std.specs.Io.Iter.{u64_saturate}
@@ -9,7 +9,7 @@ use Rattle.std.specs.List.{onto_first}
 use Rattle.batch.specs.Batch.{INPUT_MOST}
 use Rattle.batch.specs.Input.{TakesLines}
 use Rattle.batch.specs.Lines.{ends_a_line, lines_of}
-use Rattle.batch.specs.Reading.{IsReadEnd}
+use Rattle.batch.specs.Reading.{EndsReading, IsReadEnd}
 use Rattle.batch.specs.declared.read_end.ReadEnd.{ReadEnd}
 use Rattle.batch.specs.declared.read_end.ReadEnd.TheVariants.{TooLarge}
 use Rattle.batch.proofs.LineLemmas.{lines_of-cons, lines_of-whole}
@@ -127,3 +127,10 @@ pub skipped-too_large : (known : Option (List ℕ)) (taken len : ℕ) (end : Rea
     → IfSome known (λ bytes. len ≡ u64_saturate (length (take_through 10 bytes))) → IfSome known (λ bytes. IsReadEnd end (taken + length bytes))
 skipped-too_large None taken len end over count = tt
 skipped-too_large (Some bytes) taken len end over count = rw over.0 (omega (arith, over.1, count, length-through bytes))
+
+-- the end of reading what is left of an input is the end of reading the input
+pub EndsReading-before : (a b : Option (List ℕ)) (t t1 : ℕ) (lines : List (List ℕ)) (end : ReadEnd) → TakesLines a b t t1 lines → EndsReading b t1 end
+    → EndsReading a t end
+EndsReading-before None b t t1 lines end took ended = tt
+EndsReading-before (Some x) None t t1 lines end took ended = absurd took
+EndsReading-before (Some x) (Some y) t t1 lines end took ended = subst (λ (n : ℕ). IsReadEnd end n) took.1 ended

@@ -42,3 +42,18 @@ FinishesRefusal text ReadFault old new = ⊥
 abbrev pub Finishes : Batch → BatchEnd → Option (List ℕ) → Option (List ℕ) → Type 0
 Finishes (Answered day) end old new = FinishesDay day end old new
 Finishes (HeaderRefused fault) end old new = FinishesRefusal (fault_line fault) end old new
+
+-- the end of a batch with a day at one of whose lines memory ran out, and what was written then: the answers, of which the refusal is the last,
+-- unless a read or a write failed or the input is too large
+abbrev pub EndsStopped : Day → BatchEnd → Option (List ℕ) → Option (List ℕ) → Type 0
+EndsStopped day OutOfMemory old new = Appends old new (flat_map answer_line day.answers.items)
+EndsStopped day TooLarge old new = Unit {0}
+EndsStopped day ReadFault old new = Unit {0}
+EndsStopped day WriteFault old new = Unit {0}
+EndsStopped day Done old new = ⊥
+EndsStopped day BadHeader old new = ⊥
+
+-- a batch of which this was read ended as it has to where memory ran out at a line
+abbrev pub EndsAfterStop : Batch → BatchEnd → Option (List ℕ) → Option (List ℕ) → Type 0
+EndsAfterStop (Answered day) end old new = day.is_stopped ≡ true → EndsStopped day end old new
+EndsAfterStop (HeaderRefused fault) end old new = Unit {0}

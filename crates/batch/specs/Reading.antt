@@ -1,5 +1,5 @@
 -- What reading a whole input gives, or ends with before that.
-use Rattle.std.specs.Prelude.{◌≡◌, ◌≤◌, ◌<◌, ◌+◌, ℕ, List, length, Option, IfSome, Ok, Err}
+use Rattle.std.specs.Prelude.{◌≡◌, ◌≤◌, ◌<◌, ◌+◌, ℕ, List, length, Option, IfSome, Ok, Err, false}
 use Rattle.tape_types.specs.Names.{Names}
 use Rattle.sale_matrix.specs.declared.matrix.Matrix.{Matrix}
 use Rattle.batch.specs.Batch.{INPUT_MOST, batch_tape, input_listing, message_lines}
@@ -8,6 +8,7 @@ use Rattle.batch.specs.declared.read_end.ReadEnd.{ReadEnd}
 use Rattle.batch.specs.declared.read_end.ReadEnd.TheVariants.{TooLarge, ReadFault, OutOfMemory}
 use Rattle.batch.specs.declared.reading.Batch.{Batch}
 use Rattle.batch.specs.declared.reading.Batch.TheVariants.{Answered, HeaderRefused}
+use Rattle.batch.specs.declared.reading.Unread.{Unread}
 
 -- what was read of a whole input: the day that its lines left, or what is wrong with its header
 abbrev pub ReadsBatch : Matrix → Batch → List ℕ → Type 0
@@ -27,3 +28,7 @@ EndsReading left taken end = IfSome left (λ bytes. IsReadEnd end (taken + lengt
 -- an input of which so much was taken, and this is left, is within the limit
 abbrev pub Fits : Option (List ℕ) → ℕ → Type 0
 Fits left taken = IfSome left (λ bytes. taken + length bytes ≤ INPUT_MOST)
+
+-- where memory ran out for the reading, it did not run out at a line of the day
+abbrev pub GoesOn : Unread → Type 0
+GoesOn unread = unread.end ≡ OutOfMemory → IfSome unread.day (λ day. day.is_stopped ≡ false)

@@ -7,7 +7,7 @@ ghost use Rattle.day_report.specs.Rows.{report_rows};
 ghost use Rattle.day_report.specs.declared.report_fault.ReportFault.TheVariants.{OutOfMemory as RowsOutOfMemory};
 ghost use Rattle.batch.specs.Batch.{INPUT_MOST, answer_line, tape_report};
 ghost use Rattle.batch.specs.BatchEnds.{EndsAt, Wrote};
-ghost use Rattle.batch.specs.Finish.{Finishes, day_text};
+ghost use Rattle.batch.specs.Finish.{EndsAfterStop, Finishes, day_text};
 ghost use Rattle.row_reads.specs.Writing.{WritesPrefix};
 ghost use Rattle.batch.specs.declared.batch_end.BatchEnd.TheVariants.{ReadFault, TooLarge, WriteFault as EndWriteFault};
 ghost use Rattle.batch.specs.declared.stop.Stop.TheVariants.{OutOfMemory, WriteFault as StopWriteFault};
@@ -162,8 +162,10 @@ fn limited<R: Read>(reader: &mut R) -> Take<&mut R>
     reader.take(INPUT_MOST + 1)
 }
 
-/// Reads a batch whole and writes it, as `batch_over` does, and returns the end together with what was read.
-fn batch_kept<T: Threads + Sync, R: Read, W: Write>(
+/// Does what `batch_over` does, and gives back what was read, whole or up to where reading stopped: for a caller that wants to know the
+/// day's tape or its answers. Where memory ran out at a line, these were written and the batch ends so, unless a read or a write failed or
+/// the input is too large.
+pub fn batch_kept<T: Threads + Sync, R: Read, W: Write>(
     rt: &T,
     alloc: Global,
     matrix: Matrix,
@@ -173,6 +175,7 @@ fn batch_kept<T: Threads + Sync, R: Read, W: Write>(
     ensures wrote { IfSome (R.remaining reader.old) (λ input. Wrote matrix result.0 input (W.contents writer.old) (W.contents writer.new)) }
     ensures ends { IfSome (R.remaining reader.old) (EndsAt result.0) }
     ensures silent { (result.0 ≡ TooLarge) ⊎ (result.0 ≡ ReadFault) → writer.new ≡ writer.old }
+    ensures stopped { IfSome result.1 (λ read. EndsAfterStop read result.0 (W.contents writer.old) (W.contents writer.new)) }
 {
     let Ok(left) = BufReader::with_capacity(alloc, READ_PIECE, limited(reader)) else {
         return (BatchEnd::OutOfMemory, None);
@@ -186,7 +189,7 @@ fn batch_kept<T: Threads + Sync, R: Read, W: Write>(
             finish_batch(rt, alloc, &read, &mut gathered, writer),
             Some(read),
         ),
-        Err(end) => (BatchEnd::from(end), None),
+        Err(unread) => (BatchEnd::from(unread.end), unread.day.map(Batch::Answered)),
     }
 }
 

@@ -6,6 +6,7 @@ ghost use Rattle.batch.specs.Reading.{EndsReading, Fits};
 ghost use Rattle.batch.specs.Day.{AnswersMore, AnswersTaken};
 ghost use Rattle.batch.specs.Lines.{lines_of};
 ghost use Rattle.batch.specs.declared.batch_refusal.BatchRefusal.TheVariants.{Refused};
+ghost use Rattle.batch.specs.declared.read_end.ReadEnd.TheVariants.{OutOfMemory as ReadOutOfMemory};
 
 use crate::BatchRefusal;
 use crate::day_tape::DayTape;
@@ -80,7 +81,8 @@ impl Day {
 
     /// Answers a line, unless memory ran out at an earlier one.
     fn answer_line(&mut self, line: &[u8]) -> Result<(), AllocError>
-        ensures { OnOk result (AnswersMore self.old self.new (line.now ∷ [])) }
+        ensures answered { OnOk result (AnswersMore self.old self.new (line.now ∷ [])) }
+        ensures goes_on { OnErr result (self.new.is_stopped ≡ false) }
     {
         if self.is_stopped {
             return Ok(());
@@ -95,7 +97,8 @@ impl Day {
 
     /// Answers lines one after another.
     fn answer_lines(&mut self, lines: Lines<'_>) -> Result<(), AllocError>
-        ensures { OnOk result (AnswersMore self.old self.new (lines_of lines.entry.rest.now)) }
+        ensures answered { OnOk result (AnswersMore self.old self.new (lines_of lines.entry.rest.now)) }
+        ensures goes_on { OnErr result (self.new.is_stopped ≡ false) }
     {
         for line in lines {
             self.answer_line(line)?;
@@ -103,13 +106,17 @@ impl Day {
         Ok(())
     }
 
-    /// Answers the lines that stand whole in the input's next piece.
+    /// Answers the lines that stand whole in the input's next piece, unless memory ran out at an earlier one.
     fn answer_piece<B: BufRead>(&mut self, input: &mut Input<B>) -> Result<(), ReadEnd>
         ensures answered { OnOk result (AnswersTaken self.old self.new
             (B.remaining input.old.left) (B.remaining input.new.left) input.old.taken input.new.taken) }
         ensures grows { OnOk result (input.old.taken ≤ input.new.taken) }
         ensures err { IfErr result (EndsReading (B.remaining input.old.left) input.old.taken) }
+        ensures goes_on { result ≡ Err ReadOutOfMemory → self.new.is_stopped ≡ false }
     {
+        if self.is_stopped {
+            return Ok(());
+        }
         let piece = match input.left.fill_buf() {
             Ok(piece) => piece,
             // Whatever reads next reads again.
@@ -126,7 +133,8 @@ impl Day {
 
     /// Answers all lines of an input: those that stand whole in a piece, then the one between two pieces, and so on. Where
     /// memory runs out at a line, the rest is skipped, which takes none, to learn whether the input fits. The error is `ReadFault`
-    /// for a failed read, `TooLarge` beyond the limit, and `OutOfMemory` for an answer, a line between two pieces, or a read.
+    /// for a failed read, `TooLarge` beyond the limit, and `OutOfMemory` for an answer, a line between two pieces, or a read. Memory
+    /// that ran out at a line is no error, and where the reader lacks memory for the rest then, the error is `ReadFault`.
     pub fn answer_all<B: BufRead>(
         &mut self,
         input: &mut Input<B>,
@@ -135,6 +143,7 @@ impl Day {
         ensures answered { OnOk result (IfSome (B.remaining input.old.left) (λ bytes. AnswersMore self.old self.new (lines_of bytes))) }
         ensures fits { OnOk result (Fits (B.remaining input.old.left) input.old.taken) }
         ensures err { IfErr result (EndsReading (B.remaining input.old.left) input.old.taken) }
+        ensures goes_on { result ≡ Err ReadOutOfMemory → self.new.is_stopped ≡ false }
     {
         self.answer_piece(input)?;
         while !self.is_stopped {
@@ -144,6 +153,9 @@ impl Day {
             self.answer_line(line)?;
             self.answer_piece(input)?;
         }
-        input.skip_lines()
+        match input.skip_lines() {
+            Err(ReadEnd::OutOfMemory) => Err(ReadEnd::ReadFault),
+            skipped => skipped,
+        }
     }
 }

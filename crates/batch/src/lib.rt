@@ -20,8 +20,11 @@ mod read_end;
 mod reading;
 mod stop;
 
-pub use batch::{batch_over, last_batch};
+pub use batch::{batch_kept, batch_over, last_batch};
 pub use batch_end::BatchEnd;
 pub use batch_refusal::BatchRefusal;
+pub use day::{Answer, Day};
+pub use day_tape::DayTape;
 pub use header_fault::HeaderFault;
 pub use named::Named;
+pub use reading::Batch;

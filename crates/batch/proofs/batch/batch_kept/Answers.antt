@@ -3,7 +3,7 @@ use Rattle.std.specs.Io.Buffered.{reader_buffer, reader_capacity, reader_inner}
 use Rattle.std.specs.Io.KnownBytes.{prepend_known}
 use Rattle.std.specs.Option.{option_map}
 use Rattle.std.proofs.lemmas.Option.{IfSome_then}
-use Rattle.batch.proofs.FinishLemmas.{Finishes-ends, Finishes-silent, Finishes-wrote, reading-wrote}
+use Rattle.batch.proofs.FinishLemmas.{Finishes-ends, Finishes-silent, Finishes-stopped, Finishes-wrote, reading-stopped, reading-wrote}
 use Rattle.batch.specs.Batch.{INPUT_MOST}
 use Rattle.batch.specs.Ends.{end_of_reading}
 use Rattle.batch.proofs.WholeInput.{ends_whole, left_known, read_whole}
@@ -47,10 +47,18 @@ pub returns-clause-ends : goal.returns-clause-ends
 returns-clause-ends g c =
     let known = g.R.Read.remaining c.args.reader.now in
     let left = front_left g (goal.at.returns-clause-ends g c).After-new-2 in
-    let end : c.from.result ≡ end_of_reading c.in-Err.end = search rules in
-    rw end (ends_whole (INPUT_MOST + 1) known _ c.in-Err.end left (rw c.new-2.ensures.taken at c.in-Err.ensures.err))
+    let end : c.from.result ≡ end_of_reading c.in-Err.unread.end = search rules in
+    rw end (ends_whole (INPUT_MOST + 1) known _ c.in-Err.unread.end left (rw c.new-2.ensures.taken at c.in-Err.ensures.err))
 
 pub returns-clause-wrote : goal.returns-clause-wrote
 returns-clause-wrote g c =
-    let end : c.from.result ≡ end_of_reading c.in-Err.end = search rules in
-    rw end (reading-wrote c.args.matrix (g.R.Read.remaining c.args.reader.now) c.in-Err.end (g.W.Write.contents c.args.writer.now))
+    let end : c.from.result ≡ end_of_reading c.in-Err.unread.end = search rules in
+    rw end (reading-wrote c.args.matrix (g.R.Read.remaining c.args.reader.now) c.in-Err.unread.end (g.W.Write.contents c.args.writer.now))
+
+pub returns-in-Ok-read_batch-clause-stopped : goal.returns-in-Ok-read_batch-clause-stopped
+returns-in-Ok-read_batch-clause-stopped g c = Finishes-stopped c.in-Ok-read_batch.read _ _ _ c.finish_batch.ensures.finishes
+
+pub returns-clause-stopped : goal.returns-clause-stopped
+returns-clause-stopped g c =
+    let end : c.from.result ≡ end_of_reading c.in-Err.unread.end = search rules in
+    rw end (reading-stopped c.in-Err.unread _ _ c.in-Err.ensures.goes_on (search rules))

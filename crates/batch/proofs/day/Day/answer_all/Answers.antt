@@ -6,7 +6,7 @@ use Rattle.batch.proofs.day.Day.answer_all.Goals as goal
 pub loop-self-preserved : goal.loop-self-preserved
 loop-self-preserved g c =
     let some : c.in_ok-next_line.field-0 ≡ true = cc in
-    let line = AnswersTaken-line _ _ _ _ _ _ _ (rw c.deref.ensures.value at c.in_ok-answer_line.ensures) (rw some at c.in_ok-next_line.ensures.took) in
+    let line = AnswersTaken-line _ _ _ _ _ _ _ (rw c.deref.ensures.value at c.in_ok-answer_line.ensures.answered) (rw some at c.in_ok-next_line.ensures.took) in
     AnswersTaken-both _ _ _ _ _ _ _ _ _ (AnswersTaken-both _ _ _ _ _ _ _ _ _ c.loop-self.invariant line) c.in_ok-answer_piece-2.ensures.answered
 
 pub returns-then-not-branch-clause-fits : goal.returns-then-not-branch-clause-fits

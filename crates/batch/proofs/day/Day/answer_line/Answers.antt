@@ -2,12 +2,12 @@ use Rattle.std.proofs.Common.{◌≡◌, ◌∷◌, ◌++◌, [], rules}
 use Rattle.batch.proofs.DayLemmas.{AnswersLines-line, RunsOut-more}
 use Rattle.batch.proofs.day.Day.answer_line.Goals as goal
 
-pub returns-then-self : goal.returns-then-self
-returns-then-self c = λ t before so_far.
+pub returns-then-self-clause-answered : goal.returns-then-self-clause-answered
+returns-then-self-clause-answered c = λ t before so_far.
     rw c.if-self.true (RunsOut-more t before _ c.args.self.now.answers.items (rw c.if-self.true at so_far))
 
-pub returns : goal.returns
-returns c = λ t before so_far.
+pub returns-clause-answered : goal.returns-clause-answered
+returns-clause-answered c = λ t before so_far.
     let pushed : c.push.new.self.items ≡ c.args.self.now.answers.items ++ c.answer-answer.result ∷ [] = search rules in
     AnswersLines-line t before c.args.line.now c.args.self.now.tape c.answer-answer.new.tape c.args.self.now.answers.items c.push.new.self.items
     c.answer-answer.result c.is_out_of_memory-self.result

@@ -15,5 +15,5 @@ returns-clause-answered g c =
     let lost = Consumes_shown _ _ _ _ c.in-Ok.piece.now whole.result whole.ensures.within c.in-Ok.ensures.front c.in-Ok.ensures.end filled.0 filled.1
     c.consume.ensures.bytes in
     AnswersTaken-front _ _ _ _ (take whole.result c.in-Ok.piece.now) _ _
-    (rw c.new.ensures at c.in_ok-answered.ensures) whole.ensures.whole (rw c.count.ensures.left lost.0)
+    (rw c.new.ensures at c.in_ok-answered.ensures.answered) whole.ensures.whole (rw c.count.ensures.left lost.0)
     (c.in_ok-count.ensures.taken ∙ ap (λ (n : ℕ). c.args.input.now.taken + n) (sym (length-take-le whole.result c.in-Ok.piece.now whole.ensures.within)))
