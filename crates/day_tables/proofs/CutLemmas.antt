@@ -8,7 +8,7 @@ pub cut-fits : (front : List ℕ) (used : ℕ) → length front ≡ used → use
     → (used ≤ length (front ++ drop used (replicate 40 0)))
     × (front ++ drop used (replicate 40 0) ≡ take used (front ++ drop used (replicate 40 0)) ++ replicate (40 - used) 0)
 cut-fits front used long few =
-    let zeros : drop used (replicate 40 0) ≡ replicate (40 - used) 0 = drop-replicate used 40 0 in
+    let zeros : drop used (replicate {A = ℕ} 40 0) ≡ replicate {A = ℕ} (40 - used) 0 = drop-replicate {X = ℕ} used 40 0 in
     let total = length-append front (drop used (replicate 40 0)) in
     let kept : take used (front ++ drop used (replicate 40 0)) ≡ front = take_at front (drop used (replicate 40 0)) used long in
     (omega (arith, total, long), ap (λ (rest : List ℕ). front ++ rest) zeros ∙ ap (λ (f : List ℕ). f ++ replicate (40 - used) 0) (sym kept))

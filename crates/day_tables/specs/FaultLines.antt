@@ -21,7 +21,7 @@ column_fault_text (Missing column) = codes "column " ++ (column_name column ++ c
 abbrev pub row_fault_text : RowFault → List ℕ
 row_fault_text (Fields found wanted) = decimal found ++ (codes " fields, and the header row has " ++ decimal wanted)
 row_fault_text (Bad column text) = column_name column ++ (codes " \"" ++ (shown text ++ (codes "\" is not " ++ column_rule column)))
-row_fault_text (Unused column text) = column_name column ++ (codes " \"" ++ (shown text ++ codes "\" is not empty, as in a row of this kind"))
+row_fault_text (Unused column text) = column_name column ++ (codes " \"" ++ (shown text ++ codes "\" has to be empty in a row of this kind"))
 
 -- what a fault of a table is printed as
 abbrev pub table_fault_text : TableFault → List ℕ

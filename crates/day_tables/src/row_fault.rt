@@ -37,7 +37,7 @@ impl fmt::Display for RowFault {
             RowFault::Unused(column, text) => {
                 write!(
                     f,
-                    "{column} \"{text}\" is not empty, as in a row of this kind"
+                    "{column} \"{text}\" has to be empty in a row of this kind"
                 )
             }
         }

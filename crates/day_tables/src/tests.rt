@@ -156,7 +156,7 @@ const ROW_FAULTS: [(&[u8], &str); 12] = [
     ),
     (
         b"R,N,2,,AB,1,10,1,@___",
-        "row 3: target \"1\" is not empty, as in a row of this kind",
+        "row 3: target \"1\" has to be empty in a row of this kind",
     ),
     (
         b"R,N,2,,AB,,10,1",

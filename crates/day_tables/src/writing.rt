@@ -18,8 +18,8 @@ use tape_types::{MsgNumber, Price};
 /// How many digits the dollars of the greatest price have.
 const DOLLAR_DIGITS: usize = 8;
 
-/// Adds a number in decimal digits.
-fn push_number(row: &mut ByteRecord, number: u64) -> Result<(), AllocError>
+/// Adds a number in decimal digits, as a field of a record that may have others.
+pub fn push_number(row: &mut ByteRecord, number: u64) -> Result<(), AllocError>
     requires { partial_of row.old ≡ [] }
     ensures fields { OnOk result (fields_of row.new ≡ fields_of row.old ++ decimal number ∷ []) }
     ensures partial { OnOk result (partial_of row.new ≡ []) }
@@ -48,9 +48,9 @@ fn digit_at(unit: u64, number: u64) -> u8
     b'0' + (number / unit % 10) as u8
 }
 
-/// Adds a price in dollars: two decimals where it is whole cents, and four otherwise.
+/// Adds a price in dollars, as a field of a record that may have others: two decimals where it is whole cents, and four otherwise.
 #[tactic(auto, unfolding(crate::specs::Writing::price_text, crate::specs::Writing::decimals_text))]
-fn push_price(row: &mut ByteRecord, price: Price) -> Result<(), AllocError>
+pub fn push_price(row: &mut ByteRecord, price: Price) -> Result<(), AllocError>
     requires { partial_of row.old ≡ [] }
     ensures fields { OnOk result (fields_of row.new ≡ fields_of row.old ++ price_text price ∷ []) }
     ensures partial { OnOk result (partial_of row.new ≡ []) }
