@@ -30,8 +30,9 @@ from free_ports import free_ports
 
 # Seconds until a connection that is not awaited must have been reset.
 PATIENCE = 5
-# The state of a connection in Linux's table.
+# The states of a connection, and of a socket that awaits connections, in Linux's table.
 ESTABLISHED = "01"
+LISTENING = "0A"
 
 
 @dataclass(frozen=True)
@@ -149,6 +150,12 @@ def wait_bound(program, *ports):
     """Waits until the program receives packets on the ports."""
     ends = [f":{port:04X}" for port in ports]
     wait_for(program, f"a socket on each of {ports}", lambda: all(any(row[1].endswith(end) for row in addresses("udp")) for end in ends))
+
+
+def listens(port):
+    """Whether a socket awaits connections at the port."""
+    end = f":{port:04X}"
+    return any(row[1].endswith(end) and row[3] == LISTENING for row in addresses("tcp"))
 
 
 def wait_read(program, port):

@@ -14,7 +14,7 @@ from pathlib import Path
 from preloaded import CALL_FAILED, EVER, failing
 from refused import end_of_batch
 from support import FEED_SPEED, HOST, NO_WORKER, READ_FAULT, SAMPLES
-from support import Case, batch_line, connect, ended, is_refused, ports, report, run, started, wait_bound
+from support import Case, batch_line, connect, ended, is_refused, listens, ports, report, run, started, wait_bound, wait_connected, wait_for
 
 REPORTS = 200_000
 MEGABYTES = range(16, 65, 4)
@@ -178,6 +178,34 @@ class FewThreads(Case):
             with self.subTest(first):
                 if end != whole:
                     self.assert_fault(end, NO_WORKER)
+
+    def ends_with_follower(self, row, first):
+        """How a day of two lines ends that lacks the threads from this one on, and how its follower does."""
+        *lines, a, b, retransmission = row
+        with started(live(row, "NQ", 1), env=self.lacking(first)) as day:
+            wait_for(day, "a listener", lambda: listens(retransmission))
+            with started(["follow", "AB", "N,Q", a, b, retransmission, 7]) as follow:
+                wait_connected(follow, retransmission, 1)
+                for line in [connect(port) for port in lines]:
+                    line.close()
+                return ended_by_itself(day), ended(follow)
+
+    def test_the_follower_of_lines_without_threads(self):
+        """PROFILE, "A running day": where the lines were not started the follower gets no end, and ends with status 3; where they were, both write the
+        same report."""
+        kinds = Counter()
+        every = ports(5 * self.MOST)
+        with ThreadPoolExecutor(self.MOST) as pool:
+            ends = pool.map(lambda at: self.ends_with_follower(every[5 * at : 5 * at + 5], at + 1), range(self.MOST))
+        for first, (day, follow) in enumerate(ends, 1):
+            with self.subTest(first):
+                if day.status == 0:
+                    self.assertEqual(day, follow)
+                else:
+                    self.assert_fault(day, NO_WORKER)
+                    self.assert_fault(follow, READ_FAULT)
+                kinds[day.status] += 1
+        self.assertGreater(min(kinds[NO_WORKER[0]], kinds[0]), 1, kinds)
 
     def test_rows(self):
         """PROFILE, "Refusals by number and name": of two workers of a report the first is refused its thread."""

@@ -15,14 +15,12 @@ from typing import Optional
 from preloaded import built
 from refused import HEAP, Sweeps, end_of_batch, refusing, run_refused, without_told
 from support import CRATES, HOST, NO_WORKER, OUT_OF_MEMORY, READ_FAULT, WRITE_FAULT, Case, Ended
-from support import addresses, batch_line, ended, ports, report, reports, run, started, wait_bound
+from support import batch_line, ended, listens, ports, report, reports, run, started, wait_bound
 
 # How many of a program's requests are refused in turn at most.
 MOST = 1_000
 # Seconds until a program with a refused request must have ended. On a quiet machine the last of a row of days takes less than five.
 SOON = 30
-# The state of a socket in Linux's table that awaits connections.
-LISTENING = "0A"
 
 
 class Calls(Sweeps):
@@ -102,11 +100,10 @@ class RunningDays(Case):
         built(HEAP)
 
     @staticmethod
-    def listens(day, port):
+    def comes_to_listen(day, port):
         """Whether the day has come to listen at the port; it may have ended before."""
-        end = f":{port:04X}"
         while day.poll() is None:
-            if any(row[1].endswith(end) and row[3] == LISTENING for row in addresses("tcp")):
+            if listens(port):
                 return True
             time.sleep(0.02)
         return False
@@ -146,7 +143,7 @@ class RunningDays(Case):
         environment = {refused: refusing(request)}
         words = ["live", "AB", "N,Q", lines[0], a, b, retransmission, 1, *self.TERMS]
         with started(words, env=environment.get("live")) as live:
-            if not self.listens(live, retransmission):
+            if not self.comes_to_listen(live, retransmission):
                 return DayEnds(*without_told(ended(live, SOON)))
             words = ["follow", "AB", "N,Q", a, b, retransmission, *self.TERMS]
             with started(words, env=environment.get("follow")) as follow:
@@ -300,7 +297,7 @@ class Serving(Case):
         line, a, b, retransmission = row
         with started(["live", "AB", "N", line, a, b, retransmission, 2, self.SESSION], env=refusing(request)) as live:
             answers = None, None
-            if RunningDays.listens(live, retransmission):
+            if RunningDays.comes_to_listen(live, retransmission):
                 answers = self.ask(line, retransmission), self.ask_next(retransmission)
             return *without_told(ended(live, SOON)), answers
 
