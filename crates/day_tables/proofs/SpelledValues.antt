@@ -1,9 +1,9 @@
 -- A moment, a kind, a participant, a symbol and a condition are read exactly where they are spelled.
-use Rattle.std.proofs.Common.{◌≡◌, ◌⊎◌, ◌<◌, ◌≤◌, ◌+◌, ◌-◌, ◌^◌, ◌∷◌, ◌++◌, ◌∙◌, ◌==◌, ◌&&◌, [], ℕ, List, Bool, true, false, Option, Some, None, codes, refl, sym, ap, arith, length, length-append, map, replicate, nat_le, nat_lt, inl, inr, if◌then◌else◌}
+use Rattle.std.proofs.Common.{◌≡◌, ◌⊎◌, ◌<◌, ◌+◌, ◌-◌, ◌^◌, ◌∷◌, ◌++◌, ◌∙◌, ◌==◌, ◌&&◌, [], ℕ, List, Bool, true, false, Some, None, codes, refl, sym, ap, arith, length, length-append, map, replicate, nat_le, nat_lt, inl, inr, if◌then◌else◌}
 use Rattle.std.specs.Fmt.{decimal}
 use Rattle.std.specs.List.{list_all, list_any}
 use Rattle.std.specs.Str.{bytes_eq}
-use Rattle.std.proofs.lemmas.Bool.{and_parts, cases_Bool, eqb-true, leb-true, ltb-true, or_parts}
+use Rattle.std.proofs.lemmas.Bool.{cases_Bool, eqb-true, leb-true, ltb-true, or_parts}
 use Rattle.std.proofs.lemmas.Fmt.{decimal_nonempty}
 use Rattle.std.proofs.lemmas.Slice.Eq.{bytes_eq-Decides}
 use Rattle.tape_types.specs.Ranges.{FIRST_PARTICIPANT, IsSymbol, LAST_PARTICIPANT, is_name_byte, name_of}
@@ -12,7 +12,7 @@ use Rattle.sale_matrix.specs.declared.matrix.Matrix.TheVariants.{Two}
 use Rattle.reports.specs.Texts.{is_condition}
 use Rattle.day_tables.specs.Kinds.{kind_letter, kind_of, kind_of_letter, kind_of_word, kind_word}
 use Rattle.day_tables.specs.Spellings.{ConditionIsSpelled, KindIsSpelled, MomentIsSpelled, ParticipantIsSpelled, SpellsNumber, SymbolIsSpelled}
-use Rattle.day_tables.specs.Texts.{as_condition, code_byte, code_of, condition_of, moment_of, participant_of, symbol_of}
+use Rattle.day_tables.specs.Texts.{as_condition, code_byte, code_of, condition_of, symbol_of}
 use Rattle.day_tables.specs.Writing.{condition_text}
 use Rattle.day_tables.specs.declared.kind.Kind.{Kind}
 use Rattle.day_tables.specs.declared.kind.Kind.TheVariants.{Report, Cancel, Correct, Reinstate}

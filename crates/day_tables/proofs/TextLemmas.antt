@@ -1,6 +1,6 @@
 -- The text of a table, and what it reads back as.
-use Rattle.std.proofs.Common.{◌≡◌, ◌++◌, ◌∙◌, ◌+◌, ◌<◌, ◌∷◌, [], ℕ, zero, suc, List, Ok, Some, refl, sym, ap, All, append_assoc, append-nil, length, map, codes, arith, take, get_or}
-use Rattle.std.specs.List.{AllByRecursion, fold, flat_map}
+use Rattle.std.proofs.Common.{◌≡◌, ◌++◌, ◌∙◌, ◌+◌, ◌<◌, ◌∷◌, [], ℕ, zero, suc, List, Ok, Some, refl, sym, ap, append_assoc, append-nil, length, map, codes, arith, take, get_or}
+use Rattle.std.specs.List.{AllByRecursion, fold}
 use Rattle.std.proofs.lemmas.List.Elements.{recursion_from_All}
 use Rattle.csv.specs.Machine.{next_record}
 use Rattle.csv.specs.Reading.{Reached, default_config, strip_bom}
@@ -13,7 +13,6 @@ use Rattle.reports.specs.declared.message.Message.{Message}
 use Rattle.day_tables.specs.ColumnNames.{column_named}
 use Rattle.day_tables.specs.Columns.{fault_from, header_columns, name_fault, place_of}
 use Rattle.day_tables.specs.Laws.{TableRoundTrip}
-use Rattle.day_tables.specs.Rows.{row_message}
 use Rattle.day_tables.specs.Tables.{fields_message, record_message, records_messages, rows_messages, table_messages, with_record}
 use Rattle.day_tables.specs.TableTexts.{column_names, message_fields, message_lines, table_text}
 use Rattle.day_tables.specs.Writing.{row_of}

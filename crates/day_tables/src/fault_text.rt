@@ -1,7 +1,6 @@
 //! The text of a field that was refused.
 ghost use Rattle.std.specs.Prelude.{◌≡◌, ◌<◌, false, Some, take};
 ghost use Rattle.std.specs.Fmt.{digit_glyph};
-ghost use Rattle.std.specs.List.{flat_map};
 ghost use Rattle.day_tables.specs.FaultTexts.{FAULT_TEXT_MOST, shown, shown_byte, stands_as_it_is};
 
 use std::fmt;

@@ -1,8 +1,6 @@
 //! A message written as its row.
 ghost use Rattle.std.specs.Prelude.{◌≡◌, ◌<◌, ◌++◌, ◌∷◌, [], OnOk, decimal};
 ghost use Rattle.csv.specs.Records.{fields_of, partial_of};
-ghost use Rattle.reports.specs.Messages.{brought_content, named_target};
-ghost use Rattle.tape_types.specs.Ranges.{name_of};
 ghost use Rattle.day_tables.specs.Laws.{RowRoundTrip};
 ghost use Rattle.day_tables.specs.Texts.{code_byte};
 ghost use Rattle.day_tables.specs.Writing.{condition_text, header_fields, digit_at, kind_text, price_text, row_fields, row_of, text_or_none};

@@ -1,4 +1,4 @@
-use Rattle.std.proofs.Common.{◌≡◌, ◌∙◌, ap, arith, length, take}
+use Rattle.std.proofs.Common.{◌≡◌, ◌∙◌, ap, arith, length}
 use Rattle.std.proofs.lemmas.List.{length-take}
 use Rattle.day_tables.proofs.CutLemmas.{cut-fits, cut-is}
 use Rattle.day_tables.proofs.fault_text.FaultText.new.Goals as goal
