@@ -134,25 +134,29 @@ fn five_published<D: DayName + Send + Sync, R: Threads + Wait + Abort + Sync>(
     Some((set, found, shown, is_same, confirmed))
 }
 
-/// Admits N's report of this number.
-fn admit_one<D: DayName>(locked: &mut Locked<D>, seat: &mut LineSeat<D>, number: u32)
+/// Admits N's report of this number: the tape number that it gets.
+fn admit_one<D: DayName>(locked: &mut Locked<D>, seat: &mut LineSeat<D>, number: u32) -> Option<u32>
     ensures { seat.new.who ≡ seat.old.who }
 {
-    if let Some(report) = message(Sent::Report(b'N', number, 100_000)) {
-        let _ = locked.admit(seat, report);
-    }
+    let report = message(Sent::Report(b'N', number, 100_000))?;
+    let receipt = locked.admit(seat, report).ok()?;
+    Some(receipt.number().value())
 }
 
-/// Admits N's report of this number on the first line.
+/// Admits N's report of this number on the first line: the tape number that it gets.
 #[tactic(auto, using(crate::proofs::KeptSeats::each_set))]
-fn admit_first<D: DayName>(locked: &mut Locked<D>, seats: &mut Vec<LineSeat<D>>, number: u32)
+fn admit_first<D: DayName>(
+    locked: &mut Locked<D>,
+    seats: &mut Vec<LineSeat<D>>,
+    number: u32,
+) -> Option<u32>
     requires { IsOneEach D.terms.listing.participants seats.old.items }
     ensures { IsOneEach D.terms.listing.participants seats.new.items }
 {
     if seats.is_empty() {
-        return;
+        return None;
     }
-    admit_one(locked, &mut seats[0], number);
+    admit_one(locked, &mut seats[0], number)
 }
 
 /// How many entries are set in a row of cells by a publication of at most so many.
@@ -171,8 +175,8 @@ fn found_at_end<D: DayName>(locked: Locked<D>, row: CellRow, seats: Vec<LineSeat
     }
 }
 
-/// What three publications of a day set, and how many entries its end finds.
-type Strayed = ([SetIn; 3], u32);
+/// The tape numbers that three reports of a day get, what its three publications set, and how many entries its end finds.
+type Strayed = ([Option<u32>; 3], [SetIn; 3], u32);
 
 /// The same of three reports: the first goes to the day's own row, the next strays to another row, and the last goes to its own.
 fn strayed<D: DayName>(prepared: Prepared, other: &CellRow) -> Option<Strayed>
@@ -183,16 +187,18 @@ fn strayed<D: DayName>(prepared: Prepared, other: &CellRow) -> Option<Strayed>
     let Ok((mut locked, row, mut seats)) = Locked::<D>::start(prepared) else {
         return None;
     };
-    admit_first(&mut locked, &mut seats, 1);
-    admit_first(&mut locked, &mut seats, 2);
-    admit_first(&mut locked, &mut seats, 3);
+    let numbers = [
+        admit_first(&mut locked, &mut seats, 5),
+        admit_first(&mut locked, &mut seats, 6),
+        admit_first(&mut locked, &mut seats, 7),
+    ];
     let sets = [
         set_in(&mut locked, &row, 1),
         set_in(&mut locked, other, 64),
         set_in(&mut locked, &row, 64),
     ];
     let found = found_at_end(locked, row, seats)?;
-    Some((sets, found))
+    Some((numbers, sets, found))
 }
 
 /// What a day sets that strays to the row of another one, what two publications of that other day then set in the row, and how
@@ -208,8 +214,8 @@ fn strayed_to<D: DayName>(alloc: Global, two: Prepared) -> Option<StrayedTo>
     let Ok((mut locked, row, mut seats)) = Locked::<D>::start(two) else {
         return None;
     };
-    admit_first(&mut locked, &mut seats, 1);
-    admit_first(&mut locked, &mut seats, 2);
+    let _ = admit_first(&mut locked, &mut seats, 5);
+    let _ = admit_first(&mut locked, &mut seats, 6);
     let strayed = strayed_from_a_day(alloc, &row);
     let sets = [set_in(&mut locked, &row, 64), set_in(&mut locked, &row, 64)];
     Some((strayed, sets, found_at_end(locked, row, seats)))
@@ -245,7 +251,7 @@ fn published_entries_are_found_and_confirmed(rt: HostRuntime) {
 fn a_cell_that_is_missing_or_was_set_ends_a_publication(rt: HostRuntime) {
     let missing = Err(PublishFault::Unpublished(3));
     let was_set = Err(PublishFault::Unpublished(2));
-    let strayed = ([Ok(1), missing, Ok(1)], 1);
+    let strayed = ([Some(1), Some(2), Some(3)], [Ok(1), missing, Ok(1)], 1);
     assert_eq!(rt;
         strayed_to_a_day(rt.alloc()),
         Some((Some(strayed), [was_set; 2], Some(2)))
