@@ -156,33 +156,38 @@ fn replace_last<S: Store, A: Abort>(rt: &A, rising: Rising<S>, number: u32) -> O
 }
 
 /// Adds so many reports, gives the last another content, and prints what was done again.
-fn take_all<S: Store, A: Abort + Print>(rt: &A, alloc: Global, reports: u32) -> Result<(), Fail> {
+fn take_all<S: Store, A: Abort + Print>(
+    rt: &A,
+    alloc: Global,
+    over: &str,
+    reports: u32,
+) -> Result<(), Fail> {
     let mut rising = Rising::<S>::new(alloc);
     for number in 1..reports {
         if add_next(rt, &mut rising, number).ok_or("a report")? {
-            println!(rt; "added again")?;
+            println!(rt; "{over}: added again")?;
         }
     }
     if replace_last(rt, rising, reports).ok_or("a report")? {
-        println!(rt; "replaced again")?;
+        println!(rt; "{over}: replaced again")?;
     }
     Ok(())
 }
 
 /// The same for as many reports as fill a vector that has grown to as many places.
-fn take_each<S: Store, A: Abort + Print>(rt: &A, alloc: Global) -> Result<(), Fail> {
+fn take_each<S: Store, A: Abort + Print>(rt: &A, alloc: Global, over: &str) -> Result<(), Fail> {
     for reports in [1, 4, 8, 16, 32, 64] {
-        take_all::<S, A>(rt, alloc, reports)?;
+        take_all::<S, A>(rt, alloc, over, reports)?;
     }
     Ok(())
 }
 
 #[test]
 fn a_book_over_indexes_takes_again_what_was_refused(rt: HostRuntime) -> Result<(), Fail> {
-    take_each::<IndexStore, HostRuntime>(&rt, rt.alloc())
+    take_each::<IndexStore, HostRuntime>(&rt, rt.alloc(), "indexes")
 }
 
 #[test]
 fn a_book_over_the_plain_store_takes_again_what_was_refused(rt: HostRuntime) -> Result<(), Fail> {
-    take_each::<ScratchStore, HostRuntime>(&rt, rt.alloc())
+    take_each::<ScratchStore, HostRuntime>(&rt, rt.alloc(), "a vector")
 }

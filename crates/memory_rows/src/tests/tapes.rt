@@ -94,6 +94,14 @@ fn kind(message: &Message) -> &'static str {
     }
 }
 
+/// How a message came.
+fn way(by: By) -> &'static str {
+    match by {
+        By::Admission => "admitted",
+        By::Replay => "replayed",
+    }
+}
+
 /// Gives a tape the day's messages one by one, and prints what it took again.
 fn take_all<S: Store, A: Abort + Print>(rt: &A, alloc: Global, by: By) -> Result<(), Fail> {
     let mut held = Vec::with_capacity(alloc, MESSAGES as usize)?;
@@ -106,7 +114,7 @@ fn take_all<S: Store, A: Abort + Print>(rt: &A, alloc: Global, by: By) -> Result
         held.push(entry)?;
         assert!(rt; tape.entries() == held.as_slice());
         if is_again {
-            println!(rt; "{} again", kind(&message))?;
+            println!(rt; "{}: {} again", way(by), kind(&message))?;
         }
     }
     Ok(())
