@@ -96,13 +96,15 @@ class Proving:
             # Linux keeps this for each thread, and hands it on to the commands that the thread starts.
             os.setpriority(os.PRIO_PROCESS, 0, NICENESS)
         jobs = self.kit.cores() if leads else max(self.kit.cores() // 2, 1)
-        os.makedirs(f"{crate.folder}/out", exist_ok=True)
         with tempfile.TemporaryFile("w+", errors="replace") as crate.out:
             try:
+                os.makedirs(f"{crate.folder}/out", exist_ok=True)
                 flags = ["--jobs", str(jobs)]
                 status = crate.build_rlib(flags, anew=False) if crate.makes_rlib() else crate.check(flags)
-            except (SystemExit, OSError) as fault:
-                status = fault
+            except (Exception, SystemExit) as fault:
+                # However it ends, the other thread waits to be told.
+                print(f"{type(fault).__name__}: {fault}", file=crate.out)
+                status = 2
             crate.out.seek(0)
             self.ended.put((crate, status, crate.out.read()))
 
