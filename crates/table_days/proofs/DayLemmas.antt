@@ -1,14 +1,20 @@
 -- Messages one after another.
-use Rattle.std.proofs.Common.{◌≡◌, ◌≢◌, ◌<◌, ◌+◌, ◌∷◌, ◌++◌, ◌∙◌, [], ℕ, List, Option, Some, None, take, get_or, length, map, fold, ap, refl, unwrap_or}
+use Rattle.std.proofs.Common.{◌≡◌, ◌≢◌, ◌<◌, ◌+◌, ◌∷◌, ◌++◌, ◌∙◌, [], ℕ, suc, List, Option, Result, Some, None, Ok, Err, take, get_or, length, map, fold, ap, arith, refl, sym, unwrap_or, append-nil, append_assoc, length-append}
 use Rattle.std.proofs.lemmas.List.{map_more, take_more}
 use Rattle.std.proofs.lemmas.List.Sums.{fold_push}
 use Rattle.indexmap.specs.IndexSet.{insert_all, insert_key}
 use Rattle.std.specs.Prelude.{Bool}
 use Rattle.reports.specs.declared.message.Message.{Message}
-use Rattle.tape_core.specs.Tape.{TapeState, refusal, with_message}
+use Rattle.tape_core.specs.Tape.{TapeState, next_entry, refusal, with_message}
+use Rattle.tape_core.specs.declared.entry.Entry.{Entry}
 use Rattle.tape_core.specs.declared.refusal.Refusal.{Refusal}
 use Rattle.tape_core.specs.declared.refusal.Refusal.TheVariants.{OutOfMemory}
-use Rattle.table_days.specs.Days.{tape_after, tape_by}
+use Rattle.table_days.specs.Answers.{answer, answer_by, answers, tape_after, tape_by}
+use Rattle.table_days.specs.Days.{AnswersMore, HasAnswered}
+use Rattle.table_days.specs.Refusals.{AreRefusals}
+use Rattle.day_tables.specs.Tables.{FIRST_ROW}
+use Rattle.table_days.specs.declared.day.Day.{Day}
+use Rattle.table_days.specs.declared.refusals.Refusals.{Refusals}
 
 -- the names of one message more
 pub insert_all-more : {A : Type 0} (eq : A → A → Bool) (name : Message → A) (messages : List Message) (i : ℕ) (m : Message) → i < length messages
@@ -18,12 +24,7 @@ insert_all-more eq name messages i m within is =
     ap (insert_all eq []) (map_more name messages i m within ∙ ap (λ (n : Message). map name (take i messages) ++ name n ∷ []) is)
     ∙ fold_push (insert_key eq) [] (map name (take i messages)) (name m)
 
--- the tape of one message more
-pub tapes-more : (t : TapeState) (messages : List Message) (i : ℕ) (m : Message) → i < length messages → get_or messages i m ≡ m
-    → fold tape_after t (take (i + 1) messages) ≡ tape_after (fold tape_after t (take i messages)) m
-tapes-more t messages i m within is =
-    ap (fold tape_after t) (take_more messages i m within ∙ ap (λ (n : Message). take i messages ++ n ∷ []) is)
-    ∙ fold_push tape_after t (take i messages) m
+-- ## One message
 
 -- a message that the tape refuses leaves it as it was
 pub tape_after-refused : (t : TapeState) (m : Message) (r : Refusal) → r ≡ unwrap_or (refusal t m) OutOfMemory → r ≢ OutOfMemory → tape_after t m ≡ t
@@ -34,7 +35,82 @@ tape_after-refused t m r is other = cases (refusal t m) is
     cases None is = absurd (other is)
     cases (Some refused) is = refl
 
+-- and that refusal is its answer
+pub answer-refused : (t : TapeState) (m : Message) (r : Refusal) → r ≡ unwrap_or (refusal t m) OutOfMemory → r ≢ OutOfMemory → answer t m ≡ Err r
+unfolding answer
+answer-refused t m r is other = cases (refusal t m) is
+  where
+    cases : (o : Option Refusal) → r ≡ unwrap_or o OutOfMemory → answer_by t o ≡ Err r
+    cases None is = absurd (other is)
+    cases (Some refused) is = ap (λ (r : Refusal). Err r) (sym is)
+
 -- a message that the tape admits is its next
 pub tape_after-admitted : (t : TapeState) (m : Message) → refusal t m ≡ None → tape_after t m ≡ with_message t m
 unfolding tape_after
 tape_after-admitted t m none = ap (tape_by t m) none
+
+-- and the next number is its answer
+pub answer-admitted : (t : TapeState) (m : Message) → refusal t m ≡ None → answer t m ≡ Ok (length t.entries + 1)
+unfolding answer
+answer-admitted t m none = ap (answer_by t) none
+
+-- the number of its entry
+abbrev entry_number : Entry → Result ℕ Refusal
+entry_number e = Ok e.number
+
+-- an entry that is admitted has the number of its answer
+pub answer-entry : (t : TapeState) (m : Message) (e : Entry) → refusal t m ≡ None → e ≡ next_entry t.matrix t.entries m → entry_number e ≡ answer t m
+answer-entry t m e none is = ap entry_number is ∙ sym (answer-admitted t m none)
+
+-- ## One message more
+
+-- the answer to one message more
+pub answers-push : (t : TapeState) (before : List Message) (m : Message)
+    → answers t (before ++ m ∷ []) ≡ answers t before ++ answer (fold tape_after t before) m ∷ []
+unfolding answers
+answers-push t [] m = refl
+answers-push t (b ∷ before) m = ap (λ (l : List (Result ℕ Refusal)). answer t b ∷ l) (answers-push (tape_after t b) before m)
+
+-- each message has an answer
+pub length-answers : (t : TapeState) (messages : List Message) → length (answers t messages) ≡ length messages
+unfolding answers
+length-answers t [] = refl
+length-answers t (m ∷ messages) = ap suc (length-answers (tape_after t m) messages)
+
+-- a day that answered one message more
+pub AnswersMore-answer : (old new : Day) (m : Message) (answered : Result ℕ Refusal) → answered ≡ answer old.tape m → new.tape ≡ tape_after old.tape m
+    → new.row ≡ old.row + 1
+    → ((answers : List (Result ℕ Refusal)) → old.row ≡ length answers + FIRST_ROW → AreRefusals answers old.refusals → AreRefusals (answers ++ answered ∷ []) new.refusals)
+    → AnswersMore old new (m ∷ [])
+AnswersMore-answer old new m answered is tape row counted t before had = record {
+  tape = tape ∙ ap (λ (s : TapeState). tape_after s m) had.tape ∙ sym (fold_push tape_after t before m);
+  refusals = rw (answers-push t before m, sym had.tape, sym is) (counted (answers t before) (had.row ∙ ap (λ (n : ℕ). n + FIRST_ROW) (sym (length-answers t before))) had.refusals);
+  row = omega (arith, row, had.row, length-append before (m ∷ []));
+}
+
+-- a day that stays as it is has answered no message more
+pub AnswersMore-none : (day : Day) → AnswersMore day day []
+AnswersMore-none day = λ t before had. rw (append-nil before) had
+
+-- a day that answered messages, and then others
+pub AnswersMore-both : (old mid new : Day) (first second : List Message) → AnswersMore old mid first → AnswersMore mid new second
+    → AnswersMore old new (first ++ second)
+AnswersMore-both old mid new first second one two = λ t before had. rw (← append_assoc before first second) (two t (before ++ first) (one t before had))
+
+-- a day that answered one message more of some
+pub AnswersMore-one : (old mid new : Day) (messages : List Message) (i : ℕ) (m : Message) → i < length messages → get_or messages i m ≡ m
+    → AnswersMore old mid (take i messages) → AnswersMore mid new (m ∷ []) → AnswersMore old new (take (i + 1) messages)
+AnswersMore-one old mid new messages i m within is so_far more =
+    rw (take_more messages i m within, is) (AnswersMore-both old mid new (take i messages) (m ∷ []) so_far more)
+
+-- the tape of one message more
+pub tapes-more : (t : TapeState) (messages : List Message) (i : ℕ) (m : Message) → i < length messages → get_or messages i m ≡ m
+    → fold tape_after t (take (i + 1) messages) ≡ tape_after (fold tape_after t (take i messages)) m
+tapes-more t messages i m within is =
+    ap (fold tape_after t) (take_more messages i m within ∙ ap (λ (n : Message). take i messages ++ n ∷ []) is)
+    ∙ fold_push tape_after t (take i messages) m
+
+-- a day with a tape that answered nothing
+pub HasAnswered-none : (t : TapeState) (day : Day) → day.tape ≡ t → AreRefusals [] day.refusals → day.row ≡ FIRST_ROW → HasAnswered t [] day
+unfolding answers
+HasAnswered-none t day tape refusals row = record { tape = tape; refusals = refusals; row = row }

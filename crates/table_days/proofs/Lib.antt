@@ -1,1 +1,4 @@
 pub mod DayLemmas
+pub mod EndLemmas
+pub mod RefusalLemmas
+pub mod TapeLemmas

@@ -1,1 +1,6 @@
+pub mod Answers
 pub mod Days
+pub mod EndTexts
+pub mod Refusals
+pub mod TableEnds
+pub mod TapeRows

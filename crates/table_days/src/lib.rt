@@ -1,11 +1,18 @@
-//! The report of a table of trade messages.
+//! Tables of trade messages in, their report or their readable tape out.
 #![tactic(auto)]
 
-mod admitting;
-mod engine;
+mod answering;
+mod day;
+mod lines;
 mod naming;
+mod refusals;
+mod report;
 mod table_end;
+mod tape;
+mod tape_row;
 
-
-pub use engine::table_report_over;
+pub use answering::{Answer, TableTape};
+pub use refusals::{Refusals, Refused};
+pub use report::report_over;
 pub use table_end::TableEnd;
+pub use tape::tape_over;

@@ -1,9 +1,15 @@
 //! How a table's day ended.
+ghost use Rattle.table_days.specs.EndTexts.{end_status, listing_fault_status, table_fault_status};
+ghost use Rattle.std.specs.Io.KnownBytes.{Keeps};
+ghost use Rattle.std.specs.Prelude.{◌≡◌, Err, IfErr, IfOk};
+ghost use Rattle.table_days.specs.declared.table_end.TableEnd.TheVariants.{WriteFault};
 
+use crate::Refusals;
 use day_tables::TableFault;
+use std::io::Write;
 use tape_types::ListingFault;
 
-/// Why a table has no report.
+/// Why a table has no report, or no readable tape.
 #[derive(Clone, Copy, Debug, PartialEq, Eq)]
 pub enum TableEnd {
     /// The table is not read.
@@ -12,6 +18,53 @@ pub enum TableEnd {
     Listing(ListingFault),
     /// Memory ran out.
     OutOfMemory,
-    /// A write failed.
+    /// A write or the flush failed.
     WriteFault,
+}
+
+/// The status of a table's fault.
+fn table_fault_status(fault: TableFault) -> u8
+    ensures { result ≡ table_fault_status fault }
+{
+    match fault {
+        TableFault::Header(_) | TableFault::NoRow | TableFault::Row(_, _) => 2,
+        TableFault::ReadFault => 3,
+        TableFault::OutOfMemory => 5,
+    }
+}
+
+/// The status of names that make no listing.
+fn listing_fault_status(fault: ListingFault) -> u8
+    ensures { result ≡ listing_fault_status fault }
+{
+    match fault {
+        ListingFault::Empty | ListingFault::TooMany | ListingFault::Repeated => 2,
+        ListingFault::OutOfMemory => 5,
+    }
+}
+
+impl TableEnd {
+    /// The status that the program ends with.
+    pub fn status(self) -> u8
+        ensures status { result ≡ end_status self }
+    {
+        match self {
+            TableEnd::Table(fault) => table_fault_status(fault),
+            TableEnd::Listing(fault) => listing_fault_status(fault),
+            TableEnd::OutOfMemory => 5,
+            TableEnd::WriteFault => 4,
+        }
+    }
+}
+
+/// What was refused, once what was written is flushed.
+pub fn flushed<W: Write>(writer: &mut W, refusals: Refusals) -> Result<Refusals, TableEnd>
+    ensures kept { Keeps (W.contents writer.old) (W.contents writer.new) }
+    ensures ok { IfOk result (λ flushed. flushed ≡ refusals) }
+    ensures err { IfErr result (λ end. end ≡ WriteFault) }
+{
+    match writer.flush() {
+        Ok(()) => Ok(refusals),
+        Err(_) => Err(TableEnd::WriteFault),
+    }
 }

@@ -1,0 +1,68 @@
+-- What a table's text and what it refused come to, whatever is known of the reader.
+use Rattle.std.proofs.Common.{◌≡◌, ◌≢◌, ◌⊎◌, ◌∙◌, ℕ, List, Option, Result, Some, None, Ok, Err, IfSome, IfOk, IfErr, OnOk, OnErr, ap, inl, inr, refl, subst, sym}
+use Rattle.std.specs.Io.KnownBytes.{Appends}
+use Rattle.sale_matrix.specs.declared.matrix.Matrix.{Matrix}
+use Rattle.reports.specs.declared.message.Message.{Message}
+use Rattle.row_reads.specs.Writing.{WritesPrefix}
+use Rattle.tape_core.specs.declared.refusal.Refusal.{Refusal}
+use Rattle.day_tables.specs.Tables.{IsTable}
+use Rattle.table_days.specs.Answers.{answers}
+use Rattle.table_days.specs.Days.{first_tape}
+use Rattle.table_days.specs.Refusals.{AreRefusals, refused_for}
+use Rattle.table_days.specs.TableEnds.{IsMessagesEnd, WritesTable, WritesTablePart}
+use Rattle.table_days.specs.declared.refusals.Refusals.{Refusals}
+use Rattle.table_days.specs.declared.table_end.TableEnd.{TableEnd}
+use Rattle.table_days.specs.declared.table_end.TableEnd.TheVariants.{OutOfMemory, WriteFault}
+
+-- what holds anyway holds of a success
+pub any_ok : {A E : Type 0} (r : Result A E) (P : Type 0) → P → OnOk r P
+any_ok (Ok value) P p = p
+any_ok (Err error) P p = tt
+
+-- what holds anyway holds at an error
+pub any_error : {A E : Type 0} (r : Result A E) (P : Type 0) → P → OnErr r P
+any_error (Ok value) P p = tt
+any_error (Err error) P p = p
+
+-- what follows holds of a success
+pub ok_map : {A E : Type 0} (r : Result A E) (P Q : Type 0) → (P → Q) → OnOk r P → OnOk r Q
+ok_map (Ok value) P Q f p = f p
+ok_map (Err error) P Q f p = tt
+
+-- ## A flush
+
+-- what was refused is given back
+pub flushed_refusals : (r : Result Refusals TableEnd) (refusals : Refusals) (answers : List (Result ℕ Refusal)) → IfOk r (λ flushed. flushed ≡ refusals)
+    → AreRefusals answers refusals → IfOk r (AreRefusals answers)
+flushed_refusals (Ok flushed) refusals answers is are = λ reason. ap (λ (s : Refusals). refused_for s reason) is ∙ are reason
+flushed_refusals (Err end) refusals answers is are = tt
+
+-- a flush that fails is an end of messages
+pub flushed_end : (r : Result Refusals TableEnd) (messages : List Message) → IfErr r (λ end. end ≡ WriteFault) → IfErr r (IsMessagesEnd messages)
+flushed_end (Ok flushed) messages is = tt
+flushed_end (Err end) messages is = subst (λ (e : TableEnd). IsMessagesEnd messages e) (sym is) tt
+
+-- where no write fails a flush does not
+pub flushed_silent : (r : Result Refusals TableEnd) (P : Type 0) → IfErr r (λ end. end ≡ WriteFault) → r ≢ Err WriteFault → OnErr r P
+flushed_silent (Ok flushed) P is other = tt
+flushed_silent (Err end) P is other = absurd (other (ap (λ (e : TableEnd). Err e) is))
+
+-- ## A table
+
+-- a table was written
+pub table_written : (text : Matrix → List Message → List ℕ) (matrix : Matrix) (known : Option (List ℕ)) (messages seen : List Message)
+    (r : Result Refusals TableEnd) (old new : Option (List ℕ)) → seen ≡ messages → IfSome known (λ input. IsTable input messages)
+    → IfOk r (AreRefusals (answers (first_tape matrix seen) seen)) → OnOk r (Appends old new (text matrix seen))
+    → IfSome known (λ input. IfOk r (λ refusals. WritesTable text matrix input refusals old new))
+table_written text matrix None messages seen r old new same table refused written = tt
+table_written text matrix (Some input) messages seen (Err end) old new same table refused written = tt
+table_written text matrix (Some input) messages seen (Ok refusals) old new same table refused written =
+    record { messages = seen; table = subst (IsTable input) (sym same) table; refused = refused; written = written }
+
+-- a part of a table was written
+pub table_part : (text : Matrix → List Message → List ℕ) (matrix : Matrix) (known : Option (List ℕ)) (messages seen : List Message)
+    (old new : Option (List ℕ)) → seen ≡ messages → IfSome known (λ input. IsTable input messages) → WritesPrefix (text matrix seen) old new
+    → IfSome known (λ input. WritesTablePart text matrix input old new)
+table_part text matrix None messages seen old new same table written = tt
+table_part text matrix (Some input) messages seen old new same table written =
+    record { messages = seen; table = subst (IsTable input) (sym same) table; written = written }

@@ -1,0 +1,174 @@
+-- What is refused of one answer more.
+use Rattle.std.proofs.Common.{◌≡◌, ◌≢◌, ◌<◌, ◌≤◌, ◌+◌, ◌-◌, ◌^◌, ◌==◌, ◌∷◌, ◌++◌, ◌∙◌, [], ℕ, List, Bool, true, false, cond, Option, Result, Some, None, Ok, Err, IfSome}
+use Rattle.std.proofs.Common.{ap, arith, get_or, inl, inr, length, refl, replicate, subst, sym, zero-add}
+use Rattle.std.proofs.lemmas.Bool.{cases_Bool, eq-eqb}
+use Rattle.std.proofs.lemmas.List.{get_or-replicate, get_or-set_other, get_or-set_same}
+use Rattle.std.proofs.lemmas.List.Sums.{count_by-le-length, sum_by_from, sum_by_push}
+use Rattle.std.specs.List.{count_by, position_from}
+use Rattle.std.specs.Prelude.{slice_index_or, slice_set}
+use Rattle.std.specs.Option.{option_map}
+use Rattle.tape_core.specs.Refusals.{refusal_code}
+use Rattle.tape_core.specs.declared.refusal.Refusal.{Refusal}
+use Rattle.tape_core.specs.declared.refusal.Refusal.TheVariants.{Closed, Full, WrongLine, UnknownParticipant, Stale, UnknownSymbol, NoSuchReport, OtherSymbol}
+use Rattle.tape_core.specs.declared.refusal.Refusal.TheVariants.{Cancelled, OutOfMemory, WrongNumber, Standing, NotInMatrix}
+use Rattle.day_tables.specs.Tables.{FIRST_ROW}
+use Rattle.table_days.specs.Refusals.{AreRefusals, is_refusal, one_more, refused_for, refused_rows}
+use Rattle.table_days.specs.declared.refusals.Refusals.{Refusals}
+use Rattle.table_days.specs.declared.refusals.Refused.{Refused}
+
+-- the numbers of refusals
+pub code_range : (r : Refusal) → (31 ≤ refusal_code r) × (refusal_code r ≤ 44)
+code_range Closed = (omega arith, omega arith)
+code_range Full = (omega arith, omega arith)
+code_range WrongLine = (omega arith, omega arith)
+code_range UnknownParticipant = (omega arith, omega arith)
+code_range Stale = (omega arith, omega arith)
+code_range UnknownSymbol = (omega arith, omega arith)
+code_range NoSuchReport = (omega arith, omega arith)
+code_range OtherSymbol = (omega arith, omega arith)
+code_range Cancelled = (omega arith, omega arith)
+code_range OutOfMemory = (omega arith, omega arith)
+code_range WrongNumber = (omega arith, omega arith)
+code_range Standing = (omega arith, omega arith)
+code_range NotInMatrix = (omega arith, omega arith)
+
+-- ## Lists
+
+-- an element more that fails a test is not the first to pass it
+position_from-fails : {X : Type 0} (p : X → Bool) (i : ℕ) (xs : List X) (x : X) → p x ≡ false
+    → position_from p i (xs ++ x ∷ []) ≡ position_from p i xs
+position_from-fails p i [] x fails = rw fails refl
+position_from-fails p i (y ∷ xs) x fails = elim (cases_Bool (p y)) [
+  | inl passes ↦ rw passes refl
+  | inr other ↦ rw other (position_from-fails p (i + 1) xs x fails)
+]
+
+-- the first that passes a test stays the first
+position_from-found : {X : Type 0} (p : X → Bool) (i k : ℕ) (xs : List X) (x : X) → position_from p i xs ≡ Some k
+    → position_from p i (xs ++ x ∷ []) ≡ Some k
+position_from-found p i k [] x found = absurd (cc found)
+position_from-found p i k (y ∷ xs) x found = elim (cases_Bool (p y)) [
+  | inl passes ↦ rw passes (rw passes at found)
+  | inr other ↦ rw other (position_from-found p (i + 1) k xs x (rw other at found))
+]
+
+-- an element more is the first that passes a test where none did
+position_from-new : {X : Type 0} (p : X → Bool) (i : ℕ) (xs : List X) (x : X) → position_from p i xs ≡ None → p x ≡ true
+    → position_from p i (xs ++ x ∷ []) ≡ Some (i + length xs)
+position_from-new p i [] x none passes = rw passes (ap (λ (n : ℕ). Some n) (omega arith))
+position_from-new p i (y ∷ xs) x none passes = elim (cases_Bool (p y)) [
+  | inl first ↦ absurd (cc (rw first at none))
+  | inr other ↦ rw other (position_from-new p (i + 1) xs x (rw other at none) passes ∙ ap (λ (n : ℕ). Some n) (omega arith))
+]
+
+-- where nothing passes a test, none are counted
+count_by-none : {X : Type 0} (p : X → Bool) (i : ℕ) (xs : List X) → position_from p i xs ≡ None → count_by p xs ≡ 0
+count_by-none p i [] none = refl
+count_by-none p i (y ∷ xs) none = elim (cases_Bool (p y)) [
+  | inl first ↦ absurd (cc (rw first at none))
+  | inr other ↦ sum_by_from (λ x. cond (p x) 1 0) (0 + cond (p y) 1 0) xs
+      ∙ rw other (zero-add _ ∙ count_by-none p (i + 1) xs (rw other at none))
+]
+
+-- an element more is counted where it passes
+count_by-passes : {X : Type 0} (p : X → Bool) (xs : List X) (x : X) → p x ≡ true → count_by p (xs ++ x ∷ []) ≡ count_by p xs + 1
+count_by-passes p xs x passes = sum_by_push (λ x. cond (p x) 1 0) xs x ∙ rw passes refl
+
+-- and not where it fails
+count_by-fails : {X : Type 0} (p : X → Bool) (xs : List X) (x : X) → p x ≡ false → count_by p (xs ++ x ∷ []) ≡ count_by p xs
+count_by-fails p xs x fails = sum_by_push (λ x. cond (p x) 1 0) xs x ∙ rw fails (omega arith)
+
+-- ## Rows
+
+-- rows by how many they are, if there is a first
+abbrev counted : ℕ → Option ℕ → Option Refused
+counted count first = option_map (λ row. record { count = count; first = row }) first
+
+-- another answer changes nothing
+pub refused_rows-same : (reason : Refusal) (answers : List (Result ℕ Refusal)) (answered : Result ℕ Refusal) → is_refusal reason answered ≡ false
+    → refused_rows reason (answers ++ answered ∷ []) ≡ refused_rows reason answers
+unfolding refused_rows
+refused_rows-same reason answers answered other =
+    ap (λ (n : ℕ). counted n (position_from (is_refusal reason) FIRST_ROW (answers ++ answered ∷ []))) (count_by-fails (is_refusal reason) answers answered other)
+    ∙ ap (counted (count_by (is_refusal reason) answers)) (position_from-fails (is_refusal reason) FIRST_ROW answers answered other)
+
+-- one refusal more for this reason
+pub refused_rows-more : (reason : Refusal) (answers : List (Result ℕ Refusal)) (answered : Result ℕ Refusal) → is_refusal reason answered ≡ true
+    → refused_rows reason (answers ++ answered ∷ []) ≡ Some (one_more (refused_rows reason answers) (length answers + FIRST_ROW))
+unfolding refused_rows
+refused_rows-more reason answers answered same = cases (position_from p FIRST_ROW answers) refl
+  where
+    p : Result ℕ Refusal → Bool
+    p = is_refusal reason
+
+    cases : (o : Option ℕ) → position_from p FIRST_ROW answers ≡ o
+        → counted (count_by p (answers ++ answered ∷ [])) (position_from p FIRST_ROW (answers ++ answered ∷ []))
+        ≡ Some (one_more (counted (count_by p answers) o) (length answers + FIRST_ROW))
+    cases None none =
+        ap (counted (count_by p (answers ++ answered ∷ []))) (position_from-new p FIRST_ROW answers answered none same)
+        ∙ ap (λ (n : ℕ). counted n (Some (FIRST_ROW + length answers))) (count_by-passes p answers answered same ∙ ap (λ (n : ℕ). n + 1) (count_by-none p FIRST_ROW answers none))
+        ∙ ap (λ (n : ℕ). counted 1 (Some n)) (omega arith)
+    cases (Some k) found =
+        ap (counted (count_by p (answers ++ answered ∷ []))) (position_from-found p FIRST_ROW k answers answered found)
+        ∙ ap (λ (n : ℕ). counted n (Some k)) (count_by-passes p answers answered same)
+
+-- the rows that are counted are among all
+refused_rows-few : (reason : Refusal) (answers : List (Result ℕ Refusal)) → IfSome (refused_rows reason answers) (λ refused. refused.count ≤ length answers)
+unfolding refused_rows
+refused_rows-few reason answers = cases (position_from (is_refusal reason) FIRST_ROW answers)
+  where
+    cases : (o : Option ℕ) → IfSome (counted (count_by (is_refusal reason) answers) o) (λ refused. refused.count ≤ length answers)
+    cases None = tt
+    cases (Some k) = count_by-le-length (is_refusal reason) answers
+
+-- what holds of a value holds of less
+if_some-weaker : {A : Type 0} (P Q : A → Type 0) (o : Option A) → ((a : A) → P a → Q a) → IfSome o P → IfSome o Q
+if_some-weaker P Q None f h = tt
+if_some-weaker P Q (Some a) f h = f a h
+
+-- ## Refusals
+
+-- nothing is refused of no answers
+pub AreRefusals-none : (refusals : Refusals) → refusals.reasons ≡ replicate 14 None → AreRefusals [] refusals
+unfolding refused_rows
+AreRefusals-none refusals none reason =
+    let range = code_range reason in
+    ap (λ (l : List (Option Refused)). slice_index_or l (refusal_code reason - 31) None) none
+    ∙ get_or-replicate 14 (refusal_code reason - 31) None None (omega (arith, range.1))
+
+-- an answer that is a tape number is no refusal
+pub AreRefusals-admitted : (refusals : Refusals) (answers : List (Result ℕ Refusal)) (number : ℕ) → AreRefusals answers refusals
+    → AreRefusals (answers ++ Ok number ∷ []) refusals
+AreRefusals-admitted refusals answers number had reason = had reason ∙ sym (refused_rows-same reason answers (Ok number) refl)
+
+-- a refusal more is counted for its reason
+pub AreRefusals-refused : (old new : Refusals) (refused : Refusal) (place row : ℕ) (more : Refused) (answers : List (Result ℕ Refusal))
+    → length old.reasons ≡ 14 → place + 31 ≡ refusal_code refused → new.reasons ≡ slice_set old.reasons place (Some more)
+    → (IfSome (slice_index_or old.reasons place None) (λ refused. refused.count + 1 < 2 ^ 64)
+    → more ≡ one_more (slice_index_or old.reasons place None) row)
+    → row < 2 ^ 64 → row ≡ length answers + FIRST_ROW → AreRefusals answers old → AreRefusals (answers ++ Err refused ∷ []) new
+AreRefusals-refused old new refused place row more answers size at set is fits counted had reason =
+    let range = code_range refused in
+    let other_range = code_range reason in
+    elim (cases_Bool (refusal_code refused == refusal_code reason)) [
+      | inl same ↦
+          let same_code : refusal_code refused ≡ refusal_code reason = grind (arith, same) in
+          let here : refusal_code reason - 31 ≡ place = omega (arith, same_code, at) in
+          let had_here : slice_index_or old.reasons place None ≡ refused_rows reason answers =
+          ap (λ (n : ℕ). slice_index_or old.reasons n None) (sym here) ∙ had reason in
+          let few : IfSome (slice_index_or old.reasons place None) (λ refused. refused.count + 1 < 2 ^ 64) =
+          subst (λ (o : Option Refused). IfSome o (λ refused. refused.count + 1 < 2 ^ 64)) (sym had_here)
+          (if_some-weaker (λ refused. refused.count ≤ length answers) (λ refused. refused.count + 1 < 2 ^ 64) (refused_rows reason answers)
+          (λ refused le. omega (arith, le, fits, counted)) (refused_rows-few reason answers)) in
+          ap (λ (l : List (Option Refused)). slice_index_or l (refusal_code reason - 31) None) set
+          ∙ ap (λ (n : ℕ). slice_index_or (slice_set old.reasons place (Some more)) n None) here
+          ∙ get_or-set_same old.reasons place (Some more) None (omega (arith, size, at, range.1))
+          ∙ ap (λ (r : Refused). Some r) (is few ∙ ap (λ (o : Option Refused). one_more o row) had_here
+          ∙ ap (one_more (refused_rows reason answers)) counted)
+          ∙ sym (refused_rows-more reason answers (Err refused) same)
+      | inr other ↦
+          let apart : refusal_code reason - 31 ≢ place = λ e. cc (eq-eqb (refusal_code refused) (refusal_code reason) (omega (arith, e, at, other_range.0)), other) in
+          ap (λ (l : List (Option Refused)). slice_index_or l (refusal_code reason - 31) None) set
+          ∙ get_or-set_other old.reasons place (refusal_code reason - 31) (Some more) None apart
+          ∙ had reason ∙ sym (refused_rows-same reason answers (Err refused) other)
+    ]

@@ -1,0 +1,84 @@
+-- The readable tape: a row for each message, with its symbol's figures after it.
+use Rattle.std.specs.Prelude.{ℕ, List, [], ◌∷◌, ◌++◌, Option, Some, None, Result, Ok, Err, codes, decimal}
+use Rattle.std.specs.List.{flat_map}
+use Rattle.csv.specs.Writing.{default_writer, row_text}
+use Rattle.sale_matrix.specs.declared.matrix.Matrix.{Matrix}
+use Rattle.reports.specs.Messages.{header_of}
+use Rattle.reports.specs.declared.message.Message.{Message}
+use Rattle.scratch_fold.specs.declared.summary.Mark.{Mark}
+use Rattle.scratch_fold.specs.declared.summary.Summary.{Summary}
+use Rattle.tape_core.specs.Refusals.{refusal_code, refusal_name}
+use Rattle.tape_core.specs.Standing.{symbol_summary}
+use Rattle.tape_core.specs.Tape.{TapeState, messages_of}
+use Rattle.tape_core.specs.declared.refusal.Refusal.{Refusal}
+use Rattle.day_tables.specs.Writing.{price_text, row_fields, row_of}
+use Rattle.table_days.specs.Answers.{answer, tape_after}
+use Rattle.table_days.specs.Days.{first_tape}
+
+-- ## Rows
+
+-- a row: a row of the table, the tape's answer to it, and the consolidated summary of its symbol then
+pub record TapeRow : Type 0 where
+  pub answer : Result ℕ Refusal
+  pub message : Message
+  pub figures : Summary
+
+-- what the symbol of a message comes to on a tape
+abbrev pub figures_after : TapeState → Message → Summary
+figures_after t m = symbol_summary t.matrix (messages_of t.entries) (header_of m).symbol
+
+-- the row of a message: the tape's answer, and the consolidated summary of its symbol after it
+unfoldable pub tape_row : TapeState → Message → TapeRow
+tape_row t m = record { answer = answer t m; message = m; figures = figures_after (tape_after t m) m }
+
+-- the rows of messages
+unfoldable pub tape_rows : TapeState → List Message → List TapeRow
+tape_rows t [] = []
+tape_rows t (m ∷ ms) = tape_row t m ∷ tape_rows (tape_after t m) ms
+
+-- ## Fields
+
+-- the names of the columns
+abbrev pub column_names : List (List ℕ)
+column_names =
+    codes "tape" ∷ codes "refused" ∷
+    codes "kind" ∷ codes "participant" ∷ codes "number" ∷ codes "moment" ∷ codes "symbol" ∷
+    codes "target" ∷ codes "price" ∷ codes "size" ∷ codes "condition" ∷
+    codes "open" ∷ codes "high" ∷ codes "low" ∷ codes "last" ∷ codes "volume" ∷ codes "trades" ∷ []
+
+-- a refusal by number and name
+abbrev pub refusal_text : Refusal → List ℕ
+refusal_text refused = decimal (refusal_code refused) ++ (32 ∷ refusal_name refused)
+
+-- the tape number and the refusal, of which one is empty
+abbrev pub answer_fields : Result ℕ Refusal → List (List ℕ)
+answer_fields (Ok number) = decimal number ∷ [] ∷ []
+answer_fields (Err refused) = [] ∷ refusal_text refused ∷ []
+
+-- the price of a mark in dollars, or nothing
+abbrev pub mark_field : Option Mark → List ℕ
+mark_field None = []
+mark_field (Some mark) = price_text mark.price
+
+-- the figures of a symbol
+abbrev pub figures_fields : Summary → List (List ℕ)
+figures_fields z =
+    mark_field z.opening ∷ mark_field z.high ∷ mark_field z.low ∷ mark_field z.last ∷ decimal z.volume ∷ decimal z.trades ∷ []
+
+-- the fields of a row
+unfoldable pub tape_fields : TapeRow → List (List ℕ)
+tape_fields row = answer_fields row.answer ++ (row_fields (row_of row.message) ++ figures_fields row.figures)
+
+-- ## Text
+
+-- the lines of rows
+unfoldable pub rows_text : List TapeRow → List ℕ
+rows_text rows = flat_map (λ row. row_text default_writer (tape_fields row)) rows
+
+-- the names of the columns, and the rows of messages that a tape answers
+unfoldable pub text_from : TapeState → List Message → List ℕ
+text_from t messages = row_text default_writer column_names ++ rows_text (tape_rows t messages)
+
+-- the readable tape of messages
+abbrev pub tape_text : Matrix → List Message → List ℕ
+tape_text matrix messages = text_from (first_tape matrix messages) messages

@@ -1,0 +1,178 @@
+//! A table in, its readable tape out.
+ghost use Rattle.std.specs.Prelude.{◌≡◌, ◌≢◌, ◌⊎◌, ◌+◌, ◌<◌, ◌^◌, [], Err, IfErr, IfOk, IfSome, OnErr, OnOk, length};
+ghost use Rattle.std.specs.Io.KnownBytes.{Appends};
+ghost use Rattle.csv.specs.Writing.{default_writer, row_text};
+ghost use Rattle.row_reads.specs.Writing.{WritesPrefix};
+ghost use Rattle.table_days.specs.Answers.{answers};
+ghost use Rattle.table_days.specs.Days.{AnswersMore, HasAnswered, first_tape};
+ghost use Rattle.day_tables.specs.Tables.{FIRST_ROW};
+ghost use Rattle.table_days.specs.Refusals.{AreRefusals};
+ghost use Rattle.table_days.specs.TableEnds.{IsMessagesEnd, IsTableEnd, WritesTable, WritesTablePart};
+ghost use Rattle.table_days.specs.TapeRows.{column_names, rows_text, tape_rows, tape_text, text_from};
+ghost use Rattle.table_days.specs.declared.table_end.TableEnd.TheVariants.{OutOfMemory, WriteFault as TableWriteFault};
+
+use crate::day::Day;
+use crate::lines::{into_text, lines_in, put_line};
+use crate::table_end::flushed;
+use crate::tape_row::{column_names, put_next};
+use crate::{Refusals, TableEnd};
+use csv::ByteRecord;
+use day_tables::read_table;
+use reports::Message;
+use row_reads::write_text;
+use sale_matrix::Matrix;
+use std::alloc::{AllocError, Global};
+use std::io::{Read, Write};
+
+/// How many rows are written at once.
+const ROWS_AT_ONCE: usize = 512;
+
+/// The line of the columns' names.
+fn head_text(alloc: Global) -> Result<Vec<u8>, AllocError>
+    ensures { IfOk result (λ text. text.items ≡ row_text default_writer column_names) }
+{
+    let mut writer = lines_in(Vec::new(alloc));
+    put_line(&mut writer, &column_names(alloc)?)?;
+    into_text(writer)
+}
+
+/// The lines of a day's next rows, in the memory of a text that is used again.
+fn lines_of(
+    day: &mut Day,
+    fields: &mut ByteRecord,
+    text: Vec<u8>,
+    messages: &[Message],
+) -> Result<Vec<u8>, AllocError>
+    requires { day.old.row + length messages.now < 2 ^ 64 }
+    ensures text { IfOk result (λ text. text.items ≡ rows_text (tape_rows day.old.tape messages.now)) }
+    ensures more { OnOk result (AnswersMore day.old day.new messages.now) }
+{
+    let mut writer = lines_in(text);
+    for message in messages {
+        put_next(day, *message, &mut writer, fields)?;
+    }
+    into_text(writer)
+}
+
+/// Writes a part of the text.
+fn write_part<W: Write>(writer: &mut W, text: &[u8]) -> Result<(), TableEnd>
+    ensures written { OnOk result (Appends (W.contents writer.old) (W.contents writer.new) text.now) }
+    ensures prefix { WritesPrefix text.now (W.contents writer.old) (W.contents writer.new) }
+    ensures ends { IfErr result (λ end. end ≡ TableWriteFault) }
+{
+    match write_text(writer, text) {
+        Ok(()) => Ok(()),
+        Err(_) => Err(TableEnd::WriteFault),
+    }
+}
+
+/// Writes a part of the text, and makes the lines of a day's next rows in its memory.
+#[tactic(auto, using(crate::proofs::TapeLemmas::written_prefix))]
+fn next_lines<W: Write>(
+    day: &mut Day,
+    fields: &mut ByteRecord,
+    text: Vec<u8>,
+    messages: &[Message],
+    writer: &mut W,
+) -> Result<Vec<u8>, TableEnd>
+    requires { day.old.row + length messages.now < 2 ^ 64 }
+    ensures text { IfOk result (λ lines. lines.items ≡ rows_text (tape_rows day.old.tape messages.now)) }
+    ensures more { OnOk result (AnswersMore day.old day.new messages.now) }
+    ensures written { OnOk result (Appends (W.contents writer.old) (W.contents writer.new) text.items) }
+    ensures prefix { OnErr result (WritesPrefix text.items (W.contents writer.old) (W.contents writer.new)) }
+    ensures ends { IfErr result (λ end. (end ≡ OutOfMemory) ⊎ (end ≡ TableWriteFault)) }
+{
+    match write_part(writer, &text) {
+        Ok(()) => {}
+        Err(end) => return Err(end),
+    }
+    match lines_of(day, fields, text, messages) {
+        Ok(lines) => Ok(lines),
+        Err(_) => Err(TableEnd::OutOfMemory),
+    }
+}
+
+/// Writes the line of the columns' names, and then the rows of messages as a day answers them, many at once.
+fn write_rows<W: Write>(
+    alloc: Global,
+    day: &mut Day,
+    head: Vec<u8>,
+    messages: &[Message],
+    writer: &mut W,
+) -> Result<(), TableEnd>
+    requires head { head.items ≡ row_text default_writer column_names }
+    requires fresh { HasAnswered day.old.tape [] day.old }
+    requires few { length messages.now + FIRST_ROW < 2 ^ 64 }
+    ensures refused { OnOk result (AreRefusals (answers day.old.tape messages.now) day.new.refusals) }
+    ensures written { OnOk result (Appends (W.contents writer.old) (W.contents writer.new) (text_from day.old.tape messages.now)) }
+    ensures prefix { OnErr result (WritesPrefix (text_from day.old.tape messages.now) (W.contents writer.old) (W.contents writer.new)) }
+    ensures ends { IfErr result (λ end. (end ≡ OutOfMemory) ⊎ (end ≡ TableWriteFault)) }
+{
+    let mut fields = ByteRecord::new(alloc);
+    let mut text = head;
+    let mut rest = messages;
+    while !rest.is_empty() {
+        let (next, behind) = rest.split_at(rest.len().min(ROWS_AT_ONCE));
+        text = match next_lines(day, &mut fields, text, next, writer) {
+            Ok(lines) => lines,
+            Err(end) => return Err(end),
+        };
+        rest = behind;
+    }
+    write_part(writer, &text)
+}
+
+/// Writes the readable tape of messages, and gives what it refused.
+fn write_tape<W: Write>(
+    alloc: Global,
+    matrix: Matrix,
+    messages: &[Message],
+    writer: &mut W,
+) -> Result<Refusals, TableEnd>
+    requires few { length messages.now + FIRST_ROW < 2 ^ 64 }
+    ensures refused { IfOk result (AreRefusals (answers (first_tape matrix messages.now) messages.now)) }
+    ensures written { OnOk result (Appends (W.contents writer.old) (W.contents writer.new) (tape_text matrix messages.now)) }
+    ensures end { IfErr result (IsMessagesEnd messages.now) }
+    ensures silent { result ≢ Err TableWriteFault → result ≢ Err OutOfMemory → OnErr result (writer.new ≡ writer.old) }
+    ensures prefix { (result ≡ Err TableWriteFault) ⊎ (result ≡ Err OutOfMemory)
+        → WritesPrefix (tape_text matrix messages.now) (W.contents writer.old) (W.contents writer.new) }
+{
+    let mut day = match Day::of_names(alloc, matrix, messages) {
+        Ok(day) => day,
+        Err(end) => return Err(end),
+    };
+    let Ok(head) = head_text(alloc) else {
+        return Err(TableEnd::OutOfMemory);
+    };
+    match write_rows(alloc, &mut day, head, messages, writer) {
+        Ok(()) => flushed(writer, day.refusals),
+        Err(end) => Err(end),
+    }
+}
+
+/// Reads a table whole, answers its messages in order by a tape of the names in it, in the order in which they first appear, and
+/// writes the readable tape: a row for each message, with the figures of its symbol after it. It gives what the tape refused. The
+/// rows are written while they are made, many at once, so the text is never held whole. What was written is flushed at the end.
+///
+/// Where the tape is not written whole the end says why. At a `WriteFault` a part of it from the front was written, and at
+/// `OutOfMemory` such a part or nothing; at every other end nothing was.
+pub fn tape_over<R: Read + Drop, W: Write>(
+    alloc: Global,
+    matrix: Matrix,
+    reader: R,
+    writer: &mut W,
+) -> Result<Refusals, TableEnd>
+    ensures written { IfSome (R.remaining reader) (λ input. IfOk result (λ refusals.
+        WritesTable tape_text matrix input refusals (W.contents writer.old) (W.contents writer.new))) }
+    ensures end { IfSome (R.remaining reader) (λ input. IfErr result (IsTableEnd input)) }
+
+    // Whatever the reader: nothing is written at another end than these two, at which a part from the front may be.
+    ensures silent { result ≢ Err TableWriteFault → result ≢ Err OutOfMemory → OnErr result (writer.new ≡ writer.old) }
+    ensures prefix { (result ≡ Err TableWriteFault) ⊎ (result ≡ Err OutOfMemory)
+        → IfSome (R.remaining reader) (λ input. WritesTablePart tape_text matrix input (W.contents writer.old) (W.contents writer.new)) }
+{
+    match read_table(alloc, reader) {
+        Ok(messages) => write_tape(alloc, matrix, &messages, writer),
+        Err(fault) => Err(TableEnd::Table(fault)),
+    }
+}
