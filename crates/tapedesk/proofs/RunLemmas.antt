@@ -1,0 +1,39 @@
+-- What a run came to.
+use Rattle.std.proofs.Common.{◌≡◌, ◌≢◌, ◌⊎◌, ℕ, List, Option, Result, Some, None, Ok, Err, IfSome, IfOk, IfErr, OnErr, inl, inr}
+use Rattle.sale_matrix.specs.declared.matrix.Matrix.{Matrix}
+use Rattle.reports.specs.declared.message.Message.{Message}
+use Rattle.table_days.specs.TableEnds.{IsTableEnd, WritesTable}
+use Rattle.table_days.specs.declared.refusals.Refusals.{Refusals}
+use Rattle.table_days.specs.declared.table_end.TableEnd.{TableEnd}
+use Rattle.table_days.specs.declared.table_end.TableEnd.TheVariants.{OutOfMemory, WriteFault}
+use Rattle.tapedesk.specs.Program.{Comes}
+
+-- what a run came to, by what it wrote and how it ended
+pub comes_of : (text : Matrix → List Message → List ℕ) (matrix : Matrix) (input old new : Option (List ℕ)) (run : Result Refusals TableEnd)
+    → IfSome input (λ bytes. IfOk run (λ refusals. WritesTable text matrix bytes refusals old new)) → IfSome input (λ bytes. IfErr run (IsTableEnd bytes))
+    → IfSome input (λ bytes. Comes text matrix bytes run old new)
+comes_of text matrix None old new run written ends = tt
+comes_of text matrix (Some bytes) old new (Ok refusals) written ends = written
+comes_of text matrix (Some bytes) old new (Err end) written ends = ends
+
+-- what holds at an error holds where the run is one
+at_error : (run : Result Refusals TableEnd) (end : TableEnd) (P : Type 0) → run ≡ Err end → OnErr run P → P
+at_error (Ok refusals) end P is holds = absurd (cc is)
+at_error (Err other) end P is holds = holds
+
+-- an end that is neither of two
+pub silent_tape : (run : Result Refusals TableEnd) (P : Type 0) → (run ≢ Err WriteFault → run ≢ Err OutOfMemory → OnErr run P)
+    → (end : TableEnd) → run ≡ Err end → end ≢ WriteFault → end ≢ OutOfMemory → P
+silent_tape run P silent end is written memory =
+    at_error run end P is (silent (λ e. written (cc (is, e))) (λ e. memory (cc (is, e))))
+
+-- an end that is no failed write
+pub silent_report : (run : Result Refusals TableEnd) (P : Type 0) → (run ≢ Err WriteFault → OnErr run P)
+    → (end : TableEnd) → run ≡ Err end → end ≢ WriteFault → end ≢ OutOfMemory → P
+silent_report run P silent end is written memory = at_error run end P is (silent (λ e. written (cc (is, e))))
+
+-- a report is written in part only where a write fails
+pub part_report : (run : Result Refusals TableEnd) (P Q : Type 0) → (run ≢ Err WriteFault → OnErr run P) → (run ≡ Err WriteFault → Q)
+    → (run ≡ Err WriteFault) ⊎ (run ≡ Err OutOfMemory) → P ⊎ Q
+part_report run P Q silent part (inl fault) = inr (part fault)
+part_report run P Q silent part (inr memory) = inl (at_error run OutOfMemory P memory (silent (λ e. cc (memory, e))))

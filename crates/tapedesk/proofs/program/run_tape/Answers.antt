@@ -1,0 +1,16 @@
+use Rattle.std.proofs.Common.{inr}
+use Rattle.table_days.specs.TapeRows.{tape_text}
+use Rattle.tapedesk.proofs.RunLemmas.{comes_of, silent_tape}
+use Rattle.tapedesk.proofs.program.run_tape.Goals as goal
+
+pub returns : goal.returns
+returns g c = record {
+  run = c.tape_over-run.result;
+  status_is = c.end_run.ensures.status;
+  comes = comes_of tape_text c.args.matrix (g.R.Read.remaining c.args.reader.now) (g.W.Write.contents c.args.writer.now)
+      (g.W.Write.contents c.tape_over-run.new.writer) c.tape_over-run.result c.tape_over-run.ensures.written c.tape_over-run.ensures.end;
+  part = λ ended. inr (c.tape_over-run.ensures.prefix ended);
+  silent = silent_tape c.tape_over-run.result _ c.tape_over-run.ensures.silent;
+  quiet = c.end_run.ensures.quiet;
+  said = c.end_run.ensures.said;
+}

@@ -1,0 +1,4 @@
+pub mod Commands
+pub mod HelpTexts
+pub mod Program
+pub mod RefusalLines

@@ -1,0 +1,197 @@
+//! Tables through both words, what is said of them, and readers and writers that fail.
+
+use crate::program;
+use std::alloc::Global;
+use std::io;
+use std::io::{ErrorKind, Read, Write};
+use std::process::Abort;
+use std::thread::Threads;
+
+/// A table by two participants, of which a row is refused.
+const TABLE: &[u8] = b"\
+symbol,participant,number,price,size,condition,kind,target\n\
+AB,N,1,10.00,100,@___,report,\n\
+AB,Q,1,10.1,200,@___,R,\n\
+AB,Q,1,10.20,500,@___,report,\n\
+AB,Q,2,,,,cancel,1\n";
+
+/// Its report.
+const REPORT: &[u8] = b"\
+symbol,who,open,open_at,high,high_at,low,low_at,last,last_at,volume,trades\n\
+AB,ALL,100000,1,100000,1,100000,1,100000,1,100,1\n\
+AB,N,100000,1,100000,1,100000,1,100000,1,100,1\n";
+
+/// Its readable tape.
+const TAPE: &[u8] = b"\
+tape,refused,kind,participant,number,moment,symbol,target,price,size,condition,open,high,low,last,volume,trades\n\
+1,,report,N,1,0,AB,,10.00,100,@___,10.00,10.00,10.00,10.00,100,1\n\
+2,,report,Q,1,0,AB,,10.10,200,@___,10.00,10.10,10.00,10.10,300,2\n\
+,35 Stale,report,Q,1,0,AB,,10.20,500,@___,10.00,10.10,10.00,10.10,300,2\n\
+3,,cancel,Q,2,0,AB,1,,,,10.00,10.00,10.00,10.00,100,1\n";
+
+/// What is said of its refused row.
+const REFUSED: &[u8] = b"tapedesk: 1 row refused: 35 Stale, first at row 4\n";
+
+/// A reader that fails at its end.
+#[derive(Drop)]
+struct CutShort<'a> {
+    left: &'a [u8],
+}
+
+impl Read for CutShort<'_> {
+    fn read(&mut self, buf: &mut [u8]) -> io::Result<usize> {
+        match self.left.read(buf) {
+            Ok(0) => Err(io::Error::from(ErrorKind::Other)),
+            read => read,
+        }
+    }
+}
+
+/// A writer with room for so many bytes, which may fail to flush.
+#[derive(Drop)]
+struct Room {
+    taken: Vec<u8>,
+    left: usize,
+    flushes: bool,
+}
+
+impl Write for Room {
+    fn write(&mut self, buf: &[u8]) -> io::Result<usize> {
+        let count = buf.len().min(self.left);
+        match self.taken.extend_from_slice(&buf[..count]) {
+            Ok(()) => {
+                self.left -= count;
+                Ok(count)
+            }
+            Err(_) => Err(io::Error::from(ErrorKind::OutOfMemory)),
+        }
+    }
+
+    fn flush(&mut self) -> io::Result<()> {
+        if self.flushes {
+            Ok(())
+        } else {
+            Err(io::Error::from(ErrorKind::BrokenPipe))
+        }
+    }
+}
+
+/// Asserts the status of the program over a reader, what it writes, and what it says.
+fn assert_answers<T: Abort + Threads + Sync, R: Read>(
+    rt: &T,
+    alloc: Global,
+    words: &[u8],
+    reader: &mut R,
+    status: u8,
+    text: &[u8],
+    said: &[u8],
+) {
+    let mut output = Vec::new(alloc);
+    let mut errors = Vec::new(alloc);
+    let ended = program(rt, alloc, words, reader, &mut output, &mut errors);
+    assert_eq!(rt; ended, status);
+    assert_eq!(rt; output.as_slice(), text);
+    assert_eq!(rt; errors.as_slice(), said);
+}
+
+#[test]
+fn a_table_has_a_report_and_a_readable_tape(rt: HostRuntime) {
+    assert_answers(
+        &rt,
+        rt.alloc(),
+        b"report\0",
+        &mut { TABLE },
+        0,
+        REPORT,
+        REFUSED,
+    );
+    assert_answers(
+        &rt,
+        rt.alloc(),
+        b"tape\x002\0",
+        &mut { TABLE },
+        0,
+        TAPE,
+        REFUSED,
+    );
+}
+
+#[test]
+fn a_bad_table_writes_nothing(rt: HostRuntime) {
+    let faults: &[(&[u8], &[u8])] = &[
+        (b"", b"tapedesk: the table has no row\n"),
+        (
+            b"participant,number,symbol,price,size\n",
+            b"tapedesk: header row: column condition is missing\n",
+        ),
+        (
+            b"participant,number,symbol,price,size,condition\nN,1,AB,10,1,@___\nN,2,AB,10.00001,1,@___\n",
+            b"tapedesk: row 3: price \"10.00001\" is not 0.0001 to 99999999.9999 with at most four decimals\n",
+        ),
+    ];
+    for (table, said) in faults {
+        assert_answers(&rt, rt.alloc(), b"report\0", &mut { *table }, 2, b"", said);
+        assert_answers(&rt, rt.alloc(), b"tape\0", &mut { *table }, 2, b"", said);
+    }
+}
+
+#[test]
+fn bad_arguments_are_told(rt: HostRuntime) {
+    for words in [
+        b"".as_slice(),
+        b"report\x003\0",
+        b"tape\x001\x002\0",
+        b"reports\0",
+    ] {
+        assert_answers(
+            &rt,
+            rt.alloc(),
+            words,
+            &mut { TABLE },
+            2,
+            b"",
+            b"tapedesk: bad arguments\n",
+        );
+    }
+}
+
+#[test]
+fn a_read_that_fails_writes_nothing(rt: HostRuntime) {
+    for words in [b"report\0".as_slice(), b"tape\0"] {
+        let mut reader = CutShort { left: TABLE };
+        assert_answers(
+            &rt,
+            rt.alloc(),
+            words,
+            &mut reader,
+            3,
+            b"",
+            b"tapedesk: a read failed\n",
+        );
+    }
+}
+
+#[test]
+fn a_write_and_a_flush_that_fail_are_told(rt: HostRuntime) {
+    for (words, text) in [(b"report\0".as_slice(), REPORT), (b"tape\0", TAPE)] {
+        for (left, flushes) in [(0, true), (100, true), (text.len(), false)] {
+            let mut writer = Room {
+                taken: Vec::new(rt.alloc()),
+                left,
+                flushes,
+            };
+            let mut errors = Vec::new(rt.alloc());
+            let ended = program(
+                &rt,
+                rt.alloc(),
+                words,
+                &mut { TABLE },
+                &mut writer,
+                &mut errors,
+            );
+            assert_eq!(rt; ended, 4);
+            assert_eq!(rt; writer.taken.as_slice(), &text[..left]);
+            assert_eq!(rt; errors.as_slice(), b"tapedesk: a write failed\n".as_slice());
+        }
+    }
+}
