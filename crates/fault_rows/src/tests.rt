@@ -8,5 +8,15 @@ mod lines;
 mod report;
 mod requests;
 
+use std::process::Abort;
+use std::test::Fail;
+
 /// More calls than any run makes.
 const MOST: u32 = 10_000;
+
+/// The run of this number is the first that met no fault, and there were several before it.
+fn met_faults<A: Abort + Print>(rt: &A, at: u32) -> Result<(), Fail> {
+    assert!(rt; at > 2, "{at} runs");
+    println!(rt; "{at} runs")?;
+    Ok(())
+}

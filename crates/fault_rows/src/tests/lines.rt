@@ -2,9 +2,9 @@
 ghost use Rattle.std.specs.Prelude.{◌≡◌};
 ghost use Rattle.line_ledger.specs.Days.{terms_of};
 
-use super::MOST;
 use super::days::{self, LENGTH, REPORTS};
 use super::fails_at::FailsAt;
+use super::{MOST, met_faults};
 use line_ledger::{DayName, EndFault, LineSeat, Prepared, SharedTape, prepare};
 use participant_lines::{Ended, LineEnd, run_line};
 use std::alloc::Global;
@@ -102,8 +102,7 @@ fn a_line_ends_at_each_failed_read_and_is_told_of_whole_frames(
     let bytes = days::bytes(rt.alloc()).ok_or("Q's bytes")?;
     for at in 1..MOST {
         if !fails_at_read(&rt, rt.alloc(), &bytes, at).ok_or("a day")? {
-            println!(rt; "{at} runs")?;
-            return Ok(());
+            return met_faults(&rt, at);
         }
     }
     Err("no run met no fault".into())

@@ -1,7 +1,7 @@
 //! Requests whose reader or writer fails, as they are served and as they are asked.
 
 use super::fails_at::FailsAt;
-use super::{MOST, days};
+use super::{MOST, days, met_faults};
 use retransmit::{AskFault, Ended, ServeEnd, ask, serve};
 use std::alloc::Global;
 use std::io::{Read, Write};
@@ -9,29 +9,61 @@ use std::process::Abort;
 use std::test::Fail;
 use summaries::IndexStore;
 use tape_core::Tape;
-use tape_frames::{Request, SliceSource, Span, Version, write_request};
+use tape_frames::{Request, SliceSource, Span, Version};
 
 const SESSION: u64 = 7;
 
 /// How many bytes a request has.
 const REQUEST: usize = 14;
 
-/// A request of the session.
-fn request(from: u32, count: u16) -> Option<Request> {
+/// A request for ten entries from 3, one from 61, which is refused, and one for three from 1.
+const REQUESTS: [u8; 3 * REQUEST] = [
+    0x00, 0x00, 0x00, 0x00, 0x00, 0x00, 0x00, 0x07, 0x00, 0x00, 0x00, 0x03, 0x00, 0x0a, //
+    0x00, 0x00, 0x00, 0x00, 0x00, 0x00, 0x00, 0x07, 0x00, 0x00, 0x00, 0x3d, 0x00, 0x01, //
+    0x00, 0x00, 0x00, 0x00, 0x00, 0x00, 0x00, 0x07, 0x00, 0x00, 0x00, 0x01, 0x00, 0x03,
+];
+
+/// How many bytes the answers to the first requests have: to none, to one, to two and to all three.
+const ANSWERED: [usize; 4] = [0, 476, 477, 628];
+
+/// The first request.
+fn request() -> Option<Request> {
     Some(Request {
         session: SESSION,
-        from,
-        count: Span::try_new(count)?,
+        from: 3,
+        count: Span::try_new(10)?,
     })
 }
 
-/// The bytes of a request for ten entries, of one that is refused, and of one for three.
-fn requests() -> Option<[u8; 3 * REQUEST]> {
-    let mut bytes = [0; 3 * REQUEST];
-    bytes[..14].copy_from_slice(&write_request(&request(3, 10)?));
-    bytes[14..28].copy_from_slice(&write_request(&request(61, 1)?));
-    bytes[28..].copy_from_slice(&write_request(&request(1, 3)?));
-    Some(bytes)
+/// Puts a packet of version 1 to the text, of so many entries from a number on, which are Q's reports.
+fn put_packet(text: &mut Vec<u8>, from: u8, count: u8) -> Option<()> {
+    text.extend_from_slice(&[1, b'D', 0, 0, 0, 0, 0, 0, 0, 7, 0, 0, 0, from, count])
+        .ok()?;
+    for number in from..from.saturating_add(count) {
+        text.extend_from_slice(&[0, 0, 0, number]).ok()?;
+        text.extend_from_slice(&days::report(number)).ok()?;
+    }
+    Some(())
+}
+
+/// The answers to the requests: two packets of 367 and of 103 bytes, the number of a refusal, and a packet of 147 bytes.
+fn text(alloc: Global) -> Option<Vec<u8>> {
+    let mut text = Vec::new(alloc);
+    text.extend_from_slice(&[0, 2, 0x01, 0x6f]).ok()?;
+    put_packet(&mut text, 3, 8)?;
+    text.extend_from_slice(&[0x00, 0x67]).ok()?;
+    put_packet(&mut text, 11, 2)?;
+    text.extend_from_slice(&[72, 0, 1, 0x00, 0x93]).ok()?;
+    put_packet(&mut text, 1, 3)?;
+    Some(text)
+}
+
+/// The answers to the first so many of the requests.
+fn answers(text: &[u8], many: u32) -> &[u8] {
+    match ANSWERED.get(many as usize) {
+        Some(length) => text.get(..*length).unwrap_or(text),
+        None => text,
+    }
 }
 
 /// How serving over the tape ends, in version 1.
@@ -45,27 +77,18 @@ fn served<R: Read, W: Write>(
     serve(alloc, &mut source, SESSION, Version::One, reader, writer)
 }
 
-/// The answers to the first so many of the requests.
-fn answers(alloc: Global, tape: &Tape<IndexStore>, requests: &[u8], many: u32) -> Vec<u8> {
-    let len = (many as usize).wrapping_mul(REQUEST);
-    let mut reader = requests.get(..len).unwrap_or(requests);
-    let mut output = Vec::new(alloc);
-    let _ = served(alloc, tape, &mut reader, &mut output);
-    output
-}
-
 /// Whether the read of this number failed. Written are the answers to the served requests and nothing else.
 fn serving_fails_at_read<A: Abort>(
     rt: &A,
     alloc: Global,
     tape: &Tape<IndexStore>,
-    requests: &[u8],
+    text: &[u8],
     at: u32,
 ) -> bool {
-    let mut reader = FailsAt::new(requests, 4, at);
+    let mut reader = FailsAt::new(REQUESTS.as_slice(), 4, at);
     let mut output = Vec::new(alloc);
     let end = served(alloc, tape, &mut reader, &mut output);
-    let is_same = output == answers(alloc, tape, requests, end.served);
+    let is_same = output.as_slice() == answers(text, end.served);
     assert!(rt; is_same, "read {at}");
     if reader.has_failed() {
         assert!(rt; end.ended == Ended::ReadFault, "read {at}");
@@ -81,11 +104,10 @@ fn serving_ends_at_each_failed_read_with_whole_answers_written(
     rt: HostRuntime,
 ) -> Result<(), Fail> {
     let tape = days::tape(rt.alloc()).ok_or("a tape")?;
-    let requests = requests().ok_or("requests")?;
+    let text = text(rt.alloc()).ok_or("a text")?;
     for at in 1..MOST {
-        if !serving_fails_at_read(&rt, rt.alloc(), &tape, &requests, at) {
-            println!(rt; "{at} runs")?;
-            return Ok(());
+        if !serving_fails_at_read(&rt, rt.alloc(), &tape, &text, at) {
+            return met_faults(&rt, at);
         }
     }
     Err("no run met no fault".into())
@@ -97,36 +119,35 @@ fn serving_fails_at_write<A: Abort>(
     rt: &A,
     alloc: Global,
     tape: &Tape<IndexStore>,
-    requests: &[u8],
+    text: &[u8],
     at: u32,
 ) -> bool {
-    let mut reader = requests;
+    let mut reader = REQUESTS.as_slice();
     let mut writer = FailsAt::new(Vec::new(alloc), 50, at);
     let end = served(alloc, tape, &mut reader, &mut writer);
     let written = writer.inner.as_slice();
-    let before = answers(alloc, tape, requests, end.served);
+    let before = answers(text, end.served);
     if writer.has_failed() {
-        let after = answers(alloc, tape, requests, end.served.wrapping_add(1));
+        let after = answers(text, end.served.wrapping_add(1));
         assert!(rt; end.ended == Ended::WriteFault, "write {at}");
         assert!(rt;
-            written.starts_with(&before) && after.starts_with(written),
+            written.starts_with(before) && after.starts_with(written),
             "write {at}"
         );
         return true;
     }
     assert!(rt; end.ended == Ended::Clean);
-    assert!(rt; end.served == 3 && written == before.as_slice());
+    assert!(rt; end.served == 3 && written == before);
     false
 }
 
 #[test]
 fn serving_ends_at_each_failed_write_within_the_next_answer(rt: HostRuntime) -> Result<(), Fail> {
     let tape = days::tape(rt.alloc()).ok_or("a tape")?;
-    let requests = requests().ok_or("requests")?;
+    let text = text(rt.alloc()).ok_or("a text")?;
     for at in 1..MOST {
-        if !serving_fails_at_write(&rt, rt.alloc(), &tape, &requests, at) {
-            println!(rt; "{at} runs")?;
-            return Ok(());
+        if !serving_fails_at_write(&rt, rt.alloc(), &tape, &text, at) {
+            return met_faults(&rt, at);
         }
     }
     Err("no run met no fault".into())
@@ -143,10 +164,7 @@ fn asking_fails_at_read<A: Abort>(
     let mut reader = FailsAt::new(answer, 50, at);
     let mut sent = Vec::new(alloc);
     let packets = ask(alloc, asked, &mut reader, &mut sent);
-    assert!(rt;
-        sent.as_slice() == write_request(asked).as_slice(),
-        "read {at}"
-    );
+    assert!(rt; sent.as_slice() == &REQUESTS[..REQUEST], "read {at}");
     if reader.has_failed() {
         assert!(rt; packets.err() == Some(AskFault::ReadFault), "read {at}");
         return true;
@@ -157,13 +175,12 @@ fn asking_fails_at_read<A: Abort>(
 
 #[test]
 fn asking_ends_at_each_failed_read_with_its_request_written(rt: HostRuntime) -> Result<(), Fail> {
-    let tape = days::tape(rt.alloc()).ok_or("a tape")?;
-    let asked = request(3, 10).ok_or("a request")?;
-    let answer = answers(rt.alloc(), &tape, &write_request(&asked), 1);
+    let asked = request().ok_or("a request")?;
+    let text = text(rt.alloc()).ok_or("a text")?;
+    let answer = answers(&text, 1);
     for at in 1..MOST {
-        if !asking_fails_at_read(&rt, rt.alloc(), &asked, &answer, at) {
-            println!(rt; "{at} runs")?;
-            return Ok(());
+        if !asking_fails_at_read(&rt, rt.alloc(), &asked, answer, at) {
+            return met_faults(&rt, at);
         }
     }
     Err("no run met no fault".into())
@@ -180,8 +197,10 @@ fn asking_fails_at_write<A: Abort>(
     let mut reader = answer;
     let mut writer = FailsAt::new(Vec::new(alloc), 3, at);
     let packets = ask(alloc, asked, &mut reader, &mut writer);
-    let request = write_request(asked);
-    assert!(rt; request.as_slice().starts_with(&writer.inner), "write {at}");
+    assert!(rt;
+        REQUESTS[..REQUEST].starts_with(&writer.inner),
+        "write {at}"
+    );
     if writer.has_failed() {
         assert!(rt; packets.err() == Some(AskFault::WriteFault), "write {at}");
         assert_eq!(rt; reader.len(), answer.len(), "write {at}");
@@ -194,13 +213,12 @@ fn asking_fails_at_write<A: Abort>(
 
 #[test]
 fn asking_ends_at_each_failed_write_with_nothing_read(rt: HostRuntime) -> Result<(), Fail> {
-    let tape = days::tape(rt.alloc()).ok_or("a tape")?;
-    let asked = request(3, 10).ok_or("a request")?;
-    let answer = answers(rt.alloc(), &tape, &write_request(&asked), 1);
+    let asked = request().ok_or("a request")?;
+    let text = text(rt.alloc()).ok_or("a text")?;
+    let answer = answers(&text, 1);
     for at in 1..MOST {
-        if !asking_fails_at_write(&rt, rt.alloc(), &asked, &answer, at) {
-            println!(rt; "{at} runs")?;
-            return Ok(());
+        if !asking_fails_at_write(&rt, rt.alloc(), &asked, answer, at) {
+            return met_faults(&rt, at);
         }
     }
     Err("no run met no fault".into())
