@@ -331,7 +331,7 @@ class Tails(Case):
 class LateDays(Case):
     """Days at full speed through the relay, whose line B is late, or dead."""
 
-    REPORTS = 20_000
+    REPORTS = 12_000
     # So many times as much as of a dead line may be asked for of a late one, and a quarter of the day: what a busy machine's sockets lose.
     TIMES = 3
     MORE = REPORTS // 4
@@ -506,9 +506,10 @@ class Gone(Case):
 
     def test_quiet(self):
         """PROFILE, "A running day": a day that is only quiet is waited for, whether the follower's connection was accepted yet or not."""
-        for serves in (0, 1):
-            with self.subTest(serves), self.day(serves) as (live, follow, participant):
-                time.sleep(self.QUIET)
+        with contextlib.ExitStack() as stack:
+            days = [stack.enter_context(self.day(serves)) for serves in (0, 1)]
+            time.sleep(self.QUIET)
+            for live, follow, participant in days:
                 self.assertIsNone(follow.poll())
                 participant.close()
                 ends = [ended(live), ended(follow)]

@@ -87,7 +87,7 @@ class SentPackets(Listeners):
 
     REPORTS = 4_000
     # More entries than two bytes count.
-    MANY = 100_100
+    MANY = 66_000
     ENTRIES_MOST = 8
     # How many packets the sender sends in a millisecond at first, and at least and at most.
     PACE_FIRST = 64
