@@ -22,8 +22,12 @@ use std::marker::Model;
 use std::sync::{Mutex, MutexGuard, Wait};
 use tape_types::Symbol;
 
-/// How often a call tries for the lock before it may sleep for it.
+/// How often a call of the sender or of a viewer tries for the lock before it may sleep for it.
 const TRIES: u32 = 30;
+
+/// How often a line tries for the lock before it may sleep for it: less often, so that lines that meet at the lock sleep and let
+/// the sender pass.
+const LINE_TRIES: u32 = 6;
 
 /// How many turns of `spin_loop` are between two tries: about as long as ten admissions take. With more frequent tries the lock
 /// and the end of the tape would move from one processor's caches to another's at each message.
@@ -74,11 +78,11 @@ impl<D: DayName> SharedTape<D> {
         ))
     }
 
-    /// Takes the lock. Its holder is soon done, sooner than a thread could sleep and be woken, so the lock is tried `TRIES` times
+    /// Takes the lock. Its holder is soon done, sooner than a thread could sleep and be woken, so the lock is tried so many times
     /// before the thread may sleep.
     #[inline(always)]
-    fn lock(&self, rt: &impl Wait) -> MutexGuard<'_, Locked<D>> {
-        for _ in 0..TRIES {
+    fn lock(&self, rt: &impl Wait, tries: u32) -> MutexGuard<'_, Locked<D>> {
+        for _ in 0..tries {
             if let Some(guard) = self.locked.try_lock() {
                 return guard;
             }
@@ -99,7 +103,7 @@ impl<D: DayName> SharedTape<D> {
         ensures ok { IfOk result (λ r. Tells seat.old message r seat.new) }
         ensures err { IfErr result (λ why. TellsWhy D.terms seat.old message why seat.new) }
     {
-        self.lock(rt).admit(seat, message)
+        self.lock(rt, LINE_TRIES).admit(seat, message)
     }
 
     /// Shows the seat's holder a symbol's consolidated summary under the lock, as `Locked::view` does, with its refusals:
@@ -114,7 +118,7 @@ impl<D: DayName> SharedTape<D> {
         ensures told { IfOk result (λ view. length seat.now.told ≤ view.count) }
         ensures unlisted { (result ≡ Err UnknownSymbol) ↔ (lists_symbol D.terms.listing symbol ≡ false) }
     {
-        self.lock(rt).view(seat, symbol)
+        self.lock(rt, TRIES).view(seat, symbol)
     }
 
     /// Publishes the tape's next entries under the lock, at most so many, as `Locked::publish` does, with its faults: how many
@@ -123,7 +127,7 @@ impl<D: DayName> SharedTape<D> {
         ensures most { IfOk result (λ set. set ≤ most) }
         ensures cells { IfOk result (λ set. set ≤ length self.now) }
     {
-        let seen = self.lock(rt).set_next(&self.row, most)?;
+        let seen = self.lock(rt, TRIES).set_next(&self.row, most)?;
         Ok(seen.len() as u32)
     }
 
