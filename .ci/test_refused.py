@@ -31,7 +31,6 @@ class Calls(Sweeps):
         kinds = [f"a {kind} again" for kind in ("report", "correction", "cancel", "reinstatement")]
         self.assert_printed(printed, *kinds, "added again", "replaced again", "one answer 40 in a run", "1 drained, and then 2")
         self.assert_printed(printed, "answers up to a refusal 40, and then all", "all answers and no report, and then all")
-        self.assert_printed(printed, "indexes: staged again", "indexes: swapped again", "indexes: replaced again", "replayed: a report again")
 
     def test_calls_of_lines(self):
         """PROMISES, "What is only tested": the same of shared tapes and of lines, which give back each seat."""
