@@ -1,8 +1,6 @@
 -- Bytes from hexadecimal digits.
 use Rattle.std.proofs.Common.{◌≡◌, ◌+◌, ◌*◌, ◌/◌, ◌%◌, ◌==◌, ◌&&◌, ◌∷◌, ◌++◌, ◌∙◌, [], ℕ, List, Bool, true, false, Option, Some, None, Result, Ok, Err, refl}
-use Rattle.std.proofs.Common.{sym, ap, arith, length, MatchResult, get_or, ◌<◌}
-use Rattle.std.specs.Int.{w64, from_le_bytes}
-use Rattle.std.proofs.lemmas.Nat.{le_bytes_8}
+use Rattle.std.proofs.Common.{sym, ap, arith, length, MatchResult}
 use Rattle.std.specs.Prelude.{option_and_then, option_map, is_some}
 use Rattle.std.specs.List.{list_all}
 use Rattle.std.specs.Result.{result_ok}
@@ -108,11 +106,15 @@ none-from_is_some (Some x) none = cc
 pub hex_bytes-front_None : (front rest : List ℕ) → length front % 2 ≡ 0 → hex_bytes front ≡ None → hex_bytes (front ++ rest) ≡ None
 hex_bytes-front_None front rest even none = hex_bytes-append front rest even ∙ rw none refl
 
+-- a byte is no digit
+pub hex_bytes-no_digit : (digits : List ℕ) → length digits % 2 ≡ 0 → list_all is_hex_digit digits ≡ false → hex_bytes digits ≡ None
+hex_bytes-no_digit digits even no_digit = none-from_is_some (hex_bytes digits) (is_some-hex_bytes digits even ∙ no_digit)
+
 -- the rest has a byte that is no digit
 pub hex_bytes-rest_None : (front rest : List ℕ) → length front % 2 ≡ 0 → length rest % 2 ≡ 0 → list_all is_hex_digit rest ≡ false
     → hex_bytes (front ++ rest) ≡ None
 hex_bytes-rest_None front rest even even_rest no_digit =
-    hex_bytes-append front rest even ∙ rw (none-from_is_some (hex_bytes rest) (is_some-hex_bytes rest even_rest ∙ no_digit)) (none-joined (hex_bytes front))
+    hex_bytes-append front rest even ∙ rw (hex_bytes-no_digit rest even_rest no_digit) (none-joined (hex_bytes front))
   where
     none-joined : (o : Option (List ℕ)) → joined o None ≡ None
     none-joined None = refl
@@ -140,16 +142,3 @@ decoded (Ok bytes) (Ok x) row h = ap Some h.1
 decoded (Ok bytes) (Err e) row h = cc
 decoded (Err e) (Ok x) row h = cc
 decoded (Err e) (Err fault) row h = refl
-
--- ## Eight digits
-
--- eight bytes are those of their number
-pub same_eight : (a b : List ℕ) → length a ≡ 8 → length b ≡ 8 → ((i : ℕ) → get_or a i 0 < 256) → ((i : ℕ) → get_or b i 0 < 256)
-    → from_le_bytes w64 a ≡ from_le_bytes w64 b → a ≡ b
-same_eight a b eight_a eight_b bytes_a bytes_b same =
-    sym (le_bytes_8 a (from_le_bytes w64 a) eight_a bytes_a refl) ∙ le_bytes_8 b (from_le_bytes w64 a) eight_b bytes_b same
-
--- eight digits decoded into four bytes
-pub from_hex-eight : (text digits : List ℕ) → text ≡ digits → length digits ≡ 8 → result_ok (decode_sized text 4) ≡ hex_bytes digits
-from_hex-eight text digits same eight =
-    decode_sized-bytes text 4 (omega (arith, eight, ap length same)) (omega (arith, eight, ap length same)) ∙ ap hex_bytes same

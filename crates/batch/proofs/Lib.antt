@@ -1,6 +1,7 @@
 mod AnswerLemmas
 mod BatchLemmas
 mod DayLemmas
+mod DigitPairs
 mod FinishLemmas
 mod FrontLemmas
 mod HeaderTaken
@@ -11,7 +12,7 @@ mod NameLemmas
 mod PartLemmas
 mod PieceLemmas
 mod RefusalLemmas
-mod SpelledEights
+mod SpelledSixteens
 mod SymbolLemmas
 mod WholeInput
 mod WrittenDay

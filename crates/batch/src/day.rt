@@ -11,7 +11,6 @@ ghost use Rattle.batch.specs.declared.read_end.ReadEnd.TheVariants.{OutOfMemory 
 use crate::BatchRefusal;
 use crate::day_tape::DayTape;
 use crate::input::{Input, failed_read};
-use crate::known_digits::KnownDigits;
 use crate::lines::{Lines, whole_lines};
 use crate::message_line::read_message;
 use crate::read_end::ReadEnd;
@@ -28,13 +27,13 @@ const _: () = prove!(size_of::<Answer>() == 5);
 
 /// Answers a line: admits its message and gives its tape number, or says why not, which leaves the tape as it was.
 #[tactic(auto, unfolding(crate::specs::Batch::line_answer, crate::specs::Batch::tape_after_line))]
-fn answer(tape: &mut DayTape, known: &mut KnownDigits, line: &[u8]) -> Answer
+fn answer(tape: &mut DayTape, line: &[u8]) -> Answer
     ensures answer { (result ≢ Err (Refused OutOfMemory)) → result ≡ line_answer tape.old line.now }
     ensures tape { (result ≢ Err (Refused OutOfMemory)) → tape.new ≡ tape_after_line tape.old line.now }
     ensures refused { OnErr result (tape.new ≡ tape.old) }
     ensures memory { result ≡ Err (Refused OutOfMemory) → IsOk (line_answer tape.old line.now) }
 {
-    let message = match read_message(known, line) {
+    let message = match read_message(line) {
         Ok(message) => message,
         Err(refusal) => return Err(refusal),
     };
@@ -60,8 +59,6 @@ pub struct Day {
     pub answers: Vec<Answer>,
     /// Whether memory ran out at a line. Its refusal is the last answer.
     pub is_stopped: bool,
-    /// Digits of earlier lines, with their bytes.
-    known: KnownDigits,
 }
 
 impl Day {
@@ -75,7 +72,6 @@ impl Day {
             tape,
             answers: Vec::new(alloc),
             is_stopped: false,
-            known: KnownDigits::new(),
         }
     }
 
@@ -89,7 +85,7 @@ impl Day {
         }
         // Room for the answer is taken first, so that an answer out of memory needs none.
         self.answers.reserve(1)?;
-        let answer = answer(&mut self.tape, &mut self.known, line);
+        let answer = answer(&mut self.tape, line);
         self.is_stopped = is_out_of_memory(&answer);
         self.answers.push(answer).unwrap();
         Ok(())

@@ -1,31 +1,14 @@
 //! The message that a line brings.
 ghost use Rattle.std.specs.Prelude.{◌≡◌, option_map};
-ghost use Rattle.std.specs.List.{list_all};
-ghost use Rattle.hex.specs.Hex.{is_hex_digit};
 ghost use Rattle.batch.specs.MessageLine.{hex_bytes, line_message, line_parts, spelled_message};
 
 use crate::BatchRefusal;
-use crate::known_digits::KnownDigits;
+use crate::digits::{are_digits, decode_digits};
 use reports::{LONGEST_FRAME, Message, decode};
 use tape_core::Refusal;
 
-/// Whether a byte is a hexadecimal digit, in either case.
-fn is_digit(byte: u8) -> bool
-    ensures { result ≡ is_hex_digit byte }
-{
-    matches!(byte, b'0'..=b'9' | b'a'..=b'f' | b'A'..=b'F')
-}
-
-/// Whether all bytes are hexadecimal digits.
-fn are_digits(bytes: &[u8]) -> bool
-    ensures { result ≡ list_all is_hex_digit bytes.now }
-{
-    bytes.iter().all(|byte| is_digit(*byte))
-}
-
-/// The message at the front of the bytes that digits spell, and how many bytes it took. Digits that `known` has are not decoded
-/// again.
-fn spelled_message(known: &mut KnownDigits, digits: &[u8]) -> Result<(Message, usize), BatchRefusal>
+/// The message at the front of the bytes that digits spell, and how many bytes it took.
+fn spelled_message(digits: &[u8]) -> Result<(Message, usize), BatchRefusal>
     ensures { result ≡ spelled_message (hex_bytes digits.now) }
 {
     if digits.len() % 2 != 0 {
@@ -33,7 +16,7 @@ fn spelled_message(known: &mut KnownDigits, digits: &[u8]) -> Result<(Message, u
     }
     let mut row = [0; LONGEST_FRAME];
     let (front, rest) = digits.split_at(digits.len().min(2 * LONGEST_FRAME));
-    let Some(len) = known.decode(front, &mut row) else {
+    let Some(len) = decode_digits(front, &mut row) else {
         return Err(BatchRefusal::BadLine);
     };
     // No message reaches into the rest, which still has to be digits.
@@ -60,15 +43,15 @@ fn line_parts(line: &[u8]) -> Option<(u8, &[u8])>
 ///
 /// Refused, the first that applies: `BadLine` where the line has another form, `BadMessage` where no message stands
 /// at the front of the bytes, `ExtraBytes` where others stand after it, and `WrongLine` where the letter is not the
-/// message's participant. Digits that `known` has are not decoded again.
+/// message's participant.
 #[tactic(auto, unfolding(crate::specs::MessageLine::line_message))]
-pub fn read_message(known: &mut KnownDigits, line: &[u8]) -> Result<Message, BatchRefusal>
+pub fn read_message(line: &[u8]) -> Result<Message, BatchRefusal>
     ensures { result ≡ line_message line.now }
 {
     let Some((letter, digits)) = line_parts(line) else {
         return Err(BatchRefusal::BadLine);
     };
-    let (message, taken) = spelled_message(known, digits)?;
+    let (message, taken) = spelled_message(digits)?;
     if taken != digits.len() / 2 {
         return Err(BatchRefusal::ExtraBytes);
     }

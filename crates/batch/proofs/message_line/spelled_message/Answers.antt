@@ -4,7 +4,7 @@ use Rattle.batch.specs.MessageLine.{from_bytes, hex_bytes, spelled_message}
 use Rattle.batch.proofs.HexLemmas.{hex_bytes-odd}
 use Rattle.batch.proofs.FrontLemmas.{rest-or_longest, spelled-front_None, spelled-rest_None, spelled-Some}
 use Rattle.batch.proofs.message_line.spelled_message.Goals as goal
-use Rattle.batch.proofs.message_line.spelled_message.Goals.{After-decode-2}
+use Rattle.batch.proofs.message_line.spelled_message.Goals.{After-decode}
 
 pub returns-then-digits-ne0 : goal.returns-then-digits-ne0
 returns-then-digits-ne0 c = rw (hex_bytes-odd c.args.digits.now (omega arith)) refl
@@ -19,20 +19,20 @@ returns-then-not-are_digits c =
     (sym c.if-not-are_digits.ensures)
 
 -- what is read of the front's bytes is what all digits spell
-front_read : (c : After-decode-2) → from_bytes (message_at (take c.in-Some.len c.decode.new.row)) ≡ spelled_message (hex_bytes c.args.digits.now)
+front_read : (c : After-decode) → from_bytes (message_at (take c.in-Some.len c.decode_digits.new.row)) ≡ spelled_message (hex_bytes c.args.digits.now)
 front_read c =
     let digits = c.args.digits.now in
     let front = c.split_at.result.0.now in
     let rest = c.split_at.result.1.now in
-    let bytes = take c.in-Some.len c.decode.new.row in
+    let bytes = take c.in-Some.len c.decode_digits.new.row in
     let split = c.split_at.ensures.by_index.0 in
-    let kept = length-take c.in-Some.len c.decode.new.row in
+    let kept = length-take c.in-Some.len c.decode_digits.new.row in
     let half = c.in-Some.ensures.len in
     let all = rest-or_longest digits front rest bytes split (omega arith) (omega arith) in
     spelled-Some digits front rest bytes split (omega arith) (omega arith) all c.in-Some.ensures.bytes (sym c.if-not-are_digits.ensures)
 
 pub returns-in-Ok : goal.returns-in-Ok
-returns-in-Ok c = ap from_bytes c.in-Ok.ensures.exact ∙ front_read (goal.at.returns-in-Ok c).After-decode-2
+returns-in-Ok c = ap from_bytes c.in-Ok.ensures.exact ∙ front_read (goal.at.returns-in-Ok c).After-decode
 
 pub returns-in-Err : goal.returns-in-Err
-returns-in-Err c = ap from_bytes c.in-Err.ensures.exact ∙ front_read (goal.at.returns-in-Err c).After-decode-2
+returns-in-Err c = ap from_bytes c.in-Err.ensures.exact ∙ front_read (goal.at.returns-in-Err c).After-decode
