@@ -1,3 +1,4 @@
 pub mod Kept
 pub mod Least
+pub mod Rows
 pub mod Sendings

@@ -6,6 +6,8 @@ use Rattle.participant_lines.specs.declared.unstarted.Lack.{Lack}
 use Rattle.participant_lines.specs.declared.unstarted.Lack.TheVariants as lack
 use Rattle.live_feed.specs.declared.fault.Fault.{Fault}
 use Rattle.live_feed.specs.declared.fault.Fault.TheVariants.{Read, Write, Memory, Worker, Disagrees}
+use Rattle.live_feed.specs.declared.sink.SinkFault.{SinkFault}
+use Rattle.live_feed.specs.declared.sink.SinkFault.TheVariants as sink
 
 -- the status of a fault
 abbrev pub fault_status : Fault → ℕ
@@ -39,3 +41,8 @@ line_fault ended.Behind = Some Disagrees
 abbrev pub lack_fault : Lack → Fault
 lack_fault lack.Memory = Memory
 lack_fault lack.Worker = Worker
+
+-- the run's fault for that of its sink
+abbrev pub sink_fault : SinkFault → Fault
+sink_fault sink.Write = Write
+sink_fault sink.OutOfMemory = Memory

@@ -8,3 +8,4 @@ pub mod Paces
 pub mod Quiets
 pub mod Reports
 pub mod Sendings
+pub mod Sinks

@@ -6,7 +6,7 @@ ghost use Rattle.retransmit.specs.declared.ask_fault.AskFault.TheVariants.{OutOf
 use crate::followed::Followed;
 use crate::follower::Next;
 use crate::following::Run;
-use crate::{Fault, here};
+use crate::{EntrySink, Fault, here};
 use retransmit::{AskFault, ask};
 use std::alloc::Global;
 use std::io::ErrorKind;
@@ -109,11 +109,11 @@ impl Asker {
     }
 
     /// Connects anew for a new subscriber. The connection of the one that was given up is closed.
-    fn reconnect<N: Followed, R: Net<Listener = TcpListener, Stream = TcpStream> + Wait>(
-        &mut self,
-        rt: &R,
-        run: &Run<'_, N>,
-    ) {
+    fn reconnect<
+        N: Followed,
+        S: EntrySink,
+        R: Net<Listener = TcpListener, Stream = TcpStream> + Wait,
+    >(&mut self, rt: &R, run: &Run<'_, N, S>) {
         match dial(rt, self.port) {
             Ok(connection) => {
                 self.connection = connection;
@@ -126,11 +126,11 @@ impl Asker {
     /// Asks for what is missing until the run is over, and sleeps while nothing is missing. What one line lost is waited for
     /// until the other has gone past it, was waited for long enough, or is too late. Each second of sleep it looks at the connection, and
     /// ends the run where that was closed and nothing more comes. The connection is closed then.
-    pub(crate) fn run<N: Followed, R: Net<Listener = TcpListener, Stream = TcpStream> + Wait>(
-        self,
-        rt: &R,
-        run: &Run<'_, N>,
-    ) {
+    pub(crate) fn run<
+        N: Followed,
+        S: EntrySink,
+        R: Net<Listener = TcpListener, Stream = TcpStream> + Wait,
+    >(self, rt: &R, run: &Run<'_, N, S>) {
         let mut asker = self;
         for _ in rt.forever() {
             match run.next_to_ask(rt) {

@@ -1,27 +1,26 @@
-//! What a follower comes to hold, which its lines and what asks for it share.
-ghost use Rattle.std.specs.Prelude.{◌≡◌, ◌≢◌, ◌↔◌, ◌≤◌, ◌<◌, length, Err, None, Some, IfErr, IfOk, IfSome, IsSome, IsSomeAnd, IsTrue, OnOk, true, false};
-ghost use Rattle.live_feed.specs.Followers.{KeepsNames};
+//! What a follower comes to hold and gives to its sink, which its lines and what asks for it share.
+ghost use Rattle.std.specs.Prelude.{◌≡◌, ◌≢◌, ◌↔◌, ◌≤◌, ◌<◌, [], length, Err, None, Some, IfErr, IfOk, IfSome, IsSome, IsSomeAnd, IsTrue, OnOk, true, false};
+ghost use Rattle.std.specs.Io.KnownBytes.{Appends};
+ghost use Rattle.std.proofs.Props.{props};
 ghost use Rattle.live_feed.specs.Heard.{IsBehind};
+ghost use Rattle.live_feed.specs.Sinks.{GivesPart, HasAll, HasPart, IsTapeOf, rows_of};
 ghost use Rattle.live_feed.specs.declared.silence.TheConstants.{SILENT_MOST};
 ghost use Rattle.live_feed.specs.Nexts.{IsNext, ahead_of, asked_of};
 ghost use Rattle.live_feed.specs.declared.follower.Next.TheVariants.{Connect, End, Read as ReadOn};
-ghost use Rattle.live_feed.specs.declared.fault.Fault.TheVariants.{Disagrees, Memory};
-ghost use Rattle.subscriber.specs.declared.drain_fault.Stop.TheVariants.{Refused};
-ghost use Rattle.tape_core.specs.declared.refusal.Refusal.TheVariants.{OutOfMemory};
 
-use crate::Fault;
 use crate::followed::Followed;
+use crate::giving::{begin_anew, replay};
 use crate::heard::Heard;
 use crate::silence::Silence;
 use crate::starting::fault_of_tape;
+use crate::{EntrySink, Fault};
 use arbitration::Line;
 use reports::Unread;
 use sale_matrix::Matrix;
 use std::alloc::Global;
 use std::marker::PhantomData;
 use std::mem;
-use subscriber::{DeliveryFault, DrainFault, Stop, Subscriber};
-use tape_core::Refusal;
+use subscriber::{DeliveryFault, Subscriber};
 use tape_frames::Request;
 use tape_types::Listing;
 
@@ -55,12 +54,15 @@ impl Next {
     }
 }
 
-/// A subscriber of the tape that is followed, how far its lines have come, whether it has yet to be connected, and whether the
-/// run is over.
+/// A subscriber of the tape that is followed, the sink that is given its entries, how far its lines have come, whether it has yet to be
+/// connected, and whether the run is over.
 #[derive(Drop)]
-pub(crate) struct Follower<N: Followed> {
+pub(crate) struct Follower<N: Followed, S: EntrySink> {
     alloc: Global,
     subscriber: Subscriber,
+    sink: S,
+    /// Why the sink lacks something of what is held.
+    lacks: Option<Fault>,
     heard: Heard,
     silence: Silence,
     session: u64,
@@ -72,28 +74,19 @@ pub(crate) struct Follower<N: Followed> {
     name: PhantomData<N>,
     ghost listed: { subscriber.tape.listing ≡ N.listing },
     ghost by_matrix: { subscriber.tape.matrix ≡ N.matrix },
-}
-
-/// The run's fault for a drain that stopped.
-fn fault_of_drain(fault: DrainFault) -> Fault
-    ensures memory { fault.why ≡ Refused OutOfMemory → result ≡ Memory }
-    ensures other { fault.why ≢ Refused OutOfMemory → result ≡ Disagrees }
-{
-    match fault.why {
-        Stop::Refused(Refusal::OutOfMemory) => Fault::Memory,
-        Stop::Refused(_) | Stop::OtherSummary | Stop::Failed => Fault::Disagrees,
-    }
+    ghost given: { lacks ≡ None → HasAll (rows_of S.text subscriber.tape) N.before (S.contents sink) } by { Prim.hlevel props },
+    ghost part: { HasPart (rows_of S.text subscriber.tape) N.before (S.contents sink) } by { Prim.hlevel props },
 }
 
 /// A subscriber that holds nothing.
-fn subscribe(
+pub(crate) fn subscribe(
     alloc: Global,
     listing: Listing,
     limit: u32,
     matrix: Matrix,
     session: u64,
 ) -> Result<Subscriber, Fault>
-    ensures { IfOk result (λ subscriber. (subscriber.tape.listing ≡ listing) × (subscriber.tape.matrix ≡ matrix)) }
+    ensures { IfOk result (λ subscriber. (subscriber.tape.listing ≡ listing) × (subscriber.tape.matrix ≡ matrix) × (subscriber.tape.entries ≡ [])) }
 {
     match Subscriber::new(alloc, listing, limit, session, matrix) {
         Ok(subscriber) => Ok(subscriber),
@@ -132,16 +125,6 @@ fn deliver_to(subscriber: &mut Subscriber, line: Line, bytes: &[u8]) -> Result<b
     }
 }
 
-/// Has the subscriber replay what is ready.
-fn drain(subscriber: &mut Subscriber) -> Result<(), Fault>
-    ensures { KeepsNames subscriber.old.tape subscriber.new.tape }
-{
-    match subscriber.drain() {
-        Ok(_) => Ok(()),
-        Err(fault) => Err(fault_of_drain(fault)),
-    }
-}
-
 /// How many numbers were announced above those that are held.
 fn ahead_of(subscriber: &Subscriber) -> usize
     ensures { result ≡ ahead_of subscriber.now }
@@ -159,23 +142,26 @@ fn is_given_up(restart_after: Option<u32>, held: usize) -> bool
     }
 }
 
-impl<N: Followed> Follower<N> {
-    /// A follower that holds nothing.
+impl<N: Followed, S: EntrySink> Follower<N, S> {
+    /// A follower by a subscriber that holds nothing, and a sink.
+    #[tactic(auto, using(crate::proofs::Rows::all_none, crate::proofs::Rows::all_of_nothing, crate::proofs::Rows::part_all))]
     pub(crate) fn new(
         alloc: Global,
-        listing: Listing,
-        limit: u32,
-        matrix: Matrix,
+        subscriber: Subscriber,
         session: u64,
         restart_after: Option<u32>,
-    ) -> Result<Follower<N>, Fault>
-        requires listing { listing ≡ N.listing }
-        requires matrix { matrix ≡ N.matrix }
+        sink: S,
+    ) -> Follower<N, S>
+        requires listing { subscriber.tape.listing ≡ N.listing }
+        requires matrix { subscriber.tape.matrix ≡ N.matrix }
+        requires nothing { subscriber.tape.entries ≡ [] }
+        requires before { S.contents sink ≡ N.before }
     {
-        let subscriber = subscribe(alloc, listing, limit, matrix, session)?;
-        Ok(Follower {
+        Follower {
             alloc,
             subscriber,
+            sink,
+            lacks: None,
             heard: Heard::nothing(),
             silence: Silence::none(),
             session,
@@ -184,7 +170,7 @@ impl<N: Followed> Follower<N> {
             over: None,
             is_asleep: false,
             name: PhantomData,
-        })
+        }
     }
 
     /// Takes note that a line brought a packet of the day.
@@ -203,7 +189,22 @@ impl<N: Followed> Follower<N> {
         if deliver_to(&mut self.subscriber, line, bytes)? {
             self.note(line, bytes);
         }
-        drain(&mut self.subscriber)
+        self.replay()
+    }
+
+    /// Replays what is ready and gives it to the sink, unless that failed before.
+    #[tactic(auto, using(crate::proofs::Rows::all_more, crate::proofs::Rows::part_all, crate::proofs::Rows::part_some))]
+    fn replay(&mut self) -> Result<(), Fault> {
+        if let Some(fault) = self.lacks {
+            return Err(fault);
+        }
+        match replay(&mut self.subscriber, &mut self.sink) {
+            Ok(()) => Ok(()),
+            Err(fault) => {
+                self.lacks = Some(fault);
+                Err(fault)
+            }
+        }
     }
 
     /// Takes packets that were asked for. The first number that was asked for has to be held then, by these or by what a line
@@ -218,10 +219,14 @@ impl<N: Followed> Follower<N> {
         Ok(())
     }
 
-    /// Gives the first subscriber up for a new one where it holds enough.
+    /// Gives the first subscriber up for a new one where it holds enough, and the sink lets it.
+    #[tactic(auto, using(crate::proofs::Rows::all_kept, crate::proofs::Rows::all_of_nothing, crate::proofs::Rows::part_all))]
     fn restart(&mut self) -> Result<(), Fault> {
         if !is_given_up(self.restart_after, self.subscriber.held().len()) {
             return Ok(());
+        }
+        if let Some(fault) = self.lacks {
+            return Err(fault);
         }
         let tape = self.subscriber.tape();
         let listing = copy_of(self.alloc, tape.listing())?;
@@ -232,6 +237,10 @@ impl<N: Followed> Follower<N> {
             tape.matrix(),
             self.session,
         )?;
+        if let Err(fault) = begin_anew(&self.subscriber, &mut self.sink) {
+            drop(next);
+            return Err(fault);
+        }
         drop(mem::replace(&mut self.subscriber, next));
         self.heard = Heard::nothing();
         self.restart_after = None;
@@ -377,12 +386,18 @@ impl<N: Followed> Follower<N> {
         }
     }
 
-    /// The subscriber of a run that is over, or the fault that ended it.
-    pub(crate) fn into_subscriber(self) -> Result<Subscriber, Fault>
-        ensures listed { IfOk result (λ subscriber. subscriber.tape.listing ≡ N.listing) }
-        ensures by_matrix { IfOk result (λ subscriber. subscriber.tape.matrix ≡ N.matrix) }
+    /// The subscriber of a run that is over, or the fault that ended it, and the sink.
+    pub(crate) fn into_held(self) -> (Result<Subscriber, Fault>, S)
+        ensures tape { IfOk result.0 (λ subscriber. IsTapeOf N.listing N.matrix subscriber.tape) }
+        ensures given { IfOk result.0 (λ subscriber. Appends N.before (S.contents result.1) (rows_of S.text subscriber.tape)) }
+        ensures part { GivesPart S.text N.listing N.matrix N.before (S.contents result.1) }
     {
-        let over = self.over.unwrap_or(Err(Fault::Read));
-        over.and(Ok(self.subscriber))
+        // What it holds is a legal tape, whatever came: the clauses of `held` say so.
+        let _held = self.subscriber.held();
+        let over = match self.lacks {
+            Some(fault) => Err(fault),
+            None => self.over.unwrap_or(Err(Fault::Read)),
+        };
+        (over.and(Ok(self.subscriber)), self.sink)
     }
 }

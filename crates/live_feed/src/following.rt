@@ -6,8 +6,9 @@ ghost use Rattle.live_feed.specs.declared.following.TheConstants.{ROOM};
 use crate::asking::Asker;
 use crate::followed::Followed;
 use crate::follower::{Follower, Next};
+use crate::inbox::Inbox;
 use crate::shared::{Owed, Shared, Turn};
-use crate::{Fault, FollowSockets};
+use crate::{EntrySink, Fault, FollowSockets};
 use arbitration::Line;
 use std::alloc::Global;
 use std::io::ErrorKind;
@@ -33,11 +34,20 @@ struct FollowedLine<'a> {
     address: SocketAddr,
 }
 
+/// What a run has before it has its follower.
+#[derive(Drop)]
+pub(crate) struct Ready<'a> {
+    connection: TcpStream,
+    kept: Inbox,
+    a: FollowedLine<'a>,
+    b: FollowedLine<'a>,
+}
+
 /// What the lines of a follower and what asks for it share. What a line brings while another thread has the follower is kept,
 /// and whoever lets go of the follower has it take what was kept. So no line waits for the follower, unless too much is kept.
 #[derive(Drop)]
-pub(crate) struct Run<'a, N: Followed> {
-    shared: Shared<N>,
+pub(crate) struct Run<'a, N: Followed, S: EntrySink> {
+    shared: Shared<N, S>,
     /// Another handle of the connection on which is asked, which ends what is open on it.
     connection: Mutex<TcpStream>,
     /// Wakes what asks.
@@ -55,6 +65,27 @@ fn followed_line(line: Line, socket: &UdpSocket) -> Result<FollowedLine<'_>, Fau
             address,
         }),
         Err(_) => Err(Fault::Read),
+    }
+}
+
+impl<'a> Ready<'a> {
+    /// These sockets, another handle of the connection on which is asked, and the memory for what is kept.
+    pub(crate) fn new(
+        alloc: Global,
+        sockets: &'a FollowSockets,
+        connection: TcpStream,
+    ) -> Result<Ready<'a>, Fault> {
+        let a = followed_line(Line::A, &sockets.a)?;
+        let b = followed_line(Line::B, &sockets.b)?;
+        let Ok(kept) = Inbox::nothing(alloc) else {
+            return Err(Fault::Memory);
+        };
+        Ok(Ready {
+            connection,
+            kept,
+            a,
+            b,
+        })
     }
 }
 
@@ -76,30 +107,16 @@ impl FollowedLine<'_> {
     }
 }
 
-impl<'a, N: Followed> Run<'a, N> {
-    /// A run over these sockets, and another handle of the connection on which is asked.
-    pub(crate) fn new(
-        alloc: Global,
-        follower: Follower<N>,
-        sockets: &'a FollowSockets,
-        connection: TcpStream,
-    ) -> Result<Run<'a, N>, Fault> {
-        let a = followed_line(Line::A, &sockets.a);
-        let b = followed_line(Line::B, &sockets.b);
-        let (Ok(a), Ok(b)) = (a, b) else {
-            drop(follower);
-            return Err(Fault::Read);
-        };
-        let Ok(shared) = Shared::new(alloc, follower) else {
-            return Err(Fault::Memory);
-        };
-        Ok(Run {
-            shared,
-            connection: Mutex::new(connection),
+impl<'a, N: Followed, S: EntrySink> Run<'a, N, S> {
+    /// A run of a follower.
+    pub(crate) fn new(alloc: Global, follower: Follower<N, S>, ready: Ready<'a>) -> Run<'a, N, S> {
+        Run {
+            shared: Shared::new(alloc, follower, ready.kept),
+            connection: Mutex::new(ready.connection),
             bell: Parker::new(),
-            a,
-            b,
-        })
+            a: ready.a,
+            b: ready.b,
+        }
     }
 
     /// Wakes the lines and what asks, and ends the request that is open, whose answer may be long in coming: the retransmission
@@ -140,7 +157,7 @@ impl<'a, N: Followed> Run<'a, N> {
     }
 
     /// Has the follower take what a line brought, in this turn, and then what is kept. Whether the run is over.
-    fn deliver<R: Wait>(&self, rt: &R, turn: Turn<'_, N>, line: Line, bytes: &[u8]) -> bool {
+    fn deliver<R: Wait>(&self, rt: &R, turn: Turn<'_, N, S>, line: Line, bytes: &[u8]) -> bool {
         let mut turn = turn;
         let next = turn.follower.deliver(line, bytes);
         let owed = turn.end();
@@ -171,7 +188,7 @@ impl<'a, N: Followed> Run<'a, N> {
     }
 
     /// Has the follower take what is kept, `TAKEN_AT_ONCE` datagrams at most, and tells what is next.
-    fn take_kept<R: Wait>(&self, rt: &R, follower: &mut Follower<N>) -> Next {
+    fn take_kept<R: Wait>(&self, rt: &R, follower: &mut Follower<N, S>) -> Next {
         let mut told = Next::Read;
         for _turn in 0..TAKEN_AT_ONCE {
             let Some(datagram) = self.shared.next_kept(rt) else {
@@ -266,7 +283,7 @@ impl<'a, N: Followed> Run<'a, N> {
     }
 
     /// The follower of a run that is over.
-    pub(crate) fn into_follower(self) -> Follower<N> {
+    pub(crate) fn into_follower(self) -> Follower<N, S> {
         self.shared.into_follower()
     }
 }
@@ -275,8 +292,9 @@ impl<'a, N: Followed> Run<'a, N> {
 /// that ends the run.
 pub(crate) fn follow_at_once<
     N: Followed + Send,
+    S: EntrySink + Send,
     R: Threads + Wait + Net<Listener = TcpListener, Stream = TcpStream> + Sync,
->(rt: &R, run: &Run<'_, N>, asker: Asker) {
+>(rt: &R, run: &Run<'_, N, S>, asker: Asker) {
     thread::scope(thread::scope_env(), rt, move |scope| {
         let a = scope.spawn(move || run.read_line(rt, &run.a));
         let b = scope.spawn(move || run.read_line(rt, &run.b));

@@ -5,19 +5,20 @@
 ghost use Rattle.std.specs.Prelude.{◌≡◌, []};
 ghost use Rattle.live_feed.specs.declared.follower.Next.TheVariants.{End};
 
+use crate::EntrySink;
 use crate::followed::Followed;
 use crate::follower::{Follower, Next};
 use crate::inbox::{Datagram, Inbox};
 use arbitration::Line;
-use std::alloc::{AllocError, Global};
+use std::alloc::Global;
 use std::sync::{Mutex, MutexGuard, Wait};
 
 /// The follower, which one thread has at a time, and what is kept for it.
 #[derive(Drop)]
-pub(crate) struct Shared<N: Followed> {
+pub(crate) struct Shared<N: Followed, S: EntrySink> {
     /// Where memory comes from.
     alloc: Global,
-    follower: Mutex<Follower<N>>,
+    follower: Mutex<Follower<N, S>>,
     kept: Mutex<Inbox>,
 }
 
@@ -27,8 +28,8 @@ pub(crate) struct Owed {
 }
 
 /// A thread's turn with the follower, which only `end` ends, since what the thread owes can't be dropped.
-pub(crate) struct Turn<'a, N: Followed> {
-    pub(crate) follower: MutexGuard<'a, Follower<N>>,
+pub(crate) struct Turn<'a, N: Followed, S: EntrySink> {
+    pub(crate) follower: MutexGuard<'a, Follower<N, S>>,
     owed: Owed,
 }
 
@@ -53,9 +54,9 @@ impl Owed {
     }
 }
 
-impl<'a, N: Followed> Turn<'a, N> {
+impl<'a, N: Followed, S: EntrySink> Turn<'a, N, S> {
     /// The turn of a thread that owes a look, and has the follower now. Where another thread has it, that one owes the same.
-    fn begin(owed: Owed, tried: Option<MutexGuard<'a, Follower<N>>>) -> Option<Turn<'a, N>> {
+    fn begin(owed: Owed, tried: Option<MutexGuard<'a, Follower<N, S>>>) -> Option<Turn<'a, N, S>> {
         match tried {
             Some(follower) => Some(Turn { follower, owed }),
             None => {
@@ -73,25 +74,18 @@ impl<'a, N: Followed> Turn<'a, N> {
     }
 }
 
-impl<N: Followed> Shared<N> {
-    /// A follower for which nothing is kept. Memory for what will be is taken here.
-    pub(crate) fn new(alloc: Global, follower: Follower<N>) -> Result<Shared<N>, AllocError> {
-        let kept = match Inbox::nothing(alloc) {
-            Ok(kept) => kept,
-            Err(fault) => {
-                drop(follower);
-                return Err(fault);
-            }
-        };
-        Ok(Shared {
+impl<N: Followed, S: EntrySink> Shared<N, S> {
+    /// A follower for which nothing is kept yet.
+    pub(crate) fn new(alloc: Global, follower: Follower<N, S>, kept: Inbox) -> Shared<N, S> {
+        Shared {
             alloc,
             follower: Mutex::new(follower),
             kept: Mutex::new(kept),
-        })
+        }
     }
 
     /// Waits for a turn.
-    pub(crate) fn turn<R: Wait>(&self, rt: &R) -> Turn<'_, N> {
+    pub(crate) fn turn<R: Wait>(&self, rt: &R) -> Turn<'_, N, S> {
         Turn {
             follower: self.follower.lock(rt),
             owed: Owed::new(),
@@ -99,12 +93,12 @@ impl<N: Followed> Shared<N> {
     }
 
     /// A turn, unless another thread has one.
-    pub(crate) fn turn_now(&self) -> Option<Turn<'_, N>> {
+    pub(crate) fn turn_now(&self) -> Option<Turn<'_, N, S>> {
         Turn::begin(Owed::new(), self.follower.try_lock())
     }
 
     /// A turn of a thread that owes a look, where something is kept and no other thread has one.
-    pub(crate) fn turn_owed<R: Wait>(&self, rt: &R, owed: Owed) -> Option<Turn<'_, N>> {
+    pub(crate) fn turn_owed<R: Wait>(&self, rt: &R, owed: Owed) -> Option<Turn<'_, N, S>> {
         let kept = self.kept.lock(rt);
         if kept.is_empty() {
             owed.see_nothing(&kept);
@@ -129,7 +123,7 @@ impl<N: Followed> Shared<N> {
     }
 
     /// The follower, once no thread has it any more.
-    pub(crate) fn into_follower(self) -> Follower<N> {
+    pub(crate) fn into_follower(self) -> Follower<N, S> {
         self.follower.into_inner()
     }
 }

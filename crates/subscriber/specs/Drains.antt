@@ -20,7 +20,7 @@ use Rattle.subscriber.specs.declared.delivery_fault.DeliveryFault.TheVariants as
 use Rattle.subscriber.specs.declared.drain_fault.Stop.{Stop}
 use Rattle.subscriber.specs.declared.drain_fault.Stop.TheVariants.{Refused, OtherSummary, Failed}
 use Rattle.subscriber.specs.declared.drain_fault.DrainFault.{DrainFault}
-use Rattle.subscriber.specs.Subscribers.{SubscriberState, subscriber_after, NextIsOwn}
+use Rattle.subscriber.specs.Subscribers.{SubscriberState, own_entry, with_entry, subscriber_after, NextIsOwn}
 
 -- bytes are taken as the packet that they spell, with these counts
 pub record Delivers (line : Line) (bytes : List ℕ) (taken : Taken) (old new : SubscriberState) : Type 0 where
@@ -59,6 +59,12 @@ pub record DrainsAll (n : ℕ) (old new : SubscriberState) : Type 0 where
   pub held : length new.tape.entries ≡ length old.tape.entries + n
   pub state : new ≡ subscriber_after n old
   pub nothing_ready : next_of new.window ≡ None
+
+-- none was ready, or the entry that was next is held, and it is the feed's
+abbrev pub DrainsNext : Option Entry → SubscriberState → SubscriberState → Type 0
+DrainsNext None old new = (old.failed ≡ false) × (next_of old.window ≡ None) × (new ≡ old)
+DrainsNext (Some entry) old new =
+    (old.failed ≡ false) × (next_of old.window ≡ Some entry) × (own_entry old entry.message ≡ entry) × (new ≡ with_entry entry old)
 
 -- its own tape refuses the next entry's message for this reason, or is out of memory
 pub record IsRefused (why : Refusal) (s : SubscriberState) : Type 0 where
