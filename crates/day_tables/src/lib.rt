@@ -18,8 +18,6 @@ mod table_fault;
 mod table_row;
 mod table_text;
 mod table_write_fault;
-#[cfg(test)]
-mod tests;
 mod writing;
 
 pub use column::Column;

@@ -8,17 +8,14 @@ use Rattle.csv.specs.Writing.{default_writer, row_text}
 use Rattle.reports.specs.declared.message.Message.{Message}
 use Rattle.row_reads.specs.Lemmas.WriteLemmas.{WritesPrefix-after, WritesPrefix-longer, WritesPrefix-whole, WritesUpTo-all, WritesUpTo-both, WritesUpTo-longer, WritesUpTo-none, WritesUpTo-whole}
 use Rattle.row_reads.specs.Writing.{WritesPrefix, WritesUpTo}
-use Rattle.tape_core.specs.Tape.{TapeState}
+use Rattle.tape_core.specs.Tape.{TapeState, lists_symbol}
 use Rattle.table_days.specs.Answers.{answers, tape_after}
-use Rattle.table_days.specs.Days.{AnswersMore, HasAnswered}
+use Rattle.table_days.specs.Days.{AnswersMore, HasAnswered, lists_all, symbol_of}
 use Rattle.table_days.specs.Refusals.{AreRefusals}
 use Rattle.day_tables.specs.Tables.{FIRST_ROW}
-use Rattle.table_days.specs.TapeRows.{TapeRow, column_names, rows_text, tape_fields, tape_row, tape_rows, text_from}
+use Rattle.table_days.specs.TapeRows.{TapeRow, column_names, row_line, rows_text, tape_row, tape_rows, text_from}
 use Rattle.table_days.specs.declared.day.Day.{Day}
-
--- the line of a row
-abbrev line_of : TapeRow → List ℕ
-line_of row = row_text default_writer (tape_fields row)
+use Rattle.table_days.proofs.ListingLemmas.{all-parts, part-listed}
 
 -- ## Rows
 
@@ -37,12 +34,12 @@ tape_rows-one t m = refl
 -- the text of rows, and of more
 rows_text-append : (rows more : List TapeRow) → rows_text (rows ++ more) ≡ rows_text rows ++ rows_text more
 unfolding rows_text
-rows_text-append rows more = flat_map-append line_of rows more
+rows_text-append rows more = flat_map-append row_line rows more
 
 -- the text of one row
-rows_text-one : (row : TapeRow) → rows_text (row ∷ []) ≡ line_of row
+rows_text-one : (row : TapeRow) → rows_text (row ∷ []) ≡ row_line row
 unfolding rows_text
-rows_text-one row = append-nil (line_of row)
+rows_text-one row = append-nil (row_line row)
 
 -- the text of no message's row
 pub rows_text-none : (t : TapeState) → rows_text (tape_rows t []) ≡ []
@@ -51,12 +48,12 @@ rows_text-none t = refl
 
 -- the text of one row more
 pub rows_text-more : (t now : TapeState) (messages : List Message) (i : ℕ) (m : Message) (old new : List ℕ) → i < length messages → get_or messages i m ≡ m
-    → now ≡ fold tape_after t (take i messages) → old ≡ rows_text (tape_rows t (take i messages)) → new ≡ old ++ line_of (tape_row now m)
+    → now ≡ fold tape_after t (take i messages) → old ≡ rows_text (tape_rows t (take i messages)) → new ≡ old ++ row_line (tape_row now m)
     → new ≡ rows_text (tape_rows t (take (i + 1) messages))
 rows_text-more t now messages i m old new within is tape so_far written =
     let front = take i messages in
-    written ∙ ap (λ (l : List ℕ). l ++ line_of (tape_row now m)) so_far
-    ∙ ap (λ (s : TapeState). rows_text (tape_rows t front) ++ line_of (tape_row s m)) tape
+    written ∙ ap (λ (l : List ℕ). l ++ row_line (tape_row now m)) so_far
+    ∙ ap (λ (s : TapeState). rows_text (tape_rows t front) ++ row_line (tape_row s m)) tape
     ∙ ap (λ (l : List ℕ). rows_text (tape_rows t front) ++ l) (sym (rows_text-one (tape_row (fold tape_after t front) m)))
     ∙ sym (rows_text-append (tape_rows t front) (tape_row (fold tape_after t front) m ∷ []))
     ∙ ap (λ (l : List TapeRow). rows_text (tape_rows t front ++ l)) (sym (tape_rows-one (fold tape_after t front) m))
@@ -179,3 +176,10 @@ no_messages (m ∷ rest) test = let none : length (m ∷ rest) ≡ 0 = grind (ar
 -- nothing is written
 pub nothing_written : (text : List ℕ) (known : Option (List ℕ)) → WritesPrefix text known known
 nothing_written text known = (text, WritesUpTo-none text known)
+
+-- the tape lists the symbols of the next messages
+pub WrittenSome-listed : (t : TapeState) (now : Day) (messages rest next behind : List Message) (text : List ℕ) (known_old known_now : Option (List ℕ))
+    → rest ≡ next ++ behind → lists_all t messages ≡ true → WrittenSome t now messages rest text known_old known_now → lists_all now.tape next ≡ true
+WrittenSome-listed t now messages rest next behind text known_old known_now cut listed so_far =
+    (all-parts (λ m. lists_symbol now.tape.listing (symbol_of m)) rest next behind cut
+    (part-listed t now.tape messages so_far.done rest so_far.split so_far.answered.tape listed)).0

@@ -1,6 +1,7 @@
 -- The day of a table: its names, its tape and its report.
-use Rattle.std.specs.Prelude.{◌≡◌, ◌+◌, ◌++◌, ◌⊎◌, ℕ, List, [], length, map, fold, nat_eq, Option, unwrap_or}
+use Rattle.std.specs.Prelude.{◌≡◌, ◌+◌, ◌++◌, ◌⊎◌, ℕ, Bool, List, [], length, map, fold, nat_eq, Option, unwrap_or}
 use Rattle.std.specs.Io.KnownBytes.{Appends}
+use Rattle.std.specs.List.{list_all}
 use Rattle.indexmap.specs.IndexSet.{insert_all}
 use Rattle.tape_types.specs.Names.{Names, names_fault, symbol_eq}
 use Rattle.tape_types.specs.Ranges.{TAPE_MOST}
@@ -9,7 +10,7 @@ use Rattle.tape_types.specs.declared.listing_fault.ListingFault.TheVariants as l
 use Rattle.sale_matrix.specs.declared.matrix.Matrix.{Matrix}
 use Rattle.reports.specs.Messages.{header_of}
 use Rattle.reports.specs.declared.message.Message.{Message}
-use Rattle.tape_core.specs.Tape.{TapeState, empty_tape}
+use Rattle.tape_core.specs.Tape.{TapeState, empty_tape, lists_symbol}
 use Rattle.day_report.specs.ReportText.{report_text}
 use Rattle.day_report.specs.Rows.{report_rows}
 use Rattle.table_days.specs.Answers.{answers, tape_after}
@@ -17,9 +18,13 @@ use Rattle.table_days.specs.Refusals.{AreRefusals}
 use Rattle.day_tables.specs.Tables.{FIRST_ROW}
 use Rattle.table_days.specs.declared.day.Day.{Day}
 
+-- the symbol of a message
+abbrev pub symbol_of : Message → List ℕ
+symbol_of m = (header_of m).symbol
+
 -- the symbols of messages, each once, in the order in which they first appear
 abbrev pub symbols_of : List Message → List (List ℕ)
-symbols_of messages = insert_all symbol_eq [] (map (λ m. (header_of m).symbol) messages)
+symbols_of messages = insert_all symbol_eq [] (map symbol_of messages)
 
 -- the participants of messages, each once, in the order in which they first appear
 abbrev pub participants_of : List Message → List ℕ
@@ -37,6 +42,10 @@ IsListingFault messages fault =
 -- the tape of messages before the first
 abbrev pub first_tape : Matrix → List Message → TapeState
 first_tape matrix messages = empty_tape (names_of messages) TAPE_MOST matrix
+
+-- whether a tape lists the symbols of all these messages
+abbrev pub lists_all : TapeState → List Message → Bool
+lists_all t messages = list_all (λ m. lists_symbol t.listing (symbol_of m)) messages
 
 -- the tape of messages
 abbrev pub tape_of : Matrix → List Message → TapeState

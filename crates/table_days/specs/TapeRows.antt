@@ -10,6 +10,7 @@ use Rattle.scratch_fold.specs.declared.summary.Summary.{Summary}
 use Rattle.tape_core.specs.Refusals.{refusal_code, refusal_name}
 use Rattle.tape_core.specs.Standing.{symbol_summary}
 use Rattle.tape_core.specs.Tape.{TapeState, messages_of}
+use Rattle.tape_core.specs.declared.entry.Entry.{Entry}
 use Rattle.tape_core.specs.declared.refusal.Refusal.{Refusal}
 use Rattle.day_tables.specs.Writing.{price_text, row_fields, row_of}
 use Rattle.table_days.specs.Answers.{answer, tape_after}
@@ -35,6 +36,16 @@ tape_row t m = record { answer = answer t m; message = m; figures = figures_afte
 unfoldable pub tape_rows : TapeState → List Message → List TapeRow
 tape_rows t [] = []
 tape_rows t (m ∷ ms) = tape_row t m ∷ tape_rows (tape_after t m) ms
+
+-- the row of an entry: its tape number, its message, and the consolidated summary of its symbol after it
+abbrev pub entry_row : Entry → Summary → TapeRow
+entry_row e figures = record { answer = Ok e.number; message = e.message; figures = figures }
+
+-- the rows of entries after these, each with the consolidated summary of its symbol right after it
+unfoldable pub entry_rows : Matrix → List Entry → List Entry → List TapeRow
+entry_rows matrix before [] = []
+entry_rows matrix before (e ∷ es) =
+    entry_row e (symbol_summary matrix (messages_of (before ++ e ∷ [])) (header_of e.message).symbol) ∷ entry_rows matrix (before ++ e ∷ []) es
 
 -- ## Fields
 
@@ -71,13 +82,25 @@ tape_fields row = answer_fields row.answer ++ (row_fields (row_of row.message) +
 
 -- ## Text
 
+-- the line of a row
+abbrev pub row_line : TapeRow → List ℕ
+row_line row = row_text default_writer (tape_fields row)
+
+-- the line of the columns' names
+abbrev pub head_line : List ℕ
+head_line = row_text default_writer column_names
+
 -- the lines of rows
 unfoldable pub rows_text : List TapeRow → List ℕ
-rows_text rows = flat_map (λ row. row_text default_writer (tape_fields row)) rows
+rows_text rows = flat_map row_line rows
 
 -- the names of the columns, and the rows of messages that a tape answers
 unfoldable pub text_from : TapeState → List Message → List ℕ
-text_from t messages = row_text default_writer column_names ++ rows_text (tape_rows t messages)
+text_from t messages = head_line ++ rows_text (tape_rows t messages)
+
+-- the names of the columns, and the rows of a tape's entries
+abbrev pub entries_text : Matrix → List Entry → List ℕ
+entries_text matrix entries = head_line ++ rows_text (entry_rows matrix [] entries)
 
 -- the readable tape of messages
 abbrev pub tape_text : Matrix → List Message → List ℕ

@@ -1,10 +1,10 @@
 //! A table in, its readable tape out.
-ghost use Rattle.std.specs.Prelude.{◌≡◌, ◌≢◌, ◌⊎◌, ◌+◌, ◌<◌, ◌^◌, [], Err, IfErr, IfOk, IfSome, OnErr, OnOk, length};
+ghost use Rattle.std.specs.Prelude.{◌≡◌, ◌≢◌, ◌⊎◌, ◌+◌, ◌<◌, ◌^◌, [], Err, IfErr, IfOk, IfSome, OnErr, OnOk, length, true};
 ghost use Rattle.std.specs.Io.KnownBytes.{Appends};
 ghost use Rattle.csv.specs.Writing.{default_writer, row_text};
 ghost use Rattle.row_reads.specs.Writing.{WritesPrefix};
 ghost use Rattle.table_days.specs.Answers.{answers};
-ghost use Rattle.table_days.specs.Days.{AnswersMore, HasAnswered, first_tape};
+ghost use Rattle.table_days.specs.Days.{AnswersMore, HasAnswered, first_tape, lists_all};
 ghost use Rattle.day_tables.specs.Tables.{FIRST_ROW};
 ghost use Rattle.table_days.specs.Refusals.{AreRefusals};
 ghost use Rattle.table_days.specs.TableEnds.{IsMessagesEnd, IsTableEnd, WritesTable, WritesTablePart};
@@ -12,9 +12,9 @@ ghost use Rattle.table_days.specs.TapeRows.{column_names, rows_text, tape_rows, 
 ghost use Rattle.table_days.specs.declared.table_end.TableEnd.TheVariants.{OutOfMemory, WriteFault as TableWriteFault};
 
 use crate::day::Day;
-use crate::lines::{into_text, lines_in, put_line};
+use crate::lines::{into_text, lines_in};
 use crate::table_end::flushed;
-use crate::tape_row::{column_names, put_next};
+use crate::tape_row::{head_text, put_next};
 use crate::{Refusals, TableEnd};
 use csv::ByteRecord;
 use day_tables::read_table;
@@ -27,15 +27,6 @@ use std::io::{Read, Write};
 /// How many rows are written at once.
 const ROWS_AT_ONCE: usize = 512;
 
-/// The line of the columns' names.
-fn head_text(alloc: Global) -> Result<Vec<u8>, AllocError>
-    ensures { IfOk result (λ text. text.items ≡ row_text default_writer column_names) }
-{
-    let mut writer = lines_in(Vec::new(alloc));
-    put_line(&mut writer, &column_names(alloc)?)?;
-    into_text(writer)
-}
-
 /// The lines of a day's next rows, in the memory of a text that is used again.
 fn lines_of(
     day: &mut Day,
@@ -43,7 +34,8 @@ fn lines_of(
     text: Vec<u8>,
     messages: &[Message],
 ) -> Result<Vec<u8>, AllocError>
-    requires { day.old.row + length messages.now < 2 ^ 64 }
+    requires few { day.old.row + length messages.now < 2 ^ 64 }
+    requires listed { lists_all day.old.tape messages.now ≡ true }
     ensures text { IfOk result (λ text. text.items ≡ rows_text (tape_rows day.old.tape messages.now)) }
     ensures more { OnOk result (AnswersMore day.old day.new messages.now) }
 {
@@ -75,7 +67,8 @@ fn next_lines<W: Write>(
     messages: &[Message],
     writer: &mut W,
 ) -> Result<Vec<u8>, TableEnd>
-    requires { day.old.row + length messages.now < 2 ^ 64 }
+    requires few { day.old.row + length messages.now < 2 ^ 64 }
+    requires listed { lists_all day.old.tape messages.now ≡ true }
     ensures text { IfOk result (λ lines. lines.items ≡ rows_text (tape_rows day.old.tape messages.now)) }
     ensures more { OnOk result (AnswersMore day.old day.new messages.now) }
     ensures written { OnOk result (Appends (W.contents writer.old) (W.contents writer.new) text.items) }
@@ -102,6 +95,7 @@ fn write_rows<W: Write>(
 ) -> Result<(), TableEnd>
     requires head { head.items ≡ row_text default_writer column_names }
     requires fresh { HasAnswered day.old.tape [] day.old }
+    requires listed { lists_all day.old.tape messages.now ≡ true }
     requires few { length messages.now + FIRST_ROW < 2 ^ 64 }
     ensures refused { OnOk result (AreRefusals (answers day.old.tape messages.now) day.new.refusals) }
     ensures written { OnOk result (Appends (W.contents writer.old) (W.contents writer.new) (text_from day.old.tape messages.now)) }

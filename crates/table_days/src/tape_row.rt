@@ -1,14 +1,15 @@
 //! A row of the readable tape.
-ghost use Rattle.std.specs.Prelude.{◌≡◌, ◌+◌, ◌<◌, ◌^◌, ◌++◌, ◌∷◌, [], IfOk, OnOk};
+ghost use Rattle.std.specs.Prelude.{◌≡◌, ◌+◌, ◌<◌, ◌^◌, ◌++◌, ◌∷◌, [], IfOk, OnOk, true};
+ghost use Rattle.tape_core.specs.Tape.{lists_symbol};
 ghost use Rattle.csv.specs.Records.{fields_of, partial_of};
 ghost use Rattle.csv.specs.Writing.{default_writer, row_text};
 ghost use Rattle.day_report.specs.CsvLines.{IsAtLineStart, lines_text};
 ghost use Rattle.table_days.specs.Answers.{answer, tape_after};
-ghost use Rattle.table_days.specs.Days.{AnswersMore};
+ghost use Rattle.table_days.specs.Days.{AnswersMore, symbol_of};
 ghost use Rattle.table_days.specs.TapeRows.{answer_fields, column_names, figures_after, figures_fields, mark_field, refusal_text, tape_fields, tape_row};
 
 use crate::day::Day;
-use crate::lines::put_line;
+use crate::lines::{into_text, lines_in, put_line};
 use crate::{Answer, TableTape};
 use csv::{ByteRecord, Writer};
 use day_tables::{push_number, push_price, push_row};
@@ -18,7 +19,7 @@ use std::alloc::{AllocError, Global};
 use tape_core::Refusal;
 
 /// The names of the columns.
-pub fn column_names(alloc: Global) -> Result<ByteRecord, AllocError>
+fn column_names(alloc: Global) -> Result<ByteRecord, AllocError>
     ensures { IfOk result (λ fields. fields_of fields ≡ column_names) }
 {
     ByteRecord::from_fields(
@@ -43,6 +44,15 @@ pub fn column_names(alloc: Global) -> Result<ByteRecord, AllocError>
             b"trades",
         ],
     )
+}
+
+/// The line of the columns' names.
+pub fn head_text(alloc: Global) -> Result<Vec<u8>, AllocError>
+    ensures { IfOk result (λ text. text.items ≡ row_text default_writer column_names) }
+{
+    let mut writer = lines_in(Vec::new(alloc));
+    put_line(&mut writer, &column_names(alloc)?)?;
+    into_text(writer)
 }
 
 /// A refusal by its number and its name.
@@ -110,38 +120,40 @@ fn push_figures(fields: &mut ByteRecord, figures: &Summary) -> Result<(), AllocE
     push_number(fields, u64::from(figures.trades))
 }
 
-/// Answers a day's next message, and adds the fields of the answer.
-fn push_next(day: &mut Day, message: Message, fields: &mut ByteRecord) -> Result<(), AllocError>
-    requires row { day.old.row + 1 < 2 ^ 64 }
-    requires partial { partial_of fields.old ≡ [] }
-    ensures fields { OnOk result (fields_of fields.new ≡ fields_of fields.old ++ answer_fields (answer day.old.tape message)) }
-    ensures partial { OnOk result (partial_of fields.new ≡ []) }
-    ensures tape { OnOk result (day.new.tape ≡ tape_after day.old.tape message) }
-    ensures row { OnOk result (day.new.row ≡ day.old.row + 1) }
-    ensures more { OnOk result (AnswersMore day.old day.new (message ∷ [])) }
+/// Writes a row as a line, by a record that is used again for each.
+#[tactic(auto, unfolding(crate::specs::TapeRows::tape_fields))]
+pub fn put_row(
+    writer: &mut Writer<Vec<u8>>,
+    fields: &mut ByteRecord,
+    answer: &Answer,
+    message: &Message,
+    figures: &Summary,
+) -> Result<(), AllocError>
+    requires { IsAtLineStart writer.old }
+    ensures start { OnOk result (IsAtLineStart writer.new) }
+    ensures text { OnOk result (lines_text writer.new ≡ lines_text writer.old
+        ++ row_text default_writer (tape_fields (record { answer = answer.now; message = message.now; figures = figures.now }))) }
 {
-    let answered = day.answer(message)?;
-    push_answer(fields, &answered)
+    fields.clear();
+    push_answer(fields, answer)?;
+    push_row(fields, message)?;
+    push_figures(fields, figures)?;
+    put_line(writer, fields)
 }
 
-/// Adds the figures of a message's symbol.
-fn push_figures_of(
-    tape: &TableTape,
-    message: &Message,
-    fields: &mut ByteRecord,
-) -> Result<(), AllocError>
-    requires { partial_of fields.old ≡ [] }
-    ensures { OnOk result (fields_of fields.new ≡ fields_of fields.old ++ figures_fields (figures_after tape.now message.now)) }
+/// The figures of a message's symbol, which the tape lists.
+fn figures_of(tape: &TableTape, message: &Message) -> Summary
+    requires { lists_symbol tape.now.listing (symbol_of message.now) ≡ true }
+    ensures { result ≡ figures_after tape.now message.now }
 {
-    // The tape lists the symbols of all its messages, so it is there; no clause says so.
-    let Some(figures) = tape.summary(message.header().symbol) else {
-        return Err(AllocError);
-    };
-    push_figures(fields, &figures)
+    match tape.summary(message.header().symbol) {
+        Some(figures) => figures,
+        None => unreachable!(),
+    }
 }
 
 /// Answers a day's next message, and writes its row as a line, by a record that is used again for each.
-#[tactic(auto, unfolding(crate::specs::TapeRows::tape_row, crate::specs::TapeRows::tape_fields))]
+#[tactic(auto, unfolding(crate::specs::TapeRows::tape_row))]
 pub fn put_next(
     day: &mut Day,
     message: Message,
@@ -149,6 +161,7 @@ pub fn put_next(
     fields: &mut ByteRecord,
 ) -> Result<(), AllocError>
     requires row { day.old.row + 1 < 2 ^ 64 }
+    requires listed { lists_symbol day.old.tape.listing (symbol_of message) ≡ true }
     requires start { IsAtLineStart writer.old }
     ensures start { OnOk result (IsAtLineStart writer.new) }
     ensures text { OnOk result (lines_text writer.new
@@ -157,9 +170,7 @@ pub fn put_next(
     ensures row_number { OnOk result (day.new.row ≡ day.old.row + 1) }
     ensures more { OnOk result (AnswersMore day.old day.new (message ∷ [])) }
 {
-    fields.clear();
-    push_next(day, message, fields)?;
-    push_row(fields, &message)?;
-    push_figures_of(&day.tape, &message, fields)?;
-    put_line(writer, fields)
+    let answered = day.answer(message)?;
+    let figures = figures_of(&day.tape, &message);
+    put_row(writer, fields, &answered, &message, &figures)
 }

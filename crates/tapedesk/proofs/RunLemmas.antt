@@ -17,15 +17,15 @@ comes_of text matrix (Some bytes) old new (Ok refusals) written ends = written
 comes_of text matrix (Some bytes) old new (Err end) written ends = ends
 
 -- what holds at an error holds where the run is one
-at_error : (run : Result Refusals TableEnd) (end : TableEnd) (P : Type 0) → run ≡ Err end → OnErr run P → P
-at_error (Ok refusals) end P is holds = absurd (cc is)
+at_error : {X End : Type 0} (run : Result X End) (end : End) (P : Type 0) → run ≡ Err end → OnErr run P → P
+at_error (Ok done) end P is holds = absurd (cc is)
 at_error (Err other) end P is holds = holds
 
 -- an end that is neither of two
-pub silent_tape : (run : Result Refusals TableEnd) (P : Type 0) → (run ≢ Err WriteFault → run ≢ Err OutOfMemory → OnErr run P)
-    → (end : TableEnd) → run ≡ Err end → end ≢ WriteFault → end ≢ OutOfMemory → P
-silent_tape run P silent end is written memory =
-    at_error run end P is (silent (λ e. written (cc (is, e))) (λ e. memory (cc (is, e))))
+pub silent_else : {X End : Type 0} (fault full : End) (run : Result X End) (P : Type 0) → (run ≢ Err fault → run ≢ Err full → OnErr run P)
+    → (end : End) → run ≡ Err end → end ≢ fault → end ≢ full → P
+silent_else fault full run P silent end is other_fault other_full =
+    at_error run end P is (silent (λ e. other_fault (cc (is, e))) (λ e. other_full (cc (is, e))))
 
 -- an end that is no failed write
 pub silent_report : (run : Result Refusals TableEnd) (P : Type 0) → (run ≢ Err WriteFault → OnErr run P)
@@ -37,3 +37,15 @@ pub part_report : (run : Result Refusals TableEnd) (P Q : Type 0) → (run ≢ E
     → (run ≡ Err WriteFault) ⊎ (run ≡ Err OutOfMemory) → P ⊎ Q
 part_report run P Q silent part (inl fault) = inr (part fault)
 part_report run P Q silent part (inr memory) = inl (at_error run OutOfMemory P memory (silent (λ e. cc (memory, e))))
+
+-- a part was written of what is known
+pub part_known : (input : Option (List ℕ)) (K : Type 0) (Q : List ℕ → Type 0) → IfSome input Q → IfSome input (λ bytes. K ⊎ Q bytes)
+part_known None K Q part = tt
+part_known (Some bytes) K Q part = inr part
+
+-- a part was written where a write failed, and maybe none where memory ran out
+pub part_decoded : {X End : Type 0} (fault full : End) (run : Result X End) (input : Option (List ℕ)) (K : Type 0) (Q : List ℕ → Type 0)
+    → (run ≡ Err fault → IfSome input Q) → (run ≡ Err full → IfSome input (λ bytes. K ⊎ Q bytes))
+    → (run ≡ Err fault) ⊎ (run ≡ Err full) → IfSome input (λ bytes. K ⊎ Q bytes)
+part_decoded fault full run input K Q at_fault at_full (inl e) = part_known input K Q (at_fault e)
+part_decoded fault full run input K Q at_fault at_full (inr e) = at_full e

@@ -1,43 +1,86 @@
 -- What the program's arguments ask for.
-use Rattle.std.specs.Prelude.{◌||◌, ◌++◌, ◌∷◌, ℕ, List, [], Option, Some, None, String, codes, string_bytes, if◌then◌else◌}
+use Rattle.std.specs.Prelude.{◌==◌, ◌||◌, ◌++◌, ◌∷◌, ℕ, List, [], Option, Some, None, String, Bool, codes, drop, find, length, nat_eq, string_bytes, if◌then◌else◌}
 use Rattle.std.specs.Global.{Global}
+use Rattle.std.specs.List.{starts_with}
+use Rattle.std.specs.Option.{option_and_then, option_map}
 use Rattle.std.specs.Str.{bytes_eq}
+use Rattle.sale_matrix.specs.declared.matrix.Matrix.{Matrix}
 use Rattle.sale_matrix.specs.declared.matrix.Matrix.TheVariants.{One, Two}
+use Rattle.day_tables.specs.Numbers.{within}
+use Rattle.tape_types.specs.Ranges.{FIRST_PARTICIPANT, LAST_PARTICIPANT}
 use Rattle.tapedesk.specs.declared.command.Command.{Command}
-use Rattle.tapedesk.specs.declared.command.Command.TheVariants.{Report, Tape, Help, ReportHelp, TapeHelp}
+use Rattle.tapedesk.specs.declared.command.Command.TheVariants.{Report, Tape, Encode, Decode, Line, Help, HelpOn}
+use Rattle.tapedesk.specs.declared.command.Word.{Word}
+use Rattle.tapedesk.specs.declared.command.Word.TheVariants as word
 
 -- an argument as it is handed over: ended by a zero byte
 abbrev pub ended_word : String Global → List ℕ
 ended_word word = string_bytes word ++ 0 ∷ []
 
--- the first argument for a report
-abbrev pub report_word : List ℕ
-report_word = codes "report\0"
+-- the argument that names a word, ended by a zero byte
+abbrev pub ended_name : Word → List ℕ
+ended_name word.Report = codes "report\0"
+ended_name word.Tape = codes "tape\0"
+ended_name word.Encode = codes "encode\0"
+ended_name word.Decode = codes "decode\0"
+ended_name word.Line = codes "line\0"
 
--- the first argument for a readable tape
-abbrev pub tape_word : List ℕ
-tape_word = codes "tape\0"
+-- every word, in the order in which help lists them
+abbrev pub all_words : List Word
+all_words = word.Report ∷ word.Tape ∷ word.Encode ∷ word.Decode ∷ word.Line ∷ []
 
--- an argument that names Matrix One
-abbrev pub one_word : List ℕ
-one_word = codes "1" ++ 0 ∷ []
+-- whether arguments begin with a word
+abbrev pub begins : List ℕ → Word → Bool
+begins words word = starts_with nat_eq words (ended_name word)
 
--- an argument that names Matrix Two
-abbrev pub two_word : List ℕ
-two_word = codes "2" ++ 0 ∷ []
+-- the arguments after a word that they begin with
+abbrev pub rest_of : List ℕ → Word → List ℕ
+rest_of words word = drop (length (ended_name word)) words
 
--- an argument that asks for help
+-- the word that arguments begin with
+abbrev pub word_of : List ℕ → Option Word
+word_of words = find (begins words) all_words
+
+-- whether arguments begin as those for a readable tape
+abbrev pub asks_for_rows : List ℕ → Bool
+asks_for_rows words = begins words word.Tape
+
+-- the argument that asks for help
 abbrev pub help_word : List ℕ
 help_word = codes "--help\0"
 
--- what arguments ask for, Matrix One where they name none; other arguments ask for nothing
+-- the arguments that name Matrix One, of which there may be none
+abbrev pub names_one : List ℕ → Bool
+names_one words = bytes_eq words [] || bytes_eq words (codes "1" ++ 0 ∷ [])
+
+-- the matrix that the arguments after a word name: Matrix One where there are none
+abbrev pub matrix_of : List ℕ → Option Matrix
+matrix_of words =
+    if names_one words then Some One
+    else if bytes_eq words (codes "2" ++ 0 ∷ []) then Some Two
+    else None
+
+-- the participant that the arguments after a word name: one capital letter
+abbrev pub participant_of : List ℕ → Option ℕ
+participant_of [] = None
+participant_of (letter ∷ []) = None
+participant_of (letter ∷ end ∷ []) = if end == 0 then within FIRST_PARTICIPANT LAST_PARTICIPANT letter else None
+participant_of (letter ∷ end ∷ next ∷ rest) = None
+
+-- what a word asks for with the arguments after it
+abbrev pub asked : Word → List ℕ → Option Command
+asked word.Report words = option_map Report (matrix_of words)
+asked word.Tape words = option_map Tape (matrix_of words)
+asked word.Encode words = if bytes_eq words [] then Some Encode else None
+asked word.Decode words = if bytes_eq words [] then Some Decode else None
+asked word.Line words = option_map Line (participant_of words)
+
+-- what a word asks for with the arguments after it, of which help may be the only one
+abbrev pub asked_or_help : Word → List ℕ → Option Command
+asked_or_help word words = if bytes_eq words help_word then Some (HelpOn word) else asked word words
+
+-- what arguments ask for; other arguments ask for nothing
 unfoldable pub command_of : List ℕ → Option Command
 command_of words =
-    if bytes_eq words report_word || bytes_eq words (report_word ++ one_word) then Some (Report One)
-    else if bytes_eq words (report_word ++ two_word) then Some (Report Two)
-    else if bytes_eq words tape_word || bytes_eq words (tape_word ++ one_word) then Some (Tape One)
-    else if bytes_eq words (tape_word ++ two_word) then Some (Tape Two)
-    else if bytes_eq words help_word then Some Help
-    else if bytes_eq words (report_word ++ help_word) then Some ReportHelp
-    else if bytes_eq words (tape_word ++ help_word) then Some TapeHelp
-    else None
+    if bytes_eq words help_word then Some Help
+    else option_and_then (λ word. asked_or_help word (rest_of words word)) (word_of words)

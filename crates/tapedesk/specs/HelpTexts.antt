@@ -1,21 +1,30 @@
 -- What the program says of itself.
 use Rattle.std.specs.Prelude.{◌++◌, ℕ, List, codes}
+use Rattle.std.specs.List.{flat_map}
+use Rattle.tapedesk.specs.Commands.{all_words}
+use Rattle.tapedesk.specs.declared.command.Word.{Word}
+use Rattle.tapedesk.specs.declared.command.Word.TheVariants.{Report, Tape, Encode, Decode, Line}
 
--- what the program does
-abbrev pub help_text : List ℕ
-help_text =
-    codes "tapedesk report [1|2] < TABLE.csv\n"
-    ++ codes "tapedesk tape [1|2] < TABLE.csv\n"
-    ++ codes "Reads a table of trade messages and writes the day's report, or a readable tape; 1 or 2 is the matrix.\n"
-
--- what `report` does
-abbrev pub report_help_text : List ℕ
-report_help_text =
+-- what a word does: a line of its use, and a line of what it does
+abbrev pub word_help_text : Word → List ℕ
+word_help_text Report =
     codes "tapedesk report [1|2] < TABLE.csv\n"
     ++ codes "Writes the report of the day, by Matrix One or 2; rows that the tape refuses are counted on standard error.\n"
-
--- what `tape` does
-abbrev pub tape_help_text : List ℕ
-tape_help_text =
+word_help_text Tape =
     codes "tapedesk tape [1|2] < TABLE.csv\n"
     ++ codes "Writes each row with its tape number or its refusal, and its symbol's figures after it, by Matrix One or 2.\n"
+word_help_text Encode =
+    codes "tapedesk encode < TABLE.csv\n"
+    ++ codes "Writes the messages as the text of a batch: the symbols, the participants, and each message's letter and bytes.\n"
+word_help_text Decode =
+    codes "tapedesk decode < DAY.txt\n"
+    ++ codes "Writes the messages of a batch's text as a table.\n"
+word_help_text Line =
+    codes "tapedesk line PARTICIPANT < TABLE.csv\n"
+    ++ codes "Writes the bytes of the messages of a participant, A to Z, as its line sends them on a running day.\n"
+
+-- what the program does, word by word
+abbrev pub help_text : List ℕ
+help_text =
+    codes "tapedesk WORD reads a day of trade messages from standard input and writes to standard output; tapedesk WORD --help is about one word.\n"
+    ++ flat_map word_help_text all_words

@@ -2,3 +2,4 @@ pub mod Commands
 pub mod HelpTexts
 pub mod Program
 pub mod RefusalLines
+pub mod TextRuns

@@ -1,30 +1,33 @@
 -- What the program does for its arguments.
-use Rattle.std.specs.Prelude.{◌≡◌, ◌≢◌, ◌⊎◌, ◌++◌, ℕ, List, [], Option, Some, None, IfSome, Result, Ok, Err, codes}
+use Rattle.std.specs.Prelude.{◌≡◌, ◌≢◌, ◌⊎◌, ℕ, List, [], Option, Some, None, IfSome, Result, Ok, Err, codes}
 use Rattle.std.specs.Io.KnownBytes.{Appends}
+use Rattle.day_tables.specs.TableTexts.{table_text}
+use Rattle.day_tables.specs.Tables.{IsTable}
 use Rattle.sale_matrix.specs.declared.matrix.Matrix.{Matrix}
 use Rattle.reports.specs.declared.message.Message.{Message}
 use Rattle.row_reads.specs.Writing.{WritesPrefix}
 use Rattle.table_days.specs.Days.{day_text}
-use Rattle.table_days.specs.EndTexts.{end_status, end_text}
+use Rattle.table_days.specs.EndTexts.{end_status}
 use Rattle.table_days.specs.TableEnds.{IsTableEnd, WritesTable, WritesTablePart}
 use Rattle.table_days.specs.TapeRows.{tape_text}
 use Rattle.table_days.specs.declared.refusals.Refusals.{Refusals}
 use Rattle.table_days.specs.declared.table_end.TableEnd.{TableEnd}
 use Rattle.table_days.specs.declared.table_end.TableEnd.TheVariants.{OutOfMemory, WriteFault}
-use Rattle.tapedesk.specs.HelpTexts.{help_text, report_help_text, tape_help_text}
+use Rattle.table_texts.specs.DecodedTexts.{IsText, IsTextEnd}
+use Rattle.table_texts.specs.EncodedTexts.{encoded_text}
+use Rattle.table_texts.specs.Ends.{IsReadingEnd}
+use Rattle.table_texts.specs.OwnBytes.{line_bytes}
+use Rattle.tapedesk.specs.HelpTexts.{help_text, word_help_text}
 use Rattle.tapedesk.specs.RefusalLines.{refusal_lines}
+use Rattle.tapedesk.specs.TextRuns.{RunsText, end_line, table_ends, text_ends}
 use Rattle.tapedesk.specs.declared.command.Command.{Command}
-use Rattle.tapedesk.specs.declared.command.Command.TheVariants.{Report, Tape, Help, ReportHelp, TapeHelp}
+use Rattle.tapedesk.specs.declared.command.Command.TheVariants.{Report, Tape, Encode, Decode, Line, Help, HelpOn}
 
 -- ## What is said
 
 -- what is said of bad arguments
 abbrev pub bad_arguments_text : List ℕ
 bad_arguments_text = codes "tapedesk: bad arguments\n"
-
--- what is said of an end
-abbrev pub end_line : TableEnd → List ℕ
-end_line end = codes "tapedesk: " ++ end_text end ++ codes "\n"
 
 -- the status of a run
 abbrev pub run_status : Result Refusals TableEnd → ℕ
@@ -72,11 +75,15 @@ AnswersCommand (Some (Report matrix)) status input reader_old reader_new writer_
     RunsTable day_text matrix input old new status writer_old writer_new errors_old errors_new said_old said_new
 AnswersCommand (Some (Tape matrix)) status input reader_old reader_new writer_old writer_new old new errors_old errors_new said_old said_new =
     RunsTable tape_text matrix input old new status writer_old writer_new errors_old errors_new said_old said_new
+AnswersCommand (Some Encode) status input reader_old reader_new writer_old writer_new old new errors_old errors_new said_old said_new =
+    RunsText table_ends IsTable encoded_text IsTableEnd input old new status writer_old writer_new errors_old errors_new said_old said_new
+AnswersCommand (Some Decode) status input reader_old reader_new writer_old writer_new old new errors_old errors_new said_old said_new =
+    RunsText text_ends IsText table_text IsTextEnd input old new status writer_old writer_new errors_old errors_new said_old said_new
+AnswersCommand (Some (Line participant)) status input reader_old reader_new writer_old writer_new old new errors_old errors_new said_old said_new =
+    RunsText table_ends IsTable (line_bytes participant) IsReadingEnd input old new status writer_old writer_new errors_old errors_new said_old said_new
 AnswersCommand (Some Help) status input reader_old reader_new writer_old writer_new old new errors_old errors_new said_old said_new =
     (reader_new ≡ reader_old) × Helps help_text status old new errors_old errors_new said_old said_new
-AnswersCommand (Some ReportHelp) status input reader_old reader_new writer_old writer_new old new errors_old errors_new said_old said_new =
-    (reader_new ≡ reader_old) × Helps report_help_text status old new errors_old errors_new said_old said_new
-AnswersCommand (Some TapeHelp) status input reader_old reader_new writer_old writer_new old new errors_old errors_new said_old said_new =
-    (reader_new ≡ reader_old) × Helps tape_help_text status old new errors_old errors_new said_old said_new
+AnswersCommand (Some (HelpOn word)) status input reader_old reader_new writer_old writer_new old new errors_old errors_new said_old said_new =
+    (reader_new ≡ reader_old) × Helps (word_help_text word) status old new errors_old errors_new said_old said_new
 AnswersCommand None status input reader_old reader_new writer_old writer_new old new errors_old errors_new said_old said_new =
     (status ≡ 2) × (reader_new ≡ reader_old) × OnlySays bad_arguments_text writer_old writer_new said_old said_new

@@ -1,8 +1,24 @@
 //! What the program's arguments ask for.
-ghost use Rattle.std.specs.Prelude.{◌≡◌};
-ghost use Rattle.tapedesk.specs.Commands.{command_of};
+ghost use Rattle.std.specs.Prelude.{◌≡◌, MatchOption, false};
+ghost use Rattle.tapedesk.specs.Commands.{asked, asked_or_help, asks_for_rows, begins, command_of, ended_name, matrix_of, participant_of, rest_of, word_of};
 
 use sale_matrix::Matrix;
+use tape_types::Participant;
+
+/// A first argument, which may have help asked for.
+#[derive(Clone, Copy, Debug, PartialEq, Eq)]
+pub enum Word {
+    /// The report of a table.
+    Report,
+    /// The readable tape of a table.
+    Tape,
+    /// The text of a batch of a table.
+    Encode,
+    /// The table of a batch's text.
+    Decode,
+    /// The bytes of one participant's messages in a table.
+    Line,
+}
 
 /// What the program is asked for.
 #[derive(Clone, Copy, Debug, PartialEq, Eq)]
@@ -11,61 +27,137 @@ pub enum Command {
     Report(Matrix),
     /// The readable tape of a table, by a matrix.
     Tape(Matrix),
+    /// The text of a batch of a table.
+    Encode,
+    /// The table of a batch's text.
+    Decode,
+    /// The bytes of a participant's messages in a table.
+    Line(Participant),
     /// What the program does.
     Help,
-    /// What `report` does.
-    ReportHelp,
-    /// What `tape` does.
-    TapeHelp,
+    /// What a word does.
+    HelpOn(Word),
 }
 
-/// The arguments for a report by Matrix One.
-const REPORT: &[u8] = b"report\0";
+/// Every word, in the order in which help lists them.
+const ALL_WORDS: [Word; 5] = [
+    Word::Report,
+    Word::Tape,
+    Word::Encode,
+    Word::Decode,
+    Word::Line,
+];
 
-/// The same with the matrix named.
-const REPORT_ONE: &[u8] = b"report\01\0";
-
-/// The arguments for a report by Matrix Two.
-const REPORT_TWO: &[u8] = b"report\02\0";
-
-/// The arguments for a readable tape by Matrix One.
-const TAPE: &[u8] = b"tape\0";
-
-/// The same with the matrix named.
-const TAPE_ONE: &[u8] = b"tape\01\0";
-
-/// The arguments for a readable tape by Matrix Two.
-const TAPE_TWO: &[u8] = b"tape\02\0";
-
-/// The arguments for help.
+/// The argument for help.
 const HELP: &[u8] = b"--help\0";
 
-/// The arguments for help on reports.
-const REPORT_HELP: &[u8] = b"report\0--help\0";
+/// The argument that names Matrix One.
+const ONE: &[u8] = b"1\0";
 
-/// The arguments for help on readable tapes.
-const TAPE_HELP: &[u8] = b"tape\0--help\0";
+/// The argument that names Matrix Two.
+const TWO: &[u8] = b"2\0";
+
+impl Word {
+    /// The argument that names the word, ended by a zero byte.
+    fn ended_name(self) -> &'static [u8]
+        ensures { result.now ≡ ended_name self }
+    {
+        match self {
+            Word::Report => b"report\0",
+            Word::Tape => b"tape\0",
+            Word::Encode => b"encode\0",
+            Word::Decode => b"decode\0",
+            Word::Line => b"line\0",
+        }
+    }
+
+    /// The arguments after the word, or `None` where they do not begin with it.
+    fn rest(self, words: &[u8]) -> Option<&[u8]>
+        ensures { MatchOption result (begins words.now self ≡ false) (λ rest. rest.now ≡ rest_of words.now self) }
+    {
+        let name = self.ended_name();
+        if words.starts_with(name) {
+            Some(&words[name.len()..])
+        } else {
+            None
+        }
+    }
+
+    /// The word that arguments begin with.
+    fn of_arguments(words: &[u8]) -> Option<Word>
+        ensures { result ≡ word_of words.now }
+    {
+        ALL_WORDS
+            .iter()
+            .copied()
+            .find(|word| words.starts_with(word.ended_name()))
+    }
+}
+
+/// Whether arguments begin as those for a readable tape.
+pub fn asks_for_rows(words: &[u8]) -> bool
+    ensures { result ≡ asks_for_rows words.now }
+{
+    words.starts_with(Word::Tape.ended_name())
+}
+
+/// The matrix that the arguments after a word name: Matrix One where there are none.
+fn matrix_of(words: &[u8]) -> Option<Matrix>
+    ensures { result ≡ matrix_of words.now }
+{
+    if words.is_empty() || words == ONE {
+        Some(Matrix::One)
+    } else if words == TWO {
+        Some(Matrix::Two)
+    } else {
+        None
+    }
+}
+
+/// The participant that the arguments after a word name.
+fn participant_of(words: &[u8]) -> Option<Participant>
+    ensures { result ≡ participant_of words.now }
+{
+    match words {
+        [letter, 0] => Participant::try_new(*letter),
+        _ => None,
+    }
+}
+
+/// What a word asks for with the arguments after it.
+fn asked(word: Word, words: &[u8]) -> Option<Command>
+    ensures { result ≡ asked word words.now }
+{
+    match word {
+        Word::Report => Some(Command::Report(matrix_of(words)?)),
+        Word::Tape => Some(Command::Tape(matrix_of(words)?)),
+        Word::Encode if words.is_empty() => Some(Command::Encode),
+        Word::Decode if words.is_empty() => Some(Command::Decode),
+        Word::Encode | Word::Decode => None,
+        Word::Line => Some(Command::Line(participant_of(words)?)),
+    }
+}
+
+/// What a word asks for with the arguments after it, of which help may be the only one.
+fn asked_or_help(word: Word, words: &[u8]) -> Option<Command>
+    ensures { result ≡ asked_or_help word words.now }
+{
+    if words == HELP {
+        Some(Command::HelpOn(word))
+    } else {
+        asked(word, words)
+    }
+}
 
 /// What arguments ask for, each ended by a zero byte, or `None` where they are bad.
 #[tactic(auto, unfolding(crate::specs::Commands::command_of))]
 pub fn read_command(words: &[u8]) -> Option<Command>
     ensures { result ≡ command_of words.now }
 {
-    if words == REPORT || words == REPORT_ONE {
-        Some(Command::Report(Matrix::One))
-    } else if words == REPORT_TWO {
-        Some(Command::Report(Matrix::Two))
-    } else if words == TAPE || words == TAPE_ONE {
-        Some(Command::Tape(Matrix::One))
-    } else if words == TAPE_TWO {
-        Some(Command::Tape(Matrix::Two))
-    } else if words == HELP {
-        Some(Command::Help)
-    } else if words == REPORT_HELP {
-        Some(Command::ReportHelp)
-    } else if words == TAPE_HELP {
-        Some(Command::TapeHelp)
-    } else {
-        None
+    if words == HELP {
+        return Some(Command::Help);
     }
+    let word = Word::of_arguments(words)?;
+    let rest = word.rest(words)?;
+    asked_or_help(word, rest)
 }

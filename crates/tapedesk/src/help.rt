@@ -1,24 +1,45 @@
 //! What the program says of itself.
 ghost use Rattle.std.specs.Prelude.{◌≡◌};
-ghost use Rattle.tapedesk.specs.HelpTexts.{help_text, report_help_text, tape_help_text};
+ghost use Rattle.tapedesk.specs.HelpTexts.{help_text, word_help_text};
 
-/// What the program does.
+use crate::command::Word;
+
+/// What the program does, word by word.
 pub fn help_text() -> &'static [u8]
     ensures { result.now ≡ help_text }
 {
-    b"tapedesk report [1|2] < TABLE.csv\ntapedesk tape [1|2] < TABLE.csv\nReads a table of trade messages and writes the day's report, or a readable tape; 1 or 2 is the matrix.\n"
+    b"tapedesk WORD reads a day of trade messages from standard input and writes to standard output; tapedesk WORD --help is about one word.\n\
+tapedesk report [1|2] < TABLE.csv\n\
+Writes the report of the day, by Matrix One or 2; rows that the tape refuses are counted on standard error.\n\
+tapedesk tape [1|2] < TABLE.csv\n\
+Writes each row with its tape number or its refusal, and its symbol's figures after it, by Matrix One or 2.\n\
+tapedesk encode < TABLE.csv\n\
+Writes the messages as the text of a batch: the symbols, the participants, and each message's letter and bytes.\n\
+tapedesk decode < DAY.txt\n\
+Writes the messages of a batch's text as a table.\n\
+tapedesk line PARTICIPANT < TABLE.csv\n\
+Writes the bytes of the messages of a participant, A to Z, as its line sends them on a running day.\n"
 }
 
-/// What `report` does.
-pub fn report_help_text() -> &'static [u8]
-    ensures { result.now ≡ report_help_text }
+/// What a word does.
+pub fn word_help_text(word: Word) -> &'static [u8]
+    ensures { result.now ≡ word_help_text word }
 {
-    b"tapedesk report [1|2] < TABLE.csv\nWrites the report of the day, by Matrix One or 2; rows that the tape refuses are counted on standard error.\n"
-}
-
-/// What `tape` does.
-pub fn tape_help_text() -> &'static [u8]
-    ensures { result.now ≡ tape_help_text }
-{
-    b"tapedesk tape [1|2] < TABLE.csv\nWrites each row with its tape number or its refusal, and its symbol's figures after it, by Matrix One or 2.\n"
+    match word {
+        Word::Report => {
+            b"tapedesk report [1|2] < TABLE.csv\nWrites the report of the day, by Matrix One or 2; rows that the tape refuses are counted on standard error.\n"
+        }
+        Word::Tape => {
+            b"tapedesk tape [1|2] < TABLE.csv\nWrites each row with its tape number or its refusal, and its symbol's figures after it, by Matrix One or 2.\n"
+        }
+        Word::Encode => {
+            b"tapedesk encode < TABLE.csv\nWrites the messages as the text of a batch: the symbols, the participants, and each message's letter and bytes.\n"
+        }
+        Word::Decode => {
+            b"tapedesk decode < DAY.txt\nWrites the messages of a batch's text as a table.\n"
+        }
+        Word::Line => {
+            b"tapedesk line PARTICIPANT < TABLE.csv\nWrites the bytes of the messages of a participant, A to Z, as its line sends them on a running day.\n"
+        }
+    }
 }

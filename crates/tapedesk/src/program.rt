@@ -1,20 +1,30 @@
 //! The program over its arguments and its standard streams.
 ghost use Rattle.std.specs.Prelude.{◌≡◌, IfOk, OnErr, Ok, Err, Some};
+ghost use Rattle.day_tables.specs.TableTexts.{table_text};
+ghost use Rattle.day_tables.specs.Tables.{IsTable};
 ghost use Rattle.table_days.specs.Days.{day_text};
+ghost use Rattle.table_days.specs.TableEnds.{IsTableEnd};
 ghost use Rattle.table_days.specs.TapeRows.{tape_text};
 ghost use Rattle.table_days.specs.declared.table_end.TableEnd.TheVariants.{OutOfMemory};
+ghost use Rattle.table_texts.specs.DecodedTexts.{IsText, IsTextEnd};
+ghost use Rattle.table_texts.specs.EncodedTexts.{encoded_text};
+ghost use Rattle.table_texts.specs.Ends.{IsReadingEnd};
+ghost use Rattle.table_texts.specs.OwnBytes.{line_bytes};
 ghost use Rattle.tapedesk.specs.Commands.{command_of};
-ghost use Rattle.tapedesk.specs.Program.{AnswersCommand, Helps, OnlySays, RunsTable, end_line};
+ghost use Rattle.tapedesk.specs.Program.{AnswersCommand, Helps, OnlySays, RunsTable};
+ghost use Rattle.tapedesk.specs.TextRuns.{RunsText, end_line, table_ends, text_ends};
 
 use crate::command::{Command, read_command};
-use crate::help::{help_text, report_help_text, tape_help_text};
-use crate::saying::{end_run, say, say_end};
+use crate::help::{help_text, word_help_text};
+use crate::saying::{end_decoded, end_run, end_text, say, say_end};
 use row_reads::write_text;
 use sale_matrix::Matrix;
 use std::alloc::{AllocError, Global};
 use std::io::{Read, Write};
 use std::thread::Threads;
 use table_days::{TableEnd, report_over, tape_over};
+use table_texts::{decode_over, encode_over, line_over};
+use tape_types::Participant;
 
 /// The status of bad arguments.
 const BAD_ARGUMENTS: u8 = 2;
@@ -50,6 +60,49 @@ fn run_tape<R: Read, W: Write, E: Write>(
     end_run(alloc, errors, run)
 }
 
+/// Writes the text of a batch of a table, says why it is not whole, and gives the status.
+fn run_encode<R: Read, W: Write, E: Write>(
+    alloc: Global,
+    reader: &mut R,
+    writer: &mut W,
+    errors: &mut E,
+) -> u8
+    ensures { RunsText table_ends IsTable encoded_text IsTableEnd (R.remaining reader.old) (W.contents writer.old) (W.contents writer.new) result
+        writer.old writer.new errors.old errors.new (E.contents errors.old) (E.contents errors.new) }
+{
+    let run = encode_over(alloc, reader, writer);
+    end_text(alloc, errors, run)
+}
+
+/// Writes the table of a batch's text, says why it is not whole, and gives the status.
+fn run_decode<R: Read, W: Write, E: Write>(
+    alloc: Global,
+    reader: &mut R,
+    writer: &mut W,
+    errors: &mut E,
+) -> u8
+    ensures { RunsText text_ends IsText table_text IsTextEnd (R.remaining reader.old) (W.contents writer.old) (W.contents writer.new) result
+        writer.old writer.new errors.old errors.new (E.contents errors.old) (E.contents errors.new) }
+{
+    let run = decode_over(alloc, reader, writer);
+    end_decoded(alloc, errors, run)
+}
+
+/// Writes the bytes of a participant's messages, says why they are not whole, and gives the status.
+fn run_line<R: Read, W: Write, E: Write>(
+    alloc: Global,
+    participant: Participant,
+    reader: &mut R,
+    writer: &mut W,
+    errors: &mut E,
+) -> u8
+    ensures { RunsText table_ends IsTable (line_bytes participant) IsReadingEnd (R.remaining reader.old) (W.contents writer.old) (W.contents writer.new) result
+        writer.old writer.new errors.old errors.new (E.contents errors.old) (E.contents errors.new) }
+{
+    let run = line_over(alloc, participant, reader, writer);
+    end_text(alloc, errors, run)
+}
+
 /// Writes a help text, and gives the status.
 fn help<W: Write, E: Write>(alloc: Global, text: &[u8], writer: &mut W, errors: &mut E) -> u8
     ensures { Helps text.now result (W.contents writer.old) (W.contents writer.new) errors.old errors.new (E.contents errors.old) (E.contents errors.new) }
@@ -75,18 +128,22 @@ fn run_command<T: Threads + Sync, R: Read, W: Write, E: Write>(
     match command {
         Command::Report(matrix) => run_report(rt, alloc, matrix, reader, writer, errors),
         Command::Tape(matrix) => run_tape(alloc, matrix, reader, writer, errors),
+        Command::Encode => run_encode(alloc, reader, writer, errors),
+        Command::Decode => run_decode(alloc, reader, writer, errors),
+        Command::Line(participant) => run_line(alloc, participant, reader, writer, errors),
         Command::Help => help(alloc, help_text(), writer, errors),
-        Command::ReportHelp => help(alloc, report_help_text(), writer, errors),
-        Command::TapeHelp => help(alloc, tape_help_text(), writer, errors),
+        Command::HelpOn(word) => help(alloc, word_help_text(word), writer, errors),
     }
 }
 
 /// Runs the program on its arguments, without its own name and each ended by a zero byte, over its standard streams, and
 /// returns its status.
 ///
-/// `report` reads a table from `reader` and writes the day's report to `writer`, `tape` its readable tape, and `--help` says what
-/// they do. Any other arguments are bad ones. What was refused, and what goes wrong, is said on `errors`, each in one line. The status
-/// is 0 where all is done, 2 for a bad table or bad arguments, 3 for a read fault, 4 for a write fault and 5 where memory ran out.
+/// `report` reads a table from `reader` and writes the day's report to `writer`, `tape` its readable tape, `encode` the text of a
+/// batch, and `line` the bytes of one participant's messages; `decode` reads the text of a batch and writes its table. `--help`, alone
+/// or after a word, writes what they do. Any other arguments are bad ones. What a report's or a readable tape's rows were refused for,
+/// and what goes wrong, is said on `errors`, each in one line. The status is 0 where all is done, 2 for a bad table, a bad text or bad
+/// arguments, 3 for a read fault, 4 for a write fault and 5 where memory ran out.
 pub fn program<T: Threads + Sync, R: Read, W: Write, E: Write>(
     rt: &T,
     alloc: Global,

@@ -1,10 +1,12 @@
 //! What is said on standard error.
-ghost use Rattle.std.specs.Prelude.{◌≡◌, ◌↔◌, IsTrue, []};
+ghost use Rattle.std.specs.Prelude.{◌≡◌, ◌↔◌, IsOk, IsTrue, []};
 ghost use Rattle.day_tables.specs.declared.table_fault.TableFault.TheVariants.{OutOfMemory};
 ghost use Rattle.row_reads.specs.Writing.{WritesPrefix};
 ghost use Rattle.table_days.specs.EndTexts.{end_status};
-ghost use Rattle.tapedesk.specs.Program.{end_line, run_status, run_text};
+ghost use Rattle.table_texts.specs.declared.text_end.TextEnd.TheVariants.{OutOfMemory as TextOutOfMemory};
+ghost use Rattle.tapedesk.specs.Program.{run_status, run_text};
 ghost use Rattle.tapedesk.specs.RefusalLines.{refusal_lines};
+ghost use Rattle.tapedesk.specs.TextRuns.{end_line, table_ends, text_end_line, text_ends, text_line, text_status};
 ghost use Rattle.table_days.specs.declared.table_end.TableEnd.TheVariants.{Listing, Table};
 
 use crate::refusal_lines::refusal_lines;
@@ -13,6 +15,7 @@ use row_reads::write_text;
 use std::alloc::Global;
 use std::io::Write;
 use table_days::{Refusals, TableEnd};
+use table_texts::TextEnd;
 use tape_types::ListingFault;
 
 /// Says a text, and for no text writes nothing. A write that fails ends it, and changes nothing of the status.
@@ -102,5 +105,54 @@ pub fn end_run<E: Write>(alloc: Global, errors: &mut E, run: Result<Refusals, Ta
             0
         }
         Err(end) => say_end(alloc, errors, &end),
+    }
+}
+
+/// Says why a text of a table was not written whole, or nothing where it was. It gives the status.
+pub fn end_text<E: Write>(alloc: Global, errors: &mut E, run: Result<(), TableEnd>) -> u8
+    ensures status { result ≡ text_status table_ends run }
+    ensures quiet { IsOk run → errors.new ≡ errors.old }
+    ensures said { WritesPrefix (text_line table_ends run) (E.contents errors.old) (E.contents errors.new) }
+{
+    match run {
+        Ok(()) => 0,
+        Err(end) => say_end(alloc, errors, &end),
+    }
+}
+
+/// Whether memory ran out while the text of a batch was read or written as a table.
+fn is_text_out_of_memory(end: &TextEnd) -> bool
+    ensures { IsTrue result ↔ (end.now ≡ TextOutOfMemory) }
+{
+    matches!(end, TextEnd::OutOfMemory)
+}
+
+/// Says why the text of a batch has no table. Where memory ran out the line is said without any; any other is not said where there is
+/// none for it.
+fn say_text_end<E: Write>(alloc: Global, errors: &mut E, end: &TextEnd)
+    ensures { WritesPrefix (text_end_line end.now) (E.contents errors.old) (E.contents errors.new) }
+{
+    if is_text_out_of_memory(end) {
+        say(errors, b"tapedesk: out of memory\n");
+        return;
+    }
+    let Ok(line) = format!(in alloc; "tapedesk: {end}\n") else {
+        return;
+    };
+    say(errors, line.as_bytes());
+}
+
+/// Says why the text of a batch was not written whole as a table, or nothing where it was. It gives the status.
+pub fn end_decoded<E: Write>(alloc: Global, errors: &mut E, run: Result<(), TextEnd>) -> u8
+    ensures status { result ≡ text_status text_ends run }
+    ensures quiet { IsOk run → errors.new ≡ errors.old }
+    ensures said { WritesPrefix (text_line text_ends run) (E.contents errors.old) (E.contents errors.new) }
+{
+    match run {
+        Ok(()) => 0,
+        Err(end) => {
+            say_text_end(alloc, errors, &end);
+            end.status()
+        }
     }
 }

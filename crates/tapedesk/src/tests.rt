@@ -1,5 +1,7 @@
-//! Tables through both words, what is said of them, and readers and writers that fail.
+//! A day through each word, what is said of it, and readers and writers that fail.
 
+use crate::command::Word;
+use crate::help::{help_text, word_help_text};
 use crate::program;
 use std::alloc::Global;
 use std::io;
@@ -28,6 +30,27 @@ tape,refused,kind,participant,number,moment,symbol,target,price,size,condition,o
 2,,report,Q,1,0,AB,,10.10,200,@___,10.00,10.10,10.00,10.10,300,2\n\
 ,35 Stale,report,Q,1,0,AB,,10.20,500,@___,10.00,10.10,10.00,10.10,300,2\n\
 3,,cancel,Q,2,0,AB,1,,,,10.00,10.00,10.00,10.00,100,1\n";
+
+/// The text of a batch of it.
+const ENCODED: &[u8] = b"\
+AB\n\
+N Q\n\
+N 0026524e000000010000000000000000414220202020202000000000000186a00000006440202020\n\
+Q 0026525100000001000000000000000041422020202020200000000000018a88000000c840202020\n\
+Q 0026525100000001000000000000000041422020202020200000000000018e70000001f440202020\n\
+Q 001a5851000000020000000000000000414220202020202000000001\n";
+
+/// The table of that text.
+const DECODED: &[u8] = b"\
+kind,participant,number,moment,symbol,target,price,size,condition\n\
+report,N,1,0,AB,,10.00,100,@___\n\
+report,Q,1,0,AB,,10.10,200,@___\n\
+report,Q,1,0,AB,,10.20,500,@___\n\
+cancel,Q,2,0,AB,1,,,\n";
+
+/// The bytes of N's one message in it.
+const BYTES_OF_N: &[u8] =
+    b"\0\x26RN\0\0\0\x01\0\0\0\0\0\0\0\0AB      \0\0\0\0\0\x01\x86\xa0\0\0\0\x64@   ";
 
 /// What is said of its refused row.
 const REFUSED: &[u8] = b"tapedesk: 1 row refused: 35 Stale, first at row 4\n";
@@ -117,6 +140,61 @@ fn a_table_has_a_report_and_a_readable_tape(rt: HostRuntime) {
 }
 
 #[test]
+fn a_table_is_encoded_and_decoded(rt: HostRuntime) {
+    assert_answers(
+        &rt,
+        rt.alloc(),
+        b"encode\0",
+        &mut { TABLE },
+        0,
+        ENCODED,
+        b"",
+    );
+    assert_answers(
+        &rt,
+        rt.alloc(),
+        b"decode\0",
+        &mut { ENCODED },
+        0,
+        DECODED,
+        b"",
+    );
+}
+
+#[test]
+fn a_participants_line_has_its_messages_alone(rt: HostRuntime) {
+    for (words, bytes) in [
+        (b"line\0N\0".as_slice(), BYTES_OF_N),
+        (b"line\0Z\0", b"".as_slice()),
+    ] {
+        assert_answers(&rt, rt.alloc(), words, &mut { TABLE }, 0, bytes, b"");
+    }
+}
+
+#[test]
+fn help_is_told_of_all_words_and_of_each(rt: HostRuntime) {
+    for (words, text) in [
+        (b"--help\0".as_slice(), help_text()),
+        (b"tape\0--help\0", word_help_text(Word::Tape)),
+        (b"decode\0--help\0", word_help_text(Word::Decode)),
+        (b"line\0--help\0", word_help_text(Word::Line)),
+    ] {
+        assert_answers(&rt, rt.alloc(), words, &mut { TABLE }, 0, text, b"");
+    }
+}
+
+#[test]
+fn a_bad_text_writes_nothing(rt: HostRuntime) {
+    let faults: &[(&[u8], &[u8])] = &[
+        (b"AB AB\nN\n", b"tapedesk: line 1: 3 Repeated\n"),
+        (b"AB\nN Q\nN 0\n", b"tapedesk: line 3: 22 BadLine\n"),
+    ];
+    for (text, said) in faults {
+        assert_answers(&rt, rt.alloc(), b"decode\0", &mut { *text }, 2, b"", said);
+    }
+}
+
+#[test]
 fn a_bad_table_writes_nothing(rt: HostRuntime) {
     let faults: &[(&[u8], &[u8])] = &[
         (b"", b"tapedesk: the table has no row\n"),
@@ -130,8 +208,9 @@ fn a_bad_table_writes_nothing(rt: HostRuntime) {
         ),
     ];
     for (table, said) in faults {
-        assert_answers(&rt, rt.alloc(), b"report\0", &mut { *table }, 2, b"", said);
-        assert_answers(&rt, rt.alloc(), b"tape\0", &mut { *table }, 2, b"", said);
+        for words in [b"report\0".as_slice(), b"tape\0", b"encode\0", b"line\0N\0"] {
+            assert_answers(&rt, rt.alloc(), words, &mut { *table }, 2, b"", said);
+        }
     }
 }
 
@@ -142,6 +221,12 @@ fn bad_arguments_are_told(rt: HostRuntime) {
         b"report\x003\0",
         b"tape\x001\x002\0",
         b"reports\0",
+        b"encode\x001\0",
+        b"line\0",
+        b"line\0n\0",
+        b"line\0NQ\0",
+        b"line\0N\0Q\0",
+        b"--help\0tape\0",
     ] {
         assert_answers(
             &rt,
@@ -157,8 +242,14 @@ fn bad_arguments_are_told(rt: HostRuntime) {
 
 #[test]
 fn a_read_that_fails_writes_nothing(rt: HostRuntime) {
-    for words in [b"report\0".as_slice(), b"tape\0"] {
-        let mut reader = CutShort { left: TABLE };
+    for (words, input) in [
+        (b"report\0".as_slice(), TABLE),
+        (b"tape\0", TABLE),
+        (b"encode\0", TABLE),
+        (b"decode\0", ENCODED),
+        (b"line\0N\0", TABLE),
+    ] {
+        let mut reader = CutShort { left: input };
         assert_answers(
             &rt,
             rt.alloc(),
@@ -173,8 +264,14 @@ fn a_read_that_fails_writes_nothing(rt: HostRuntime) {
 
 #[test]
 fn a_write_and_a_flush_that_fail_are_told(rt: HostRuntime) {
-    for (words, text) in [(b"report\0".as_slice(), REPORT), (b"tape\0", TAPE)] {
-        for (left, flushes) in [(0, true), (100, true), (text.len(), false)] {
+    for (words, input, text) in [
+        (b"report\0".as_slice(), TABLE, REPORT),
+        (b"tape\0", TABLE, TAPE),
+        (b"encode\0", TABLE, ENCODED),
+        (b"decode\0", ENCODED, DECODED),
+        (b"line\0N\0", TABLE, BYTES_OF_N),
+    ] {
+        for (left, flushes) in [(0, true), (20, true), (text.len(), false)] {
             let mut writer = Room {
                 taken: Vec::new(rt.alloc()),
                 left,
@@ -185,7 +282,7 @@ fn a_write_and_a_flush_that_fail_are_told(rt: HostRuntime) {
                 &rt,
                 rt.alloc(),
                 words,
-                &mut { TABLE },
+                &mut { input },
                 &mut writer,
                 &mut errors,
             );

@@ -1,5 +1,6 @@
 use Rattle.std.proofs.Common.{◌∙◌, ap, arith, refl, sym}
 use Rattle.table_days.proofs.DayLemmas.{AnswersMore-none, AnswersMore-one, tapes-more}
+use Rattle.table_days.proofs.ListingLemmas.{next-listed}
 use Rattle.table_days.proofs.TapeLemmas.{rows_text-more, rows_text-none}
 use Rattle.tape_core.specs.Tape.{TapeState}
 use Rattle.table_days.specs.Answers.{tape_after}
@@ -12,6 +13,14 @@ loop-message-init c = record {
   tape = refl;
   row = omega arith;
   more = AnswersMore-none c.args.day.now;
+}
+
+pub put_next-requires : goal.put_next-requires
+put_next-requires c = record {
+  row = omega (arith, c.loop-message.invariant.row, c.requires.few, c.loop-message-test.true);
+  listed = next-listed c.args.day.now.tape c.loop-message.day.tape c.args.messages.now c.loop-message.message-index c.message-item.result
+      c.loop-message-test.true (sym c.message-item.is) c.loop-message.invariant.tape c.requires.listed;
+  start = c.loop-message.invariant.start;
 }
 
 pub loop-message-preserved : goal.loop-message-preserved

@@ -1,6 +1,6 @@
 use Rattle.std.proofs.Common.{◌≡◌, ◌==◌, arith, length, rules, true}
 use Rattle.table_days.proofs.EndLemmas.{any_error, any_ok, ok_map}
-use Rattle.table_days.proofs.TapeLemmas.{WrittenSome-answered, WrittenSome-fault, WrittenSome-few, WrittenSome-next, WrittenSome-none, WrittenSome-whole, no_messages, two_parts}
+use Rattle.table_days.proofs.TapeLemmas.{WrittenSome-answered, WrittenSome-fault, WrittenSome-few, WrittenSome-listed, WrittenSome-next, WrittenSome-none, WrittenSome-whole, no_messages, two_parts}
 use Rattle.table_days.proofs.tape.write_rows.Goals as goal
 
 pub loop-rest-init : goal.loop-rest-init
@@ -9,12 +9,18 @@ loop-rest-init g c =
     c.requires.fresh
 
 pub next_lines-requires : goal.next_lines-requires
-next_lines-requires g c = omega (
-  arith,
-  WrittenSome-few c.args.day.now.tape c.loop-rest.day c.args.messages.now c.loop-rest.rest.now c.split_at.result.0.now c.split_at.result.1.now
-      c.loop-rest.text.items _ _ (two_parts _ _ _ _ c.split_at.ensures.front c.split_at.ensures.back) c.loop-rest.invariant,
-  c.requires.few,
-)
+next_lines-requires g c =
+    let cut = two_parts _ _ _ _ c.split_at.ensures.front c.split_at.ensures.back in
+    record {
+      few = omega (
+        arith,
+        WrittenSome-few c.args.day.now.tape c.loop-rest.day c.args.messages.now c.loop-rest.rest.now c.split_at.result.0.now c.split_at.result.1.now
+            c.loop-rest.text.items _ _ cut c.loop-rest.invariant,
+        c.requires.few,
+      );
+      listed = WrittenSome-listed c.args.day.now.tape c.loop-rest.day c.args.messages.now c.loop-rest.rest.now c.split_at.result.0.now
+          c.split_at.result.1.now c.loop-rest.text.items _ _ cut c.requires.listed c.loop-rest.invariant;
+    }
 
 pub loop-rest-preserved : goal.loop-rest-preserved
 loop-rest-preserved g c =

@@ -3,6 +3,7 @@ use Rattle.std.specs.Io.KnownBytes.{Appends}
 use Rattle.row_reads.specs.Lemmas.WriteLemmas.{WritesPrefix-kept, WritesPrefix-whole}
 use Rattle.tape_core.specs.Tape.{TapeState}
 use Rattle.table_days.specs.TapeRows.{tape_text, text_from}
+use Rattle.table_days.proofs.ListingLemmas.{first-lists}
 use Rattle.table_days.proofs.TapeLemmas.{nothing_written}
 use Rattle.table_days.proofs.tape.write_tape.Goals as goal
 
@@ -21,3 +22,6 @@ returns-in-Ok-write_rows-clause-prefix g c = λ _.
     (WritesPrefix-whole text old mid
     (subst (λ (t : TapeState). Appends old mid (text_from t c.args.messages.now)) c.in-Ok.ensures.day.tape c.in-Ok-write_rows.ensures.written))
     c.flushed.ensures.kept
+
+pub write_rows-requires-clause-listed : goal.write_rows-requires-clause-listed
+write_rows-requires-clause-listed g c = rw c.in-Ok.ensures.day.tape (first-lists c.args.matrix c.args.messages.now)

@@ -1,6 +1,7 @@
 use Rattle.std.proofs.Common.{inr}
 use Rattle.table_days.specs.TapeRows.{tape_text}
-use Rattle.tapedesk.proofs.RunLemmas.{comes_of, silent_tape}
+use Rattle.table_days.specs.declared.table_end.TableEnd.TheVariants.{OutOfMemory, WriteFault}
+use Rattle.tapedesk.proofs.RunLemmas.{comes_of, silent_else}
 use Rattle.tapedesk.proofs.program.run_tape.Goals as goal
 
 pub returns : goal.returns
@@ -10,7 +11,7 @@ returns g c = record {
   comes = comes_of tape_text c.args.matrix (g.R.Read.remaining c.args.reader.now) (g.W.Write.contents c.args.writer.now)
       (g.W.Write.contents c.tape_over-run.new.writer) c.tape_over-run.result c.tape_over-run.ensures.written c.tape_over-run.ensures.end;
   part = λ ended. inr (c.tape_over-run.ensures.prefix ended);
-  silent = silent_tape c.tape_over-run.result _ c.tape_over-run.ensures.silent;
+  silent = silent_else WriteFault OutOfMemory c.tape_over-run.result _ c.tape_over-run.ensures.silent;
   quiet = c.end_run.ensures.quiet;
   said = c.end_run.ensures.said;
 }

@@ -1,6 +1,6 @@
 //! Tables in the forms that they come in, how each fault prints, and a read and a write that fail.
 
-use crate::{TableFault, TableWriteFault, read_table, write_table};
+use day_tables::{TableFault, TableWriteFault, read_table, write_table};
 use reports::Message;
 use std::alloc::Global;
 use std::io;

@@ -1,0 +1,7 @@
+use Rattle.table_days.specs.TapeRows.{entry_row, row_line}
+use Rattle.table_days.proofs.TapeLemmas.{nothing_written}
+use Rattle.table_days.proofs.entry_rows.EntryRows.write.Goals as goal
+
+pub returns-in-Err-clause-prefix : goal.returns-in-Err-clause-prefix
+returns-in-Err-clause-prefix g c =
+    nothing_written (row_line (entry_row c.args.entry.now c.args.figures.now)) (g.W.Write.contents c.args.writer.now)

@@ -1,0 +1,107 @@
+//! The rows of the readable tape for the entries of a tape.
+ghost use Rattle.std.specs.Prelude.{◌≡◌, Err, OnErr, OnOk};
+ghost use Rattle.std.specs.Io.KnownBytes.{Appends};
+ghost use Rattle.day_tables.specs.declared.table_write_fault.TableWriteFault.TheVariants.{OutOfMemory, WriteFault};
+ghost use Rattle.row_reads.specs.Writing.{WritesPrefix};
+ghost use Rattle.table_days.specs.Laws.{RowsOfEntries};
+ghost use Rattle.table_days.specs.TapeRows.{entry_row, head_line, row_line};
+
+use crate::lines::{into_text, lines_in};
+use crate::tape_row::{head_text, put_row};
+use csv::ByteRecord;
+use day_tables::TableWriteFault;
+use row_reads::write_text;
+use scratch_fold::Summary;
+use std::alloc::{AllocError, Global};
+use std::io::Write;
+use std::mem;
+use tape_core::Entry;
+
+/// Writes a text, and tells where a write failed.
+fn write_line<W: Write>(writer: &mut W, line: &[u8]) -> Result<(), TableWriteFault>
+    ensures written { OnOk result (Appends (W.contents writer.old) (W.contents writer.new) line.now) }
+    ensures prefix { WritesPrefix line.now (W.contents writer.old) (W.contents writer.new) }
+    ensures fault { OnErr result (result ≡ Err WriteFault) }
+{
+    match write_text(writer, line) {
+        Ok(()) => Ok(()),
+        Err(_) => Err(TableWriteFault::WriteFault),
+    }
+}
+
+/// Writes the line of the columns' names, with which a readable tape begins.
+///
+/// Refused: `OutOfMemory` before anything is written, and `WriteFault` where a write fails or takes no byte, when a prefix of the
+/// line has been written and nothing else. The writer is not flushed.
+pub fn write_head<W: Write>(alloc: Global, writer: &mut W) -> Result<(), TableWriteFault>
+    ensures written { OnOk result (Appends (W.contents writer.old) (W.contents writer.new) head_line) }
+    ensures memory { result ≡ Err OutOfMemory → writer.new ≡ writer.old }
+    ensures prefix { OnErr result (WritesPrefix head_line (W.contents writer.old) (W.contents writer.new)) }
+{
+    match head_text(alloc) {
+        Ok(head) => write_line(writer, &head),
+        Err(_) => Err(TableWriteFault::OutOfMemory),
+    }
+}
+
+/// What the rows of a tape's entries are made with: memory that is used again for each.
+#[derive(Drop)]
+pub struct EntryRows {
+    alloc: Global,
+    fields: ByteRecord,
+    text: Vec<u8>,
+}
+
+impl EntryRows {
+    /// No row is made yet. It takes no memory.
+    pub fn new(alloc: Global) -> EntryRows {
+        EntryRows {
+            alloc,
+            fields: ByteRecord::new(alloc),
+            text: Vec::new(alloc),
+        }
+    }
+
+    /// Makes the line of an entry's row.
+    fn make(&mut self, entry: &Entry, figures: &Summary) -> Result<(), AllocError>
+        ensures { OnOk result (self.new.text.items ≡ row_line (entry_row entry.now figures.now)) }
+    {
+        let mut writer = lines_in(mem::replace(&mut self.text, Vec::new(self.alloc)));
+        put_row(
+            &mut writer,
+            &mut self.fields,
+            &Ok(entry.number),
+            &entry.message,
+            figures,
+        )?;
+        self.text = into_text(writer)?;
+        Ok(())
+    }
+
+    /// Writes the row of an entry of a tape, with the consolidated summary of its symbol after it: the row that `tape_over` writes
+    /// for the message of the entry.
+    ///
+    /// Refused: `OutOfMemory` before anything is written, and `WriteFault` where a write fails or takes no byte, when a prefix of the
+    /// row has been written and nothing else. After each the next row can be written. The writer is not flushed, and a row is one write
+    /// where the writer takes it whole.
+    pub fn write<W: Write>(
+        &mut self,
+        entry: &Entry,
+        figures: &Summary,
+        writer: &mut W,
+    ) -> Result<(), TableWriteFault>
+        ensures written { OnOk result (Appends (W.contents writer.old) (W.contents writer.new) (row_line (entry_row entry.now figures.now))) }
+        ensures memory { result ≡ Err OutOfMemory → writer.new ≡ writer.old }
+        ensures prefix { OnErr result (WritesPrefix (row_line (entry_row entry.now figures.now)) (W.contents writer.old) (W.contents writer.new)) }
+    {
+        match self.make(entry, figures) {
+            Ok(()) => write_line(writer, &self.text),
+            Err(_) => Err(TableWriteFault::OutOfMemory),
+        }
+    }
+}
+
+/// Of messages that a tape answers, the rows with a tape number are the rows of the entries that it gets.
+pub fn rows_of_entries()
+    ensures holds { RowsOfEntries }
+{}

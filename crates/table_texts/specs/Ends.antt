@@ -1,0 +1,27 @@
+-- What was written of a whole input, and why it was not.
+use Rattle.std.specs.Prelude.{ℕ, List, Option}
+use Rattle.std.specs.Io.KnownBytes.{Appends}
+use Rattle.day_tables.specs.Tables.{IsTableFault}
+use Rattle.reports.specs.declared.message.Message.{Message}
+use Rattle.row_reads.specs.Writing.{WritesPrefix}
+use Rattle.table_days.specs.declared.table_end.TableEnd.{TableEnd}
+use Rattle.table_days.specs.declared.table_end.TableEnd.TheVariants.{Table, Listing, OutOfMemory, WriteFault}
+
+-- a text of messages that are so was written
+pub record WritesText (Are : List Message → Type 0) (text : List Message → List ℕ) (old new : Option (List ℕ)) : Type 0 where
+  pub messages : List Message
+  pub are : Are messages
+  pub written : Appends old new (text messages)
+
+-- a part of a text of messages that are so was written, from its front
+pub record WritesTextPart (Are : List Message → Type 0) (text : List Message → List ℕ) (old new : Option (List ℕ)) : Type 0 where
+  pub messages : List Message
+  pub are : Are messages
+  pub written : WritesPrefix (text messages) old new
+
+-- why a table has no bytes: it is no table; or memory ran out, or a write failed
+abbrev pub IsReadingEnd : List ℕ → TableEnd → Type 0
+IsReadingEnd input (Table fault) = IsTableFault input fault
+IsReadingEnd input (Listing fault) = ⊥
+IsReadingEnd input OutOfMemory = Unit {0}
+IsReadingEnd input WriteFault = Unit {0}

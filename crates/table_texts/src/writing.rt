@@ -1,0 +1,92 @@
+//! Messages written in a form, many at once.
+ghost use Rattle.std.specs.Prelude.{◌≡◌, ◌++◌, IfErr, IfOk, OnErr, OnOk};
+ghost use Rattle.std.specs.Io.KnownBytes.{Appends, Keeps};
+ghost use Rattle.std.specs.List.{flat_map};
+ghost use Rattle.row_reads.specs.Writing.{WritesPrefix};
+ghost use Rattle.table_texts.specs.declared.stop.Stop.TheVariants.{WriteFault};
+
+use crate::form::Form;
+use crate::stop::Stop;
+use reports::Message;
+use row_reads::write_text;
+use std::io::Write;
+
+/// How many messages are written at once.
+const MESSAGES_AT_ONCE: usize = 512;
+
+/// Writes a part of the text.
+fn write_part<W: Write>(writer: &mut W, text: &[u8]) -> Result<(), Stop>
+    ensures written { OnOk result (Appends (W.contents writer.old) (W.contents writer.new) text.now) }
+    ensures prefix { WritesPrefix text.now (W.contents writer.old) (W.contents writer.new) }
+{
+    match write_text(writer, text) {
+        Ok(()) => Ok(()),
+        Err(_) => Err(Stop::WriteFault),
+    }
+}
+
+/// Flushes what was written.
+fn flush<W: Write>(writer: &mut W) -> Result<(), Stop>
+    ensures kept { Keeps (W.contents writer.old) (W.contents writer.new) }
+{
+    match writer.flush() {
+        Ok(()) => Ok(()),
+        Err(_) => Err(Stop::WriteFault),
+    }
+}
+
+/// Writes a part of the text, and makes the text of the next messages in its memory.
+fn next_text<F: Form, W: Write>(
+    form: &F,
+    text: Vec<u8>,
+    messages: &[Message],
+    writer: &mut W,
+) -> Result<Vec<u8>, Stop>
+    ensures text { IfOk result (λ made. made.items ≡ flat_map (F.text form.now) messages.now) }
+    ensures written { OnOk result (Appends (W.contents writer.old) (W.contents writer.new) text.items) }
+    ensures prefix { WritesPrefix text.items (W.contents writer.old) (W.contents writer.new) }
+{
+    write_part(writer, &text)?;
+    match form.text_of(text, messages) {
+        Ok(made) => Ok(made),
+        Err(_) => Err(Stop::OutOfMemory),
+    }
+}
+
+/// Writes a head and the text of messages behind it, many messages at once.
+fn write_pieces<F: Form, W: Write>(
+    form: &F,
+    head: Vec<u8>,
+    messages: &[Message],
+    writer: &mut W,
+) -> Result<(), Stop>
+    ensures written { OnOk result (Appends (W.contents writer.old) (W.contents writer.new) (head.items ++ flat_map (F.text form.now) messages.now)) }
+    ensures prefix { WritesPrefix (head.items ++ flat_map (F.text form.now) messages.now) (W.contents writer.old) (W.contents writer.new) }
+{
+    let mut text = head;
+    let mut rest = messages;
+    while !rest.is_empty() {
+        let (next, behind) = rest.split_at(rest.len().min(MESSAGES_AT_ONCE));
+        text = match next_text(form, text, next, writer) {
+            Ok(made) => made,
+            Err(stop) => return Err(stop),
+        };
+        rest = behind;
+    }
+    write_part(writer, &text)
+}
+
+/// Writes a head and the text of messages behind it, many messages at once, and flushes them. Where it stops, a part from the front
+/// may have been written.
+pub fn write_messages<F: Form, W: Write>(
+    form: &F,
+    head: Vec<u8>,
+    messages: &[Message],
+    writer: &mut W,
+) -> Result<(), Stop>
+    ensures written { OnOk result (Appends (W.contents writer.old) (W.contents writer.new) (head.items ++ flat_map (F.text form.now) messages.now)) }
+    ensures prefix { WritesPrefix (head.items ++ flat_map (F.text form.now) messages.now) (W.contents writer.old) (W.contents writer.new) }
+{
+    write_pieces(form, head, messages, writer)?;
+    flush(writer)
+}
