@@ -7,7 +7,7 @@ ghost use Rattle.row_reads.specs.Writing.{WritesPrefix};
 use crate::command::{FollowWords, LiveWords};
 use crate::writing::say;
 use batch::BatchEnd;
-use live_feed::{Fault, FollowSockets, LiveSockets, NoLoss, follow_over, here, live_over};
+use live_feed::{Fault, FollowSockets, LiveSockets, NoLoss, NoSink, follow_over, here, live_over};
 use std::alloc::Global;
 use std::io;
 use std::io::Write;
@@ -156,8 +156,10 @@ where
             words.session,
             sockets,
             None,
+            NoSink,
             writer,
-        ),
+        )
+        .0,
         Err(_) => Fault::Read.status(),
     }
 }

@@ -2,12 +2,15 @@
 
 use super::fails_at::FailsAt;
 use super::{MOST, met_faults};
-use batch::{BatchEnd, batch_over};
+use batch::{Batch, BatchEnd, Day, batch_kept, batch_over};
 use sale_matrix::Matrix;
 use std::alloc::Global;
 use std::process::Abort;
 use std::test::Fail;
 use std::thread::Threads;
+
+/// How many reports the batch has.
+const REPORTS: usize = 40;
 
 /// A batch of reports.
 fn input(alloc: Global) -> Result<String, Fail> {
@@ -21,17 +24,43 @@ fn input(alloc: Global) -> Result<String, Fail> {
     Ok(text)
 }
 
-/// Whether the read of this number failed, of a batch that wrote nothing then, and else was done.
+/// How many messages a day has answered, each by the number of its entry; none where it is not so.
+fn answered(day: &Day) -> Option<usize> {
+    let mut count: usize = 0;
+    for answer in &day.answers {
+        count = count.wrapping_add(1);
+        match answer {
+            Ok(number) if number.value() as usize == count => {}
+            _ => return None,
+        }
+    }
+    (day.tape.entries().len() == count && !day.is_stopped).then_some(count)
+}
+
+/// How many messages are answered in what a batch gives back, where it has a day; none where its answers are not as they must be.
+fn kept_answers(kept: &Option<Batch>) -> Option<usize> {
+    match kept {
+        Some(Batch::Answered(day)) => answered(day),
+        Some(Batch::HeaderRefused(_)) => None,
+        None => Some(0),
+    }
+}
+
+/// Whether the read of this number failed, of a batch that wrote nothing then and gives back the day as far as it was read, and else was
+/// done and gives back the whole day.
 fn fails_at_read<T: Threads + Abort + Sync>(rt: &T, alloc: Global, input: &[u8], at: u32) -> bool {
     let mut reader = FailsAt::new(input, 100, at);
     let mut output = Vec::new(alloc);
-    let end = batch_over(rt, alloc, Matrix::One, &mut reader, &mut output);
+    let (end, kept) = batch_kept(rt, alloc, Matrix::One, &mut reader, &mut output);
+    let Some(count) = kept_answers(&kept) else {
+        panic!(rt; "read {at}: the day's answers are others")
+    };
     if reader.has_failed() {
         assert_eq!(rt; end, BatchEnd::ReadFault, "read {at}");
-        assert!(rt; output.is_empty(), "read {at}");
+        assert!(rt; output.is_empty() && count <= REPORTS, "read {at}");
         return true;
     }
-    assert_eq!(rt; end, BatchEnd::Done);
+    assert_eq!(rt; (end, count), (BatchEnd::Done, REPORTS));
     false
 }
 

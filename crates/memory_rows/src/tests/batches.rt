@@ -1,6 +1,6 @@
 //! Batches that run out of memory.
 
-use batch::{BatchEnd, batch_over};
+use batch::{Batch, BatchEnd, batch_kept};
 use sale_matrix::Matrix;
 use std::alloc::Global;
 use std::process::Abort;
@@ -25,21 +25,27 @@ fn input(alloc: Global) -> Result<String, Fail> {
     Ok(text)
 }
 
-/// What a batch that ended so has written, beside what it writes where memory is ample; none where that is not as it must be.
-fn kind_of(end: BatchEnd, written: &[u8], whole: &[u8], answers: &[u8]) -> Option<&'static str> {
-    match end {
+/// How a batch ended.
+#[derive(Clone, Copy, Debug)]
+struct Ended {
+    end: BatchEnd,
+    /// Whether the day that it gave back is one at whose last answer memory ran out.
+    is_stopped: bool,
+}
+
+/// What a batch that ended so has written, beside what it writes where memory is ample; none where that is not as it must be. A refusal
+/// 40 is written where the day says that it stopped there, and only there.
+fn kind_of(ended: Ended, written: &[u8], whole: &[u8], answers: &[u8]) -> Option<&'static str> {
+    match ended.end {
+        BatchEnd::Done if ended.is_stopped => None,
         BatchEnd::Done => (written == whole).then_some("all"),
-        BatchEnd::OutOfMemory => {
-            if written.is_empty() {
-                return Some("nothing");
-            }
-            if written == answers {
-                return Some("all answers and no report");
-            }
+        BatchEnd::OutOfMemory if ended.is_stopped => {
             let front = written.strip_suffix(REFUSED)?;
             let is_front = answers.starts_with(front) && front.len() < answers.len();
             is_front.then_some("answers up to a refusal 40")
         }
+        BatchEnd::OutOfMemory if written.is_empty() => Some("nothing"),
+        BatchEnd::OutOfMemory => (written == answers).then_some("all answers and no report"),
         _ => None,
     }
 }
@@ -53,12 +59,8 @@ fn answers_of(whole: &[u8]) -> Option<&[u8]> {
 }
 
 /// What two batches that ended so have written. One of them has written all.
-fn kinds_of(
-    ends: [BatchEnd; 2],
-    first: &[u8],
-    second: &[u8],
-) -> Option<(&'static str, &'static str)> {
-    let whole = if ends[0] == BatchEnd::Done {
+fn kinds_of(ends: [Ended; 2], first: &[u8], second: &[u8]) -> Option<(&'static str, &'static str)> {
+    let whole = if ends[0].end == BatchEnd::Done {
         first
     } else {
         second
@@ -71,14 +73,14 @@ fn kinds_of(
 }
 
 /// How a batch ends.
-fn end_of<T: Threads + Sync>(
-    rt: &T,
-    alloc: Global,
-    input: &[u8],
-    output: &mut Vec<u8>,
-) -> BatchEnd {
+fn end_of<T: Threads + Sync>(rt: &T, alloc: Global, input: &[u8], output: &mut Vec<u8>) -> Ended {
     let mut reader = input;
-    batch_over(rt, alloc, Matrix::One, &mut reader, output)
+    let (end, kept) = batch_kept(rt, alloc, Matrix::One, &mut reader, output);
+    let is_stopped = match kept {
+        Some(Batch::Answered(day)) => day.is_stopped,
+        _ => false,
+    };
+    Ended { end, is_stopped }
 }
 
 /// Ends a batch twice, of which one has memory where the other was refused it.

@@ -1,6 +1,6 @@
 //! A day over sockets played in one process: the day, its follower, its participants, and a watch over all.
 
-use crate::{FollowSockets, LiveSockets, Loss, follow_over, live_over};
+use crate::{FollowSockets, LiveSockets, Loss, NoSink, follow_over, live_over};
 use arbitration::Line;
 use live_feed::here;
 use sale_matrix::Matrix;
@@ -306,8 +306,10 @@ fn statuses<
             SESSION,
             follow,
             plan.restart_after,
+            NoSink,
             followed,
-        ),
+        )
+        .0,
     )
 }
 
