@@ -8,6 +8,8 @@ takes the difference at the first copy of each entry (`latency`). In turns with 
 each rate and number of lines, in microseconds, the middle of the turns' p50, p90, p99 and p99.9 of either program, how many messages were lost in
 all turns, how many a second the sender sent, and then the ratios. Nobody asks for anything again. Needs cargo, Python and Linux, whose /proc/net
 tells which ports are bound.
+
+Statuses: 0 if all was measured; 1 if a program fails; 2 if the words are others.
 """
 
 import argparse
@@ -88,7 +90,7 @@ def numbers(text):
 
 
 def arguments():
-    parser = argparse.ArgumentParser(description="Measures how long a message takes through tapebox live.")
+    parser = argparse.ArgumentParser(description=__doc__, formatter_class=argparse.RawDescriptionHelpFormatter)
     parser.add_argument("--rates", type=numbers, default=numbers("1000,10000,50000,100000,200000"), help="messages a second")
     parser.add_argument("--lines", type=numbers, default=numbers("1,4,15"), help="participants' lines, 26 at most (1,4,15)")
     parser.add_argument("--seconds", type=float, default=1.5, help="how long a run sends (1.5)")

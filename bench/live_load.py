@@ -4,7 +4,7 @@
     bench/live_load.py [--messages N] [--lines N] [--seed N] [--lose P] [--late] [--followers N] [--tapebox PROGRAM] [--no-build]
 
 The day is that of `make_day busy`, or of `busy4` and so on for another number of lines, without the lines that no participant's line can
-bring (an odd digit, a letter that is not listed), up to N messages. It runs straight and through .ci/lossy_relay.py with P percent lost on each
+bring (an odd digit, a letter that is not listed), up to N messages. It runs straight and through tests/lossy_relay.py with P percent lost on each
 line; with --late in place of these through the relay with line B in time, late or dead, each without a loss and with one in a hundred packets of
 a line lost. Prints for each run the seconds from the first byte sent to the end of `follow`, the messages a second, how many entries the answers
 of the retransmission had, and whether both reports are equal; and first how long `tapebox batch` takes over the same messages, and how long
@@ -14,6 +14,8 @@ trades don't, so these are compared with the batch's.
 
 The follower asks through a small proxy that counts the entries, which makes each ask a little slower. Needs cargo, Python and
 Linux, whose /proc/net tells which ports are bound.
+
+Statuses: 0 if all reports are equal; 1 if not, or a program fails; 2 if the words are others.
 """
 
 import argparse
@@ -27,9 +29,8 @@ from pathlib import Path
 
 from measure import BENCH, DAYS, RELEASE, ROOT, make, run, told
 
-SAMPLES = ROOT / "samples"
-TOOLS = ROOT / ".ci"
-sys.path[:0] = [str(SAMPLES), str(TOOLS)]
+TESTS = ROOT / "tests"
+sys.path[:0] = [str(ROOT / "tools"), str(TESTS)]
 from free_ports import free_ports
 from send_day import HOST, connect, parse_batch
 
@@ -177,7 +178,7 @@ def live_run(words, symbols, own, options):
         live = programs.start(reports[0], words.tapebox, "live", *names, port, *ways, retransmission, many, SESSION)
         wait_bound(live, "tcp", retransmission)
         if is_relayed:
-            relaying = [TOOLS / "lossy_relay.py", *options, "--seed", words.seed, sent_a, sent_b, *lines]
+            relaying = [TESTS / "lossy_relay.py", *options, "--seed", words.seed, sent_a, sent_b, *lines]
             relay = programs.start(DAYS / "live.relay", sys.executable, *relaying)
             wait_bound(relay, "udp", sent_a, sent_b)
         counted = [Retransmission(own_port, retransmission) for own_port in asked]
@@ -222,7 +223,7 @@ def figures(report):
 
 
 def arguments():
-    parser = argparse.ArgumentParser(description="Measures tapebox live and follow over a busy day.")
+    parser = argparse.ArgumentParser(description=__doc__, formatter_class=argparse.RawDescriptionHelpFormatter)
     parser.add_argument("--messages", type=int, default=200_000, help="how many messages the day has (200000)")
     parser.add_argument("--lines", type=int, choices=LINES, default=15, help="how many participants there are (15)")
     parser.add_argument("--seed", type=int, default=1, help="the day's seed, and the losses' (1)")

@@ -12,6 +12,8 @@ Builds the programs, makes the days, runs the programs on each day in turns, che
 processor seconds of each (of its least run and of its middle one), the least wall-clock seconds, the peak memory, and the ratios
 of tapebox to `indexed`, which keeps the same tape with each summary at hand by std's ordered maps, and to `least`, which keeps
 no tape. Needs cargo, rt and Python alone.
+
+Statuses: 0 if the programs agree; 1 if they don't, or one fails; 2 if the words are others.
 """
 
 import argparse
@@ -75,22 +77,26 @@ def summed_up(runs):
     return min(processor), statistics.median(processor), min(wall), min(memory)
 
 
-def batch_figures(day, seed, programs, turns):
-    """The figures of each program on the day, by turns; none where they disagree."""
-    source = make(day, seed)
-    runs = {name: [] for name in programs}
+def figures_of(name, source, words, programs, turns):
+    """The figures of each program with these words over a file, by turns; none where they disagree."""
+    runs = {program: [] for program in programs}
     for _ in range(turns):
         answers = {}
-        for name, program in programs.items():
-            written = DAYS / f"{source.stem}.{name}"
-            status, *figures = run(program, ["batch"], source, written)
-            answers[name] = (status, written)
-            runs[name].append(figures)
+        for program, path in programs.items():
+            written = DAYS / f"{source.stem}.{program}"
+            status, *figures = run(path, words, source, written)
+            answers[program] = (status, written)
+            runs[program].append(figures)
         if not agree(answers):
-            told = ", ".join(f"{name} {status} in {written}" for name, (status, written) in answers.items())
-            print(f"{day}: the programs DISAGREE: {told}")
+            told = ", ".join(f"{program} {status} in {written}" for program, (status, written) in answers.items())
+            print(f"{name}: the programs DISAGREE: {told}")
             return None
-    return {name: summed_up(own) for name, own in runs.items()}
+    return {program: summed_up(own) for program, own in runs.items()}
+
+
+def batch_figures(day, seed, programs, turns):
+    """The figures of each program on the day, by turns; none where they disagree."""
+    return figures_of(day, make(day, seed), ["batch"], programs, turns)
 
 
 def row(day, name, figures):
@@ -323,7 +329,7 @@ def looks(words, programs):
 
 
 def main():
-    parser = argparse.ArgumentParser(description="Measures tapebox beside plain programs.")
+    parser = argparse.ArgumentParser(description=__doc__, formatter_class=argparse.RawDescriptionHelpFormatter)
     parser.add_argument("--no-build", action="store_true", help="measure the programs that are there")
     parser.add_argument("--turns", type=int, default=7, help="how often each program runs on each day (7)")
     parser.add_argument("--seed", type=int, default=1, help="the days' seed (1)")

@@ -1,15 +1,16 @@
 //! The day: which messages are admitted.
 
 use crate::header::Names;
-use crate::keep::{Change, Keep, Named};
+use crate::keep::{Change, Keep, Named, Tape};
 use crate::matrix::Matrix;
 use crate::message::{Content, Kind, Message};
+use crate::summary::Summary;
 use std::collections::HashMap;
 use std::hash::{BuildHasherDefault, Hasher};
 use std::num::NonZeroU32;
 
-/// The most entries that a batch's tape takes.
-const LIMIT: u32 = 1_048_576;
+/// The most entries that a tape takes. No batch's input has as many messages as a batch's tape takes.
+const LIMIT: u32 = 16_777_216;
 
 /// A report as a later message names it.
 struct Report {
@@ -174,6 +175,14 @@ impl<K: Keep> Day<K> {
     }
 }
 
+impl Day<Tape> {
+    /// The consolidated figures of a listed symbol.
+    pub fn figures(&self, symbol: &[u8; 8]) -> Option<Summary> {
+        let position = self.positions.get(&u64::from_be_bytes(*symbol))?;
+        Some(self.kept.figures(usize::from(*position)))
+    }
+}
+
 fn index(letter: u8) -> usize {
     usize::from(letter - b'A')
 }
@@ -182,12 +191,12 @@ fn key(participant: u8, number: u32) -> u64 {
     u64::from(participant) << 32 | u64::from(number)
 }
 
-type Map<V> = HashMap<u64, V, Folding>;
+pub type Map<V> = HashMap<u64, V, Folding>;
 type Folding = BuildHasherDefault<FoldingHasher>;
 
 /// Folds one number by a multiplication: fast, and good enough for input that nobody chose against it.
 #[derive(Default)]
-struct FoldingHasher(u64);
+pub struct FoldingHasher(u64);
 
 impl Hasher for FoldingHasher {
     fn write(&mut self, bytes: &[u8]) {

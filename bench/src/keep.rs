@@ -60,6 +60,13 @@ pub struct Entry {
     pub after: Option<Summary>,
 }
 
+impl Tape {
+    /// The consolidated figures of the symbol at a position.
+    pub fn figures(&self, symbol: usize) -> Summary {
+        self.books[symbol].consolidated.summary()
+    }
+}
+
 /// A symbol's reports that stand.
 #[derive(Default)]
 struct Book {

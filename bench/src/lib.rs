@@ -2,10 +2,12 @@
 //! message, and `least` with none: the input, answers and report of `tapebox batch [1|2]`, with nothing of its code. `feed`
 //! sends that tape on two lossy lines to a subscriber, `wire` sends its packets over two ports without a tape, `forward`
 //! sends on what participants' lines bring without one, `latency` tells how long a message takes through it or through `tapebox live`, and
-//! `read_lines` says what packets, messages, requests and answers are read from given bytes.
+//! `read_lines` says what packets, messages, requests and answers are read from given bytes. `desk` has the report and the readable tape of
+//! `tapedesk`, of a table of plain fields.
 
 mod batch;
 mod day;
+mod desk;
 mod feed;
 mod forward;
 mod frames;
@@ -23,11 +25,14 @@ mod retransmission;
 mod store;
 mod subscriber;
 mod summary;
+mod table;
+mod table_rows;
 mod window;
 mod wire;
 
 pub use batch::{BadHeader, batch};
 pub use day::Day;
+pub use desk::{TableWord, desk, write_messages};
 pub use feed::{Figures, feed};
 pub use forward::forward;
 pub use header::Names;
@@ -39,6 +44,7 @@ pub use message::{Content, Kind, Message};
 pub use program::run;
 pub use random::Random;
 pub use summary::{Mark, Summary};
+pub use table::{BadTable, read_table};
 pub use wire::{Rest, WireFigures, wire};
 
 /// The greatest number of bytes of an input.

@@ -2,7 +2,7 @@
 
 #[test]
 fn what_both_lines_lose_comes_again() {
-    let figures = bench::feed(include_bytes!("../../samples/stored-day.txt")).unwrap();
+    let figures = bench::feed(include_bytes!("../../tests/days/stored-day.txt")).unwrap();
     assert_eq!(
         (figures.entries, figures.packets, figures.held),
         (20_000, 1_250, 20_000)
