@@ -2,21 +2,22 @@
 """Proves programs and what they stand on, several crates at a time: prove.py PROGRAM..
 
 A crate is proved once all below it are, and of those that can be begun the one with the longest chain of others above it comes first. A
-line on standard error tells of each that is proved. What is proved is kept: stopped by Ctrl-C, or by a crate that is not proved, it goes
-on there the next time. It drives the module that the `rt` of the kit is made of. Where a kit's rt is made otherwise it says so and does
-nothing: `rt run` then proves one crate after the other.
+line on standard error tells of each that is proved, and one a minute what is being proved. What is proved is kept: stopped by Ctrl-C, by
+a signal to end, or by a crate that is not proved, it says what is left, and goes on there the next time. It drives the module that the
+`rt` of the kit is made of. Where a kit's rt is made otherwise it says so and does nothing: `rt run` then proves one crate after the other.
 
 Statuses: 0 where all are proved, or left to `rt run`; 1 where a crate is not proved; 2 where a word names no program of the repository.
 """
 
 import argparse
 import importlib.util
+import io
 import os
 import queue
+import re
 import shutil
 import signal
 import sys
-import tempfile
 import threading
 import time
 from pathlib import Path
@@ -27,6 +28,10 @@ NAMES = ["Crate", "cores", "crates_below", "files_of", "fits", "guarded", "lock"
 CALLS = ["below", "build_rlib", "check", "is_built", "makes_rlib", "need"]
 # How far the processes of other crates stand behind those of the crate that leads.
 NICENESS = 10
+# A line is written after so many seconds in which no crate was proved.
+SILENCE = 60
+# What the kit says of a crate that is not proved yet.
+SO_FAR = re.compile(r"^so far: (\d+ of \d+) functions", re.MULTILINE)
 
 
 def say(text):
@@ -61,6 +66,12 @@ def longest_chains(kit, crates):
     return chains
 
 
+def at_work(crate):
+    """A crate that is being proved, with how many of its functions are, where the kit has told."""
+    told = SO_FAR.findall(crate.out.getvalue())
+    return f"{crate.name} ({told[-1]} functions)" if told else crate.name
+
+
 class Proving:
     """Crates that are proved side by side."""
 
@@ -87,6 +98,7 @@ class Proving:
             leads = crate is max(self.left + self.running, key=self.chains.get)
             self.left.remove(crate)
             self.running.append(crate)
+            crate.out = io.StringIO()
             threading.Thread(target=self.prove, args=(crate, leads), daemon=True).start()
 
     def prove(self, crate, leads):
@@ -96,36 +108,42 @@ class Proving:
             # Linux keeps this for each thread, and hands it on to the commands that the thread starts.
             os.setpriority(os.PRIO_PROCESS, 0, NICENESS)
         jobs = self.kit.cores() if leads else max(self.kit.cores() // 2, 1)
-        with tempfile.TemporaryFile("w+", errors="replace") as crate.out:
-            try:
-                os.makedirs(f"{crate.folder}/out", exist_ok=True)
-                flags = ["--jobs", str(jobs)]
-                status = crate.build_rlib(flags, anew=False) if crate.makes_rlib() else crate.check(flags)
-            except (Exception, SystemExit) as fault:
-                # However it ends, the other thread waits to be told.
-                print(f"{type(fault).__name__}: {fault}", file=crate.out)
-                status = 2
-            crate.out.seek(0)
-            self.ended.put((crate, status, crate.out.read()))
+        try:
+            os.makedirs(f"{crate.folder}/out", exist_ok=True)
+            flags = ["--jobs", str(jobs)]
+            status = crate.build_rlib(flags, anew=False) if crate.makes_rlib() else crate.check(flags)
+        except (Exception, SystemExit) as fault:
+            # However it ends, the other thread waits to be told.
+            print(f"{type(fault).__name__}: {fault}", file=crate.out)
+            status = 2
+        self.ended.put((crate, status))
 
     def prove_all(self):
         """Proves all, and returns whether it did: the first crate that is not proved is the last, and what was said of it is printed."""
-        count = len(self.done) + len(self.left)
         if self.done:
-            say(f"{len(self.done)} of {count} crates are proved already")
+            self.say_how_far("proved already")
         while self.left or self.running:
             self.begin()
-            crate, status, said = self.ended.get()
+            try:
+                crate, status = self.ended.get(timeout=SILENCE)
+            except queue.Empty:
+                self.say_how_far(f"at {', '.join(map(at_work, self.running))}")
+                continue
             self.running.remove(crate)
             if status:
                 self.left.append(crate)
-                print(said, end="", file=sys.stderr)
+                print(crate.out.getvalue(), end="", file=sys.stderr)
                 say(f"{crate.name} is not proved (status {status})")
                 return False
             self.done.append(crate)
-            minutes = (time.monotonic() - self.began) / 60
-            say(f"{len(self.done)} of {count} crates, {minutes:.1f} minutes: {crate.name} proved")
+            self.say_how_far(f"{crate.name} proved")
         return True
+
+    def say_how_far(self, what):
+        """A line of how many crates are proved, and in how many minutes of this run."""
+        count = len(self.done) + len(self.left) + len(self.running)
+        minutes = (time.monotonic() - self.began) / 60
+        say(f"{len(self.done)} of {count} crates, {minutes:.1f} minutes: {what}")
 
     def say_left(self):
         """Says what is not proved, in the order in which it would have been."""
@@ -151,6 +169,7 @@ def main():
     # Nobody else works in these crates as long as this is open.
     held = kit.lock(needed)
     proving = Proving(kit, needed)
+    signal.signal(signal.SIGTERM, signal.default_int_handler)
     try:
         is_proved = proving.prove_all()
     except KeyboardInterrupt:

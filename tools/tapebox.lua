@@ -1,4 +1,4 @@
--- A Wireshark dissector of tapebox: its lines A and B, its retransmissions, and its participants' lines. docs/PROFILE.md has the bytes, and
+-- A Wireshark dissector of tapebox: its lines A and B, its retransmissions, and its participants' lines. docs/FORMATS.md has the bytes, and
 -- docs/WIRESHARK.md shows it at work.
 --     tshark -X lua_script:tools/tapebox.lua -r day.pcap -Y 'tapebox.symbol == "AB" && tapebox.price > 10.05'
 -- Ports are preferences, as -o tapebox.feed.a_ports:9101, or named by Decode As, as -d udp.port==9101,tapebox.feed. Of several faults of
@@ -16,7 +16,7 @@ feed.prefs.b_ports = Pref.range("UDP ports of line B", "9102", "Where line B is 
 retransmission.prefs.ports = Pref.range("TCP ports", "9200", "Where retransmissions are asked for", 65535)
 line.prefs.ports = Pref.range("TCP ports", "9000-9025", "Where participants send, each on a port of its own", 65535)
 
--- PROFILE, "Limits"; Lua's numbers, which are doubles, have them all exactly.
+-- RULES, "Limits"; Lua's numbers, which are doubles, have them all exactly.
 local PRICE_MOST, SIZE_MOST, LONGEST_BODY, LONGEST_PACKET, PACKETS_MOST = 999999999999, 99999999, 64, 1823, 8
 local VERSIONS = { { entries = 8, number = 1048576 }, { entries = 16, number = 16777216 } }
 local HEADER, SUMMARY, MARK, REQUEST = 15, 65, 13, 14
@@ -34,7 +34,7 @@ local CODES = {
       H = "price variation", I = "odd lot", V = "contingent", W = "average price", P = "prior reference price", G = "bunched sold",
       M = "official close", Q = "official open", ["2"] = "stopped stock, sold last", ["3"] = "stopped stock, sold out of sequence" },
 }
--- PROFILE, "Refusals by number and name": of a message's bytes, of a packet's, and those that an answer tells or is refused by.
+-- RULES, "Refusals by number and name": of a message's bytes, of a packet's, and those that an answer tells or is refused by.
 local REFUSALS = {
     [11] = "Oversize", [12] = "Short", [13] = "BadKind", [14] = "BadLength", [15] = "BadParticipant", [16] = "BadNumber", [17] = "BadSymbol",
     [18] = "BadTarget", [19] = "BadPrice", [20] = "BadSize", [21] = "BadCondition",

@@ -1,7 +1,9 @@
 """What the cases share: the built programs and how they ended, ports, the peers of a running day, and messages' bytes."""
 
 import contextlib
+import csv
 import functools
+import io
 import re
 import socket
 import subprocess
@@ -11,22 +13,30 @@ import unittest
 from dataclasses import dataclass
 from pathlib import Path
 
+import plain_table
+
 ROOT = Path(__file__).resolve().parent.parent
 SAMPLES = ROOT / "samples"
+TESTS = ROOT / "tests"
+TOOLS = ROOT / "tools"
+# The days whose output is stored beside them, as `.out`.
+STORED_DAYS = [SAMPLES / "first-day.txt", TESTS / "days" / "stored-day.txt"]
 BENCH = ROOT / "bench"
 CRATES = ROOT / "crates"
 TAPEBOX = CRATES / "tapebox" / "out" / "tapebox"
+TAPEDESK = CRATES / "tapedesk" / "out" / "tapedesk"
 FEED_SPEED = CRATES / "feed_speed" / "out" / "feed_speed"
 HOST = "127.0.0.1"
 # Seconds until a program must have ended, unless a case says otherwise.
 LIMIT = 60
 HEADINGS = "symbol,who,open,open_at,high,high_at,low,low_at,last,last_at,volume,trades"
+TAPE_COLUMNS = ["tape", "refused", *plain_table.COLUMNS, "open", "high", "low", "last", "volume", "trades"]
 
 sys.dont_write_bytecode = True
-sys.path.insert(0, str(SAMPLES))
+sys.path.insert(0, str(TOOLS))
 
-import encode_day
 from free_ports import free_ports
+from plain_table import batch_line
 
 # Seconds until a connection that is not awaited must have been reset.
 PATIENCE = 5
@@ -91,6 +101,18 @@ def run(words, given=b"", program=TAPEBOX, limit=LIMIT, **options):
     return Ended(done.returncode, done.stdout or b"", done.stderr)
 
 
+def desk(*words, given=b"", **options):
+    """How `tapedesk` ended on a table."""
+    return run(words, given, program=TAPEDESK, **options)
+
+
+def table_of(rows):
+    """Rows of fields as a table's text."""
+    file = io.StringIO(newline="")
+    csv.writer(file, lineterminator="\n").writerows(rows)
+    return file.getvalue().encode()
+
+
 def str_or_bytes(word):
     """An argument as the system takes it."""
     return word if isinstance(word, (bytes, str)) else str(word)
@@ -99,8 +121,9 @@ def str_or_bytes(word):
 @contextlib.contextmanager
 def started(words, program=TAPEBOX, **options):
     """A program that runs beside the case, and is killed where it still runs after it."""
-    options.setdefault("stdout", subprocess.PIPE)
-    running = subprocess.Popen([program, *map(str_or_bytes, words)], stderr=subprocess.PIPE, **options)
+    for stream in ("stdout", "stderr"):
+        options.setdefault(stream, subprocess.PIPE)
+    running = subprocess.Popen([program, *map(str_or_bytes, words)], **options)
     try:
         yield running
     finally:
@@ -192,7 +215,7 @@ def is_refused(port):
 
 def message(**row):
     """The bytes of a message, by the columns of a table."""
-    return encode_day.message({"target": "", **{column: str(value) for column, value in row.items()}})
+    return plain_table.message({column: str(value) for column, value in row.items()})
 
 
 def report(who, number, symbol="AB", price="10.00"):
@@ -205,14 +228,9 @@ def reports(who, count):
     return b"".join(report(who, number) for number in range(1, count + 1))
 
 
-def batch_line(text):
-    """A batch's line of a message."""
-    return f"{chr(text[3])} {text.hex()}\n".encode()
-
-
 def batch_of(table):
-    """A batch's input, by a readable table."""
-    return subprocess.check_output([SAMPLES / "encode_day.py", table])
+    """A batch's input, by a table's file."""
+    return plain_table.batch(plain_table.read(Path(table).read_bytes()))
 
 
 def transcripts(page):

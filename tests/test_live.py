@@ -136,7 +136,7 @@ class SentPackets(Listeners):
 
     @tried(3)
     def test_each_entry_once_and_three_ends(self):
-        """PROFILE, "A running day": what is sent on lines A and B, and when the ends come. There is no beat while entries are sent, and none after."""
+        """OPERATING: what is sent on lines A and B, and when the ends come. There is no beat while entries are sent, and none after."""
         a, b = self.hear(self.REPORTS)
         self.assertEqual([packet for _, packet in a], [packet for _, packet in b])
         for taken in (a, b):
@@ -156,7 +156,7 @@ class SentPackets(Listeners):
 
     @tried(3)
     def test_the_pace_of_who_asks(self):
-        """PROFILE, "A running day": while a subscriber asks, the sender sends the least number of packets in each turn but the first ones. A busy
+        """OPERATING: while a subscriber asks, the sender sends the least number of packets in each turn but the first ones. A busy
         machine may keep the subscriber from asking in a turn, so one of three days has to show it."""
         for taken in self.hear(self.REPORTS, 1, self.keep_asking):
             data = [(time, packet) for time, packet in taken if packet[1:2] == b"D"]
@@ -172,14 +172,14 @@ class SentPackets(Listeners):
 
     @tried(3)
     def test_the_pace_after_a_request(self):
-        """PROFILE, "A running day": after a request that came before the first packet the first turn has half as many."""
+        """OPERATING: after a request that came before the first packet the first turn has half as many."""
         for taken in self.hear(self.REPORTS, 1, self.ask_once):
             self.look_at_data(taken[:-3], self.REPORTS)
             first, after = taken[0][0], taken[self.PACE_FIRST // 2][0]
             self.assertGreaterEqual(after - first, self.TURN)
 
     def test_three_ends_of_a_long_day(self):
-        """PROFILE, "A running day": a long day ends no other way. Of its entries some may be lost here."""
+        """OPERATING: a long day ends no other way. Of its entries some may be lost here."""
         for taken in self.hear(self.MANY):
             self.look_at_ends(taken[-3:], self.MANY)
 
@@ -195,7 +195,7 @@ class QuietDays(Listeners):
 
     @tried(3)
     def test_beats(self):
-        """PROFILE, "A running day": while nothing is sent, beats tell the last number, on both lines; there is none before the first entry."""
+        """OPERATING: while nothing is sent, beats tell the last number, on both lines; there is none before the first entry."""
         with self.day(0) as (_, participant, _, hear):
             time.sleep(0.5)
             participant.sendall(report("N", 1))
@@ -212,7 +212,7 @@ class QuietDays(Listeners):
 
     @tried(3)
     def test_ends_while_a_subscriber_is_awaited(self):
-        """PROFILE, "A running day": the end is sent each second until all connections have ended, also while one has yet to come."""
+        """OPERATING: the end is sent each second until all connections have ended, also while one has yet to come."""
         with self.day(1) as (_, participant, retransmission, hear):
             participant.sendall(report("N", 1))
             participant.close()
@@ -255,7 +255,7 @@ class Peers(Case):
             reset.setsockopt(socket.SOL_SOCKET, socket.SO_LINGER, struct.pack("ii", 1, 0))
 
     def test_peers_that_misbehave(self):
-        """PROFILE, "What becomes of a peer that misbehaves": N connects twice, and its line ends in a frame of length 0; Q's ends inside a
+        """OPERATING, "What you see": N connects twice, and its line ends in a frame of length 0; Q's ends inside a
         frame; of the connections for lost packets one ends inside a request, and one asks under another session and is reset. Each
         ends alone."""
         port = free_ports(6)
@@ -269,7 +269,7 @@ class Peers(Case):
 
 
     def test_a_stray_connection(self):
-        """PROFILE, "What becomes of a peer that misbehaves": the first connection to a participant's port is that participant's, whoever it is: where it
+        """OPERATING, "What you see": the first connection to a participant's port is that participant's, whoever it is: where it
         ends without a message, the day has none of the participant."""
         port = free_ports(5)
         with started(["live", "AB", "N,Q", port, port + 2, port + 3, port + 4, 0, self.SESSION]) as day:
@@ -301,7 +301,7 @@ class ManyRequests(Case):
         return answers
 
     def test_as_many_as_a_connection_answers(self):
-        """PROFILE, "What becomes of a peer that misbehaves": a connection ends with its last answer, the next one is served, and the day goes on."""
+        """OPERATING, "What you see": a connection ends with its last answer, the next one is served, and the day goes on."""
         line, a, b, retransmission = ports(4)
         with started(["live", "AB", "N", line, a, b, retransmission, 2, self.SESSION]) as day, connect(line) as participant:
             with connect(retransmission) as subscriber:
@@ -353,7 +353,7 @@ class LongDay(Case):
 
 class Terms(Case):
     def test_the_matrix_and_the_limit_that_are_named(self):
-        """PROFILE, "A running day": a day by Matrix Two takes its codes, what comes after LIMIT entries is refused, and the follower of the day
+        """OPERATING: a day by Matrix Two takes its codes, what comes after LIMIT entries is refused, and the follower of the day
         holds all of it."""
         line, a, b, retransmission = ports(4)
         stopped = [message(kind="report", participant="N", number=number, symbol="AB", price="10.00", size=100, condition="@__2") for number in (1, 2)]
@@ -373,7 +373,7 @@ class Names(Case):
     LETTERS = [*string.ascii_uppercase, "A"]
 
     def test_too_many(self):
-        """PROFILE, "Statuses", 2: more symbols than a listing takes, or more participants, are bad arguments of a running day and its follower."""
+        """OPERATING, "Statuses", 2: more symbols than a listing takes, or more participants, are bad arguments of a running day and its follower."""
         for symbols, participants in [(self.SYMBOLS, ["N"]), (["AB"], self.LETTERS)]:
             names = [",".join(symbols), ",".join(participants)]
             first, *row = ports(4)
@@ -387,7 +387,7 @@ class Served(Case):
     ANSWER = bytes.fromhex("00 01 003b 0244 0000000000000007 00000001 01 00000001") + report("N", 1)
 
     def test_a_published_entry(self):
-        """PROFILE, "A running day": what is published is served in version 2, while the day goes on."""
+        """OPERATING: what is published is served in version 2, while the day goes on."""
         line, a, b, retransmission = ports(4)
         with started(["live", "AB", "N", line, a, b, retransmission, 1, 7]) as live:
             with connect(line) as participant, connect(retransmission) as subscriber:
@@ -423,7 +423,7 @@ class Workers(Case):
         return end.said.count(self.THREAD)
 
     def test_the_workers_of_the_report(self):
-        """PROFILE, "A running day": four workers make the report, three of them in threads of their own. One symbol has one worker. Where a thread
+        """OPERATING: four workers make the report, three of them in threads of their own. One symbol has one worker. Where a thread
         can't be started for the report, the first of which is only tried, the day is reported all the same."""
         own = self.threads("A")
         self.assertEqual(self.threads(self.SYMBOLS) - own, 3)
@@ -445,7 +445,7 @@ class FailedSends(Case):
     REPORTS = 100
 
     def test_packets_that_are_not_sent(self):
-        """PROFILE, "A running day": a packet that can't be sent is a lost packet: the first one is by both lines, and a later one by one."""
+        """OPERATING: a packet that can't be sent is a lost packet: the first one is by both lines, and a later one by one."""
         line, a, b, retransmission = ports(4)
         failed = failing(("sendto", 1, 2, errno.ENOBUFS), ("sendto", 5, 5, errno.EPERM))
         with started(["live", "AB", "N", line, a, b, retransmission, 1, 7], env=failed) as live, connect(line) as participant:
@@ -466,7 +466,7 @@ class Sockets(Case):
         return ["live", "AB", "N", port, port + 1, port + 2, port + 3, 0, 1]
 
     def test_the_last_port(self):
-        """PROFILE, "A running day": a participant's port may be the last of all."""
+        """OPERATING: a participant's port may be the last of all."""
         first = 65_535
         a, b, retransmission = ports(3)
         with started(["live", "AB", "N", first, a, b, retransmission, 0, 1]) as day:
@@ -474,7 +474,7 @@ class Sockets(Case):
             self.assertEqual(ended(day).status, 0)
 
     def test_ports_that_are_taken(self):
-        """PROFILE, "Statuses", 3: a participant's or the retransmission's port that is taken is a read fault."""
+        """OPERATING, "Statuses", 3: a participant's or the retransmission's port that is taken is a read fault."""
         port = free_ports(4)
         for taken in (port, port + 3):
             with self.subTest(taken - port), socket.create_server((HOST, taken)):
@@ -482,7 +482,7 @@ class Sockets(Case):
 
     @unittest.skipUnless(Path("/dev/full").is_char_device(), "no /dev/full")
     def test_full_output(self):
-        """PROFILE, "Statuses", 4: a report that finds no room is a write fault."""
+        """OPERATING, "Statuses", 4: a report that finds no room is a write fault."""
         port = free_ports(4)
         with open("/dev/full", "wb") as full, started(self.words(port), stdout=full) as day:
             connect(port).close()

@@ -14,7 +14,7 @@ from pathlib import Path
 
 ROOT = Path(__file__).resolve().parent.parent
 PAGE = ROOT / "docs" / "DEFINITIONS.md"
-MARKER = "<!-- What follows is written by .ci/definitions.py. -->\n"
+MARKER = "<!-- What follows is written by tools/definitions.py. -->\n"
 WIDTH = 150
 
 # A comment and what it is over, which is a definition where a name is found.

@@ -1,28 +1,26 @@
 """What each script says of itself, of words that it does not take, and of files at fault."""
 
+import os
 import tempfile
-from pathlib import Path
 
-from support import ROOT, SAMPLES, Case, run
+from support import BENCH, ROOT, SAMPLES, TAPEDESK, TESTS, TOOLS, Case, run
 
-CI = ROOT / ".ci"
 MISSING = "no-such-file"
-# What works without words and is not to be run here: it builds, installs, writes a page or runs a day.
-WITHOUT_WORDS = {"run", "set_up", "cases.py", "definitions.py", "lossy_day.sh"}
-READS_INPUT = {"encode_day.py", "plot_day.py"}
+# What works without words and is not to be run here: it builds, installs, writes a page, measures or runs a day.
+WITHOUT_WORDS = {"run", "set_up", "cases.py", "definitions.py", "lossy_day.sh", "latency.py", "live_load.py", "long_day.py", "measure.py", "tables.py"}
+READS_INPUT = {"plot_day.py"}
 # Scripts that read a table, by the words after its path.
 READERS = [
-    (SAMPLES / "encode_day.py", []),
-    (SAMPLES / "split_day.py", [1, "."]),
-    (SAMPLES / "split_day.sh", [1]),
-    (SAMPLES / "send_day.py", [9_000]),
-    (CI / "lossy_day.sh", []),
+    (TOOLS / "split_day.py", [1, "."]),
+    (TOOLS / "split_day.sh", [1]),
+    (TOOLS / "send_day.py", [9_000]),
+    (TESTS / "lossy_day.sh", []),
 ]
 
 
 def scripts():
     """Each script of the repository that people run."""
-    folders = [ROOT, CI, SAMPLES, ROOT / "tools"]
+    folders = [ROOT, ROOT / ".ci", BENCH, TESTS, TOOLS]
     files = [path for folder in folders for path in sorted(folder.iterdir()) if path.is_file()]
     return [path for path in files if path.read_bytes()[:2] == b"#!"]
 
@@ -31,12 +29,12 @@ class Scripts(Case):
     def ran(self, script, *words, given=b""):
         """How a script ended in an empty folder."""
         with tempfile.TemporaryDirectory() as folder:
-            return run(words, given, program=script, cwd=folder)
+            return run(words, given, program=script, cwd=folder, env=os.environ | {"TAPEDESK": str(TAPEDESK)})
 
     def assert_names(self, ended, fault):
         """It ended with 1, wrote nothing, and said one line: a script's name, and what is at fault first."""
         self.assertEqual((ended.status, ended.written), (1, b""))
-        self.assertRegex(ended.said.decode(), rf"\A[a-z_]+\.py: {fault}\b[^\n]*\n\Z")
+        self.assertRegex(ended.said.decode(), rf"\A[a-z_]+\.(py|sh): {fault}[^\n]*\n\Z")
 
     def test_help(self):
         """Asked for help, each script that can be run says what it does and what its statuses are, and does nothing else."""
@@ -72,15 +70,17 @@ class Scripts(Case):
 
     def test_missing_file(self):
         """A file that is not there ends a script with 1, and is named."""
-        for script, more in [*READERS, (SAMPLES / "plot_day.py", [])]:
+        for script, more in [*READERS, (TOOLS / "plot_day.py", [])]:
             with self.subTest(script.name):
                 self.assert_names(self.ran(script, MISSING, *more), MISSING)
 
     def test_bad_row(self):
-        """The first bad row of a table ends a script with 1, and the file and the row's line are named."""
-        with tempfile.NamedTemporaryFile("w", suffix=".csv") as table:
-            table.write((SAMPLES / "corrections.csv").read_text(encoding="utf-8") + "report,N,4,AB,,10.00,0,@___\n")
-            table.flush()
-            for script, more in READERS:
-                with self.subTest(script.name):
-                    self.assert_names(self.ran(script, table.name, *more), f"{table.name}, line 8: size '0' is not a number")
+        """The first bad row of a table ends a script with 1, and the file and the row are named: the row of the whole table, if a part has it."""
+        for row, fault in [("report,N,4,AB,,10.00,0,@___", 'row 8: size "0" is not 1 to 99999999'), ("report,N", "row 8: 2 fields, and the header row has 8")]:
+            with tempfile.NamedTemporaryFile("w", suffix=".csv") as table:
+                table.write((SAMPLES / "corrections.csv").read_text(encoding="utf-8") + row + "\n")
+                table.flush()
+                for script, more in READERS:
+                    if script.name != "split_day.py" or "fields" in fault:
+                        with self.subTest(script.name, row=row):
+                            self.assert_names(self.ran(script, table.name, *more), f"{table.name}: {fault}")

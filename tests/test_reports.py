@@ -8,7 +8,7 @@ import tempfile
 import unittest
 from pathlib import Path
 
-from support import CRATES, ROOT, SAMPLES, Case, run, transcripts
+from support import CRATES, ROOT, SAMPLES, TOOLS, Case, run, transcripts
 
 # The system's own Python has what the system's packages bring.
 OWN_PYTHON = "/usr/bin"
@@ -28,7 +28,8 @@ class Reports(Case):
         folder = tempfile.TemporaryDirectory()
         self.addCleanup(folder.cleanup)
         self.folder = Path(folder.name)
-        (self.folder / "samples").symlink_to(SAMPLES)
+        for folder in (SAMPLES, TOOLS):
+            (self.folder / folder.name).symlink_to(folder)
         program = self.folder / "run"
         program.write_text(f'#!/bin/sh\nexec "{ROOT}/run" "$@"\n', encoding="utf-8")
         program.chmod(0o755)
@@ -62,7 +63,7 @@ class TapePictures(Case):
 
     def drawn(self, *rows):
         """How the script ended on a tape of these rows."""
-        return run(["--symbol", "AB"], (self.TAPE + "\n".join(rows) + "\n").encode(), program=SAMPLES / "plot_day.py")
+        return run(["--symbol", "AB"], (self.TAPE + "\n".join(rows) + "\n").encode(), program=TOOLS / "plot_day.py")
 
     def test_line_of_the_last(self):
         """plot_day.py: a trade has its prices, and whether it stands; the line follows what was last, and a row without it is passed over."""

@@ -6,7 +6,7 @@ import string
 import unittest
 from pathlib import Path
 
-from support import HEADINGS, READ_FAULT, SAMPLES, WRITE_FAULT, Case, batch_line, batch_of, report, run
+from support import HEADINGS, READ_FAULT, SAMPLES, STORED_DAYS, WRITE_FAULT, Case, batch_line, batch_of, report, run
 
 SYMBOLS = ["AB", *(f"S{at}" for at in range(1, 4_096))]
 PARTICIPANTS = string.ascii_uppercase
@@ -14,11 +14,10 @@ PARTICIPANTS = string.ascii_uppercase
 
 class Samples(Case):
     def test_stored_days(self):
-        """PROFILE, "A batch": the stored days have the stored answers and reports."""
-        for name in ("first-day", "stored-day"):
-            with self.subTest(name):
-                day = (SAMPLES / f"{name}.txt").read_bytes()
-                self.assert_writes(run(["batch"], day), (SAMPLES / f"{name}.out").read_bytes())
+        """FORMATS, "A batch": the stored days have the stored answers and reports."""
+        for day in STORED_DAYS:
+            with self.subTest(day.name):
+                self.assert_writes(run(["batch"], day.read_bytes()), day.with_suffix(".out").read_bytes())
 
     def test_corrected_day(self):
         """README, "A day": the table's day has the answers and rows that README shows."""
@@ -29,12 +28,12 @@ class Samples(Case):
 
 class Headers(Case):
     def test_repeated_name(self):
-        """PROFILE, "A batch": a refused header is the only line, and the status is 2."""
+        """FORMATS, "A batch": a refused header is the only line, and the status is 2."""
         ended = run(["batch"], b"AB AB\nN\n")
         self.assertEqual((ended.status, ended.written, ended.said), (2, b"refused 3 Repeated\n", b""))
 
     def test_too_many_names(self):
-        """PROFILE, "A batch": too many symbols are refused as such, however many they are."""
+        """FORMATS, "A batch": too many symbols are refused as such, however many they are."""
         ended = run(["batch"], " ".join(["AB"] * 30_000).encode() + b"\nN\n")
         self.assertEqual((ended.status, ended.written, ended.said), (2, b"refused 2 TooMany\n", b""))
 
@@ -43,7 +42,7 @@ class Lengths(Case):
     BYTES_MOST = 16_777_216
 
     def test_the_greatest_input(self):
-        """PROFILE, "A batch": an input of the greatest length is answered, and one byte more is too large."""
+        """FORMATS, "A batch": an input of the greatest length is answered, and one byte more is too large."""
         day = b"AB\nN\n".ljust(self.BYTES_MOST, b"A")
         self.assert_writes(run(["batch"], day), f"refused 22 BadLine\n{HEADINGS}\nAB,ALL,,,,,,,,,0,0\n".encode())
         self.assert_fault(run(["batch"], day + b"A"), (2, b"tapebox: input too large\n"))
@@ -52,13 +51,13 @@ class Lengths(Case):
 class Faults(Case):
     @unittest.skipUnless(Path("/dev/full").is_char_device(), "no /dev/full")
     def test_full_output(self):
-        """PROFILE, "Statuses": an output that is full is a write fault."""
+        """OPERATING, "Statuses": an output that is full is a write fault."""
         with open("/dev/full", "wb") as full:
             ended = run(["batch"], (SAMPLES / "first-day.txt").read_bytes(), stdout=full)
         self.assert_fault(ended, WRITE_FAULT)
 
     def test_input_that_is_no_file(self):
-        """PROFILE, "Statuses": an input that cannot be read is a read fault."""
+        """OPERATING, "Statuses": an input that cannot be read is a read fault."""
         folder = os.open(SAMPLES, os.O_RDONLY)
         try:
             self.assert_fault(run(["batch"], folder), READ_FAULT)
@@ -94,7 +93,7 @@ class WideDay(Case):
             yield from (self.row(at, PARTICIPANTS[who], [trade]) for who, trade in enumerate(trades))
 
     def test_greatest_listing_and_a_long_line(self):
-        """PROFILE, "A batch": a line with 140,000 digits too many is ExtraBytes, and a report of the greatest listing is whole."""
+        """FORMATS, "A batch": a line with 140,000 digits too many is ExtraBytes, and a report of the greatest listing is whole."""
         lines = [self.line(who, at) for who, at in itertools.product(range(len(PARTICIPANTS)), range(len(SYMBOLS)))]
         header = f"{' '.join(SYMBOLS)}\n{' '.join(PARTICIPANTS)}\n".encode()
         day = header + lines[0].rstrip() + 140_000 * b"0" + b"\n" + b"".join(lines)

@@ -97,14 +97,14 @@ class Answers(Case):
             return ended(peer.follow)
 
     def test_answers_that_are_none(self):
-        """PROFILE, "Statuses", 3 and 7: a follower that is refused, or answered by bytes that are no answer or lack the first entry asked for,
+        """OPERATING, "Statuses", 3 and 7: a follower that is refused, or answered by bytes that are no answer or lack the first entry asked for,
         disagrees; where the connection ends instead, a read has failed."""
         for answer, fault in [(b"\x48", DISAGREES), (b"\x05", DISAGREES), (self.SECOND, DISAGREES), (b"", READ_FAULT)]:
             with self.subTest(answer.hex()):
                 self.assert_fault(self.follow(answer), fault)
 
     def test_a_request_that_is_not_written(self):
-        """PROFILE, "Statuses", 4: a follower whose connection was reset can't write its request."""
+        """OPERATING, "Statuses", 4: a follower whose connection was reset can't write its request."""
         with follower() as peer:
             peer.connection.setsockopt(socket.SOL_SOCKET, socket.SO_LINGER, struct.pack("ii", 1, 0))
             peer.connection.close()
@@ -112,7 +112,7 @@ class Answers(Case):
             self.assert_fault(ended(peer.follow), WRITE_FAULT)
 
     def test_port_that_is_taken(self):
-        """PROFILE, "Statuses", 3: a line's port that is taken is a read fault."""
+        """OPERATING, "Statuses", 3: a line's port that is taken is a read fault."""
         a, b, retransmission = ports(3)
         with socket.socket(socket.AF_INET, socket.SOCK_DGRAM) as holder:
             holder.bind((HOST, b))
@@ -123,7 +123,7 @@ class Packets(Case):
     """Followers of packets that fail to be read, or are refused."""
 
     def test_a_read_that_fails(self):
-        """PROFILE, "Statuses", 3: a line that can't be read is a read fault."""
+        """OPERATING, "Statuses", 3: a line that can't be read is a read fault."""
         with follower(env=failing(("recvfrom", 1, 1, errno.EIO))) as peer:
             end = ended(peer.follow)
         self.assertEqual(end, Ended(READ_FAULT[0], b"", CALL_FAILED + READ_FAULT[1]))
@@ -138,7 +138,7 @@ class Packets(Case):
         self.assertIn(row_of(2), end.written)
 
     def test_packets_that_are_refused(self):
-        """PROFILE, "A subscriber": another entry under a number that waits, one past the end, and another end change nothing: the follower drops
+        """RULES, "A subscriber": another entry under a number that waits, one past the end, and another end change nothing: the follower drops
         them. Entry 2 is missing until all of them were read."""
         with follower() as peer:
             for sent in (entries(1, 1), entries(3, 3), entries(3, 3, "99.00"), packet(b"E", 4), entries(5, 5), packet(b"E", 5), entries(4, 4), b""):
@@ -151,7 +151,7 @@ class Packets(Case):
         self.assertIn(row_of(4), end.written)
 
     def test_all_is_held_while_a_request_waits(self):
-        """PROFILE, "A running day": a follower that holds all and knows the end closes its connection and ends, though its request was not
+        """OPERATING: a follower that holds all and knows the end closes its connection and ends, though its request was not
         answered."""
         with follower() as peer:
             peer.by_a(entries(1, 1))
@@ -197,7 +197,7 @@ class LateLines(Case):
 
     @tried(5)
     def test_a_line_that_brings_the_rest_later(self):
-        """PROFILE, "A running day": what line A lost and B brings a millisecond later is not asked for, but where the machine is held up."""
+        """OPERATING: what line A lost and B brings a millisecond later is not asked for, but where the machine is held up."""
 
         def send(line_a, line_b):
             for number in range(1, self.REPORTS, 2):
@@ -212,7 +212,7 @@ class LateLines(Case):
         self.assertLess(len(self.asked(self.REPORTS, send)), self.REPORTS // 4)
 
     def test_a_line_that_brings_nothing_more(self):
-        """PROFILE, "A running day": a line that brings nothing more is not waited for without end."""
+        """OPERATING: a line that brings nothing more is not waited for without end."""
 
         def send(line_a, line_b):
             for line in (line_a, line_b):
@@ -226,7 +226,7 @@ class LateLines(Case):
 
     @tried(3)
     def test_a_line_that_stays_late(self):
-        """PROFILE, "A running day": a line that was waited for in vain is not waited for again, whatever it brings, before it has come to the number that
+        """OPERATING: a line that was waited for in vain is not waited for again, whatever it brings, before it has come to the number that
         was asked for: but for the first gap the request comes at once."""
         seconds = []
         with follower() as peer:
@@ -259,7 +259,7 @@ class LateLines(Case):
 
     @tried(3)
     def test_a_gap_that_fills_the_window(self):
-        """PROFILE, "A running day": a line is not waited for, though it was in time, once more than half of the window is announced."""
+        """OPERATING: a line is not waited for, though it was in time, once more than half of the window is announced."""
         seconds = []
         with follower() as peer:
             for number in range(1, self.GAPS // 4 * self.AHEAD, self.AHEAD + 1):
@@ -312,7 +312,7 @@ class Counting(threading.Thread):
 
 class Tails(Case):
     def test_what_was_lost_last(self):
-        """PROFILE, "A running day": what both lines lost last is asked for once a beat tells of it, while the day goes on."""
+        """OPERATING: what both lines lost last is asked for once a beat tells of it, while the day goes on."""
         line, a, b, retransmission, counted = ports(5)
         counting = Counting(counted, retransmission)
         counting.start()
@@ -362,7 +362,7 @@ class LateDays(Case):
 
     @tried(3)
     def test_a_late_line_costs_no_more_than_a_dead_one(self):
-        """PROFILE, "A running day": a line that is late by 20 or 200 milliseconds costs not much more than one that is dead, and the reports are
+        """OPERATING: a line that is late by 20 or 200 milliseconds costs not much more than one that is dead, and the reports are
         equal."""
         dead = self.asked("--lose", "0,100")
         for late in ("0,20", "0,200"):
@@ -411,7 +411,7 @@ class HeldUp(Case):
         self.assertTrue(row.endswith(f",{100 * self.REPORTS},{self.REPORTS}".encode()), row)
 
     def test_stopped_for_a_while(self):
-        """PROFILE, "What becomes of a peer that misbehaves": a follower that a signal stops for 400 milliseconds before the first
+        """OPERATING, "What you see": a follower that a signal stops for 400 milliseconds before the first
         report loses what its sockets can't hold, and gets it again, and one of the ends."""
         line, a, b, retransmission = ports(4)
         with started(["live", "AB", "N", line, a, b, retransmission, 1, SESSION]) as live, connect(line) as participant:
@@ -426,7 +426,7 @@ class HeldUp(Case):
                 self.assert_equal_reports(live, follow)
 
     def test_stopped_beyond_the_third_end(self):
-        """PROFILE, "What becomes of a peer that misbehaves": a follower that is stopped for five seconds, in which the three ends went, gets
+        """OPERATING, "What you see": a follower that is stopped for five seconds, in which the three ends went, gets
         a later one."""
         line, a, b, retransmission = ports(4)
         with started(["live", "AB", "N", line, a, b, retransmission, 1, SESSION]) as live, connect(line) as participant:
@@ -441,7 +441,7 @@ class HeldUp(Case):
                 self.assert_equal_reports(live, follow)
 
     def test_started_after_the_third_end(self):
-        """PROFILE, "What becomes of a peer that misbehaves": a follower that starts after the three ends gets a later one, and asks for all."""
+        """OPERATING, "What you see": a follower that starts after the three ends gets a later one, and asks for all."""
         line, a, b, retransmission = ports(4)
         with started(["live", "AB", "N", line, a, b, retransmission, 1, SESSION]) as live, connect(line) as participant:
             participant.sendall(reports("N", self.REPORTS))
@@ -460,7 +460,7 @@ class HeldUp(Case):
         self.assertIsNone(second.poll(), "the second follower ended before its turn")
 
     def test_waiting_for_its_turn(self):
-        """PROFILE, "What becomes of a peer that misbehaves": of two followers with gaps the second waits for its answer while another subscriber
+        """OPERATING, "What you see": of two followers with gaps the second waits for its answer while another subscriber
         has the retransmission, until the first has ended and each end has been passed on. It reads its lines on meanwhile."""
         line, a, b, retransmission, *own = ports(8)
         relays = [Relay(a, own[::2]), Relay(b, own[1::2])]
@@ -497,7 +497,7 @@ class Gone(Case):
                 yield live, follow, participant
 
     def test_killed(self):
-        """PROFILE, "What becomes of a peer that misbehaves": where a signal ends `live` in mid-day, a follower that is not asking ends too."""
+        """OPERATING, "What you see": where a signal ends `live` in mid-day, a follower that is not asking ends too."""
         for serves in (0, 1):
             with self.subTest(serves), self.day(serves) as (live, follow, _):
                 time.sleep(0.5)
@@ -505,7 +505,7 @@ class Gone(Case):
                 self.assert_fault(ended(follow, 2 * self.QUIET), READ_FAULT)
 
     def test_quiet(self):
-        """PROFILE, "A running day": a day that is only quiet is waited for, whether the follower's connection was accepted yet or not."""
+        """OPERATING: a day that is only quiet is waited for, whether the follower's connection was accepted yet or not."""
         with contextlib.ExitStack() as stack:
             days = [stack.enter_context(self.day(serves)) for serves in (0, 1)]
             time.sleep(self.QUIET)
@@ -517,7 +517,7 @@ class Gone(Case):
                 self.assertEqual(ends[0].written, ends[1].written)
 
     def test_closed_while_lines_go_on(self):
-        """PROFILE, "A running day": a follower whose connection is closed takes what its lines still bring, and ends well at the end."""
+        """OPERATING: a follower whose connection is closed takes what its lines still bring, and ends well at the end."""
         with follower() as peer:
             peer.connection.close()
             for number in range(1, 2 * self.QUIET + 1):
@@ -544,12 +544,12 @@ class LossyDays(Case):
                 self.assert_day(LOSE=lose)
 
     def test_a_reinstatement(self):
-        """PROFILE, "A day": a report that is reinstated stands again on both tapes."""
+        """RULES, "A day": a report that is reinstated stands again on both tapes."""
         with tempfile.NamedTemporaryFile(suffix=".csv") as table:
             table.write((SAMPLES / "corrections.csv").read_bytes() + b"reinstate,Q,3,AB,1,,,\n")
             table.flush()
             self.assert_day(table.name, figures="450,3", LOSE="30")
 
     def test_nobody_follows(self):
-        """PROFILE, "A running day": with SERVES 0 no retransmission is awaited."""
+        """OPERATING: with SERVES 0 no retransmission is awaited."""
         self.assert_day(FOLLOWED="0")

@@ -1,6 +1,7 @@
 #!/bin/sh
-tools=$(cd "$(dirname "$0")" && pwd) || exit 1
-samples=$tools/../samples
+tests=$(cd "$(dirname "$0")" && pwd) || exit 1
+samples=$tests/../samples
+tools=$tests/../tools
 
 help() {
     cat << 'END'
@@ -12,6 +13,7 @@ byte. Prints the report once, and on standard error what the relay did. Needs py
 are bound.
 
     TAPEBOX   the program (../crates/tapebox/out/tapebox, from here)
+    TAPEDESK  the one that reads the table (../crates/tapedesk/out/tapedesk)
     FOLLOWED  1, or 0 for a day that nobody follows: `live` awaits no retransmission, and its report alone is printed (1)
     LOSE      the percentage of packets that is lost: of both lines, or as 100,10 of each (30)
     SEED      what the relay draws from (9, which loses the third packet of a line on both)
@@ -25,7 +27,8 @@ END
 case ${1-} in -h | --help) help; exit ;; esac
 [ $# -le 1 ] || { echo "usage: lossy_day.sh [TABLE.csv]" >&2; exit 2; }
 table=${1:-$samples/corrections.csv}
-tapebox=${TAPEBOX:-$samples/../crates/tapebox/out/tapebox}
+tapebox=${TAPEBOX:-$tests/../crates/tapebox/out/tapebox}
+export TAPEDESK="${TAPEDESK:-$tests/../crates/tapedesk/out/tapedesk}"
 followed=${FOLLOWED:-1}
 lose=${LOSE:-30}
 seed=${SEED:-9}
@@ -103,11 +106,11 @@ ended() {
 
 [ -x "$tapebox" ] || fail "there is no program $tapebox"
 [ -r /proc/net/udp ] || fail "there is no /proc/net/udp"
-names=$("$samples/send_day.py" --names "$table") || exit 1
+names=$("$tools/send_day.py" --names "$table") || exit 1
 symbols=$(echo "$names" | sed -n 1p)
 participants=$(echo "$names" | sed -n 2p)
 lines=$(echo "$participants" | tr ',' '\n' | wc -l)
-port=$("$tools/free_ports.py" $((lines + 5))) || fail "there are no free ports"
+port=$("$tests/free_ports.py" $((lines + 5))) || fail "there are no free ports"
 retransmission=$((port + lines))
 sent_a=$((retransmission + 1))
 sent_b=$((retransmission + 2))
@@ -118,7 +121,7 @@ deadline=$(($(date +%s) + limit))
 start live "$tapebox" live "$symbols" "$participants" "$port" "$sent_a" "$sent_b" "$retransmission" "$followed" "$session"
 await bound tcp "$retransmission"
 if [ "$followed" -eq 0 ]; then
-    start sender "$samples/send_day.py" --pause "$pause" "$table" "$port"
+    start sender "$tools/send_day.py" --pause "$pause" "$table" "$port"
     await ended
     [ -s "$work/live.out" ] || fail "live wrote no report"
     cat "$work/live.out"
@@ -127,14 +130,14 @@ if [ "$followed" -eq 0 ]; then
 fi
 
 # The follower connects as it starts, and a line's first packet must find the relay and the follower.
-start relay "$tools/lossy_relay.py" --lose "$lose" --double 10 --reorder 10 --garble 30 --seed "$seed" "$sent_a" "$sent_b" "$a" "$b"
+start relay "$tests/lossy_relay.py" --lose "$lose" --double 10 --reorder 10 --garble 30 --seed "$seed" "$sent_a" "$sent_b" "$a" "$b"
 relay=relay:$!
 await bound udp "$sent_a"
 await bound udp "$sent_b"
 start follow "$tapebox" follow "$symbols" "$participants" "$a" "$b" "$retransmission" "$session"
 await bound udp "$a"
 await bound udp "$b"
-start sender "$samples/send_day.py" --pause "$pause" "$table" "$port"
+start sender "$tools/send_day.py" --pause "$pause" "$table" "$port"
 await ended
 
 running=

@@ -1,10 +1,13 @@
 // Calls of the C library that fail. FAILING has rows with commas between them, each NAME:FIRST:LAST:ERROR: of the calls of NAME the FIRST to the
-// LAST one, counted from 1, fail with this number, and each is told on standard error.
+// LAST one, counted from 1, fail with this number, and each is told on standard error. Of `read` the calls on standard input count, and of `write`
+// those on standard output.
 typedef __SIZE_TYPE__ size_t;
 typedef __PTRDIFF_TYPE__ ssize_t;
 typedef int accepting(int socket, void *address, unsigned *length, int flags);
 typedef ssize_t receiving(int socket, void *bytes, size_t size, int flags, void *address, unsigned *length);
 typedef ssize_t sending(int socket, const void *bytes, size_t size, int flags, const void *address, unsigned length);
+typedef ssize_t reading(int file, void *bytes, size_t size);
+typedef ssize_t writing(int file, const void *bytes, size_t size);
 typedef int creating(void *thread, const void *attributes, void *(*routine)(void *), void *argument);
 
 void *dlsym(void *handle, const char *name);
@@ -13,7 +16,7 @@ char *getenv(const char *name);
 size_t strlen(const char *text);
 int strncmp(const char *one, const char *other, size_t most);
 unsigned long strtoul(const char *text, char **end, int base);
-long write(int file, const void *bytes, size_t size);
+ssize_t write(int file, const void *bytes, size_t size);
 
 // The library that comes after this one.
 static void *const NEXT = (void *)-1L;
@@ -71,4 +74,14 @@ int pthread_create(void *thread, const void *attributes, void *(*routine)(void *
     static unsigned long calls;
     int error = failed("pthread_create", &calls);
     return error ? error : ((creating *)dlsym(NEXT, "pthread_create"))(thread, attributes, routine, argument);
+}
+
+ssize_t read(int file, void *bytes, size_t size) {
+    static unsigned long calls;
+    return file == 0 && failed("read", &calls) ? -1 : ((reading *)dlsym(NEXT, "read"))(file, bytes, size);
+}
+
+ssize_t write(int file, const void *bytes, size_t size) {
+    static unsigned long calls;
+    return file == 1 && failed("write", &calls) ? -1 : ((writing *)dlsym(NEXT, "write"))(file, bytes, size);
 }

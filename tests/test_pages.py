@@ -4,11 +4,11 @@ import functools
 import re
 import textwrap
 import unittest
-from pathlib import Path
+
+from support import ROOT
 
 import definitions
 
-ROOT = Path(__file__).resolve().parent.parent
 CRATES = ROOT / "crates"
 PAGES = [ROOT / "README.md", *sorted(ROOT.glob("docs/*.md")), *sorted(ROOT.glob("crates/*/README.md"))]
 
@@ -99,8 +99,8 @@ def specs():
 
 
 def rows_under(heading):
-    """The cells of each row of the table under a heading of PROFILE."""
-    part = text_of(ROOT / "docs" / "PROFILE.md").split(f"\n## {heading}\n")[1].split("\n## ")[0]
+    """The cells of each row of the table under a heading of RULES."""
+    part = text_of(ROOT / "docs" / "RULES.md").split(f"\n## {heading}\n")[1].split("\n## ")[0]
     return [row.split(" | ") for row in ROW.findall(part)]
 
 
@@ -136,7 +136,7 @@ class Pages(unittest.TestCase):
 
     def test_files_that_pages_name_exist(self):
         """Each file that a page names is there: next to the page, in the crate's code, or from crates/ or another folder on."""
-        folders = [CRATES, ROOT, *(ROOT / name for name in ("bench", "docs", "samples"))]
+        folders = [CRATES, ROOT, *(ROOT / name for name in ("bench", "docs", "samples", "tests", "tools"))]
         for page in PAGES:
             for name in set(FILE.findall(plain(page))):
                 with self.subTest(page=str(page.relative_to(ROOT)), name=name):
@@ -158,7 +158,7 @@ class Pages(unittest.TestCase):
                 self.assertEqual([word for word in words if word not in known], [])
 
     def test_limits_are_those_of_the_code(self):
-        """docs/PROFILE.md, "Limits": a limit has the value that its constant has in the code and in the definitions."""
+        """docs/RULES.md, "Limits": a limit has the value that its constant has in the code and in the definitions."""
         values = [pair for text in [*code(), *specs()] for pair in LIMIT.findall(text)]
         for _what, _least, most, name in rows_under("Limits")[1:]:
             named = NAME.search(name).group()
@@ -167,14 +167,14 @@ class Pages(unittest.TestCase):
                     self.assertEqual(f"{value:,}", most)
 
     def test_refusals_are_those_of_the_definitions(self):
-        """docs/PROFILE.md, "Refusals by number and name": each number that a definition gives has its name there."""
+        """docs/RULES.md, "Refusals by number and name": each number that a definition gives has its name there."""
         listed = {(number, name) for row in rows_under("Refusals by number and name") for number, name in re.findall(r"(\d+) (\w+)", row[1])}
         for name, number in (pair for text in specs() for pair in NUMBER.findall(text)):
             with self.subTest(name=name, number=number):
                 self.assertTrue(any(number == known and name.endswith(shown) for known, shown in listed))
 
     def test_definitions_are_those_of_the_code(self):
-        """docs/DEFINITIONS.md: what is after its marker is what .ci/definitions.py writes; run that where this fails."""
+        """docs/DEFINITIONS.md: what is after its marker is what tools/definitions.py writes; run that where this fails."""
         _, marker, written = text_of(definitions.PAGE).partition(definitions.MARKER)
         self.assertEqual(written.splitlines(), definitions.written().splitlines())
         self.assertTrue(marker)

@@ -7,10 +7,9 @@ import shutil
 import subprocess
 import tempfile
 import time
-import unittest
 from pathlib import Path
 
-from support import SAMPLES, TAPEBOX, Case, run
+from support import TAPEDESK, TOOLS, Case, run
 
 # The system's own commands may not be on the path.
 PATH = os.environ["PATH"] + ":/usr/sbin:/sbin"
@@ -125,7 +124,7 @@ class Machines(Case):
             time.sleep(0.1)
 
     def program(self, text):
-        """A program in the place of tapebox, which says where it runs."""
+        """A program in the place of tapedesk, which says where it runs."""
         path = self.folder / "program"
         path.write_text(f'#!/bin/sh\nreadlink /proc/self/ns/net >> "{self.folder}/where"\n{text}\n')
         path.chmod(0o755)
@@ -135,7 +134,7 @@ class Machines(Case):
         """What split_day.sh is given."""
         ssh = f"{self.ssh} -o ServerAliveInterval=1 -o ServerAliveCountMax=2"
         logins = ",".join(host.address for host in self.hosts)
-        more = {"TAPEBOX": str(program), "PARALLEL": f"--sshlogin {logins}", "PARALLEL_SSH": ssh, "TMPDIR": str(self.folder / "room"), "PATH": PATH}
+        more = {"TAPEDESK": str(program), "PARALLEL": f"--sshlogin {logins}", "PARALLEL_SSH": ssh, "TMPDIR": str(self.folder / "room"), "PATH": PATH}
         return os.environ | more
 
     def table(self):
@@ -148,15 +147,15 @@ class Machines(Case):
     def test_a_day_over_two_hosts(self):
         """SCALE, "Several machines": the parts run on both hosts, and the report is the one of this machine alone."""
         table = self.table()
-        alone = run([table, PARTS], program=SAMPLES / "split_day.sh", env=os.environ | {"TAPEBOX": str(TAPEBOX)})
-        ended = run([table, PARTS], program=SAMPLES / "split_day.sh", env=self.environment(self.program(f'exec "{TAPEBOX}" "$@"')), limit=LIMIT)
+        alone = run([table, PARTS], program=TOOLS / "split_day.sh", env=os.environ | {"TAPEDESK": str(TAPEDESK)})
+        ended = run([table, PARTS], program=TOOLS / "split_day.sh", env=self.environment(self.program(f'exec "{TAPEDESK}" "$@"')), limit=LIMIT)
         self.assertEqual(ended, alone)
         self.assertEqual((alone.status, alone.said), (0, b""))
         self.assertEqual(len(set((self.folder / "where").read_text().split())), len(self.hosts))
 
     def test_a_host_that_is_gone(self):
         """SCALE, "Several machines": a host that is gone in the middle ends the run with a line that names it, and no report."""
-        words = [SAMPLES / "split_day.sh", self.table(), str(PARTS)]
+        words = [TOOLS / "split_day.sh", self.table(), str(PARTS)]
         running = subprocess.Popen(words, env=self.environment(self.program("sleep 600")), stdout=subprocess.PIPE, stderr=subprocess.PIPE)
         self.addCleanup(running.kill)
         until = time.monotonic() + LIMIT

@@ -34,14 +34,14 @@ follow AB N 9001 9002 9003 7 1048576""".splitlines(),
 
 class Words(Case):
     def test_arguments_that_are_none(self):
-        """PROFILE, "Statuses": any other arguments are bad arguments, and nothing is read."""
+        """OPERATING, "Statuses": any other arguments are bad arguments, and nothing is read."""
         day = (SAMPLES / "first-day.txt").read_bytes()
         for words in OTHER:
             with self.subTest(words):
                 self.assert_fault(run(words, day), BAD_ARGUMENTS)
 
     def test_a_batch_by_either_matrix(self):
-        """PROFILE, "A batch": without a matrix a batch goes by Matrix One, which lacks the codes of Matrix Two."""
+        """FORMATS, "A batch": without a matrix a batch goes by Matrix One, which lacks the codes of Matrix Two."""
         day = (SAMPLES / "first-day.txt").read_bytes()
         self.assertEqual(run(["batch"], day), run(["batch", "1"], day))
         stopped = b"AB\nN\nN 0026524e000000010000000000000000414220202020202000000000000186a00000006440202032\n"

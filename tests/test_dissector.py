@@ -98,7 +98,7 @@ class Dissector(Case):
                 self.assertEqual(re.sub("(?m) +$", "", done.stdout.decode()), shown)
 
     def test_each_fault(self):
-        """PROFILE, "Packets": a packet of each fault is refused by its number and has its expert info, and every other packet has neither."""
+        """FORMATS, "Packets": a packet of each fault is refused by its number and has its expert info, and every other packet has neither."""
         names = dict(zip(range(51, 58), "Short BadVersion BadKind BadCount BadEntry NotInOrder Trailing".split()))
         path = self.capture(wire.datagram(A, text) for _, text in wire.PACKETS)
         self.assertEqual([row[0] for row in fields(path, "tapebox.refusal")], [str(fault or "") for fault, _ in wire.PACKETS])
@@ -186,7 +186,7 @@ class Dissector(Case):
 
     @unittest.skipUnless(shutil.which("cargo"), "no cargo")
     def test_packets_as_a_plain_reader(self):
-        """PROFILE, "Packets": the same refusal or none of packets that the plain maker draws, most of them with a fault."""
+        """FORMATS, "Packets": the same refusal or none of packets that the plain maker draws, most of them with a fault."""
         packets = made_lines(b"P")
         wanted = ["" if said.startswith("ok") else said.split()[0] for _, said in packets]
         told = [row[0] for row in fields(self.capture(wire.datagram(A, text) for text, _ in packets), "tapebox.refusal")]
@@ -197,7 +197,7 @@ class Dissector(Case):
 
     @unittest.skipUnless(shutil.which("cargo"), "no cargo")
     def test_messages_as_a_plain_reader(self):
-        """PROFILE, "A message's bytes": the same messages and refusals of one connection in odd pieces, joined by Wireshark or not, in two passes as in
+        """FORMATS, "A message's bytes": the same messages and refusals of one connection in odd pieces, joined by Wireshark or not, in two passes as in
         one."""
         refused, units = [], []
         for text, said in made_lines(b"M"):
@@ -216,7 +216,7 @@ class Dissector(Case):
 
     @unittest.skipUnless(shutil.which("cargo"), "no cargo")
     def test_answers_as_a_plain_reader(self):
-        """PROFILE, "Requests and answers": the same end of answers that the plain maker draws, each on a connection of its own."""
+        """FORMATS, "Requests and answers": the same end of answers that the plain maker draws, each on a connection of its own."""
         # What is left of the bytes is of no answer.
         answers = [(text[: len(text) - int(said.split()[-1])], said) for text, said in made_lines(b"A")]
         frames = [segment for at, (text, _) in enumerate(answers) for segment in wire.segments(RETRANSMISSION, wire.CLIENT + at, [text])]

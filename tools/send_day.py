@@ -1,30 +1,35 @@
 #!/usr/bin/env python3
-"""Sends a readable day to a running `tapebox live`, each participant's messages over a TCP connection of its own.
+"""Sends a day's table to a running `tapebox live`, each participant's messages over a TCP connection of its own.
 
     send_day.py [--pause SECONDS] TABLE.csv PORT [PARTICIPANTS]
     send_day.py --names TABLE.csv
 
-The table is the one that encode_day.py takes. PORT and PARTICIPANTS are those of `live`: the participant at position i of the
-list, from 0, is sent to port PORT + i of 127.0.0.1. Without PARTICIPANTS they are the table's own, in the order of their
-appearance, which `--names` prints after the symbols, each list on a line of its own and with commas between the names. A
-listed participant without a row is connected too and sends nothing, since `live` waits for each.
+`tapedesk encode` reads the table. PORT and PARTICIPANTS are those of `live`: the participant at position i of the list, from 0, is
+sent to port PORT + i of 127.0.0.1. Without PARTICIPANTS they are the table's own, in the order of their appearance, which `--names`
+prints after the symbols, each list on a line of its own and with commas between the names. A listed participant without a row is
+connected too and sends nothing, since `live` waits for each.
 
 Messages leave in the order of the rows, but participants' lines run at once: without a pause after each message the tape may
 have another order between participants. Connecting is tried for ten seconds.
+
+    TAPEDESK  the program (the one that ./run finds)
 
 Statuses: 0 if all was sent, or printed; 1 if the table can't be read, at its first bad row, and then nothing is sent, if nothing
 listens, or at the first row whose message could not be sent; 2 if the words are others.
 """
 
+import argparse
+import os
 import socket
+import subprocess
 import sys
 import time
+from pathlib import Path
 
-from encode_day import encode, parser_of, read_table
-
+RUN = Path(__file__).resolve().parent.parent / "run"
 HOST = "127.0.0.1"
 CONNECTING_SECONDS = 10
-# The table's line of its first message, after the header row; every row is one line.
+# The number of the row of the first message, as tapedesk counts rows: the header row is the first.
 FIRST_ROW = 2
 
 
@@ -36,11 +41,17 @@ def parse_batch(text):
 
 
 def read_day(path):
-    """The same of a readable table."""
-    day = parse_batch(read_table(path, encode))
-    if not day[-1]:
-        sys.exit(f"send_day.py: {path} has no row after its first")
-    return day
+    """The same of a table."""
+    try:
+        table = open(path, "rb")
+    except OSError as fault:
+        sys.exit(f"send_day.py: {path}: {fault.strerror}")
+    with table:
+        done = subprocess.run([os.environ.get("TAPEDESK", RUN), "encode"], stdin=table, capture_output=True, check=False)
+    if done.returncode:
+        why = done.stderr.decode(errors="replace").strip().splitlines()[-1:]
+        sys.exit(f"send_day.py: {path}: {''.join(why).removeprefix('tapedesk: ')}")
+    return parse_batch(done.stdout.decode())
 
 
 def dial(port, deadline):
@@ -68,11 +79,11 @@ def connect(participants, port):
 
 def send(path, messages, connections, pause):
     """Sends each message of a table on its participant's connection, and then closes all."""
-    for line, (letter, message) in enumerate(messages, FIRST_ROW):
+    for row, (letter, message) in enumerate(messages, FIRST_ROW):
         try:
             connections[letter].sendall(message)
         except OSError as fault:
-            sys.exit(f"send_day.py: {path}, line {line}: not sent to participant {letter}'s line: {fault}")
+            sys.exit(f"send_day.py: {path}, row {row}: not sent to participant {letter}'s line: {fault}")
         time.sleep(pause)
     for connection in connections.values():
         connection.close()
@@ -83,14 +94,14 @@ def listed(word, path, messages):
     participants = word.split(",")
     if len(set(participants)) != len(participants) or not all(len(letter) == 1 for letter in participants):
         sys.exit(f"send_day.py: {word!r} is no list of different letters with commas between them")
-    for line, (letter, _) in enumerate(messages, FIRST_ROW):
+    for row, (letter, _) in enumerate(messages, FIRST_ROW):
         if letter not in participants:
-            sys.exit(f"send_day.py: {path}, line {line}: participant {letter!r} is not among {word}")
+            sys.exit(f"send_day.py: {path}, row {row}: participant {letter!r} is not among {word}")
     return participants
 
 
 def arguments():
-    parser = parser_of(__doc__)
+    parser = argparse.ArgumentParser(description=__doc__, formatter_class=argparse.RawDescriptionHelpFormatter)
     parser.add_argument("--names", action="store_true", help="print the table's symbols and participants, and send nothing")
     parser.add_argument("--pause", type=float, default=0, metavar="SECONDS", help="rest so long after each message (0)")
     parser.add_argument("table", metavar="TABLE.csv")

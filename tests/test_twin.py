@@ -9,9 +9,11 @@ import shutil
 import subprocess
 import tempfile
 import unittest
+from dataclasses import replace
 from pathlib import Path
 
-from support import BENCH, CRATES, FEED_SPEED, SAMPLES, TAPEBOX, Case, batch_line, batch_of, encode_day, report, run
+from plain_table import COLUMNS
+from support import BENCH, CRATES, FEED_SPEED, SAMPLES, TAPEDESK, TOOLS, Case, batch_line, batch_of, desk, report, run
 
 DECODE_LINES = CRATES / "decode_lines" / "out" / "decode_lines"
 # The greatest batch.
@@ -95,6 +97,17 @@ class PlainPrograms(Case):
                 if (kind, matrix) == ("every", []):
                     self.assertEqual({int(number) for number in re.findall(rb"(?m)^refused (\d+)", wanted.written)}, self.REFUSALS)
 
+    def test_tables(self):
+        """SPEED, "Tables": both programs write the same report and the same tape, with the figures after each row, of tables with every kind of row, of
+        400 symbols, of one busy symbol and of the greatest listing."""
+        for kind, matrix in [("odd", 1), ("odd", 2), ("busy", 1), ("hostile", 1), ("wide", 2)]:
+            table = plain_run("to_table", given=plain_run("make_day", kind, 1, BYTES_MOST // 2).written).written
+            for word in ("report", "tape"):
+                with self.subTest(f"{word} {kind} {matrix}"):
+                    wanted, ended = plain_run("desk", word, matrix, given=table), desk(word, matrix, given=table)
+                    self.assertTrue(wanted.written)
+                    self.assert_writes(replace(ended, said=b""), wanted.written)
+
     def test_a_feed_of_more_entries_than_two_bytes_count(self):
         """SPEED, "Ratios to plain Rust": both feeds count the same, and their subscribers hold all entries."""
         day = plain_run("make_day", "busy", 1, BYTES_MOST).written
@@ -103,7 +116,7 @@ class PlainPrograms(Case):
         self.assertEqual(counts(run([], day, program=FEED_SPEED).written), wanted)
 
     def test_lines_of_bytes(self):
-        """PROFILE, "Packets", "A message's bytes" and "Requests and answers": the readers and plain ones read the same of 210,000 lines of bytes, most
+        """FORMATS, "Packets", "A message's bytes" and "Requests and answers": the readers and plain ones read the same of 210,000 lines of bytes, most
         of them with a fault, and each fault of a packet, a message, a request and an answer is among them."""
         lines = plain_run("make_lines", 1).written
         wanted = plain_run("read_lines", given=lines).written
@@ -173,7 +186,7 @@ class SplitDay(Case):
     def test_parts_have_the_figures_of_the_whole(self):
         """SCALE, "A day over several tapes": a seeded day of 12 symbols by 1, 3 and 4 parts has the figures of one tape, places aside."""
         maker = Maker(1)
-        columns = ["kind", *encode_day.COLUMNS[:3], "target", *encode_day.COLUMNS[3:]]
+        columns = [column for column in COLUMNS if column != "moment"]
         with tempfile.NamedTemporaryFile("w", suffix=".csv", newline="") as table:
             csv.writer(table, lineterminator="\n").writerows([columns, *(maker.row() for _ in range(self.ROWS))])
             table.flush()
@@ -181,7 +194,7 @@ class SplitDay(Case):
             self.assertNotIn("refused", whole)
             for parts in (1, 3, 4):
                 with self.subTest(parts):
-                    environment = os.environ | {"TAPEBOX": str(TAPEBOX)}
-                    split = run([table.name, parts], program=SAMPLES / "split_day.sh", env=environment)
+                    environment = os.environ | {"TAPEDESK": str(TAPEDESK)}
+                    split = run([table.name, parts], program=TOOLS / "split_day.sh", env=environment)
                     self.assertEqual((split.status, split.said), (0, b""))
                     self.assertEqual(self.figures(split.written.decode()), self.figures(whole))

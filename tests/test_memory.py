@@ -22,7 +22,7 @@ MEGABYTES = range(16, 65, 4)
 
 class LittleMemory(Case):
     def test_a_long_day_with_ever_more_memory(self):
-        """PROFILE, "Statuses", 5: of a batch that runs out of memory the answers up to a refusal 40 are written, or all, and no report."""
+        """OPERATING, "Statuses", 5: of a batch that runs out of memory the answers up to a refusal 40 are written, or all, and no report."""
         day = b"AB CD\nN Q\n" + b"".join(batch_line(report("N", number)) for number in range(1, REPORTS + 1))
         whole = run(["batch"], day).written
         answers = b"".join(whole.splitlines(keepends=True)[:REPORTS])
@@ -65,13 +65,13 @@ class FewFiles(Case):
     ANSWERED = b"\0"
 
     def test_a_lines_connection(self):
-        """PROFILE, "Statuses", 3: the standard streams, two listeners, one of them by two handles, and a socket to send by are seven files, and a line
+        """OPERATING, "Statuses", 3: the standard streams, two listeners, one of them by two handles, and a socket to send by are seven files, and a line
         is an eighth."""
         with started(live(ports(4), "N", 1), preexec_fn=lambda: limit_files(7)) as day:
             self.assert_fault(ended(day), READ_FAULT)
 
     def test_a_subscribers_connection(self):
-        """PROFILE, "A running day": a subscriber that can't be accepted while all files are open waits, and is served once there are more."""
+        """OPERATING: a subscriber that can't be accepted while all files are open waits, and is served once there are more."""
         line, _, _, retransmission = row = ports(4)
         with started(live(row, "N", 2)) as day, connect(line) as participant:
             self.assertTrue(is_refused(line))
@@ -100,7 +100,7 @@ class Connections(Case):
     FOR_NOW = [errno.ECONNABORTED, errno.EMFILE, errno.ENFILE, errno.ENOBUFS, errno.ENOMEM, errno.EINTR]
 
     def test_one_that_fails_for_now(self):
-        """PROFILE, "A running day": a subscriber's connection that can't be accepted for now is tried again, and counts no turn."""
+        """OPERATING: a subscriber's connection that can't be accepted for now is tried again, and counts no turn."""
         line, a, b, retransmission = row = ports(4)
         failed = failing(*(("accept4", call, call, error) for call, error in enumerate(self.FOR_NOW, 2)))
         with started(live(row, "N", 1), env=failed) as day, connect(line) as participant:
@@ -122,12 +122,12 @@ class Connections(Case):
             return ended_by_itself(day)
 
     def test_a_listener_that_is_gone(self):
-        """PROFILE, "Statuses", 3: a listener that is gone is a read fault, and no report is written."""
+        """OPERATING, "Statuses", 3: a listener that is gone is a read fault, and no report is written."""
         self.assert_fault(self.end_without_listener(), READ_FAULT)
 
     @unittest.skipUnless(Path("/dev/full").is_char_device(), "no /dev/full")
     def test_the_lesser_of_two_faults(self):
-        """PROFILE, "A running day": of two faults, a listener and the output, the one of the lesser status is told."""
+        """OPERATING: of two faults, a listener and the output, the one of the lesser status is told."""
         with open("/dev/full", "wb") as full:
             self.assert_fault(self.end_without_listener(stdout=full), READ_FAULT)
 
@@ -144,7 +144,7 @@ class FewThreads(Case):
         return failing(("pthread_create", first, last, errno.EAGAIN))
 
     def test_follow(self):
-        """PROFILE, "Statuses", 6: a follower that lacks the thread of a line ends as one whose worker was not started."""
+        """OPERATING, "Statuses", 6: a follower that lacks the thread of a line ends as one whose worker was not started."""
         for first in (1, 2):
             a, b, retransmission = ports(3)
             with self.subTest(first), socket.create_server((HOST, retransmission)):
@@ -163,12 +163,12 @@ class FewThreads(Case):
             return ended_by_itself(day)
 
     def test_live_without_a_thread(self):
-        """PROFILE, "Statuses", 6: so does a day without a thread, and one of two lines that has too few for its lines."""
+        """OPERATING, "Statuses", 6: so does a day without a thread, and one of two lines that has too few for its lines."""
         self.assert_fault(self.end_of_day(ports(4), "N", self.lacking(1)), NO_WORKER)
         self.assert_fault(self.end_of_day(ports(5), "NQ", self.lacking(2)), NO_WORKER)
 
     def test_live_with_ever_more_threads(self):
-        """PROFILE, "Statuses", 6: with each thread more a day ends as one whose worker was not started, or writes its whole report."""
+        """OPERATING, "Statuses", 6: with each thread more a day ends as one whose worker was not started, or writes its whole report."""
         every = ports(4 * self.MOST)
         with ThreadPoolExecutor(self.MOST) as pool:
             *ends, whole = pool.map(lambda at: self.end_of_day(every[4 * at : 4 * at + 4], "N", self.lacking(at + 1)), range(self.MOST))
@@ -191,7 +191,7 @@ class FewThreads(Case):
                 return ended_by_itself(day), ended(follow)
 
     def test_the_follower_of_lines_without_threads(self):
-        """PROFILE, "A running day": where the lines were not started the follower gets no end, and ends with status 3; where they were, both write the
+        """OPERATING: where the lines were not started the follower gets no end, and ends with status 3; where they were, both write the
         same report."""
         kinds = Counter()
         every = ports(5 * self.MOST)
@@ -208,7 +208,7 @@ class FewThreads(Case):
         self.assertGreater(min(kinds[NO_WORKER[0]], kinds[0]), 1, kinds)
 
     def test_rows(self):
-        """PROFILE, "Refusals by number and name": of two workers of a report the first is refused its thread."""
+        """RULES, "Refusals by number and name": of two workers of a report the first is refused its thread."""
         day = (SAMPLES / "first-day.txt").read_bytes()
         done = run(["rows"], day, program=FEED_SPEED, env=self.lacking(1))
         self.assertEqual((done.status, done.written, done.said.replace(CALL_FAILED, b"")), (1, b"", b"Error: Unstarted\n"))

@@ -5,21 +5,22 @@ REPORT is what `tapebox` writes, with or without the answers of a batch before t
 symbol has a panel with a row for its consolidated figures and one for each participant: a bar from the low to the high, a ring at the
 open, a dot at the last, and the volume as a bar of its own. The first line counts the answers, refused ones by their names.
 
-TAPE is a table of the day whose column `tape` has each row's tape number, or anything else where the row was refused. The picture has
-the symbol's trades by tape number and price: a dot for each that stands, a cross for one that was cancelled, and for one that was
-corrected a ring at each price that it had, with a line to the last one. Where the table has a column `last`, a line follows it.
+TAPE is what `tapedesk tape` writes, or another table whose column `tape` has each row's tape number, and anything else where the row was
+refused. The picture has the symbol's trades by tape number and price: a dot for each that stands, a cross for one that was cancelled, and
+for one that was corrected a ring at each price that it had, with a line to the last one. Where the table has a column `last`, a line
+follows it.
 
 Statuses: 0 if the picture was written; 1 if the file can't be read or has no report, or no row of the symbol, and then nothing is
 written; 2 if the words are others.
 """
 
+import argparse
 import collections
 import csv
+import re
 import sys
 from dataclasses import dataclass, field
 from html import escape
-
-from encode_day import BadRow, parser_of, ten_thousandths
 
 HEADINGS = "symbol,who,open,open_at,high,high_at,low,low_at,last,last_at,volume,trades"
 WIDTH = 760
@@ -61,6 +62,18 @@ TAPE_STYLE = """    .cancelled { fill: none; stroke: #c0392b; stroke-width: 2; }
       .former, .moved { stroke: #6db1ff; }
     }
 """
+
+
+class BadPrice(Exception):
+    """Says which text is no price."""
+
+
+def ten_thousandths(text):
+    """A price in dollars as ten-thousandths."""
+    if not re.fullmatch(r"[0-9]+(\.[0-9]{1,4})?", text):
+        raise BadPrice(f"{text!r} is no price with at most four decimals")
+    dollars, _, decimals = text.partition(".")
+    return int(dollars + decimals.ljust(4, "0"))
 
 
 def fail(path, why):
@@ -195,9 +208,9 @@ def read_tape(path, symbol):
             continue
         try:
             follow(trades, row)
-            lasts += [(int(row["tape"]), ten_thousandths({"price": row["last"]}))] if row.get("last") else []
-        except (BadRow, KeyError) as fault:
-            fail(path, f", line {rows.line_num}: {fault if isinstance(fault, BadRow) else 'no such report before it'}")
+            lasts += [(int(row["tape"]), ten_thousandths(row["last"]))] if row.get("last") else []
+        except (BadPrice, KeyError) as fault:
+            fail(path, f", line {rows.line_num}: {fault if isinstance(fault, BadPrice) else 'no such report before it'}")
     if not trades:
         fail(path, f": no trade of {symbol}")
     return list(trades.values()), lasts
@@ -206,11 +219,11 @@ def read_tape(path, symbol):
 def follow(trades, row):
     """Lets an admitted row change the trades, by their participants and numbers."""
     if row["kind"] == "report":
-        trades[row["participant"], row["number"]] = Trade(int(row["tape"]), f"{row['participant']} {row['number']}", [ten_thousandths(row)])
+        trades[row["participant"], row["number"]] = Trade(int(row["tape"]), f"{row['participant']} {row['number']}", [ten_thousandths(row["price"])])
         return
     trade = trades[row["participant"], row["target"]]
     trade.stands = row["kind"] != "cancel"
-    trade.prices += [ten_thousandths(row)] if row["kind"] == "correct" else []
+    trade.prices += [ten_thousandths(row["price"])] if row["kind"] == "correct" else []
 
 
 def draw_trade(trade, x, place):
@@ -259,7 +272,7 @@ def draw_tape(symbol, trades, lasts):
 
 
 def main():
-    parser = parser_of(__doc__)
+    parser = argparse.ArgumentParser(description=__doc__, formatter_class=argparse.RawDescriptionHelpFormatter)
     parser.add_argument("--symbol", metavar="SYMBOL", help="draw the trades of this symbol on a tape")
     parser.add_argument("file", nargs="?", metavar="REPORT|TAPE")
     words = parser.parse_args()

@@ -1,0 +1,195 @@
+"""Calls and memory that fail `tapedesk`, and tables that are long."""
+
+import contextlib
+import os
+import pty
+import re
+import subprocess
+import tempfile
+import time
+import unittest
+from collections import Counter
+from pathlib import Path
+
+from plain_table import COLUMNS, dollars
+from preloaded import CALL_FAILED, failing
+from refused import run_refused
+from support import HEADINGS, LIMIT, SAMPLES, TAPE_COLUMNS, TAPEDESK, Case, desk, started, table_of
+
+WORDS = ("report", "tape")
+READ_FAULT = (3, b"tapedesk: a read failed\n")
+WRITE_FAULT = (4, b"tapedesk: a write failed\n")
+OUT_OF_MEMORY = (5, b"tapedesk: out of memory\n")
+# Seconds until the longest table must have been read, on a busy machine.
+SOON = 300
+
+
+class Rising(Case):
+    """Tables of one symbol whose prices rise, so that each figure is known."""
+
+    @staticmethod
+    def row(at):
+        """The canonical row of the report of this number."""
+        return f"report,N,{at},0,AB,,{dollars(10_000 + at)},100,@___"
+
+    def table(self, count):
+        """So many rows."""
+        return ("\n".join([",".join(COLUMNS), *map(self.row, range(1, count + 1))]) + "\n").encode()
+
+    def tape(self, count):
+        """The tape of these rows."""
+        rows = (f"{at},,{self.row(at)},1.0001,{last},1.0001,{last},{100 * at},{at}" for at in range(1, count + 1) for last in [dollars(10_000 + at)])
+        return ("\n".join([",".join(TAPE_COLUMNS), *rows]) + "\n").encode()
+
+    @staticmethod
+    def report(count):
+        """The report of these rows."""
+        figures = f"10001,1,{10_000 + count},{count},10001,1,{10_000 + count},{count},{100 * count},{count}"
+        return f"{HEADINGS}\nAB,ALL,{figures}\nAB,N,{figures}\n".encode()
+
+
+class Long(Rising):
+    """Tables that a batch could not take."""
+
+    def test_more_than_a_batch_takes(self):
+        """SCALE, "One tape": a table of more than 16 MB of text, and of more rows than a batch's tape takes."""
+        count = 1_100_000
+        table = self.table(count)
+        self.assertGreater(len(table), 16_777_216)
+        self.assert_writes(desk("report", given=table, limit=SOON), self.report(count))
+        self.assert_writes(desk("tape", given=table, limit=SOON), self.tape(count))
+
+
+class FailingCalls(Rising):
+    """Reads and writes that fail, each in its turn."""
+
+    ROWS = 2_000
+    # More calls of a kind than such a run makes.
+    MOST = 200
+    EIO, EINTR, ENOSPC = 5, 4, 28
+
+    def ends(self, word, call, error, table):
+        """How a run ended whose call of this number fails, and so on, as long as one fails."""
+        for number in range(1, self.MOST):
+            ended = desk(word, given=table, env=failing((call, number, number, error)))
+            if CALL_FAILED not in ended.said:
+                self.assertGreater(number, 1)
+                return
+            yield ended.status, ended.written, ended.said.replace(CALL_FAILED, b"")
+        self.fail(f"{self.MOST} calls and more")
+
+    def test_reads(self):
+        """OPERATING, "Statuses", 3: whichever read fails, nothing is written."""
+        table = self.table(self.ROWS)
+        for word in WORDS:
+            for ended in self.ends(word, "read", self.EIO, table):
+                self.assertEqual(ended, (READ_FAULT[0], b"", READ_FAULT[1]))
+
+    def test_writes(self):
+        """OPERATING, "Statuses", 4: whichever write fails, a front of the text was written."""
+        table = self.table(self.ROWS)
+        for word, whole in [("report", self.report(self.ROWS)), ("tape", self.tape(self.ROWS))]:
+            fronts = set()
+            for status, written, said in self.ends(word, "write", self.ENOSPC, table):
+                self.assertEqual((status, said), WRITE_FAULT)
+                self.assertTrue(whole.startswith(written) and len(written) < len(whole))
+                fronts.add(written)
+            self.assertIn(b"", fronts)
+            self.assertTrue(word == "report" or len(fronts) > 1)
+
+    def test_writes_that_are_interrupted(self):
+        """OPERATING, "Statuses", 0: a write that a signal interrupts is made again."""
+        for ended in self.ends("tape", "write", self.EINTR, self.table(self.ROWS)):
+            self.assertEqual(ended, (0, self.tape(self.ROWS), b""))
+
+    @unittest.skipUnless(Path("/dev/full").is_char_device(), "no /dev/full")
+    def test_a_full_disk_and_a_folder(self):
+        """OPERATING, "Statuses", 3 and 4: an output that is full, and an input that is a folder."""
+        for word in WORDS:
+            with open("/dev/full", "wb") as full:
+                self.assert_fault(desk(word, given=self.table(1), stdout=full), WRITE_FAULT)
+            folder = os.open(SAMPLES, os.O_RDONLY)
+            try:
+                self.assert_fault(desk(word, given=folder), READ_FAULT)
+            finally:
+                os.close(folder)
+
+
+class RefusedMemory(Case):
+    """Each request for memory refused in turn."""
+
+    # More rows than are written at once, and a refused one.
+    ROWS = 600
+    MOST = 10_000
+
+    def test_each_request(self):
+        """OPERATING, "Statuses", 5: whichever request is refused, no report is written and a front of the tape at most; or it was not missed, but for
+        the lines of refused rows."""
+        rows = [["N", max(at, 2), f"S{at % 3}", "10.00", 100, "@___"] for at in range(2, self.ROWS)]
+        table = table_of([["participant", "number", "symbol", "price", "size", "condition"], rows[0], *rows])
+        for word in WORDS:
+            whole, ends = desk(word, given=table), Counter()
+            self.assertIn(b"1 row refused: 35 Stale", whole.said)
+            for request in range(1, self.MOST):
+                was_met, ended = run_refused([word], request, given=table, program=TAPEDESK)
+                with self.subTest(word, request=request):
+                    ends[self.kind_of(word, ended, whole)] += was_met
+                if not was_met:
+                    break
+            self.assertGreater(ends["nothing"], 0, ends)
+            self.assertTrue(word == "report" or ends["a front"], ends)
+            self.assertGreater(ends["no lines"], 0, ends)
+
+    def kind_of(self, word, ended, whole):
+        """How a run ended one of whose requests was refused, beside the whole run."""
+        if ended.status == 0:
+            self.assertEqual(ended.written, whole.written)
+            self.assertIn(ended.said, (b"", whole.said))
+            return "whole" if ended.said else "no lines"
+        self.assertEqual((ended.status, ended.said), OUT_OF_MEMORY)
+        if not ended.written:
+            return "nothing"
+        self.assertEqual(word, "tape")
+        self.assertTrue(whole.written.startswith(ended.written))
+        return "a front"
+
+
+class Progress(Rising):
+    """What a terminal shows of a long table."""
+
+    TOLD = 1_000_000
+
+    def shown(self, word, count):
+        """What a terminal shows at standard error, and for how many seconds it ran."""
+        terminal, errors = pty.openpty()
+        with tempfile.TemporaryFile() as table:
+            table.write(self.table(count))
+            table.seek(0)
+            began = time.monotonic()
+            with started([word], program=TAPEDESK, stdin=table, stdout=subprocess.DEVNULL, stderr=errors) as running:
+                os.close(errors)
+                text = b""
+                # A terminal that nothing holds open any more fails to be read.
+                with contextlib.suppress(OSError):
+                    while piece := os.read(terminal, 65_536):
+                        text += piece
+                os.close(terminal)
+                self.assertEqual(running.wait(LIMIT), 0)
+        return text, time.monotonic() - began
+
+    def test_a_terminal(self):
+        """FORMATS, "A table": from a million rows on a line on a terminal tells how far the program is, rewritten twice a second at most, and is
+        taken off at the end."""
+        for word in WORDS:
+            with self.subTest(word):
+                text, seconds = self.shown(word, self.TOLD + 300_000)
+                told = [int(rows) for rows in re.findall(rb"\rtapedesk: (\d+) lines", text)]
+                self.assertGreaterEqual(len(told), 1)
+                self.assertLessEqual(len(told), 2 * seconds + 2)
+                self.assertGreaterEqual(min(told), self.TOLD)
+                self.assertRegex(text, rb"\r +\r\Z")
+                self.assertNotIn(b"\n", text)
+
+    def test_a_shorter_table(self):
+        """FORMATS, "A table": below a million rows a terminal is told nothing."""
+        self.assertEqual(self.shown("report", self.TOLD - 2)[0], b"")
