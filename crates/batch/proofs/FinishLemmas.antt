@@ -17,15 +17,15 @@ use Rattle.batch.specs.declared.day.Day.{Day}
 use Rattle.batch.specs.declared.header_fault.HeaderFault.{HeaderFault}
 use Rattle.batch.specs.declared.read_end.ReadEnd.{ReadEnd}
 use Rattle.batch.specs.declared.read_end.ReadEnd.TheVariants.{TooLarge as ReadTooLarge, ReadFault as ReadFailed, OutOfMemory as ReadOutOfMemory}
-use Rattle.batch.specs.declared.reading.Batch.{Batch}
-use Rattle.batch.specs.declared.reading.Batch.TheVariants.{Answered, HeaderRefused}
+use Rattle.batch.specs.declared.reading.ReadInput.{ReadInput}
+use Rattle.batch.specs.declared.reading.ReadInput.TheVariants.{Answered, HeaderRefused}
 use Rattle.batch.specs.declared.reading.Unread.{Unread}
 use Rattle.batch.proofs.BatchLemmas.{Appends-same}
 use Rattle.row_reads.specs.Lemmas.WriteLemmas.{WritesPrefix-kept, WritesPrefix-longer, WritesPrefix-whole}
 use Rattle.batch.proofs.WrittenDay.{ReadsBatch-may, ReadsBatch-stop, ReadsBatch-text}
 
 -- what was written is what the end says
-pub Finishes-wrote : (matrix : Matrix) (read : Batch) (end : BatchEnd) (input : List ℕ) (old new : Option (List ℕ)) → ReadsBatch matrix read input
+pub Finishes-wrote : (matrix : Matrix) (read : ReadInput) (end : BatchEnd) (input : List ℕ) (old new : Option (List ℕ)) → ReadsBatch matrix read input
     → Finishes read end old new → Wrote matrix end input old new
 Finishes-wrote matrix (Answered day) Done input old new read h = Appends-same old new _ _ (ReadsBatch-text matrix day input h.0 read) h.1
 Finishes-wrote matrix (Answered day) OutOfMemory input old new read h = ReadsBatch-stop matrix day input old new read h
@@ -41,7 +41,7 @@ Finishes-wrote matrix (HeaderRefused fault) TooLarge input old new read h = absu
 Finishes-wrote matrix (HeaderRefused fault) ReadFault input old new read h = absurd h
 
 -- the end comes at that input
-pub Finishes-ends : (matrix : Matrix) (read : Batch) (end : BatchEnd) (input : List ℕ) (old new : Option (List ℕ)) → ReadsBatch matrix read input
+pub Finishes-ends : (matrix : Matrix) (read : ReadInput) (end : BatchEnd) (input : List ℕ) (old new : Option (List ℕ)) → ReadsBatch matrix read input
     → Finishes read end old new → length input ≤ INPUT_MOST → EndsAt end input
 Finishes-ends matrix (Answered day) Done input old new read h fits = (fits, rw read.1 refl)
 Finishes-ends matrix (Answered day) OutOfMemory input old new read h fits = tt
@@ -57,14 +57,14 @@ Finishes-ends matrix (HeaderRefused fault) TooLarge input old new read h fits = 
 Finishes-ends matrix (HeaderRefused fault) ReadFault input old new read h fits = absurd h
 
 -- what was read is not written at an end of reading
-pub Finishes-silent : (read : Batch) (end : BatchEnd) (old new : Option (List ℕ)) → Finishes read end old new → (end ≡ TooLarge) ⊎ (end ≡ ReadFault) → ⊥
+pub Finishes-silent : (read : ReadInput) (end : BatchEnd) (old new : Option (List ℕ)) → Finishes read end old new → (end ≡ TooLarge) ⊎ (end ≡ ReadFault) → ⊥
 Finishes-silent (Answered day) end old new h (inl is) = rw is at h
 Finishes-silent (Answered day) end old new h (inr is) = rw is at h
 Finishes-silent (HeaderRefused fault) end old new h (inl is) = rw is at h
 Finishes-silent (HeaderRefused fault) end old new h (inr is) = rw is at h
 
 -- what was written stays so when it is flushed
-pub Finishes-kept : (read : Batch) (end : BatchEnd) (old now new : Option (List ℕ)) → Finishes read end old now → Keeps now new → Finishes read end old new
+pub Finishes-kept : (read : ReadInput) (end : BatchEnd) (old now new : Option (List ℕ)) → Finishes read end old now → Keeps now new → Finishes read end old new
 Finishes-kept (Answered day) Done old now new h kept = (h.0, Appends-kept old now new _ h.1 kept)
 Finishes-kept (Answered day) OutOfMemory old now new h kept = Appends-kept old now new _ h kept
 Finishes-kept (Answered day) WriteFault old now new h kept = WritesPrefix-kept _ old now new h kept
@@ -79,7 +79,7 @@ Finishes-kept (HeaderRefused fault) TooLarge old now new h kept = absurd h
 Finishes-kept (HeaderRefused fault) ReadFault old now new h kept = absurd h
 
 -- whatever was written is a prefix of the text where the flush fails
-pub Finishes-fault : (read : Batch) (end : BatchEnd) (old new : Option (List ℕ)) → Finishes read end old new → Finishes read WriteFault old new
+pub Finishes-fault : (read : ReadInput) (end : BatchEnd) (old new : Option (List ℕ)) → Finishes read end old new → Finishes read WriteFault old new
 Finishes-fault (Answered day) Done old new h = WritesPrefix-whole _ old new h.1
 Finishes-fault (Answered day) OutOfMemory old new h =
     WritesPrefix-longer (flat_map answer_line day.answers.items) (report_unless day.is_stopped day.tape) old new (WritesPrefix-whole _ old new h)
@@ -95,7 +95,7 @@ Finishes-fault (HeaderRefused fault) TooLarge old new h = absurd h
 Finishes-fault (HeaderRefused fault) ReadFault old new h = absurd h
 
 -- the end once it is flushed
-pub Finishes-flushed : (read : Batch) (end ended : BatchEnd) (old now new : Option (List ℕ)) → Finishes read end old now → Keeps now new
+pub Finishes-flushed : (read : ReadInput) (end ended : BatchEnd) (old now new : Option (List ℕ)) → Finishes read end old now → Keeps now new
     → (ended ≡ end) ⊎ (ended ≡ WriteFault) → Finishes read ended old new
 Finishes-flushed read end ended old now new h kept (inl is) = rw is (Finishes-kept read end old now new h kept)
 Finishes-flushed read end ended old now new h kept (inr is) = rw is (Finishes-fault read end old new (Finishes-kept read end old now new h kept))
@@ -112,7 +112,7 @@ reading-wrote matrix (Some input) ReadOutOfMemory held = without (input_listing 
     without (Err fault) = Keeps-refl held
 
 -- a day at one of whose lines memory ran out ends as it has to where it was read whole
-pub Finishes-stopped : (read : Batch) (end : BatchEnd) (old new : Option (List ℕ)) → Finishes read end old new → EndsAfterStop read end old new
+pub Finishes-stopped : (read : ReadInput) (end : BatchEnd) (old new : Option (List ℕ)) → Finishes read end old new → EndsAfterStop read end old new
 Finishes-stopped (Answered day) Done old new h = λ stops. let clash : false ≡ true = sym h.0 ∙ stops in cc clash
 Finishes-stopped (Answered day) OutOfMemory old new h = λ stops. h
 Finishes-stopped (Answered day) WriteFault old new h = λ stops. tt
@@ -122,7 +122,7 @@ Finishes-stopped (Answered day) ReadFault old new h = absurd h
 Finishes-stopped (HeaderRefused fault) end old new h = tt
 
 -- and where reading stopped before
-pub reading-stopped : (unread : Unread) (read : Option Batch) (held : Option (List ℕ)) → GoesOn unread → read ≡ option_map (λ (day : Day). Answered day) unread.day
+pub reading-stopped : (unread : Unread) (read : Option ReadInput) (held : Option (List ℕ)) → GoesOn unread → read ≡ option_map (λ (day : Day). Answered day) unread.day
     → IfSome read (λ read. EndsAfterStop read (end_of_reading unread.end) held held)
 reading-stopped unread read held goes_on is = rw is (at unread.end unread.day goes_on)
   where

@@ -11,7 +11,7 @@ use Rattle.batch.specs.Input.{TakesLines}
 use Rattle.batch.specs.Lines.{lines_of}
 use Rattle.batch.specs.Reading.{ReadsBatch}
 use Rattle.batch.specs.declared.day.Day.{Day}
-use Rattle.batch.specs.declared.reading.Batch.TheVariants.{Answered}
+use Rattle.batch.specs.declared.reading.ReadInput.TheVariants.{Answered}
 
 -- the next line was taken from known bytes, or an empty one where there was none
 record LineTaken (bytes : List ℕ) (left : Option (List ℕ)) (taken taken_now : ℕ) (line : List ℕ) : Type 0 where

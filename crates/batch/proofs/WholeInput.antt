@@ -11,7 +11,7 @@ use Rattle.batch.specs.Reading.{IsReadEnd, ReadsBatch}
 use Rattle.batch.specs.declared.batch.TheConstants.{READ_PIECE}
 use Rattle.batch.specs.declared.read_end.ReadEnd.{ReadEnd}
 use Rattle.batch.specs.declared.read_end.ReadEnd.TheVariants.{TooLarge, ReadFault, OutOfMemory}
-use Rattle.batch.specs.declared.reading.Batch.{Batch}
+use Rattle.batch.specs.declared.reading.ReadInput.{ReadInput}
 
 -- an input that is at most as long as the limit is its front up to a bound beyond it
 whole : (most : ℕ) (x : List ℕ) → INPUT_MOST < most → length (take most x) ≤ INPUT_MOST → take most x ≡ x
@@ -29,7 +29,7 @@ left_known most known inner buffer capacity limit room none is same = rw (room, 
     at (Some x) = refl
 
 -- what was read of all that was left was read of the input
-pub read_whole : (matrix : Matrix) (most : ℕ) (known left : Option (List ℕ)) (read : Batch) → left ≡ option_map (take most) known → INPUT_MOST < most
+pub read_whole : (matrix : Matrix) (most : ℕ) (known left : Option (List ℕ)) (read : ReadInput) → left ≡ option_map (take most) known → INPUT_MOST < most
     → IfSome left (λ bytes. 0 + length bytes ≤ INPUT_MOST) → IfSome left (ReadsBatch matrix read)
     → IfSome known (λ input. (length input ≤ INPUT_MOST) × ReadsBatch matrix read input)
 read_whole matrix most None left read is beyond fits reads = tt

@@ -13,7 +13,7 @@ use Rattle.batch.specs.Finish.{day_text, report_unless}
 use Rattle.batch.specs.Reading.{ReadsBatch}
 use Rattle.batch.specs.declared.day.Day.{Day}
 use Rattle.batch.specs.declared.batch_refusal.BatchRefusal.{BatchRefusal}
-use Rattle.batch.specs.declared.reading.Batch.TheVariants.{Answered}
+use Rattle.batch.specs.declared.reading.ReadInput.TheVariants.{Answered}
 use Rattle.batch.proofs.BatchLemmas.{Appends-same}
 
 -- a day that goes on has the text of its lines

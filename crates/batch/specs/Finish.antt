@@ -8,8 +8,8 @@ use Rattle.row_reads.specs.Writing.{WritesPrefix}
 use Rattle.batch.specs.declared.batch_end.BatchEnd.{BatchEnd}
 use Rattle.batch.specs.declared.batch_end.BatchEnd.TheVariants.{Done, BadHeader, TooLarge, ReadFault, WriteFault, OutOfMemory}
 use Rattle.batch.specs.declared.day.Day.{Day}
-use Rattle.batch.specs.declared.reading.Batch.{Batch}
-use Rattle.batch.specs.declared.reading.Batch.TheVariants.{Answered, HeaderRefused}
+use Rattle.batch.specs.declared.reading.ReadInput.{ReadInput}
+use Rattle.batch.specs.declared.reading.ReadInput.TheVariants.{Answered, HeaderRefused}
 
 -- the report of a tape, or nothing where memory ran out at a line
 abbrev pub report_unless : Bool → TapeState → List ℕ
@@ -39,7 +39,7 @@ FinishesRefusal text TooLarge old new = ⊥
 FinishesRefusal text ReadFault old new = ⊥
 
 -- what was written of what was read, and the ends at which it was
-abbrev pub Finishes : Batch → BatchEnd → Option (List ℕ) → Option (List ℕ) → Type 0
+abbrev pub Finishes : ReadInput → BatchEnd → Option (List ℕ) → Option (List ℕ) → Type 0
 Finishes (Answered day) end old new = FinishesDay day end old new
 Finishes (HeaderRefused fault) end old new = FinishesRefusal (fault_line fault) end old new
 
@@ -54,6 +54,6 @@ EndsStopped day Done old new = ⊥
 EndsStopped day BadHeader old new = ⊥
 
 -- a batch of which this was read ended as it has to where memory ran out at a line
-abbrev pub EndsAfterStop : Batch → BatchEnd → Option (List ℕ) → Option (List ℕ) → Type 0
+abbrev pub EndsAfterStop : ReadInput → BatchEnd → Option (List ℕ) → Option (List ℕ) → Type 0
 EndsAfterStop (Answered day) end old new = day.is_stopped ≡ true → EndsStopped day end old new
 EndsAfterStop (HeaderRefused fault) end old new = Unit {0}

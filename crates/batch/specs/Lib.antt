@@ -2,7 +2,7 @@ pub mod Lines
 pub mod Input
 pub mod BatchRefusals
 pub mod MessageLine
-pub mod Gathered
+pub mod AnswerBuffer
 pub mod Header
 pub mod Pieces
 pub mod Batch

@@ -6,12 +6,12 @@ use Rattle.batch.specs.Batch.{INPUT_MOST, batch_tape, input_listing, message_lin
 use Rattle.batch.specs.Day.{HasAnswered}
 use Rattle.batch.specs.declared.read_end.ReadEnd.{ReadEnd}
 use Rattle.batch.specs.declared.read_end.ReadEnd.TheVariants.{TooLarge, ReadFault, OutOfMemory}
-use Rattle.batch.specs.declared.reading.Batch.{Batch}
-use Rattle.batch.specs.declared.reading.Batch.TheVariants.{Answered, HeaderRefused}
+use Rattle.batch.specs.declared.reading.ReadInput.{ReadInput}
+use Rattle.batch.specs.declared.reading.ReadInput.TheVariants.{Answered, HeaderRefused}
 use Rattle.batch.specs.declared.reading.Unread.{Unread}
 
 -- what was read of a whole input: the day that its lines left, or what is wrong with its header
-abbrev pub ReadsBatch : Matrix → Batch → List ℕ → Type 0
+abbrev pub ReadsBatch : Matrix → ReadInput → List ℕ → Type 0
 ReadsBatch matrix (Answered day) input = (names : Names) × (input_listing input ≡ Ok names) × HasAnswered (batch_tape matrix names) (message_lines input) day
 ReadsBatch matrix (HeaderRefused fault) input = input_listing input ≡ Err fault
 

@@ -13,18 +13,17 @@ ghost use Rattle.batch.specs.declared.batch_end.BatchEnd.TheVariants.{ReadFault,
 ghost use Rattle.batch.specs.declared.stop.Stop.TheVariants.{OutOfMemory, WriteFault as StopWriteFault};
 
 use crate::BatchEnd;
+use crate::answer_buffer::AnswerBuffer;
 use crate::day::{Answer, Day};
 use crate::day_tape::DayTape;
-use crate::gathered::Gathered;
 use crate::input::{INPUT_MOST, Input};
-use crate::reading::{Batch, read_batch};
+use crate::reading::{ReadInput, read_batch};
 use crate::stop::Stop;
 use day_report::{ReportFault, Row, rows, write_report};
 use row_reads::{WriteFault, write_text};
 use sale_matrix::Matrix;
 use std::alloc::{AllocError, Global};
 use std::io::{BufReader, Read, Take, Write};
-use std::mem;
 use std::thread::Threads;
 use tape_types::NoGate;
 
@@ -45,18 +44,18 @@ fn flushed<W: Write>(writer: &mut W, end: BatchEnd) -> BatchEnd
 /// Writes answers, each on its line.
 fn write_answers<W: Write>(
     answers: &[Answer],
-    gathered: &mut Gathered,
+    buffer: &mut AnswerBuffer,
     writer: &mut W,
 ) -> Result<(), WriteFault>
-    requires { gathered.old ≡ [] }
+    requires { buffer.old ≡ [] }
     ensures written { OnOk result (Appends (W.contents writer.old) (W.contents writer.new) (flat_map answer_line answers.now)) }
     ensures prefix { OnErr result (WritesPrefix (flat_map answer_line answers.now) (W.contents writer.old) (W.contents writer.new)) }
 {
     for answer in answers {
-        gathered.push_answer(answer);
-        gathered.write_piece(writer)?;
+        buffer.push_answer(answer);
+        buffer.write_piece(writer)?;
     }
-    gathered.write_to(writer)
+    buffer.write_to(writer)
 }
 
 /// The rows of a tape, made by one worker: it starts no thread, and can fail only by running out of memory.
@@ -90,17 +89,17 @@ fn write_day<T: Threads + Sync, W: Write>(
     rt: &T,
     alloc: Global,
     day: &Day,
-    gathered: &mut Gathered,
+    buffer: &mut AnswerBuffer,
     writer: &mut W,
 ) -> Result<(), Stop>
-    requires { gathered.old ≡ [] }
+    requires { buffer.old ≡ [] }
     ensures goes_on { OnOk result (day.now.is_stopped ≡ false) }
     ensures written { OnOk result (Appends (W.contents writer.old) (W.contents writer.new) (day_text day.now)) }
     ensures memory { result ≡ Err OutOfMemory
         → Appends (W.contents writer.old) (W.contents writer.new) (flat_map answer_line day.now.answers.items) }
     ensures fault { result ≡ Err StopWriteFault → WritesPrefix (day_text day.now) (W.contents writer.old) (W.contents writer.new) }
 {
-    write_answers(&day.answers, gathered, writer)?;
+    write_answers(&day.answers, buffer, writer)?;
     if day.is_stopped {
         return Err(Stop::OutOfMemory);
     }
@@ -113,22 +112,22 @@ fn write_day<T: Threads + Sync, W: Write>(
 fn write_batch<T: Threads + Sync, W: Write>(
     rt: &T,
     alloc: Global,
-    read: &Batch,
-    gathered: &mut Gathered,
+    read: &ReadInput,
+    buffer: &mut AnswerBuffer,
     writer: &mut W,
 ) -> BatchEnd
-    requires { gathered.old ≡ [] }
+    requires { buffer.old ≡ [] }
     ensures finishes { Finishes read.now result (W.contents writer.old) (W.contents writer.new) }
 {
     match read {
-        Batch::Answered(day) => match write_day(rt, alloc, day, gathered, writer) {
+        ReadInput::Answered(day) => match write_day(rt, alloc, day, buffer, writer) {
             Ok(()) => BatchEnd::Done,
             Err(Stop::WriteFault) => BatchEnd::WriteFault,
             Err(Stop::OutOfMemory) => BatchEnd::OutOfMemory,
         },
-        Batch::HeaderRefused(fault) => {
-            gathered.push_fault(*fault);
-            match gathered.write_to(writer) {
+        ReadInput::HeaderRefused(fault) => {
+            buffer.push_fault(*fault);
+            match buffer.write_to(writer) {
                 Ok(()) => BatchEnd::BadHeader,
                 Err(WriteFault) => BatchEnd::WriteFault,
             }
@@ -140,15 +139,15 @@ fn write_batch<T: Threads + Sync, W: Write>(
 fn finish_batch<T: Threads + Sync, W: Write>(
     rt: &T,
     alloc: Global,
-    read: &Batch,
-    gathered: &mut Gathered,
+    read: &ReadInput,
+    buffer: &mut AnswerBuffer,
     writer: &mut W,
 ) -> BatchEnd
-    requires { gathered.old ≡ [] }
+    requires { buffer.old ≡ [] }
     // A day at whose last answer memory ran out is not done: that answer's line is written, unless a write fails.
     ensures finishes { Finishes read.now result (W.contents writer.old) (W.contents writer.new) }
 {
-    match write_batch(rt, alloc, read, gathered, writer) {
+    match write_batch(rt, alloc, read, buffer, writer) {
         BatchEnd::WriteFault => BatchEnd::WriteFault,
         end => flushed(writer, end),
     }
@@ -171,7 +170,7 @@ pub fn batch_kept<T: Threads + Sync, R: Read, W: Write>(
     matrix: Matrix,
     reader: &mut R,
     writer: &mut W,
-) -> (BatchEnd, Option<Batch>)
+) -> (BatchEnd, Option<ReadInput>)
     ensures wrote { IfSome (R.remaining reader.old) (λ input. Wrote matrix result.0 input (W.contents writer.old) (W.contents writer.new)) }
     ensures ends { IfSome (R.remaining reader.old) (EndsAt result.0) }
     ensures silent { (result.0 ≡ TooLarge) ⊎ (result.0 ≡ ReadFault) → writer.new ≡ writer.old }
@@ -181,15 +180,15 @@ pub fn batch_kept<T: Threads + Sync, R: Read, W: Write>(
         return (BatchEnd::OutOfMemory, None);
     };
     // Room to write is taken first, so that writing a refusal out of memory needs none.
-    let Ok(mut gathered) = Gathered::new(alloc) else {
+    let Ok(mut buffer) = AnswerBuffer::new(alloc) else {
         return (BatchEnd::OutOfMemory, None);
     };
     match read_batch(alloc, matrix, &mut Input::new(left)) {
         Ok(read) => (
-            finish_batch(rt, alloc, &read, &mut gathered, writer),
+            finish_batch(rt, alloc, &read, &mut buffer, writer),
             Some(read),
         ),
-        Err(unread) => (BatchEnd::from(unread.end), unread.day.map(Batch::Answered)),
+        Err(unread) => (BatchEnd::from(unread.end), unread.day.map(ReadInput::Answered)),
     }
 }
 
@@ -212,23 +211,5 @@ pub fn batch_over<T: Threads + Sync, R: Read, W: Write>(
     ensures silent { (result ≡ TooLarge) ⊎ (result ≡ ReadFault) → writer.new ≡ writer.old }
 {
     let (end, _) = batch_kept(rt, alloc, matrix, reader, writer);
-    end
-}
-
-/// Does what `batch_over` does, for a program that ends then: what was read is left to the process's end, which gives its
-/// memory back at once and not piece by piece.
-pub fn last_batch<T: Threads + Sync, R: Read, W: Write>(
-    rt: &T,
-    alloc: Global,
-    matrix: Matrix,
-    reader: &mut R,
-    writer: &mut W,
-) -> BatchEnd
-    ensures wrote { IfSome (R.remaining reader.old) (λ input. Wrote matrix result input (W.contents writer.old) (W.contents writer.new)) }
-    ensures ends { IfSome (R.remaining reader.old) (EndsAt result) }
-    ensures silent { (result ≡ TooLarge) ⊎ (result ≡ ReadFault) → writer.new ≡ writer.old }
-{
-    let (end, read) = batch_kept(rt, alloc, matrix, reader, writer);
-    mem::forget(read);
     end
 }

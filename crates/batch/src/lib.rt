@@ -1,13 +1,13 @@
 //! A batch: message lines in, their answers and the report of the tape that they leave out.
 #![tactic(auto)]
 
+mod answer_buffer;
 mod batch;
 mod batch_end;
 mod batch_refusal;
 mod day;
 mod day_tape;
 mod digits;
-mod gathered;
 mod header;
 mod header_fault;
 mod input;
@@ -20,7 +20,7 @@ mod read_end;
 mod reading;
 mod stop;
 
-pub use batch::{batch_kept, batch_over, last_batch};
+pub use batch::{batch_kept, batch_over};
 pub use batch_end::BatchEnd;
 pub use batch_refusal::BatchRefusal;
 pub use day::{Answer, Day};
@@ -29,4 +29,4 @@ pub use header::read_header;
 pub use header_fault::HeaderFault;
 pub use message_line::read_message;
 pub use named::Named;
-pub use reading::Batch;
+pub use reading::ReadInput;

@@ -21,7 +21,7 @@ const BATCH_TAPE_MOST: u32 = 1_048_576;
 
 /// What was read of a whole input.
 #[derive(Drop)]
-pub enum Batch {
+pub enum ReadInput {
     /// The day that its lines left.
     Answered(Day),
     /// What is wrong with its header. Its other lines were passed over.
@@ -70,7 +70,7 @@ pub fn read_batch<B: BufRead>(
     alloc: Global,
     matrix: Matrix,
     input: &mut Input<B>,
-) -> Result<Batch, Unread>
+) -> Result<ReadInput, Unread>
     ensures read { IfOk result (λ read. IfSome (B.remaining input.old.left) (ReadsBatch matrix read)) }
     ensures fits { OnOk result (Fits (B.remaining input.old.left) input.old.taken) }
     ensures err { IfErr result (λ unread. EndsReading (B.remaining input.old.left) input.old.taken unread.end) }
@@ -88,7 +88,7 @@ pub fn read_batch<B: BufRead>(
             // The first line's room serves for those between two pieces.
             let (day, read) = read_day(alloc, tape, input, &mut first);
             match read {
-                Ok(()) => Ok(Batch::Answered(day)),
+                Ok(()) => Ok(ReadInput::Answered(day)),
                 Err(end) => Err(Unread {
                     end,
                     day: Some(day),
@@ -100,7 +100,7 @@ pub fn read_batch<B: BufRead>(
         }
         Err(fault) => {
             input.skip_lines()?;
-            Ok(Batch::HeaderRefused(fault))
+            Ok(ReadInput::HeaderRefused(fault))
         }
     }
 }

@@ -2,7 +2,7 @@
 use Rattle.std.specs.Prelude.{ℕ, Bool, false, not, ◌&&◌, ◌==◌, Option, Some, None}
 use Rattle.scratch_fold.specs.declared.summary.Effect.{Effect}
 use Rattle.summaries.specs.Last.{is_always, is_same_market, is_conditional}
-use Rattle.summaries.specs.declared.keys.Fresh.{Fresh}
+use Rattle.summaries.specs.declared.keys.OwnKeys.{OwnKeys}
 
 -- whether there is an effect that passes
 abbrev pub passes : (Effect → Bool) → Option Effect → Bool
@@ -30,8 +30,8 @@ abbrev pub is_fresh : (Effect → Bool) → Effect → Option Effect → Bool
 is_fresh p e beside = p e && not (passes p beside)
 
 -- which keys of an effect the one beside it does not have
-abbrev pub fresh_keys : Effect → Option Effect → Fresh
-fresh_keys e beside = record {
+abbrev pub own_keys : Effect → Option Effect → OwnKeys
+own_keys e beside = record {
   price = is_fresh (is_priced_at e.price) e beside;
   always = is_fresh is_always_effect e beside;
   setter = is_fresh is_conditional_effect e beside;

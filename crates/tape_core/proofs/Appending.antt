@@ -14,7 +14,7 @@ use Rattle.symbol_book.specs.Columns.{consolidated_summary}
 use Rattle.scratch_fold.specs.declared.summary.Summary.{Summary}
 use Rattle.tape_core.specs.declared.change.Change.{Change}
 use Rattle.tape_core.specs.declared.change.Change.TheVariants as make
-use Rattle.tape_core.specs.declared.change.Named.{Named}
+use Rattle.tape_core.specs.declared.change.NamedReport.{NamedReport}
 use Rattle.tape_core.specs.declared.route.Route.{Route}
 use Rattle.tape_core.specs.declared.totals.Totals.{Totals}
 use Rattle.tape_core.specs.Changes.{CanChange, book_after, change_at, summary_after, targets_after}
@@ -30,7 +30,7 @@ use Rattle.tape_core.proofs.NamedTargets.{IsTarget, IsTarget-faultless, IsTarget
 use Rattle.std.specs.FinMap as map
 
 -- a change of the report that a message's target names, cancelled where the message reinstates it, and standing where it is another message
-abbrev ChangesNamed : List NumberedMessage → Bool → Header → ℕ → (Named → Content → Change) → ℕ → Change → Type 0
+abbrev ChangesNamed : List NumberedMessage → Bool → Header → ℕ → (NamedReport → Content → Change) → ℕ → Change → Type 0
 ChangesNamed tape gone header target made index change =
     (place : ℕ) × (content : Content) × IsTarget tape gone header.participant target header.symbol place content
     × (change_at made target index (place, content) ≡ change)

@@ -11,10 +11,10 @@ use Rattle.symbol_book.specs.BookState.{BookState}
 use Rattle.symbol_book.specs.Columns.{reported_trade, consolidated_summary, trades_with_content}
 use Rattle.tape_core.specs.declared.change.Change.{Change}
 use Rattle.tape_core.specs.declared.change.Change.TheVariants.{Enter, Cancel, Correct, Reinstate}
-use Rattle.tape_core.specs.declared.change.Named.{Named}
+use Rattle.tape_core.specs.declared.change.NamedReport.{NamedReport}
 
 -- a change of a report that a message names by a target, where it is at this place with this content, and at this index in the register
-abbrev pub change_at : (Named → Content → Change) → ℕ → ℕ → ℕ × Content → Change
+abbrev pub change_at : (NamedReport → Content → Change) → ℕ → ℕ → ℕ × Content → Change
 change_at change target index report = change (record { target = target; place = report.0; index = index }) report.1
 
 -- the book has room at the place of a report that enters or comes back, and has the one that another change names, a corrected one as

@@ -5,7 +5,7 @@ use tape_types::{MsgNumber, TapeNumber};
 
 /// A report that a message names, as it was looked up.
 #[derive(Clone, Copy)]
-pub struct Named {
+pub struct NamedReport {
     /// The number under which its participant sent it.
     pub target: MsgNumber,
     /// The tape number of its admission.
@@ -21,9 +21,9 @@ pub enum Change {
     /// A report is entered with this content, at the number of its entry.
     Enter(Content),
     /// The named report leaves the book, and no longer stands.
-    Cancel(Named),
+    Cancel(NamedReport),
     /// The named report gets this content.
-    Correct(Named, Content),
+    Correct(NamedReport, Content),
     /// The named report comes back into the book and stands again, with this content, which is its latest.
-    Reinstate(Named, Content),
+    Reinstate(NamedReport, Content),
 }

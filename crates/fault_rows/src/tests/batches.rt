@@ -2,7 +2,7 @@
 
 use super::fails_at::FailsAt;
 use super::{MOST, met_faults};
-use batch::{Batch, BatchEnd, Day, batch_kept, batch_over};
+use batch::{BatchEnd, Day, ReadInput, batch_kept, batch_over};
 use sale_matrix::Matrix;
 use std::alloc::Global;
 use std::process::Abort;
@@ -38,10 +38,10 @@ fn answered(day: &Day) -> Option<usize> {
 }
 
 /// How many messages are answered in what a batch gives back, where it has a day; none where its answers are not as they must be.
-fn kept_answers(kept: &Option<Batch>) -> Option<usize> {
+fn kept_answers(kept: &Option<ReadInput>) -> Option<usize> {
     match kept {
-        Some(Batch::Answered(day)) => answered(day),
-        Some(Batch::HeaderRefused(_)) => None,
+        Some(ReadInput::Answered(day)) => answered(day),
+        Some(ReadInput::HeaderRefused(_)) => None,
         None => Some(0),
     }
 }

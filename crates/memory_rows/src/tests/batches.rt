@@ -1,6 +1,6 @@
 //! Batches that run out of memory.
 
-use batch::{Batch, BatchEnd, batch_kept};
+use batch::{BatchEnd, ReadInput, batch_kept};
 use sale_matrix::Matrix;
 use std::alloc::Global;
 use std::process::Abort;
@@ -77,7 +77,7 @@ fn end_of<T: Threads + Sync>(rt: &T, alloc: Global, input: &[u8], output: &mut V
     let mut reader = input;
     let (end, kept) = batch_kept(rt, alloc, Matrix::One, &mut reader, output);
     let is_stopped = match kept {
-        Some(Batch::Answered(day)) => day.is_stopped,
+        Some(ReadInput::Answered(day)) => day.is_stopped,
         _ => false,
     };
     Ended { end, is_stopped }

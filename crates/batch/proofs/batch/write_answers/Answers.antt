@@ -39,7 +39,7 @@ loop-answer-preserved g c = record {
   room = c.in_ok-write_piece.ensures.room;
   so_far = subst (λ (l : List ℕ). WritesUpTo l c.write_piece.new.self (g.W.Write.contents c.args.writer.now) (g.W.Write.contents c.write_piece.new.writer))
       (one_more c.args.answers.now c.loop-answer.answer-index c.answer-item.result c.loop-answer-test.true c.answer-item.is)
-      (WritesUpTo-gathered _ c.loop-answer.gathered c.push_answer.new.self c.write_piece.new.self (answer_line c.answer-item.result) _
+      (WritesUpTo-gathered _ c.loop-answer.buffer c.push_answer.new.self c.write_piece.new.self (answer_line c.answer-item.result) _
       (g.W.Write.contents c.loop-answer.writer) (g.W.Write.contents c.write_piece.new.writer)
       c.push_answer.ensures c.loop-answer.invariant.so_far c.in_ok-write_piece.ensures.written);
 }
@@ -51,7 +51,7 @@ returns-in_err-write_piece-clause-prefix g c =
     let new = g.W.Write.contents c.write_piece.new.writer in
     let answers = c.args.answers.now in
     let i = c.loop-answer.answer-index in
-    let front = WritesPrefix-gathered (flat_map answer_line (take i answers)) c.loop-answer.gathered c.push_answer.new.self
+    let front = WritesPrefix-gathered (flat_map answer_line (take i answers)) c.loop-answer.buffer c.push_answer.new.self
     (answer_line c.answer-item.result) old now new
     c.push_answer.ensures c.loop-answer.invariant.so_far c.in_err-write_piece.ensures.prefix in
     OnErr-any c.from_residual.result _ (first_answers answers (i + 1) old new
@@ -66,5 +66,5 @@ returns-clause-prefix g c =
     let i = c.loop-answer.answer-index in
     OnErr-map c.write_to.result _ _
     (λ front. first_answers answers i old new
-    (WritesPrefix-after (flat_map answer_line (take i answers)) c.loop-answer.gathered old now new c.loop-answer.invariant.so_far front))
+    (WritesPrefix-after (flat_map answer_line (take i answers)) c.loop-answer.buffer old now new c.loop-answer.invariant.so_far front))
     c.write_to.ensures.prefix

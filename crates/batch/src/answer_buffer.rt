@@ -2,8 +2,8 @@
 ghost use Rattle.std.specs.Prelude.{◌≡◌, ◌≤◌, ◌+◌, ◌++◌, ◌∷◌, [], length, IfOk, OnOk, OnErr};
 ghost use Rattle.std.specs.Io.KnownBytes.{Appends};
 ghost use Rattle.batch.specs.Batch.{answer_line, fault_line, refusal_text};
-ghost use Rattle.batch.specs.Gathered.{ROOM};
-ghost use Rattle.batch.specs.declared.gathered.TheConstants.{LONGEST_NAME, PIECE};
+ghost use Rattle.batch.specs.AnswerBuffer.{ROOM};
+ghost use Rattle.batch.specs.declared.answer_buffer.TheConstants.{LONGEST_NAME, PIECE};
 ghost use Rattle.row_reads.specs.Writing.{WritesPrefix, WritesUpTo};
 
 use crate::HeaderFault;
@@ -25,14 +25,14 @@ const LONGEST_LINE: usize = LONGEST_NAME + 64;
 
 /// Answer lines that wait to be written in large pieces. All its memory is taken at first, so a line more takes none.
 #[derive(Drop)]
-pub struct Gathered {
+pub struct AnswerBuffer {
     bytes: Vec<u8>,
 }
 
-impl Model for Gathered {
+impl Model for AnswerBuffer {
     ghost use Rattle.std.specs.Prelude.{List, ℕ, ◌≤◌};
     ghost use Rattle.std.specs.Vec.{vec_capacity};
-    ghost use Rattle.batch.specs.Gathered.{ROOM};
+    ghost use Rattle.batch.specs.AnswerBuffer.{ROOM};
 
     ghost Value = { List ℕ };
 
@@ -41,13 +41,13 @@ impl Model for Gathered {
     ghost invariant = { λ g. ROOM ≤ vec_capacity g.bytes };
 }
 
-impl Gathered {
+impl AnswerBuffer {
     /// Empty, with room for a piece and one more line.
     pub fn new(alloc: Global) -> Result<Self, AllocError>
         ensures { IfOk result (λ g. g ≡ []) }
     {
         let bytes = Vec::with_capacity(alloc, PIECE + LONGEST_LINE)?;
-        Ok(Gathered { bytes })
+        Ok(AnswerBuffer { bytes })
     }
 
     /// Adds a text within the room.
