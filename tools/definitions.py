@@ -1,5 +1,5 @@
 #!/usr/bin/env python3
-"""definitions.py: writes docs/DEFINITIONS.md anew after its marker, and leaves what is above it.
+"""definitions.py: writes docs/DEFINITIONS.md anew after its marker, and its first line; leaves what is between them.
 
 Each crate's public definitions are listed by file, with the comment over each; lemmas are left out. The order is that of `crates.txt`,
 of each `specs/Lib.antt`, and of the files.
@@ -14,6 +14,7 @@ from pathlib import Path
 
 ROOT = Path(__file__).resolve().parent.parent
 PAGE = ROOT / "docs" / "DEFINITIONS.md"
+FIRST = "<!-- Written by tools/definitions.py: run it after a definition or its comment changes. Only what is above the next such mark is by hand. -->\n"
 MARKER = "<!-- What follows is written by tools/definitions.py. -->\n"
 WIDTH = 150
 
@@ -57,7 +58,7 @@ def written():
 def main():
     argparse.ArgumentParser(description=__doc__, formatter_class=argparse.RawDescriptionHelpFormatter).parse_args()
     by_hand, marker, _ = PAGE.read_text(encoding="utf-8").partition(MARKER)
-    PAGE.write_text(by_hand + (marker or MARKER) + written(), encoding="utf-8")
+    PAGE.write_text(FIRST + by_hand.removeprefix(FIRST) + (marker or MARKER) + written(), encoding="utf-8")
 
 
 if __name__ == "__main__":
