@@ -24,6 +24,7 @@ use row_reads::{WriteFault, write_text};
 use sale_matrix::Matrix;
 use std::alloc::{AllocError, Global};
 use std::io::{BufReader, Read, Take, Write};
+use std::mem;
 use std::thread::Threads;
 use tape_types::NoGate;
 
@@ -211,5 +212,23 @@ pub fn batch_over<T: Threads + Sync, R: Read, W: Write>(
     ensures silent { (result ≡ TooLarge) ⊎ (result ≡ ReadFault) → writer.new ≡ writer.old }
 {
     let (end, _) = batch_kept(rt, alloc, matrix, reader, writer);
+    end
+}
+
+/// Does what `batch_over` does, for a program that ends then: what was read is left to the process's end, which gives its
+/// memory back at once and not piece by piece.
+pub fn last_batch<T: Threads + Sync, R: Read, W: Write>(
+    rt: &T,
+    alloc: Global,
+    matrix: Matrix,
+    reader: &mut R,
+    writer: &mut W,
+) -> BatchEnd
+    ensures wrote { IfSome (R.remaining reader.old) (λ input. Wrote matrix result input (W.contents writer.old) (W.contents writer.new)) }
+    ensures ends { IfSome (R.remaining reader.old) (EndsAt result) }
+    ensures silent { (result ≡ TooLarge) ⊎ (result ≡ ReadFault) → writer.new ≡ writer.old }
+{
+    let (end, read) = batch_kept(rt, alloc, matrix, reader, writer);
+    mem::forget(read);
     end
 }

@@ -20,7 +20,7 @@ mod read_end;
 mod reading;
 mod stop;
 
-pub use batch::{batch_kept, batch_over};
+pub use batch::{batch_kept, batch_over, last_batch};
 pub use batch_end::BatchEnd;
 pub use batch_refusal::BatchRefusal;
 pub use day::{Answer, Day};
