@@ -14,7 +14,7 @@ from typing import Optional
 
 from preloaded import built
 from refused import HEAP, Sweeps, end_of_batch, refusing, run_refused, without_told
-from support import CRATES, HOST, NO_WORKER, OUT_OF_MEMORY, READ_FAULT, WRITE_FAULT, Case, Ended
+from support import CRATES, HOST, NO_WORKER, OUT_OF_MEMORY, READ_FAULT, TAPEBOX, TAPEDESK, WRITE_FAULT, Case, Ended
 from support import batch_line, ended, listens, ports, report, reports, run, started, wait_bound
 
 # How many of a program's requests are refused in turn at most.
@@ -81,7 +81,8 @@ class DayEnds:
 
 
 class RunningDays(Case):
-    """Days of N and Q with a follower. One request of one of the two programs is refused. Several days run at once, each on ports of its own."""
+    """Days of N and Q with a follower, which is tapedesk's where it is refused as "tape". One request of one of the two programs is refused. Several days
+    run at once, each on ports of its own."""
 
     LANES = 32
     PORTS = 5
@@ -139,15 +140,15 @@ class RunningDays(Case):
             return None
 
     def day(self, row, refused, request):
-        """A day on these ports, with one request of `live` or of `follow` refused."""
+        """A day on these ports, with one request of `live` or of its follower refused."""
         *lines, a, b, retransmission = row
-        environment = {refused: refusing(request)}
+        of_live, of_follow = (refusing(request), None) if refused == "live" else (None, refusing(request))
         words = ["live", "AB", "N,Q", lines[0], a, b, retransmission, 1, *self.TERMS]
-        with started(words, env=environment.get("live")) as live:
+        with started(words, env=of_live) as live:
             if not self.comes_to_listen(live, retransmission):
                 return DayEnds(*without_told(ended(live, SOON)))
             words = ["follow", "AB", "N,Q", a, b, retransmission, *self.TERMS]
-            with started(words, env=environment.get("follow")) as follow:
+            with started(words, program=TAPEDESK if refused == "tape" else TAPEBOX, env=of_follow) as follow:
                 self.is_bound(follow, (a, b))
                 closed = self.send(lines)
                 if refused == "live":
@@ -251,6 +252,24 @@ class RunningDays(Case):
         """OPERATING, "Statuses", 5 and 6: a follower that is refused a request ends soon, by a stated status and text, and writes no report then."""
         ends = self.kinds(self.end_of_follower, "follow")
         self.assertGreater(ends["a fault"], 0, ends)
+
+    def end_of_tape(self, day):
+        """What became of a day whose tape was written as it came by a follower that was refused a request. The day itself has missed nothing."""
+        self.assertEqual((day.live.status, day.live.said, self.is_whole(day.live.written), day.closed), (0, b"", True, 0))
+        rows = day.follow.written.splitlines()[1:]
+        self.assertEqual([row.split(b",")[0] for row in rows], [b"%d" % number for number in range(1, len(rows) + 1)])
+        if day.follow.status == 0:
+            self.assertEqual((len(rows), day.follow.said), (2 * self.REPORTS, b""))
+            return "done"
+        self.assertIn((day.follow.status, day.follow.said), [(5, b"tapedesk: out of memory\n"), (6, b"tapedesk: worker not started\n")])
+        return "a part" if rows else "no row"
+
+    def test_followed_tape(self):
+        """OPERATING, "The running tape in a pipe": `tapedesk follow` that is refused a request ends soon, by a stated status and text, and what it wrote is
+        a part of the tape from its front."""
+        ends = self.kinds(self.end_of_tape, "tape")
+        for kind in ("a part", "no row"):
+            self.assertGreater(ends[kind], 0, ends)
 
 
 class Serving(Case):

@@ -96,7 +96,7 @@ class Texts(Case):
 
     def test_help(self):
         """Asked for help, the program and each word say how they are used, and read nothing."""
-        helps = {word: desk(word, "--help") for word in ("report", "tape", "encode", "decode", "line")}
+        helps = {word: desk(word, "--help") for word in ("report", "tape", "encode", "decode", "line", "follow")}
         for word, ended in helps.items():
             self.assertEqual((ended.status, ended.said), (0, b""))
             self.assertTrue(ended.written.startswith(f"tapedesk {word} ".encode()), ended)

@@ -1,3 +1,4 @@
+pub mod FollowLemmas
 pub mod LineLemmas
 pub mod RunLemmas
 pub mod WordLemmas

@@ -1,5 +1,5 @@
 -- What the program's arguments ask for.
-use Rattle.std.specs.Prelude.{◌==◌, ◌||◌, ◌++◌, ◌∷◌, ℕ, List, [], Option, Some, None, String, Bool, codes, drop, find, length, nat_eq, string_bytes, if◌then◌else◌}
+use Rattle.std.specs.Prelude.{◌==◌, ◌||◌, ◌&&◌, ◌++◌, ◌∷◌, ℕ, List, [], Option, Some, None, String, Bool, codes, drop, find, length, nat_eq, not, string_bytes, if◌then◌else◌}
 use Rattle.std.specs.Global.{Global}
 use Rattle.std.specs.List.{starts_with}
 use Rattle.std.specs.Option.{option_and_then, option_map}
@@ -24,10 +24,11 @@ ended_name word.Tape = codes "tape\0"
 ended_name word.Encode = codes "encode\0"
 ended_name word.Decode = codes "decode\0"
 ended_name word.Line = codes "line\0"
+ended_name word.Follow = codes "follow\0"
 
 -- every word, in the order in which help lists them
 abbrev pub all_words : List Word
-all_words = word.Report ∷ word.Tape ∷ word.Encode ∷ word.Decode ∷ word.Line ∷ []
+all_words = word.Report ∷ word.Tape ∷ word.Encode ∷ word.Decode ∷ word.Line ∷ word.Follow ∷ []
 
 -- whether arguments begin with a word
 abbrev pub begins : List ℕ → Word → Bool
@@ -49,6 +50,10 @@ asks_for_rows words = begins words word.Tape
 abbrev pub help_word : List ℕ
 help_word = codes "--help\0"
 
+-- whether arguments ask for a day to be followed, and not for help on it
+abbrev pub asks_to_follow : List ℕ → Bool
+asks_to_follow words = begins words word.Follow && not (bytes_eq (rest_of words word.Follow) help_word)
+
 -- the arguments that name Matrix One, of which there may be none
 abbrev pub names_one : List ℕ → Bool
 names_one words = bytes_eq words [] || bytes_eq words (codes "1" ++ 0 ∷ [])
@@ -67,13 +72,14 @@ participant_of (letter ∷ []) = None
 participant_of (letter ∷ end ∷ []) = if end == 0 then within FIRST_PARTICIPANT LAST_PARTICIPANT letter else None
 participant_of (letter ∷ end ∷ next ∷ rest) = None
 
--- what a word asks for with the arguments after it
+-- what a word asks for with the arguments after it; a day that is followed is no command
 abbrev pub asked : Word → List ℕ → Option Command
 asked word.Report words = option_map Report (matrix_of words)
 asked word.Tape words = option_map Tape (matrix_of words)
 asked word.Encode words = if bytes_eq words [] then Some Encode else None
 asked word.Decode words = if bytes_eq words [] then Some Decode else None
 asked word.Line words = option_map Line (participant_of words)
+asked word.Follow words = None
 
 -- what a word asks for with the arguments after it, of which help may be the only one
 abbrev pub asked_or_help : Word → List ℕ → Option Command

@@ -3,7 +3,7 @@ use Rattle.std.specs.Prelude.{◌++◌, ℕ, List, codes}
 use Rattle.std.specs.List.{flat_map}
 use Rattle.tapedesk.specs.Commands.{all_words}
 use Rattle.tapedesk.specs.declared.command.Word.{Word}
-use Rattle.tapedesk.specs.declared.command.Word.TheVariants.{Report, Tape, Encode, Decode, Line}
+use Rattle.tapedesk.specs.declared.command.Word.TheVariants.{Report, Tape, Encode, Decode, Line, Follow}
 
 -- what a word does: a line of its use, and a line of what it does
 abbrev pub word_help_text : Word → List ℕ
@@ -22,9 +22,12 @@ word_help_text Decode =
 word_help_text Line =
     codes "tapedesk line PARTICIPANT < TABLE.csv\n"
     ++ codes "Writes the bytes of the messages of a participant, A to Z, as its line sends them on a running day.\n"
+word_help_text Follow =
+    codes "tapedesk follow SYMBOLS PARTICIPANTS A B RETRANS SESSION [MATRIX [LIMIT]]\n"
+    ++ codes "Follows a running day by its three ports, and writes each entry of its tape as it comes, with its symbol's figures after it.\n"
 
 -- what the program does, word by word
 abbrev pub help_text : List ℕ
 help_text =
-    codes "tapedesk WORD reads a day of trade messages from standard input and writes to standard output; tapedesk WORD --help is about one word.\n"
+    codes "tapedesk WORD takes a day of trade messages and writes to standard output; tapedesk WORD --help is about one word.\n"
     ++ flat_map word_help_text all_words

@@ -1,4 +1,5 @@
 pub mod Commands
+pub mod Follows
 pub mod HelpTexts
 pub mod Program
 pub mod RefusalLines

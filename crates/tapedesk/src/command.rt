@@ -1,6 +1,7 @@
 //! What the program's arguments ask for.
-ghost use Rattle.std.specs.Prelude.{◌≡◌, MatchOption, false};
-ghost use Rattle.tapedesk.specs.Commands.{asked, asked_or_help, asks_for_rows, begins, command_of, ended_name, matrix_of, participant_of, rest_of, word_of};
+ghost use Rattle.std.specs.Prelude.{◌≡◌, MatchOption, false, true};
+ghost use Rattle.tapedesk.specs.Commands.{asked, asked_or_help, asks_for_rows, asks_to_follow, begins, command_of, ended_name, matrix_of, participant_of, rest_of, word_of};
+ghost use Rattle.tapedesk.specs.declared.command.Word.TheVariants.{Follow};
 
 use sale_matrix::Matrix;
 use tape_types::Participant;
@@ -18,6 +19,8 @@ pub enum Word {
     Decode,
     /// The bytes of one participant's messages in a table.
     Line,
+    /// The readable tape of a running day. What it follows is asked of `follow`, and of a `Command` help alone.
+    Follow,
 }
 
 /// What the program is asked for.
@@ -39,13 +42,17 @@ pub enum Command {
     HelpOn(Word),
 }
 
+/// The status of bad arguments.
+pub const BAD_ARGUMENTS: u8 = 2;
+
 /// Every word, in the order in which help lists them.
-const ALL_WORDS: [Word; 5] = [
+const ALL_WORDS: [Word; 6] = [
     Word::Report,
     Word::Tape,
     Word::Encode,
     Word::Decode,
     Word::Line,
+    Word::Follow,
 ];
 
 /// The argument for help.
@@ -68,6 +75,7 @@ impl Word {
             Word::Encode => b"encode\0",
             Word::Decode => b"decode\0",
             Word::Line => b"line\0",
+            Word::Follow => b"follow\0",
         }
     }
 
@@ -99,6 +107,18 @@ pub fn asks_for_rows(words: &[u8]) -> bool
     ensures { result ≡ asks_for_rows words.now }
 {
     words.starts_with(Word::Tape.ended_name())
+}
+
+/// The arguments of a day that is to be followed, or `None` where others are given, or help on it is asked for.
+pub fn followed_words(words: &[u8]) -> Option<&[u8]>
+    ensures { MatchOption result (asks_to_follow words.now ≡ false) (λ rest. (asks_to_follow words.now ≡ true) × (rest.now ≡ rest_of words.now Follow)) }
+{
+    let name = Word::Follow.ended_name();
+    if !words.starts_with(name) {
+        return None;
+    }
+    let rest = &words[name.len()..];
+    if rest == HELP { None } else { Some(rest) }
 }
 
 /// The matrix that the arguments after a word name: Matrix One where there are none.
@@ -133,7 +153,7 @@ fn asked(word: Word, words: &[u8]) -> Option<Command>
         Word::Tape => Some(Command::Tape(matrix_of(words)?)),
         Word::Encode if words.is_empty() => Some(Command::Encode),
         Word::Decode if words.is_empty() => Some(Command::Decode),
-        Word::Encode | Word::Decode => None,
+        Word::Encode | Word::Decode | Word::Follow => None,
         Word::Line => Some(Command::Line(participant_of(words)?)),
     }
 }

@@ -8,7 +8,7 @@ use crate::command::Word;
 pub fn help_text() -> &'static [u8]
     ensures { result.now ≡ help_text }
 {
-    b"tapedesk WORD reads a day of trade messages from standard input and writes to standard output; tapedesk WORD --help is about one word.\n\
+    b"tapedesk WORD takes a day of trade messages and writes to standard output; tapedesk WORD --help is about one word.\n\
 tapedesk report [1|2] < TABLE.csv\n\
 Writes the report of the day, by Matrix One or 2; rows that the tape refuses are counted on standard error.\n\
 tapedesk tape [1|2] < TABLE.csv\n\
@@ -18,7 +18,9 @@ Writes the messages as the text of a batch: the symbols, the participants, and e
 tapedesk decode < DAY.txt\n\
 Writes the messages of a batch's text as a table.\n\
 tapedesk line PARTICIPANT < TABLE.csv\n\
-Writes the bytes of the messages of a participant, A to Z, as its line sends them on a running day.\n"
+Writes the bytes of the messages of a participant, A to Z, as its line sends them on a running day.\n\
+tapedesk follow SYMBOLS PARTICIPANTS A B RETRANS SESSION [MATRIX [LIMIT]]\n\
+Follows a running day by its three ports, and writes each entry of its tape as it comes, with its symbol's figures after it.\n"
 }
 
 /// What a word does.
@@ -40,6 +42,9 @@ pub fn word_help_text(word: Word) -> &'static [u8]
         }
         Word::Line => {
             b"tapedesk line PARTICIPANT < TABLE.csv\nWrites the bytes of the messages of a participant, A to Z, as its line sends them on a running day.\n"
+        }
+        Word::Follow => {
+            b"tapedesk follow SYMBOLS PARTICIPANTS A B RETRANS SESSION [MATRIX [LIMIT]]\nFollows a running day by its three ports, and writes each entry of its tape as it comes, with its symbol's figures after it.\n"
         }
     }
 }

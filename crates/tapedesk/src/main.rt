@@ -1,7 +1,9 @@
-//! `tapedesk`: a desk's table of trade messages in, the day's report, a readable tape or the day's bytes out.
+//! `tapedesk`: a desk's table of trade messages in, the day's report, a readable tape or the day's bytes out; or the readable tape of a
+//! running day, as it comes.
 #![tactic(auto)]
 
 mod command;
+mod follow;
 mod help;
 mod program;
 mod progress;
@@ -11,7 +13,9 @@ mod saying;
 mod tests;
 mod words;
 
-use command::asks_for_rows;
+use command::{asks_for_rows, followed_words};
+pub use follow::follow;
+use follow::follow_to;
 pub use program::program;
 use program::run;
 use progress::{ClearedWriter, ProgressLine, ToldReader, ToldWriter};
@@ -29,8 +33,20 @@ fn writes_unseen_rows(rt: &HostRuntime, words: &Result<Vec<u8>, AllocError>) -> 
     }
 }
 
+/// The arguments of a day that is to be followed.
+fn followed(words: &Result<Vec<u8>, AllocError>) -> Option<&[u8]> {
+    match words {
+        Ok(words) => followed_words(words),
+        Err(_) => None,
+    }
+}
+
 fn main(rt: HostRuntime) -> ExitCode {
     let words = words(rt.alloc(), env::args(&rt));
+    if let Some(followed) = followed(&words) {
+        let status = follow_to(&rt, rt.alloc(), followed, rt.stdout(), &mut rt.stderr());
+        return ExitCode::from(status);
+    }
     let progress = ProgressLine::on(&rt, rt.stderr());
     let told = progress.as_ref();
     let told_rows = if writes_unseen_rows(&rt, &words) {

@@ -14,7 +14,7 @@ ghost use Rattle.tapedesk.specs.Commands.{command_of};
 ghost use Rattle.tapedesk.specs.Program.{AnswersCommand, Helps, OnlySays, RunsTable};
 ghost use Rattle.tapedesk.specs.TextRuns.{RunsText, end_line, table_ends, text_ends};
 
-use crate::command::{Command, read_command};
+use crate::command::{BAD_ARGUMENTS, Command, read_command};
 use crate::help::{help_text, word_help_text};
 use crate::saying::{end_decoded, end_run, end_text, say, say_end};
 use row_reads::write_text;
@@ -25,9 +25,6 @@ use std::thread::Threads;
 use table_days::{TableEnd, report_over, tape_over};
 use table_texts::{decode_over, encode_over, line_over};
 use tape_types::Participant;
-
-/// The status of bad arguments.
-const BAD_ARGUMENTS: u8 = 2;
 
 /// Writes the report of a table, says what it refused or why there is none, and gives the status.
 fn run_report<T: Threads + Sync, R: Read, W: Write, E: Write>(
@@ -141,9 +138,9 @@ fn run_command<T: Threads + Sync, R: Read, W: Write, E: Write>(
 ///
 /// `report` reads a table from `reader` and writes the day's report to `writer`, `tape` its readable tape, `encode` the text of a
 /// batch, and `line` the bytes of one participant's messages; `decode` reads the text of a batch and writes its table. `--help`, alone
-/// or after a word, writes what they do. Any other arguments are bad ones. What a report's or a readable tape's rows were refused for,
-/// and what goes wrong, is said on `errors`, each in one line. The status is 0 where all is done, 2 for a bad table, a bad text or bad
-/// arguments, 3 for a read fault, 4 for a write fault and 5 where memory ran out.
+/// or after a word, writes what they do. Any other arguments are bad ones, those of a running day too, which are for `follow`. What a
+/// report's or a readable tape's rows were refused for, and what goes wrong, is said on `errors`, each in one line. The status is 0 where
+/// all is done, 2 for a bad table, a bad text or bad arguments, 3 for a read fault, 4 for a write fault and 5 where memory ran out.
 pub fn program<T: Threads + Sync, R: Read, W: Write, E: Write>(
     rt: &T,
     alloc: Global,

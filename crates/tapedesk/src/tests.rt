@@ -178,6 +178,7 @@ fn help_is_told_of_all_words_and_of_each(rt: HostRuntime) {
         (b"tape\0--help\0", word_help_text(Word::Tape)),
         (b"decode\0--help\0", word_help_text(Word::Decode)),
         (b"line\0--help\0", word_help_text(Word::Line)),
+        (b"follow\0--help\0", word_help_text(Word::Follow)),
     ] {
         assert_answers(&rt, rt.alloc(), words, &mut { TABLE }, 0, text, b"");
     }

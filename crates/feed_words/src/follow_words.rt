@@ -1,0 +1,50 @@
+//! The arguments of a day that is followed.
+ghost use Rattle.std.specs.Prelude.{IfOk};
+ghost use Rattle.tape_types.specs.Ranges.{IsTapeNumber};
+
+use crate::WordsFault;
+use crate::names::listing;
+use crate::reading::Words;
+use sale_matrix::Matrix;
+use std::alloc::Global;
+use tape_types::Listing;
+
+/// The arguments of `follow`.
+#[derive(Drop)]
+pub struct FollowWords {
+    /// The symbols and the participants.
+    pub listing: Listing,
+    /// The ports that the packets come to.
+    pub ports: [u16; 2],
+    /// The port of the retransmission.
+    pub retransmission: u16,
+    /// The session of the tape's packets.
+    pub session: u64,
+    /// The matrix of the tape.
+    pub matrix: Matrix,
+    /// The limit of the tape, in entries.
+    pub limit: u32,
+}
+
+impl FollowWords {
+    /// Reads the arguments after `follow`, each ended by a zero byte. Memory is taken for the names once all else is right.
+    pub fn read(alloc: Global, words: &[u8]) -> Result<FollowWords, WordsFault>
+        ensures limit { IfOk result (λ words. IsTapeNumber words.limit) }
+    {
+        let mut words = Words { rest: words };
+        let (symbols, participants) = words.names()?;
+        let (ports, retransmission) = words.feed_ports()?;
+        let session = words.number()?;
+        let matrix = words.matrix()?;
+        let limit = words.limit()?;
+        let listing = listing(alloc, symbols, participants)?;
+        Ok(FollowWords {
+            listing,
+            ports,
+            retransmission,
+            session,
+            matrix,
+            limit,
+        })
+    }
+}

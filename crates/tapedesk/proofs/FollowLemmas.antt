@@ -1,0 +1,105 @@
+-- The rows of a followed tape, the line of the columns' names before them, and the statuses of a run.
+use Rattle.std.proofs.Common.{◌≡◌, ◌≤◌, ◌++◌, ◌∙◌, ◌∷◌, ◌+◌, ◌-◌, ◌⊎◌, inl, inr, arith, [], List, ℕ, Option, Some, None, ap, append-nil, drop, length, refl, subst, sym, take}
+use Rattle.std.proofs.KnownBytes.{Appends-kept, Keeps-refl}
+use Rattle.std.proofs.Math.Seq.{take-append-add}
+use Rattle.std.proofs.lemmas.List.{take-append-drop}
+use Rattle.std.specs.Io.KnownBytes.{Appends, Keeps}
+use Rattle.row_reads.specs.Lemmas.WriteLemmas.{WritesPrefix-kept, WritesPrefix-longer, WritesPrefix-then, WritesUpTo-all, WritesUpTo-gathered, WritesUpTo-whole}
+use Rattle.row_reads.specs.Writing.{WritesPrefix}
+use Rattle.sale_matrix.specs.declared.matrix.Matrix.{Matrix}
+use Rattle.tape_types.specs.Names.{Names}
+use Rattle.tape_core.specs.Tape.{IsLegal, empty_tape}
+use Rattle.tape_core.specs.declared.entry.Entry.{Entry}
+use Rattle.live_feed.specs.Sinks.{GivesPart, GivesTape, HasPart, IsTapeOf, figures_of, rows_after}
+use Rattle.table_days.specs.TapeRows.{entry_rows, head_line, rows_text}
+use Rattle.tapedesk.specs.Follows.{IsRunStatus, WritesOneTape, WritesPartOf, WritesPartOfOne, WritesTapeOf, entry_line, followed_text}
+
+-- ## Rows
+
+-- the rows of entries are what a sink that makes a row of each is given
+rows_same : (matrix : Matrix) (before entries : List Entry) → rows_text (entry_rows matrix before entries) ≡ rows_after entry_line matrix before entries
+unfolding rows_text entry_rows
+rows_same matrix before [] = refl
+rows_same matrix before (e ∷ entries) =
+    ap (λ (l : List ℕ). entry_line e (figures_of matrix (before ++ e ∷ []) e) ++ l) (rows_same matrix (before ++ e ∷ []) entries)
+
+-- a tape that holds nothing is legal
+nothing_legal : (listing : Names) (matrix : Matrix) → IsLegal (empty_tape listing 1 matrix)
+nothing_legal listing matrix k e at = absurd (cc)
+
+-- bytes that have grown by a text up to some byte of it have grown by a prefix of it
+part_prefix : (text : List ℕ) (old new : Option (List ℕ)) → HasPart text old new → WritesPrefix text old new
+part_prefix text None new part = ([], record { prefix = text; split = sym (append-nil text); written = tt })
+part_prefix text (Some xs) None part = absurd part
+part_prefix text (Some xs) (Some ys) part =
+    let n : ℕ = length ys - length xs in
+    let size : length ys ≡ length xs + n = omega (arith, part.0) in (
+      drop n text,
+      record {
+        prefix = take n text;
+        split = sym (take-append-drop n text);
+        written = part.1 ∙ ap (λ (k : ℕ). take k (xs ++ text)) size ∙ take-append-add xs text n;
+      },
+    )
+
+-- ## Tapes
+
+-- a part of the line of the names is a part of a tape
+pub head_part : (listing : Names) (matrix : Matrix) (old new : Option (List ℕ)) → WritesPrefix head_line old new → WritesPartOf listing matrix old new
+head_part listing matrix old new prefix =
+    let t = empty_tape listing 1 matrix in (
+      t,
+      record { legal = nothing_legal listing matrix; listed = refl; by_matrix = refl },
+      WritesPrefix-longer head_line (rows_text (entry_rows matrix [] [])) old new prefix,
+    )
+
+-- the line of the names and all rows are the whole tape, also once the writer is flushed
+pub tape_whole : (listing : Names) (matrix : Matrix) (old mid has new : Option (List ℕ)) → Appends old mid head_line
+    → GivesTape entry_line listing matrix mid has → Keeps has new → WritesTapeOf listing matrix old new
+tape_whole listing matrix old mid has new head given kept =
+    let t = given.0 in
+    let rows : List ℕ = rows_after entry_line t.matrix [] t.entries in
+    let all : Appends old has (head_line ++ rows) = WritesUpTo-all (head_line ++ rows) old has
+    (WritesUpTo-gathered head_line [] rows [] rows old mid has refl (WritesUpTo-whole head_line old mid head) (WritesUpTo-whole rows mid has given.2)) in (
+      t,
+      given.1,
+      Appends-kept old has new (followed_text t) (subst (λ (l : List ℕ). Appends old has (head_line ++ l)) (sym (rows_same t.matrix [] t.entries)) all) kept,
+    )
+
+-- the line of the names and a part of the rows are a part of the tape, also once the writer is flushed
+pub tape_part : (listing : Names) (matrix : Matrix) (old mid has new : Option (List ℕ)) → Appends old mid head_line
+    → GivesPart entry_line listing matrix mid has → Keeps has new → WritesPartOf listing matrix old new
+tape_part listing matrix old mid has new head given kept =
+    let t = given.0 in
+    let rows : List ℕ = rows_after entry_line t.matrix [] t.entries in
+    let some : WritesPrefix (head_line ++ rows) old has = WritesPrefix-then head_line rows old mid has head (part_prefix rows mid has given.2) in (
+      t,
+      given.1,
+      WritesPrefix-kept (followed_text t) old has new (subst (λ (l : List ℕ). WritesPrefix (head_line ++ l) old has) (sym (rows_same t.matrix [] t.entries)) some) kept,
+    )
+
+-- the tape of a day's names and matrix is some legal tape
+pub one_tape : (listing : Names) (matrix : Matrix) (old new : Option (List ℕ)) → WritesTapeOf listing matrix old new → WritesOneTape old new
+one_tape listing matrix old new whole = (whole.0, whole.1.legal, whole.2)
+
+-- a part of it is a part of some legal tape
+pub one_part : {W : Type 0} (listing : Names) (matrix : Matrix) (old new : Option (List ℕ)) (first last : W)
+    → (last ≡ first) ⊎ WritesPartOf listing matrix old new → (last ≡ first) ⊎ WritesPartOfOne old new
+one_part listing matrix old new first last (inl same) = inl same
+one_part listing matrix old new first last (inr part) = inr (part.0, part.1.legal, part.2)
+
+-- known bytes that are left alone are kept
+pub keeps_same : (known : Option (List ℕ)) → Keeps known known
+keeps_same known = Keeps-refl known
+
+-- ## Statuses
+
+-- the status of a run is no other one after a flush, unless that fails
+pub flushed_status : (status result : ℕ) → IsRunStatus status → (result ≡ status) ⊎ (result ≡ 4) → IsRunStatus result
+flushed_status status result run (inl same) = subst IsRunStatus (sym same) run
+flushed_status status result run (inr failed) = inr (omega (arith, failed), omega (arith, failed))
+
+-- no run has the status of bad arguments
+pub not_bad : (status : ℕ) → IsRunStatus status → status ≡ 2 → ⊥
+not_bad status (inl done) bad = omega (arith, done, bad)
+not_bad status (inr fault) bad = omega (arith, fault.0, bad)

@@ -1,0 +1,85 @@
+"""The readable tape of a running day, as `tapedesk follow` writes it."""
+
+from support import LIMIT, TAPE_COLUMNS, TAPEDESK, Case, Ended, connect, desk, ended, ports, started, wait_bound
+
+HEAD = b"kind,participant,number,symbol,target,price,size,condition\n"
+ROWS = [
+    b"report,N,1,AB,,10.00,100,@___\n",
+    b"report,N,2,C,,0.0125,700,@___\n",
+    b"report,N,3,AB,,10.05,200,@_Z_\n",
+    b"correct,N,4,AB,1,9.95,150,@___\n",
+    b"cancel,N,5,C,2,,,\n",
+    b"report,N,7,AB,,10.10,100,@___\n",
+]
+BAD_ARGUMENTS = (2, b"tapedesk: bad arguments\n")
+READ_FAULT = (3, b"tapedesk: a read failed\n")
+WRITE_FAULT = (4, b"tapedesk: a write failed\n")
+
+
+class FollowedTape(Case):
+    """A day of one participant, whose tape is that of its table."""
+
+    def day(self, case, **options):
+        """Runs a case on `live`, its follower and a connection of the participant, once the follower reads both lines."""
+        line, a, b, retransmission = ports(4)
+        with started(["live", "AB,C", "N", line, a, b, retransmission, 1, 7]) as live, connect(line) as participant:
+            with started(["follow", "AB,C", "N", a, b, retransmission, 7], program=TAPEDESK, **options) as follow:
+                wait_bound(follow, a, b)
+                case(live, follow, participant)
+
+    def send(self, participant, rows):
+        """Sends the messages of rows as the participant's line."""
+        line = desk("line", "N", given=HEAD + b"".join(rows))
+        self.assertEqual((line.status, line.said), (0, b""))
+        participant.sendall(line.written)
+
+    def test_each_row_once_and_at_once(self):
+        """OPERATING: `follow` writes the tape that `tape` writes of the same messages, and each row before the next message comes."""
+        tape = desk("tape", given=HEAD + b"".join(ROWS)).written
+
+        def case(live, follow, participant):
+            lines = []
+            for at, row in enumerate(ROWS):
+                self.send(participant, [row])
+                lines += [follow.stdout.readline() for _ in range(1 if at else 2)]
+            participant.close()
+            rest = ended(follow)
+            self.assertEqual((rest.status, rest.said), (0, b""))
+            self.assertEqual(b"".join(lines) + rest.written, tape)
+            self.assertEqual(ended(live).status, 0)
+
+        self.day(case)
+
+    def test_a_full_output(self):
+        """OPERATING: a row that is not written ends the run with status 4, and the day goes on without it."""
+
+        def case(live, follow, participant):
+            self.send(participant, ROWS)
+            self.assert_fault(ended(follow), WRITE_FAULT)
+            participant.close()
+            self.assertEqual(ended(live).status, 0)
+
+        with open("/dev/full", "wb") as full:
+            self.day(case, stdout=full)
+
+    def test_a_closed_pipe(self):
+        """OPERATING: a pipe whose other end is closed ends it so too."""
+
+        def case(live, follow, participant):
+            follow.stdout.close()
+            self.send(participant, ROWS)
+            follow.wait(LIMIT)
+            self.assertEqual((follow.returncode, follow.stderr.read()), WRITE_FAULT)
+            participant.close()
+            self.assertEqual(ended(live).status, 0)
+
+        self.day(case)
+
+    def test_no_day(self):
+        """OPERATING: without a day to connect to no row is written, and with other arguments nothing at all."""
+        a, b, retransmission = ports(3)
+        status, said = READ_FAULT
+        self.assertEqual(desk("follow", "AB", "N", a, b, retransmission, 7), Ended(status, f"{','.join(TAPE_COLUMNS)}\n".encode(), said))
+        for words in ([], ["AB", "N", a, b, retransmission], ["AB,AB", "N", a, b, retransmission, 7], ["AB", "N", a, 0, retransmission, 7]):
+            with self.subTest(words):
+                self.assert_fault(desk("follow", *words), BAD_ARGUMENTS)
