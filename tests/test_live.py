@@ -92,7 +92,7 @@ class SentPackets(Listeners):
     # How many packets the sender sends in a millisecond at first, and at least and at most.
     PACE_FIRST = 64
     PACE_LEAST = 16
-    PACE_MOST = 128
+    PACE_MOST = 64
     # Seconds: a little less than a turn of the sender's clock, since a clock may be set back meanwhile.
     TURN = 0.0009
     PAUSES = [0.24, 0.74]

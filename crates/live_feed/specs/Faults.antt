@@ -6,8 +6,8 @@ use Rattle.participant_lines.specs.declared.unstarted.Lack.{Lack}
 use Rattle.participant_lines.specs.declared.unstarted.Lack.TheVariants as lack
 use Rattle.live_feed.specs.declared.fault.Fault.{Fault}
 use Rattle.live_feed.specs.declared.fault.Fault.TheVariants.{Read, Write, Memory, Worker, Disagrees}
-use Rattle.live_feed.specs.declared.sink.SinkFault.{SinkFault}
-use Rattle.live_feed.specs.declared.sink.SinkFault.TheVariants as sink
+use Rattle.live_feed.specs.declared.follow.sink.SinkFault.{SinkFault}
+use Rattle.live_feed.specs.declared.follow.sink.SinkFault.TheVariants as sink
 
 -- the status of a fault
 abbrev pub fault_status : Fault → ℕ

@@ -2,7 +2,7 @@ pub mod Accepting
 pub mod Budgets
 pub mod Faults
 pub mod Followers
-pub mod Heard
+pub mod LinePositions
 pub mod Nexts
 pub mod Paces
 pub mod Quiets

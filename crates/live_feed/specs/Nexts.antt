@@ -2,10 +2,10 @@
 use Rattle.std.specs.Prelude.{ℕ, ◌≡◌, ◌-◌, Option, None, Some, length}
 use Rattle.arbitration.specs.Gaps.{IsGap, IsMissing}
 use Rattle.subscriber.specs.Subscribers.{SubscriberState}
-use Rattle.live_feed.specs.Heard.{IsToWait}
-use Rattle.live_feed.specs.declared.heard.Heard.{Heard}
-use Rattle.live_feed.specs.declared.follower.Next.{Next}
-use Rattle.live_feed.specs.declared.follower.Next.TheVariants.{Read, Wait, Ask, Connect, End}
+use Rattle.live_feed.specs.LinePositions.{IsToWait}
+use Rattle.live_feed.specs.declared.follow.line_positions.LinePositions.{LinePositions}
+use Rattle.live_feed.specs.declared.follow.follower.Next.{Next}
+use Rattle.live_feed.specs.declared.follow.follower.Next.TheVariants.{Read, Wait, Ask, Connect, End}
 
 -- the first number that is to be asked for
 abbrev pub asked_of : Next → Option ℕ
@@ -21,9 +21,9 @@ ahead_of s = s.window.announced - length s.tape.entries
 
 -- while a run goes on, packets are read where nothing is missing; else what is missing first is waited for where it is to be, and asked for where it
 -- is not
-abbrev pub IsNext : SubscriberState → Heard → Next → Type 0
-IsNext s h Read = (n : ℕ) → ¬ (IsMissing s.window n)
-IsNext s h (Wait number) = (count : ℕ) × IsGap s.window number count × IsToWait number (ahead_of s) h
-IsNext s h (Ask request) = (request.session ≡ s.window.session) × IsGap s.window request.from request.count × ¬ (IsToWait request.from (ahead_of s) h)
-IsNext s h Connect = ⊥
-IsNext s h End = ⊥
+abbrev pub IsNext : SubscriberState → LinePositions → Next → Type 0
+IsNext s p Read = (n : ℕ) → ¬ (IsMissing s.window n)
+IsNext s p (Wait number) = (count : ℕ) × IsGap s.window number count × IsToWait number (ahead_of s) p
+IsNext s p (Ask request) = (request.session ≡ s.window.session) × IsGap s.window request.from request.count × ¬ (IsToWait request.from (ahead_of s) p)
+IsNext s p Connect = ⊥
+IsNext s p End = ⊥

@@ -11,7 +11,6 @@ use Rattle.tape_core.specs.Standing.{symbol_summary}
 use Rattle.tape_core.specs.Tape.{TapeState, IsLegal, messages_of}
 use Rattle.day_report.specs.ReportText.{report_text}
 use Rattle.day_report.specs.Rows.{report_rows}
-use Rattle.live_feed.specs.Reports.{IsListing}
 
 -- the consolidated summary of an entry's symbol over these entries
 abbrev pub figures_of : Matrix → List Entry → Entry → Summary

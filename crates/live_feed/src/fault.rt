@@ -1,6 +1,10 @@
 //! What ends a day without a report.
 ghost use Rattle.std.specs.Prelude.{◌≡◌, ◌↔◌, ◌⊎◌, ◌≤◌, Some, None, IfSome};
 ghost use Rattle.live_feed.specs.Faults.{fault_status};
+ghost use Rattle.live_feed.specs.declared.fault.Fault.TheVariants.{Disagrees, Memory};
+ghost use Rattle.tape_core.specs.declared.tape_fault.TapeFault.TheVariants.{BadLimit, OutOfMemory as TapeOutOfMemory};
+
+use tape_core::TapeFault;
 
 /// What ends a day without a report, in the order of the statuses.
 #[derive(Clone, Copy, Debug, PartialEq, Eq)]
@@ -45,5 +49,16 @@ impl Fault {
             (Some(fault), _) | (None, Some(fault)) => Some(fault),
             (None, None) => None,
         }
+    }
+}
+
+/// The day's fault for a tape that is not made.
+pub(crate) fn fault_of_tape(fault: TapeFault) -> Fault
+    ensures limit { fault ≡ BadLimit → result ≡ Disagrees }
+    ensures memory { fault ≡ TapeOutOfMemory → result ≡ Memory }
+{
+    match fault {
+        TapeFault::BadLimit => Fault::Disagrees,
+        TapeFault::OutOfMemory => Fault::Memory,
     }
 }

@@ -9,11 +9,23 @@ ghost use Rattle.live_feed.specs.Sinks.{GivesItsReport, GivesPart, GivesTape, Is
 ghost use Rattle.live_feed.specs.declared.fault.Fault.TheVariants.{Write as WriteFault};
 ghost use Rattle.tape_core.specs.Tape.{IsLegal};
 
-use crate::asking::Asker;
-use crate::followed::Followed;
-use crate::follower::{Follower, subscribe};
-use crate::following::{Ready, Run, follow_at_once};
-use crate::writing::write_day;
+mod follower;
+mod held_name;
+mod inbox;
+mod line_positions;
+mod lines;
+mod replaying;
+mod requester;
+mod run;
+mod shared_follower;
+mod silence;
+pub(crate) mod sink;
+
+use crate::follow::follower::{Follower, subscribe};
+use crate::follow::held_name::HeldName;
+use crate::follow::requester::Requester;
+use crate::follow::run::{Ready, Run, follow_at_once};
+use crate::report::write_day;
 use crate::{EntrySink, Fault, FollowSockets};
 use sale_matrix::Matrix;
 use std::alloc::Global;
@@ -28,14 +40,18 @@ use tape_types::Listing;
 /// What a run has once it is connected, before it has a sink.
 #[derive(Drop)]
 struct Started<'a> {
-    asker: Asker,
+    requester: Requester,
     subscriber: Subscriber,
     ready: Ready<'a>,
 }
 
-/// The lines of a run, and another handle of the connection on which is asked.
-fn ready<'a>(alloc: Global, sockets: &'a FollowSockets, asker: &Asker) -> Result<Ready<'a>, Fault> {
-    Ready::new(alloc, sockets, asker.handle()?)
+/// The lines of a run, and another handle of the requester's connection.
+fn ready<'a>(
+    alloc: Global,
+    sockets: &'a FollowSockets,
+    requester: &Requester,
+) -> Result<Ready<'a>, Fault> {
+    Ready::new(alloc, sockets, requester.handle()?)
 }
 
 /// Connects, and makes the subscriber that holds nothing yet. It connects before it takes memory, so that a day that awaits it
@@ -53,11 +69,11 @@ fn start<'a, R: Net<Listener = TcpListener, Stream = TcpStream>>(
     ensures by_matrix { IfOk result (λ started. started.subscriber.tape.matrix ≡ matrix) }
     ensures nothing { IfOk result (λ started. started.subscriber.tape.entries ≡ []) }
 {
-    let asker = Asker::new(rt, alloc, sockets.retransmission)?;
+    let requester = Requester::new(rt, alloc, sockets.retransmission)?;
     let subscriber = subscribe(alloc, listing, limit, matrix, session)?;
-    match ready(alloc, sockets, &asker) {
+    match ready(alloc, sockets, &requester) {
         Ok(ready) => Ok(Started {
-            asker,
+            requester,
             subscriber,
             ready,
         }),
@@ -72,7 +88,7 @@ fn start<'a, R: Net<Listener = TcpListener, Stream = TcpStream>>(
 /// that comes to be. What is left is the subscriber that holds all, or the run's fault, and the sink. The connection is closed then.
 #[tactic(auto, using(crate::proofs::Rows::part_of_nothing))]
 fn follow<
-    N: Followed + Send,
+    N: HeldName + Send,
     S: EntrySink + Send,
     R: Threads + Wait + Net<Listener = TcpListener, Stream = TcpStream> + Sync,
 >(
@@ -105,7 +121,7 @@ fn follow<
         sink,
     );
     let run = Run::new(alloc, follower, started.ready);
-    follow_at_once(rt, &run, started.asker);
+    follow_at_once(rt, &run, started.requester);
     run.into_follower().into_held()
 }
 
@@ -121,8 +137,8 @@ fn report<R: Threads + Sync, W: Write>(
     ensures written { OnOk result (Appends (W.contents writer.old) (W.contents writer.new) (report_text (report_rows subscriber.now.tape))) }
     ensures unwritten { IfErr result (λ fault. fault ≢ WriteFault → writer.new ≡ writer.old) }
 {
-    // What it holds is a legal tape, whatever came: the clauses of `held` say so.
-    let _held = subscriber.held();
+    // For the proof alone: by the clauses of this call what is held is a legal tape, whatever came.
+    let _ = subscriber.held();
     write_day(rt, alloc, subscriber.tape(), writer)
 }
 
