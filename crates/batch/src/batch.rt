@@ -189,7 +189,10 @@ pub fn batch_kept<T: Threads + Sync, R: Read, W: Write>(
             finish_batch(rt, alloc, &read, &mut buffer, writer),
             Some(read),
         ),
-        Err(unread) => (BatchEnd::from(unread.end), unread.day.map(ReadInput::Answered)),
+        Err(unread) => (
+            BatchEnd::from(unread.end),
+            unread.day.map(ReadInput::Answered),
+        ),
     }
 }
 
