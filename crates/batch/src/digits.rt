@@ -8,11 +8,15 @@ ghost use Rattle.batch.specs.MessageLine.{hex_bytes};
 
 use reports::LONGEST_FRAME;
 
-/// Whether a byte is a hexadecimal digit, in either case.
+/// Whether a byte is a hexadecimal digit, in either case. There is no `&&` or `||`, whose branches would keep bytes from being looked at side
+/// by side.
 fn is_digit(byte: u8) -> bool
     ensures { result ≡ is_hex_digit byte }
 {
-    matches!(byte, b'0'..=b'9' | b'a'..=b'f' | b'A'..=b'F')
+    let is_number = (b'0' <= byte) & (byte <= b'9');
+    let is_upper = (b'A' <= byte) & (byte <= b'F');
+    let is_lower = (b'a' <= byte) & (byte <= b'f');
+    is_number | is_upper | is_lower
 }
 
 /// Whether all bytes are hexadecimal digits, found without a branch that depends on the bytes.
