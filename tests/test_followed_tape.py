@@ -14,16 +14,20 @@ ROWS = [
 BAD_ARGUMENTS = (2, b"tapedesk: bad arguments\n")
 READ_FAULT = (3, b"tapedesk: a read failed\n")
 WRITE_FAULT = (4, b"tapedesk: a write failed\n")
+DISAGREES = (7, b"tapedesk: tape disagrees\n")
+# A sale of an odd lot, which sets the high by Matrix Two alone.
+ODD_LOT = b"report,N,8,AB,,11.00,50,@__I\n"
 
 
 class FollowedTape(Case):
     """A day of one participant, whose tape is that of its table."""
 
-    def day(self, case, **options):
-        """Runs a case on `live`, its follower and a connection of the participant, once the follower reads both lines."""
+    def day(self, case, terms=(7,), held=(7,), **options):
+        """Runs a case on `live`, its follower and a connection of the participant, once the follower reads both lines. The terms are the session, the
+        matrix and the limit of the one and of the other."""
         line, a, b, retransmission = ports(4)
-        with started(["live", "AB,C", "N", line, a, b, retransmission, 1, 7]) as live, connect(line) as participant:
-            with started(["follow", "AB,C", "N", a, b, retransmission, 7], program=TAPEDESK, **options) as follow:
+        with started(["live", "AB,C", "N", line, a, b, retransmission, 1, *terms]) as live, connect(line) as participant:
+            with started(["follow", "AB,C", "N", a, b, retransmission, *held], program=TAPEDESK, **options) as follow:
                 wait_bound(follow, a, b)
                 case(live, follow, participant)
 
@@ -49,6 +53,35 @@ class FollowedTape(Case):
             self.assertEqual(ended(live).status, 0)
 
         self.day(case)
+
+    def test_other_terms(self):
+        """OPERATING: the arguments of `follow` are a session, a matrix and a limit, by which the tape goes."""
+        rows = [*ROWS, ODD_LOT]
+        given = HEAD + b"".join(rows)
+        tape = desk("tape", 2, given=given).written
+        self.assertNotEqual(tape, desk("tape", 1, given=given).written)
+
+        def case(live, follow, participant):
+            self.send(participant, rows)
+            participant.close()
+            self.assertEqual(ended(follow), Ended(0, tape, b""))
+            self.assertEqual(ended(live).status, 0)
+
+        self.day(case, (9, 2, len(rows)), (9, 2, len(rows)))
+
+    def test_a_limit_below_the_days(self):
+        """OPERATING, "What you see": a LIMIT below the day's ends `follow` with status 7; the rows up to it were written."""
+        tape = desk("tape", given=HEAD + b"".join(ROWS)).written
+
+        def case(live, follow, participant):
+            self.send(participant, ROWS)
+            participant.close()
+            status, said = DISAGREES
+            rows = b"".join(tape.splitlines(keepends=True)[: len(ROWS)])
+            self.assertEqual(ended(follow), Ended(status, rows, said))
+            self.assertEqual(ended(live).status, 0)
+
+        self.day(case, held=(7, 1, len(ROWS) - 1))
 
     def test_a_full_output(self):
         """OPERATING: a row that is not written ends the run with status 4, and the day goes on without it."""

@@ -245,7 +245,8 @@ fn live<R: Threads + Wait + Clock + Sync, L: Loss + Sync, W: Write>(
 /// It waits for one connection of each participant, in listing order, closes the listener at which it came, and runs the lines
 /// at once. What they admit is published up to `PUBLISHED_AT_ONCE` entries at a time, and each publication is sent as one packet
 /// on lines A and B, unless `loss` drops it. The sender rests at a pace that rises while nothing is asked for again. Once the
-/// lines have ended, the end is sent three times on each, unless a line or the sender met a fault. Beside that `serves`
+/// lines have ended, the end is sent three times on each, and then each second while a connection is served or awaited, unless a
+/// line or the sender met a fault. Beside that `serves`
 /// retransmission connections are served, one after the other; with 0 of them none is awaited. After all are joined the day is
 /// ended, each entry that was sent is confirmed, and the number that the end told is compared with the day's length.
 ///

@@ -258,18 +258,20 @@ impl<N: HeldName, S: EntrySink> Follower<N, S> {
         }
     }
 
-    /// Ends the run where what came was a fault, or where all is held. Whether to restart is looked at before that.
+    /// Ends a run that is not over where what came was a fault, or where all is held. Whether to restart is looked at before that.
     fn settle(&mut self, taken: Result<(), Fault>)
         ensures fault { IfErr taken (λ fault. self.new.over ≡ Some (Err fault)) }
+        ensures whole { IfSome self.new.over (λ ended. OnOk ended
+            (IsSomeAnd self.new.subscriber.window.ended (λ count. length self.new.subscriber.tape.entries ≡ count))) }
     {
         let settled = match taken {
             Ok(()) => self.restart(),
             Err(fault) => Err(fault),
         };
-        match settled {
-            Ok(()) if !self.has_all() => {}
-            ended => self.over = Some(ended),
-        }
+        self.over = match settled {
+            Ok(()) if !self.has_all() => None,
+            ended => Some(ended),
+        };
     }
 
     /// Takes what came by a line, unless the run is over, and tells what is next. That a number is waited for is told once, to
