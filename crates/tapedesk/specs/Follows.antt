@@ -10,8 +10,8 @@ use Rattle.tape_core.specs.declared.entry.Entry.{Entry}
 use Rattle.day_tables.specs.declared.table_write_fault.TableWriteFault.{TableWriteFault}
 use Rattle.day_tables.specs.declared.table_write_fault.TableWriteFault.TheVariants.{OutOfMemory, WriteFault}
 use Rattle.live_feed.specs.Sinks.{IsTapeOf}
-use Rattle.live_feed.specs.declared.sink.SinkFault.{SinkFault}
-use Rattle.live_feed.specs.declared.sink.SinkFault.TheVariants as sink
+use Rattle.live_feed.specs.declared.follow.sink.SinkFault.{SinkFault}
+use Rattle.live_feed.specs.declared.follow.sink.SinkFault.TheVariants as sink
 use Rattle.table_days.specs.TapeRows.{entries_text, entry_row, row_line}
 
 -- the line of an entry's row
