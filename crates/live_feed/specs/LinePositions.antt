@@ -1,6 +1,8 @@
 -- How far the lines of a follower have come.
 use Rattle.std.specs.Prelude.{ℕ, ◌≡◌, ◌<◌, ◌≤◌, ◌⊎◌, max, Some, IsSomeAnd, unwrap_or}
 use Rattle.live_feed.specs.declared.follow.line_positions.TheConstants.{AHEAD_MOST, TURNS_MOST}
+use Rattle.arbitration.specs.declared.line.Line.{Line}
+use Rattle.arbitration.specs.declared.line.Line.TheVariants.{A, B, R}
 use Rattle.live_feed.specs.declared.follow.line_positions.LinePosition.{LinePosition}
 use Rattle.live_feed.specs.declared.follow.line_positions.LinePositions.{LinePositions}
 
@@ -21,3 +23,9 @@ IsToWait number ahead p =
 -- a line once it brought this number
 abbrev pub once_brought : ℕ → LinePosition → LinePosition
 once_brought number line = record line { last = Some (max (unwrap_or line.last 0) number) }
+
+-- a line brought this number; the retransmission is no line that is waited for
+abbrev pub once_noted : Line → ℕ → LinePositions → LinePositions
+once_noted A number p = record p { a = once_brought number p.a }
+once_noted B number p = record p { b = once_brought number p.b }
+once_noted R number p = p

@@ -6,6 +6,7 @@ use Rattle.std.specs.Prelude.{count_by, nat_lt, IfOk, IsSomeAnd, OnErr}
 use Rattle.summaries.specs.Lemmas.LastLaw.{option_or-none}
 use Rattle.tape_core.specs.declared.entry.Entry.{Entry}
 use Rattle.tape_frames.specs.EntryRows.{IsNumberedFrom, first_number, last_number}
+use Rattle.tape_frames.specs.Headers.{last_entry_of}
 use Rattle.tape_frames.specs.Packets.{last_of}
 use Rattle.tape_frames.specs.Spelling.{IsPacket}
 use Rattle.tape_frames.specs.declared.packet.Packet.{Packet}
@@ -17,7 +18,7 @@ use Rattle.arbitration.specs.declared.line.Brought.{Brought}
 use Rattle.arbitration.specs.declared.line.Line.{Line}
 use Rattle.arbitration.specs.declared.line.Line.TheVariants.{A, B, R}
 use Rattle.arbitration.specs.declared.taken.Taken.{Taken}
-use Rattle.subscriber.specs.Drains.{BringsHeld, Delivers, last_entry_of}
+use Rattle.subscriber.specs.Drains.{BringsHeld, Delivers}
 use Rattle.subscriber.specs.Subscribers.{SubscriberState}
 use Rattle.subscriber.specs.declared.delivery_fault.DeliveryFault.{DeliveryFault}
 

@@ -1,12 +1,11 @@
 -- What a delivery and a drain answer.
-use Rattle.std.specs.Prelude.{◌≡◌, ℕ, ◌+◌, ◌-◌, ◌≤◌, ◌<◌, ◌==◌, ◌⊎◌, if◌then◌else◌, true, false, Option, None, Some, Err, List, length, unwrap_or, IsSomeAnd}
+use Rattle.std.specs.Prelude.{◌≡◌, ℕ, ◌+◌, ◌-◌, ◌≤◌, ◌<◌, ◌⊎◌, true, false, Option, None, Some, Err, List, length, unwrap_or, IsSomeAnd}
 use Rattle.tape_core.specs.declared.entry.Entry.{Entry}
 use Rattle.tape_core.specs.declared.refusal.Refusal.{Refusal}
 use Rattle.tape_core.specs.declared.refusal.Refusal.TheVariants as refused
 use Rattle.tape_core.specs.Tape.{refusal}
 use Rattle.tape_frames.specs.declared.packet.Packet.{Packet}
-use Rattle.tape_frames.specs.declared.packet.Packet.TheVariants.{Data, Beat, End}
-use Rattle.tape_frames.specs.EntryRows.{last_number}
+use Rattle.tape_frames.specs.Headers.{last_entry_of}
 use Rattle.tape_frames.specs.Packets.{entries_of}
 use Rattle.tape_frames.specs.Reading.{packet_of}
 use Rattle.tape_frames.specs.Spelling.{Spells}
@@ -37,12 +36,6 @@ RefusesDelivery s bytes delivery.Failed = s.failed ≡ true
 RefusesDelivery s bytes (delivery.NoPacket fault) = (s.failed ≡ false) × (packet_of bytes ≡ Err fault)
 RefusesDelivery s bytes (delivery.Refused fault) =
     (s.failed ≡ false) × (packet : Packet) × Spells bytes packet × Refuses s.window s.tape.entries packet fault
-
--- the number of the last entry that a packet of the session brings
-abbrev pub last_entry_of : ℕ → Packet → Option ℕ
-last_entry_of session (Data other row) = if other == session then Some (last_number row.entries) else None
-last_entry_of session (Beat other last) = None
-last_entry_of session (End other count) = None
 
 -- a packet of the session brings entries, and each of their numbers is held
 abbrev pub BringsHeld : SubscriberState → Packet → Type 0

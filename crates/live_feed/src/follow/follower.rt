@@ -2,7 +2,10 @@
 ghost use Rattle.std.specs.Prelude.{◌≡◌, ◌↔◌, ◌≤◌, ◌<◌, [], length, Err, None, Some, IfErr, IfOk, IfSome, IsSome, IsSomeAnd, IsTrue, OnOk, true, false};
 ghost use Rattle.std.specs.Io.KnownBytes.{Appends};
 ghost use Rattle.std.proofs.Props.{props};
-ghost use Rattle.live_feed.specs.LinePositions.{IsBehind};
+ghost use Rattle.tape_frames.specs.Headers.{header_number_of};
+ghost use Rattle.tape_frames.specs.Spelling.{Spells};
+ghost use Rattle.tape_frames.specs.declared.packet.Packet.{Packet};
+ghost use Rattle.live_feed.specs.LinePositions.{IsBehind, once_noted};
 ghost use Rattle.live_feed.specs.Sinks.{GivesPart, HasAll, HasPart, IsTapeOf, rows_of};
 ghost use Rattle.live_feed.specs.declared.follow.silence.TheConstants.{SILENT_MOST};
 ghost use Rattle.live_feed.specs.Nexts.{IsNext, ahead_of, asked_of};
@@ -15,17 +18,13 @@ use crate::follow::replaying::{begin_anew, replay};
 use crate::follow::silence::Silence;
 use crate::{EntrySink, Fault};
 use arbitration::Line;
-use reports::Unread;
 use sale_matrix::Matrix;
 use std::alloc::Global;
 use std::marker::PhantomData;
 use std::mem;
 use subscriber::{DeliveryFault, Subscriber};
-use tape_frames::Request;
+use tape_frames::{Request, header_number};
 use tape_types::Listing;
-
-/// Where the header of a packet has its number.
-const NUMBER_AT: usize = 10;
 
 /// What a run waits for, or what is to be done in it.
 #[derive(Clone, Copy)]
@@ -108,12 +107,6 @@ fn copy_of(alloc: Global, listing: &Listing) -> Result<Listing, Fault>
     }
 }
 
-/// The number in the header of a packet: that of its first entry, or the one that a beat or an end tells. 0 for fewer bytes.
-fn number_in(packet: &[u8]) -> u32 {
-    let rest = packet.get(NUMBER_AT..).unwrap_or(&[]);
-    Unread { rest }.u32(()).unwrap_or(0)
-}
-
 /// Has the subscriber take what came by a line, and tells whether it did. Bytes that are no packet of the day are dropped.
 fn deliver_to(subscriber: &mut Subscriber, line: Line, bytes: &[u8]) -> Result<bool, Fault>
     ensures { subscriber.new.tape ≡ subscriber.old.tape }
@@ -174,8 +167,11 @@ impl<N: HeldName, S: EntrySink> Follower<N, S> {
     }
 
     /// Takes note that a line brought a packet of the day.
-    fn note(&mut self, line: Line, bytes: &[u8]) {
-        self.positions.note(line, number_in(bytes));
+    fn note(&mut self, line: Line, bytes: &[u8])
+        ensures noted { (packet : Packet) → Spells bytes.now packet
+            → self.new.positions ≡ once_noted line (header_number_of packet) self.old.positions }
+    {
+        self.positions.note(line, header_number(bytes).unwrap_or(0));
         self.silence.broken();
     }
 

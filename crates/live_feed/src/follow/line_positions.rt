@@ -1,8 +1,7 @@
 //! How far the lines of a follower have come, so that what one of them lost is not asked for while the other still brings it.
 ghost use Rattle.std.specs.Prelude.{◌≡◌, ◌↔◌, ◌≤◌, ◌+◌, ◌==◌, min, if◌then◌else◌, None, IsTrue};
-ghost use Rattle.live_feed.specs.LinePositions.{IsAwaited, IsBehind, IsToWait, once_brought};
+ghost use Rattle.live_feed.specs.LinePositions.{IsAwaited, IsBehind, IsToWait, once_brought, once_noted};
 ghost use Rattle.live_feed.specs.declared.follow.line_positions.TheConstants.{TURNS_MOST};
-ghost use Rattle.arbitration.specs.declared.line.Line.TheVariants.{A, B, R};
 
 use arbitration::{Line, REACH};
 
@@ -101,9 +100,7 @@ impl LinePositions {
 
     /// Notes the number that a packet of a line told. A retransmission is no line that is waited for.
     pub(crate) fn note(&mut self, line: Line, number: u32)
-        ensures a { line ≡ A → self.new ≡ record self.old { a = once_brought number self.old.a } }
-        ensures b { line ≡ B → self.new ≡ record self.old { b = once_brought number self.old.b } }
-        ensures retransmission { line ≡ R → self.new ≡ self.old }
+        ensures { self.new ≡ once_noted line number self.old }
     {
         match line {
             Line::A => self.a.bring(number),

@@ -1,16 +1,13 @@
 //! What the header of a packet says, before the packet is read.
-ghost use Rattle.std.specs.Prelude.{◌≡◌};
+ghost use Rattle.std.specs.Prelude.{◌≡◌, Some};
 ghost use Rattle.reports.specs.Fields.{Reads};
 ghost use Rattle.tape_frames.specs.declared.packet.Packet.{Packet};
+ghost use Rattle.tape_frames.specs.Headers.{header_at, header_number_of, last_entry_of};
 ghost use Rattle.tape_frames.specs.Spelling.{Spells};
-ghost use Rattle.subscriber.specs.Drains.{last_entry_of};
-ghost use Rattle.subscriber.specs.Headers.{header_at};
 
+use crate::PacketFault;
+use crate::kinds::DATA;
 use reports::Unread;
-use tape_frames::PacketFault;
-
-/// The kind of a packet with entries.
-const DATA: u8 = b'D';
 
 /// What a header says of the entries that follow it.
 #[derive(Clone, Copy)]
@@ -43,10 +40,22 @@ fn read_header(unread: &mut Unread<'_>) -> Result<Header, PacketFault>
     })
 }
 
+/// The number in the header of the packet with these bytes: that of its first entry, or the one that a beat or an end tells.
+/// `None` for fewer bytes than a header has. Nothing else is looked at, so bytes that are no packet have a number too.
+pub fn header_number(bytes: &[u8]) -> Option<u32>
+    ensures number { (packet : Packet) → Spells bytes.now packet → result ≡ Some (header_number_of packet) }
+{
+    let mut unread = Unread { rest: bytes };
+    match read_header(&mut unread) {
+        Ok(header) => Some(header.number),
+        Err(_) => None,
+    }
+}
+
 /// The number of the last entry that the packet with these bytes brings, by its header alone: `None` where it brings none or
 /// is of another session.
-pub(crate) fn last_entry(session: u64, bytes: &[u8]) -> Option<u64>
-    ensures { (packet : Packet) → Spells bytes.now packet → result ≡ last_entry_of session packet }
+pub fn last_entry(session: u64, bytes: &[u8]) -> Option<u64>
+    ensures last { (packet : Packet) → Spells bytes.now packet → result ≡ last_entry_of session packet }
 {
     let mut unread = Unread { rest: bytes };
     let Ok(header) = read_header(&mut unread) else {

@@ -14,9 +14,8 @@ use Rattle.tape_frames.specs.declared.packet.Packet.TheVariants.{Data, Beat, End
 use Rattle.tape_frames.specs.declared.packet_fault.PacketFault.{PacketFault}
 use Rattle.tape_frames.specs.declared.packet_fault.PacketFault.TheVariants.{Short}
 use Rattle.tape_frames.specs.declared.version.Version.{Version}
-use Rattle.subscriber.specs.Drains.{last_entry_of}
-use Rattle.subscriber.specs.Headers.{header_at}
-use Rattle.subscriber.specs.declared.header.Header.{Header}
+use Rattle.tape_frames.specs.Headers.{header_at, header_number_of, last_entry_of}
+use Rattle.tape_frames.specs.declared.header.Header.{Header}
 
 -- a header as it is spelled is read
 header_again : (version : Version) (kind session number count : ℕ) (bytes : List ℕ) → kind < 2 ^ 8 → session < 2 ^ 64 → number < 2 ^ 32 → count < 2 ^ 8
@@ -82,6 +81,12 @@ pub read_some : (bytes : List ℕ) (packet : Packet) (fault : PacketFault) → S
 read_some bytes packet fault spelled read =
     let text = of_text packet spelled.0 in
     not_short (header_at bytes) fault (header_of packet) text.0 read (ap header_at spelled.1 ∙ text.1)
+
+-- the number of a packet's header
+pub number_is : (packet : Packet) → (header_of packet).number ≡ header_number_of packet
+number_is (Data session row) = refl
+number_is (Beat session last) = refl
+number_is (End session count) = refl
 
 -- another kind brings no entries
 pub brings_none : (session : ℕ) (packet : Packet) → ((header_of packet).kind ≡ DATA → ⊥) → last_entry_of session packet ≡ None
