@@ -13,6 +13,5 @@ mod PartLemmas
 mod PieceLemmas
 mod RefusalLemmas
 mod SpelledSixteens
-mod SymbolLemmas
 mod WholeInput
 mod WrittenDay

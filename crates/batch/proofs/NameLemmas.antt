@@ -9,12 +9,12 @@ use Rattle.std.specs.Str.{bytes_eq}
 use Rattle.std.proofs.lemmas.Bool.{cases_Bool, lt-ltb, ne_eqb}
 use Rattle.std.proofs.lemmas.Bool.Decides.{Decides-eqb, nat_tests}
 use Rattle.std.proofs.lemmas.Slice.Eq.{bytes_eq-Decides}
-use Rattle.tape_types.specs.Names.{Names, first_fault, has_repeat, is_nil, names_fault, symbol_eq}
+use Rattle.tape_types.specs.Lemmas.Symbols.{name_of-padded}
+use Rattle.tape_types.specs.Names.{Names, first_fault, has_repeat, is_nil, names_fault, symbol_eq, symbol_named}
 use Rattle.tape_types.specs.Ranges.{is_name_byte, name_of, SYMBOLS_MOST, PARTICIPANTS_MOST}
 use Rattle.tape_types.specs.declared.listing_fault.ListingFault.{ListingFault}
 use Rattle.tape_types.specs.declared.listing_fault.ListingFault.TheVariants.{Empty, OutOfMemory, Repeated, TooMany}
-use Rattle.batch.proofs.SymbolLemmas.{name_of-padded}
-use Rattle.batch.specs.Header.{all_named, header_listing, listing_of, listing_by_fault, name_texts, participant_named, pieces_of, symbol_named}
+use Rattle.batch.specs.Header.{all_named, listing_of, listing_by_fault, name_texts, names_listing, participant_named, pieces_of}
 use Rattle.batch.specs.MessageLine.{is_capital}
 use Rattle.batch.specs.declared.header_fault.HeaderFault.TheVariants.{BadListing}
 
@@ -150,10 +150,10 @@ participant_named-faithful a b x y is_x is_y =
 
 -- ## The fault of a listing, by its texts
 
--- no text of a line with no bytes stands twice, nor does its one empty piece
-pub has_repeat-pieces : (line : List ℕ) → has_repeat bytes_eq (name_texts line) ≡ has_repeat bytes_eq (pieces_of line)
-has_repeat-pieces [] = refl
-has_repeat-pieces (byte ∷ bytes) = refl
+-- no name of a text with no bytes stands twice, nor does its one empty piece
+pub has_repeat-pieces : (separator : ℕ) (text : List ℕ) → has_repeat bytes_eq (name_texts separator text) ≡ has_repeat bytes_eq (pieces_of separator text)
+has_repeat-pieces separator [] = refl
+has_repeat-pieces separator (byte ∷ bytes) = refl
 
 -- a byte more makes no piece more, unless there was none
 length-onto_first : (byte : ℕ) (pieces : List (List ℕ)) (most : ℕ) → length pieces ≤ most → 1 ≤ most → length (onto_first byte pieces) ≤ most
@@ -161,16 +161,16 @@ length-onto_first byte [] most few some = some
 length-onto_first byte (piece ∷ pieces) most few some = few
 
 -- a text has at most one piece more than bytes
-pub pieces_of-length : (text : List ℕ) → length (pieces_of text) ≤ length text + 1
-pieces_of-length [] = omega arith
-pieces_of-length (byte ∷ bytes) = elim (cases_Bool (byte == 32)) [
-  | inl space ↦ let more = pieces_of-length bytes in rw space (omega arith)
-  | inr other ↦ let more = pieces_of-length bytes in rw other (length-onto_first byte (pieces_of bytes) _ (omega arith) (omega arith))
+pub pieces_of-length : (separator : ℕ) (text : List ℕ) → length (pieces_of separator text) ≤ length text + 1
+pieces_of-length separator [] = omega arith
+pieces_of-length separator (byte ∷ bytes) = elim (cases_Bool (byte == separator)) [
+  | inl here ↦ let more = pieces_of-length separator bytes in rw here (omega arith)
+  | inr other ↦ let more = pieces_of-length separator bytes in rw other (length-onto_first byte (pieces_of separator bytes) _ (omega arith) (omega arith))
 ]
 
--- what is told of a header whose lines have the form
-abbrev pub IsToldFault : List ℕ → List ℕ → ListingFault → Type 0
-IsToldFault first second fault = BadListing fault ≡ unwrap_or (result_err (header_listing first second)) (BadListing OutOfMemory)
+-- what is told of two texts of names
+abbrev pub IsToldFault : ℕ → List ℕ → List ℕ → ListingFault → Type 0
+IsToldFault separator first second fault = BadListing fault ≡ unwrap_or (result_err (names_listing separator first second)) (BadListing OutOfMemory)
 
 -- the fault of a listing of what these texts name
 abbrev texts_fault : List (List ℕ) → List (List ℕ) → Option ListingFault
@@ -202,13 +202,13 @@ names_fault-texts first second symbols participants are_symbols are_participants
       has_repeat-each participant_named nat_eq participant_named-faithful second participants some_participants,
     ) refl
 
--- the fault of a header by the fault of its texts
-fault_told : (first second : List ℕ) (fault : ListingFault)
-    → is_some (all_named symbol_named (name_texts first)) ≡ true → is_some (all_named participant_named (name_texts second)) ≡ true
-    → unwrap_or (texts_fault (name_texts first) (name_texts second)) OutOfMemory ≡ fault → IsToldFault first second fault
-unfolding header_listing
-fault_told first second fault first_is second_is is =
-    cases (all_named symbol_named (name_texts first)) (all_named participant_named (name_texts second)) refl refl first_is second_is
+-- the fault of two texts of names by that of the names
+fault_told : (separator : ℕ) (first second : List ℕ) (fault : ListingFault)
+    → is_some (all_named symbol_named (name_texts separator first)) ≡ true → is_some (all_named participant_named (name_texts separator second)) ≡ true
+    → unwrap_or (texts_fault (name_texts separator first) (name_texts separator second)) OutOfMemory ≡ fault → IsToldFault separator first second fault
+unfolding names_listing
+fault_told separator first second fault first_is second_is is =
+    cases (all_named symbol_named (name_texts separator first)) (all_named participant_named (name_texts separator second)) refl refl first_is second_is
   where
     told : (refused : Option ListingFault) (names : Names)
         → BadListing (unwrap_or refused OutOfMemory) ≡ unwrap_or (result_err (listing_by_fault refused names)) (BadListing OutOfMemory)
@@ -216,40 +216,40 @@ fault_told first second fault first_is second_is is =
     told (Some refused) names = refl
 
     cases : (symbols : Option (List (List ℕ))) (participants : Option (List ℕ))
-        → all_named symbol_named (name_texts first) ≡ symbols → all_named participant_named (name_texts second) ≡ participants
+        → all_named symbol_named (name_texts separator first) ≡ symbols → all_named participant_named (name_texts separator second) ≡ participants
         → is_some symbols ≡ true → is_some participants ≡ true
-        → BadListing fault ≡ unwrap_or (result_err (listing_of (all_named symbol_named (name_texts first)) (all_named participant_named (name_texts second))))
+        → BadListing fault ≡ unwrap_or (result_err (listing_of (all_named symbol_named (name_texts separator first)) (all_named participant_named (name_texts separator second))))
         (BadListing OutOfMemory)
     cases None participants s p first_some second_some = cc
     cases (Some symbols) None s p first_some second_some = cc
     cases (Some symbols) (Some participants) s p first_some second_some =
-        rw (s, p, ← is, ← names_fault-texts (name_texts first) (name_texts second) symbols participants s p) (told (names_fault symbols participants) _)
+        rw (s, p, ← is, ← names_fault-texts (name_texts separator first) (name_texts separator second) symbols participants s p) (told (names_fault symbols participants) _)
 
-module _ (first second : List ℕ) (first_is : is_some (all_named symbol_named (name_texts first)) ≡ true)
-    (second_is : is_some (all_named participant_named (name_texts second)) ≡ true)
-    (n m : ℕ) (n_is : n ≡ length (name_texts first)) (m_is : m ≡ length (name_texts second)) where
+module _ (separator : ℕ) (first second : List ℕ) (first_is : is_some (all_named symbol_named (name_texts separator first)) ≡ true)
+    (second_is : is_some (all_named participant_named (name_texts separator second)) ≡ true)
+    (n m : ℕ) (n_is : n ≡ length (name_texts separator first)) (m_is : m ≡ length (name_texts separator second)) where
   -- a line has no names
-  pub fault_told-Empty : (n ≡ 0) ⊎ ((n ≢ 0) × (m ≡ 0)) → IsToldFault first second Empty
-  fault_told-Empty (inl none) = fault_told first second Empty first_is second_is (rw (← n_is, none) refl)
-  fault_told-Empty (inr none) = fault_told first second Empty first_is second_is (rw (← n_is, ← m_is, ne_eqb n 0 none.0, none.1) refl)
+  pub fault_told-Empty : (n ≡ 0) ⊎ ((n ≢ 0) × (m ≡ 0)) → IsToldFault separator first second Empty
+  fault_told-Empty (inl none) = fault_told separator first second Empty first_is second_is (rw (← n_is, none) refl)
+  fault_told-Empty (inr none) = fault_told separator first second Empty first_is second_is (rw (← n_is, ← m_is, ne_eqb n 0 none.0, none.1) refl)
 
   -- a line has too many
-  pub fault_told-TooMany : n ≢ 0 → m ≢ 0 → (SYMBOLS_MOST < n) ⊎ ((n ≤ SYMBOLS_MOST) × (PARTICIPANTS_MOST < m)) → IsToldFault first second TooMany
+  pub fault_told-TooMany : n ≢ 0 → m ≢ 0 → (SYMBOLS_MOST < n) ⊎ ((n ≤ SYMBOLS_MOST) × (PARTICIPANTS_MOST < m)) → IsToldFault separator first second TooMany
   fault_told-TooMany some_n some_m (inl many) =
-      fault_told first second TooMany first_is second_is (rw (← n_is, ← m_is, ne_eqb n 0 some_n, ne_eqb m 0 some_m, lt-ltb SYMBOLS_MOST n many) refl)
+      fault_told separator first second TooMany first_is second_is (rw (← n_is, ← m_is, ne_eqb n 0 some_n, ne_eqb m 0 some_m, lt-ltb SYMBOLS_MOST n many) refl)
   fault_told-TooMany some_n some_m (inr many) =
       let few : nat_lt SYMBOLS_MOST n ≡ false = grind (arith, nat_tests, many.0) in
-      fault_told first second TooMany first_is second_is
+      fault_told separator first second TooMany first_is second_is
       (rw (← n_is, ← m_is, ne_eqb n 0 some_n, ne_eqb m 0 some_m, few, lt-ltb PARTICIPANTS_MOST m many.1) refl)
 
   -- a name stands twice, or nothing is wrong but running out of memory
-  pub fault_told-Repeated : n ≢ 0 → m ≢ 0 → n ≤ SYMBOLS_MOST → m ≤ PARTICIPANTS_MOST → (r s : Bool) → r ≡ has_repeat bytes_eq (name_texts first)
-      → s ≡ has_repeat bytes_eq (name_texts second)
-      → IsToldFault first second (if r || s then Repeated else OutOfMemory)
+  pub fault_told-Repeated : n ≢ 0 → m ≢ 0 → n ≤ SYMBOLS_MOST → m ≤ PARTICIPANTS_MOST → (r s : Bool) → r ≡ has_repeat bytes_eq (name_texts separator first)
+      → s ≡ has_repeat bytes_eq (name_texts separator second)
+      → IsToldFault separator first second (if r || s then Repeated else OutOfMemory)
   fault_told-Repeated some_n some_m few_n few_m r s r_is s_is =
       let few : nat_lt SYMBOLS_MOST n ≡ false = grind (arith, nat_tests, few_n) in
       let few_too : nat_lt PARTICIPANTS_MOST m ≡ false = grind (arith, nat_tests, few_m) in
-      fault_told first second _ first_is second_is
+      fault_told separator first second _ first_is second_is
       (rw (← n_is, ← m_is, ne_eqb n 0 some_n, ne_eqb m 0 some_m, few, few_too, ← r_is, ← s_is) (either (r || s)))
     where
       either : (repeated : Bool) → unwrap_or (first_fault ((repeated, Repeated) ∷ [])) OutOfMemory ≡ (if repeated then Repeated else OutOfMemory)

@@ -24,7 +24,7 @@ names_with-more {A} named names new text texts name is pushed = rw (← is, push
     shifted None = refl
     shifted (Some m) = ap Some (append_assoc names (name ∷ []) m)
 
--- a line that has bytes has the names of its pieces
-pub name_texts-some : (line : List ℕ) → false ≡ (length line == 0) → name_texts line ≡ pieces_of line
-name_texts-some [] some = cc
-name_texts-some (byte ∷ bytes) some = refl
+-- a text that has bytes has the names of its pieces
+pub name_texts-some : (separator : ℕ) (text : List ℕ) → false ≡ (length text == 0) → name_texts separator text ≡ pieces_of separator text
+name_texts-some separator [] some = cc
+name_texts-some separator (byte ∷ bytes) some = refl

@@ -1,5 +1,5 @@
 -- The ends of a batch: what was written, and when each comes.
-use Rattle.std.specs.Prelude.{◌≡◌, ◌≤◌, ◌<◌, ◌⊎◌, ℕ, List, length, Option, Result, IsOk, IsErr, Ok, Err}
+use Rattle.std.specs.Prelude.{◌≡◌, ◌≤◌, ◌<◌, ◌⊎◌, ℕ, List, length, Option, Result, IfSome, IsOk, IsErr, Ok, Err}
 use Rattle.std.specs.Io.KnownBytes.{Appends, Keeps}
 use Rattle.tape_types.specs.Names.{Names}
 use Rattle.sale_matrix.specs.declared.matrix.Matrix.{Matrix}
@@ -40,3 +40,10 @@ EndsAt TooLarge input = INPUT_MOST < length input
 EndsAt ReadFault input = Unit {0}
 EndsAt WriteFault input = length input ≤ INPUT_MOST
 EndsAt OutOfMemory input = Unit {0}
+
+-- a batch has ended so: of an input that its reader tells it has written what its end says, and this is the end that comes; too large and
+-- a read fault leave the writer alone, whatever the reader
+pub record WritesBatch {W : Type 0} (matrix : Matrix) (end : BatchEnd) (input old new : Option (List ℕ)) (before after : W) : Type 0 where
+  pub wrote : IfSome input (λ input. Wrote matrix end input old new)
+  pub ends : IfSome input (EndsAt end)
+  pub silent : (end ≡ TooLarge) ⊎ (end ≡ ReadFault) → after ≡ before

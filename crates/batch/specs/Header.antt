@@ -1,12 +1,10 @@
 -- The header of a batch: the symbols on its first line, and the participants on its second.
-use Rattle.std.specs.Prelude.{ℕ, ◌-◌, ◌&&◌, nat_le, nat_lt, List, [], ◌∷◌, ◌++◌, length, codes, Option, Some, None, Result, Ok, Err, option_and_then}
-use Rattle.std.specs.Prelude.{replicate, if◌then◌else◌}
-use Rattle.std.specs.List.{list_all, slice_split}
+use Rattle.std.specs.Prelude.{ℕ, List, [], ◌∷◌, codes, Option, Some, None, Result, Ok, Err, option_and_then, if◌then◌else◌}
+use Rattle.std.specs.List.{slice_split}
 use Rattle.std.specs.Option.{option_map}
 use Rattle.memchr.specs.Find.{is_byte}
 use Rattle.tape_types.specs.ListingFaults.{listing_fault_code, listing_fault_name}
-use Rattle.tape_types.specs.Names.{Names, names_fault}
-use Rattle.tape_types.specs.Ranges.{is_name_byte}
+use Rattle.tape_types.specs.Names.{Names, names_fault, symbol_named}
 use Rattle.tape_types.specs.declared.listing_fault.ListingFault.{ListingFault}
 use Rattle.batch.specs.MessageLine.{is_capital}
 use Rattle.batch.specs.declared.header_fault.HeaderFault.{HeaderFault}
@@ -22,21 +20,14 @@ abbrev pub header_fault_name : HeaderFault → List ℕ
 header_fault_name BadHeader = codes "BadHeader"
 header_fault_name (BadListing fault) = listing_fault_name fault
 
--- the pieces of a text between single spaces
-abbrev pub pieces_of : List ℕ → List (List ℕ)
-pieces_of text = slice_split (is_byte 32) text
+-- the pieces of a text between single bytes that separate them
+abbrev pub pieces_of : ℕ → List ℕ → List (List ℕ)
+pieces_of separator text = slice_split (is_byte separator) text
 
--- the names of a line, between single spaces; a line of no bytes has none
-abbrev pub name_texts : List ℕ → List (List ℕ)
-name_texts [] = []
-name_texts (byte ∷ bytes) = pieces_of (byte ∷ bytes)
-
--- a symbol by its name: one to eight bytes that may stand in one, with spaces to the end
-abbrev pub symbol_named : List ℕ → Option (List ℕ)
-symbol_named name =
-    if nat_lt 0 (length name) && (nat_le (length name) 8 && list_all is_name_byte name)
-    then Some (name ++ replicate (8 - length name) 32)
-    else None
+-- the names of a text; a text of no bytes has none
+abbrev pub name_texts : ℕ → List ℕ → List (List ℕ)
+name_texts separator [] = []
+name_texts separator (byte ∷ bytes) = pieces_of separator (byte ∷ bytes)
 
 -- a participant by its name: one capital letter
 abbrev pub participant_named : List ℕ → Option ℕ
@@ -62,7 +53,11 @@ listing_of (Some symbols) None = Err BadHeader
 listing_of (Some symbols) (Some participants) =
     listing_by_fault (names_fault symbols participants) (record { symbols = symbols; participants = participants })
 
--- the listing of the two lines of a header, or the first thing wrong with them
-unfoldable pub header_listing : List ℕ → List ℕ → Result Names HeaderFault
-header_listing first second =
-    listing_of (all_named symbol_named (name_texts first)) (all_named participant_named (name_texts second))
+-- the listing of a text of symbols and one of participants, or the first thing wrong with them
+unfoldable pub names_listing : ℕ → List ℕ → List ℕ → Result Names HeaderFault
+names_listing separator symbols participants =
+    listing_of (all_named symbol_named (name_texts separator symbols)) (all_named participant_named (name_texts separator participants))
+
+-- the listing of the two lines of a header, whose names have single spaces between them
+abbrev pub header_listing : List ℕ → List ℕ → Result Names HeaderFault
+header_listing first second = names_listing 32 first second

@@ -5,10 +5,10 @@ use Rattle.batch.specs.declared.pieces.Pieces.{Pieces}
 use denote.Ref.{Bor}
 
 -- the pieces of what is left of the text, if any is
-abbrev pub pieces_of_rest : Option (Bor (List ℕ)) → List (List ℕ)
-pieces_of_rest None = []
-pieces_of_rest (Some rest) = pieces_of rest.now
+abbrev pub pieces_of_rest : ℕ → Option (Bor (List ℕ)) → List (List ℕ)
+pieces_of_rest separator None = []
+pieces_of_rest separator (Some rest) = pieces_of separator rest.now
 
 -- the pieces that are left
 abbrev pub pieces_left : Pieces → List (List ℕ)
-pieces_left p = pieces_of_rest p.rest
+pieces_left p = pieces_of_rest p.separator p.rest

@@ -6,7 +6,7 @@ ghost use Rattle.std.specs.Io.Take.{take_inner, take_limit};
 ghost use Rattle.day_report.specs.Rows.{report_rows};
 ghost use Rattle.day_report.specs.declared.report_fault.ReportFault.TheVariants.{OutOfMemory as RowsOutOfMemory};
 ghost use Rattle.batch.specs.Batch.{INPUT_MOST, answer_line, tape_report};
-ghost use Rattle.batch.specs.BatchEnds.{EndsAt, Wrote};
+ghost use Rattle.batch.specs.BatchEnds.{EndsAt, WritesBatch, Wrote};
 ghost use Rattle.batch.specs.Finish.{EndsAfterStop, Finishes, day_text};
 ghost use Rattle.row_reads.specs.Writing.{WritesPrefix};
 ghost use Rattle.batch.specs.declared.batch_end.BatchEnd.TheVariants.{ReadFault, TooLarge, WriteFault as EndWriteFault};
@@ -205,14 +205,7 @@ pub fn batch_over<T: Threads + Sync, R: Read, W: Write>(
     reader: &mut R,
     writer: &mut W,
 ) -> BatchEnd
-    // What was written is the text of the whole input and nothing else, or what the end says.
-    ensures wrote { IfSome (R.remaining reader.old) (λ input. Wrote matrix result input (W.contents writer.old) (W.contents writer.new)) }
-
-    // Which end it is.
-    ensures ends { IfSome (R.remaining reader.old) (EndsAt result) }
-
-    // These ends leave the writer alone, whatever the reader.
-    ensures silent { (result ≡ TooLarge) ⊎ (result ≡ ReadFault) → writer.new ≡ writer.old }
+    ensures batch { WritesBatch matrix result (R.remaining reader.old) (W.contents writer.old) (W.contents writer.new) writer.old writer.new }
 {
     let (end, _) = batch_kept(rt, alloc, matrix, reader, writer);
     end
@@ -227,9 +220,7 @@ pub fn last_batch<T: Threads + Sync, R: Read, W: Write>(
     reader: &mut R,
     writer: &mut W,
 ) -> BatchEnd
-    ensures wrote { IfSome (R.remaining reader.old) (λ input. Wrote matrix result input (W.contents writer.old) (W.contents writer.new)) }
-    ensures ends { IfSome (R.remaining reader.old) (EndsAt result) }
-    ensures silent { (result ≡ TooLarge) ⊎ (result ≡ ReadFault) → writer.new ≡ writer.old }
+    ensures batch { WritesBatch matrix result (R.remaining reader.old) (W.contents writer.old) (W.contents writer.new) writer.old writer.new }
 {
     let (end, read) = batch_kept(rt, alloc, matrix, reader, writer);
     mem::forget(read);

@@ -1,4 +1,4 @@
-//! What a name in a header, or among the program's arguments, names.
+//! What a name of a listing names.
 ghost use Rattle.std.specs.Prelude.{◌≡◌, List, ℕ, Option};
 
 use tape_types::{Participant, Symbol};
@@ -15,24 +15,12 @@ pub trait Named: Copy {
 
 /// A symbol stands without the spaces that it has at its end.
 impl Named for Symbol {
-    ghost use Rattle.batch.specs.Header.{symbol_named};
+    ghost use Rattle.tape_types.specs.Names.{symbol_named};
 
     ghost named = { symbol_named };
 
     fn of_name(name: &[u8]) -> Option<Symbol> {
-        if name.len() > 8 {
-            return None;
-        }
-        let mut bytes = [b' '; 8];
-        bytes[..name.len()].copy_from_slice(name);
-        let Some(symbol) = Symbol::try_new(bytes) else {
-            return None;
-        };
-        // A space at the end of a name would pass for padding.
-        if symbol.name() != name {
-            return None;
-        }
-        Some(symbol)
+        Symbol::of_name(name)
     }
 }
 

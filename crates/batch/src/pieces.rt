@@ -1,4 +1,4 @@
-//! The pieces of a text between single spaces.
+//! The pieces of a text between single bytes that separate them.
 ghost use Rattle.std.specs.Prelude.{◌≡◌};
 ghost use Rattle.std.specs.Iterator.{YieldsFirstRef, item_count};
 ghost use Rattle.batch.specs.Pieces.{pieces_left};
@@ -6,18 +6,22 @@ ghost use Rattle.batch.specs.Header.{pieces_of};
 
 use memchr::memchr;
 
-/// The pieces of a text that are left: one more than it has spaces.
+/// The pieces of a text that are left: one more than it has separators.
 #[derive(Drop)]
 pub struct Pieces<'a> {
+    separator: u8,
     rest: Option<&'a [u8]>,
 }
 
 impl<'a> Pieces<'a> {
     /// All pieces of the text.
-    pub fn new(text: &'a [u8]) -> Pieces<'a>
-        ensures { pieces_left result ≡ pieces_of text.now }
+    pub fn new(separator: u8, text: &'a [u8]) -> Pieces<'a>
+        ensures { pieces_left result ≡ pieces_of separator text.now }
     {
-        Pieces { rest: Some(text) }
+        Pieces {
+            separator,
+            rest: Some(text),
+        }
     }
 }
 
@@ -30,7 +34,7 @@ impl<'a> Iterator for Pieces<'a> {
 
     fn next(&mut self) -> Option<&'a [u8]> {
         let rest = self.rest?;
-        match memchr(b' ', rest) {
+        match memchr(self.separator, rest) {
             None => {
                 self.rest = None;
                 Some(rest)

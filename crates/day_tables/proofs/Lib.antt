@@ -5,6 +5,5 @@ pub mod PriceSpelling
 pub mod RoundTrip
 pub mod SpelledValues
 pub mod SpellingLemmas
-pub mod SymbolLemmas
 pub mod TableLemmas
 pub mod TextLemmas

@@ -1,18 +1,18 @@
 -- The row that a message is written as reads back.
 use Rattle.std.proofs.Common.{◌≡◌, ◌<◌, ◌≤◌, ◌+◌, ◌*◌, ◌/◌, ◌%◌, ◌-◌, ◌^◌, ◌∷◌, ◌++◌, ◌∙◌, ◌==◌, [], ℕ, suc, List, true, false, not, refl, sym, ap, arith, length}
-use Rattle.std.proofs.Common.{drop, nat_le, nat_lt, inl, inr, Some, None, Ok, subst, All, replicate, length-append}
+use Rattle.std.proofs.Common.{drop, nat_le, nat_lt, inl, inr, Some, None, Ok, length-append}
 use Rattle.std.specs.Fmt.{decimal}
 use Rattle.std.specs.Char.{digit_value, is_ascii_digit}
-use Rattle.std.specs.List.{AllByRecursion, prefix_len}
+use Rattle.std.specs.List.{prefix_len}
 use Rattle.std.specs.Option.{is_some}
 use Rattle.std.specs.Str.Parse.{AllDigits}
 use Rattle.std.proofs.lemmas.Bool.{cases_Bool, and_parts, le-leb, lt-ltb, ne_eqb, eqb-true}
 use Rattle.std.proofs.lemmas.Fmt.{decimal_is_IsNumeral, length-decimal-le, decimal_nonempty}
 use Rattle.std.proofs.lemmas.Str.Parse.{digit_from_value}
 use Rattle.day_tables.specs.Numbers.{is_numeral, number_of, number_within, within, decimals_of, dollars_and_decimals, point_of, price_of, are_digits}
-use Rattle.std.proofs.lemmas.List.{take_at, length-take}
-use Rattle.std.proofs.lemmas.List.Elements.{recursion_from_All}
-use Rattle.tape_types.specs.Ranges.{FIRST_PARTICIPANT, LAST_PARTICIPANT, NUMBER_MOST, PRICE_MOST, SIZE_MOST, IsMessageNumber, IsSymbol, name_of, is_name_byte}
+use Rattle.std.proofs.lemmas.List.{take_at}
+use Rattle.tape_types.specs.Lemmas.Symbols.{symbol_named-name}
+use Rattle.tape_types.specs.Ranges.{FIRST_PARTICIPANT, LAST_PARTICIPANT, NUMBER_MOST, PRICE_MOST, SIZE_MOST, IsMessageNumber}
 use Rattle.sale_matrix.specs.Matrix.{IsCondition, cells_in, first_rows, second_rows, third_rows, fourth_rows, is_within}
 use Rattle.sale_matrix.specs.declared.matrix.Matrix.TheVariants.{Two}
 use Rattle.sale_matrix.specs.declared.content.Content.{Content}
@@ -27,9 +27,8 @@ use Rattle.day_tables.specs.declared.column.Column.TheVariants as column
 use Rattle.day_tables.specs.declared.kind.Kind.{Kind}
 use Rattle.day_tables.specs.declared.kind.Kind.TheVariants as kind
 use Rattle.day_tables.specs.Rows.{row_header, row_content, row_no_content, row_target, row_message_of, row_message, unused}
-use Rattle.day_tables.specs.Texts.{code_byte, code_of, condition_of, moment_of, symbol_of}
+use Rattle.day_tables.specs.Texts.{code_byte, code_of, condition_of, moment_of}
 use Rattle.day_tables.specs.Writing.{condition_text, decimals_text, digit_at, price_text, row_of}
-use Rattle.day_tables.proofs.SymbolLemmas.{symbol_of-own}
 use Rattle.day_tables.proofs.NumeralLemmas.{digit_range, digit_value-digit}
 
 -- ## Numbers
@@ -169,41 +168,7 @@ price_of-text price low high =
     rw (point, front, back, number_of-decimal dollars (omega arith), decimals_of-text part (omega arith))
     (ap (within 1 PRICE_MOST) whole ∙ within-own 1 PRICE_MOST price low high)
 
--- ## Participants, symbols and conditions
-
--- spaces alone
-spaces-all : (bytes : List ℕ) → AllByRecursion (λ b. b ≡ 32) bytes → bytes ≡ replicate (length bytes) 32
-spaces-all [] all = refl
-spaces-all (b ∷ bytes) all =
-    let more = spaces-all bytes all.1 in
-    let first = all.0 in
-    cc
-
--- a name with the spaces that stand behind it
-padded-back : (bytes : List ℕ) → All (λ b. b ≡ 32) (drop (length (name_of bytes)) bytes)
-    → bytes ≡ name_of bytes ++ replicate (length bytes - length (name_of bytes)) 32
-padded-back [] spaces = refl
-padded-back (b ∷ bytes) spaces = elim (cases_Bool (is_name_byte b)) [
-  | inl name ↦
-      let one : 1 + prefix_len is_name_byte bytes ≡ suc (prefix_len is_name_byte bytes) = omega arith in
-      let less : suc (length bytes) - suc (length (name_of bytes)) ≡ length bytes - length (name_of bytes) = omega arith in
-      let more = padded-back bytes (rw (name, one) at spaces) in
-      rw (name, one, less) (ap (λ (rest : List ℕ). b ∷ rest) more)
-  | inr other ↦
-      let all = rw other at spaces in
-      let all_of_it : suc (length bytes) - 0 ≡ suc (length bytes) = omega arith in
-      rw (other, all_of_it) (spaces-all (b ∷ bytes) (recursion_from_All (λ b. b ≡ 32) (b ∷ bytes) all))
-]
-
--- a symbol's name reads back as the symbol
-pub symbol_of-name : (symbol : List ℕ) → IsSymbol symbol → symbol_of (name_of symbol) ≡ Some symbol
-symbol_of-name symbol is =
-    let padded : symbol ≡ name_of symbol ++ replicate (8 - length (name_of symbol)) 32 =
-    subst (λ (n : ℕ). symbol ≡ name_of symbol ++ replicate (n - length (name_of symbol)) 32) is.eight (padded-back symbol is.padded) in
-    symbol_of-own (name_of symbol) symbol padded is (within symbol is.eight) refl
-  where
-    within : (bytes : List ℕ) → length bytes ≡ 8 → length (name_of bytes) ≤ 8
-    within bytes eight = omega (arith, length-take (prefix_len is_name_byte bytes) bytes, eight)
+-- ## Participants and conditions
 
 -- a code as it is written is no space
 code_byte-no_space : (code : ℕ) → (code_byte code == 32) ≡ false
@@ -280,7 +245,7 @@ header-back m is =
       within-own FIRST_PARTICIPANT LAST_PARTICIPANT (header_of m).participant is.participant.0 is.participant.1,
       number_within-decimal 1 NUMBER_MOST (header_of m).number is.number.0 is.number.1 (omega (arith, is.number.1)),
       moment_of-decimal (header_of m).moment is.moment,
-      symbol_of-name (header_of m).symbol is.symbol,
+      symbol_named-name (header_of m).symbol is.symbol,
     ) refl
 
 -- the target reads back

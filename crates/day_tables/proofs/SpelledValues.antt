@@ -12,13 +12,14 @@ use Rattle.sale_matrix.specs.declared.matrix.Matrix.TheVariants.{Two}
 use Rattle.reports.specs.Texts.{is_condition}
 use Rattle.day_tables.specs.Kinds.{kind_letter, kind_of, kind_of_letter, kind_of_word, kind_word}
 use Rattle.day_tables.specs.Spellings.{ConditionIsSpelled, KindIsSpelled, MomentIsSpelled, ParticipantIsSpelled, SpellsNumber, SymbolIsSpelled}
-use Rattle.day_tables.specs.Texts.{as_condition, code_byte, code_of, condition_of, symbol_of}
+use Rattle.day_tables.specs.Texts.{as_condition, code_byte, code_of, condition_of}
 use Rattle.day_tables.specs.Writing.{condition_text}
 use Rattle.day_tables.specs.declared.kind.Kind.{Kind}
 use Rattle.day_tables.specs.declared.kind.Kind.TheVariants.{Report, Cancel, Correct, Reinstate}
-use Rattle.day_tables.proofs.RoundTrip.{condition_of-text, symbol_of-name, within-own}
+use Rattle.day_tables.proofs.RoundTrip.{condition_of-text, within-own}
 use Rattle.day_tables.proofs.SpellingLemmas.{number_is_spelled, within-is}
-use Rattle.day_tables.proofs.SymbolLemmas.{IsSymbol-padded, name_of-padded}
+use Rattle.tape_types.specs.Lemmas.Symbols.{IsSymbol-padded, name_of-padded, symbol_named-name}
+use Rattle.tape_types.specs.Names.{symbol_named}
 
 -- ## Moments
 
@@ -124,7 +125,7 @@ participant_is_spelled participant (letter ∷ []) = (
 participant_is_spelled participant (letter ∷ next ∷ rest) = (λ is. cc is, λ spells. cc (spells.1))
 
 -- a name that is read as a symbol is its name
-symbol-is : (symbol name : List ℕ) → symbol_of name ≡ Some symbol → IsSymbol symbol × (name ≡ name_of symbol)
+symbol-is : (symbol name : List ℕ) → symbol_named name ≡ Some symbol → IsSymbol symbol × (name ≡ name_of symbol)
 symbol-is symbol name is = cases (nat_lt 0 (length name)) (nat_le (length name) 8) (list_all is_name_byte name) refl refl refl is
   where
     cases : (some few all : Bool) → nat_lt 0 (length name) ≡ some → nat_le (length name) 8 ≡ few → list_all is_name_byte name ≡ all
@@ -144,7 +145,7 @@ symbol-is symbol name is = cases (nat_lt 0 (length name)) (nat_le (length name) 
 pub symbol_is_spelled : SymbolIsSpelled
 symbol_is_spelled symbol text = (
   symbol-is symbol text,
-  λ spells. ap symbol_of spells.1 ∙ symbol_of-name symbol spells.0,
+  λ spells. ap symbol_named spells.1 ∙ symbol_named-name symbol spells.0,
 )
 
 -- ## Conditions

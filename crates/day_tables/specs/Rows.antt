@@ -9,7 +9,8 @@ use Rattle.reports.specs.declared.message.Message.TheVariants as message
 use Rattle.day_tables.specs.FaultTexts.{FAULT_TEXT_MOST}
 use Rattle.day_tables.specs.Kinds.{kind_of}
 use Rattle.day_tables.specs.Numbers.{number_within, price_of}
-use Rattle.day_tables.specs.Texts.{condition_of, moment_of, participant_of, symbol_of}
+use Rattle.tape_types.specs.Names.{symbol_named}
+use Rattle.day_tables.specs.Texts.{condition_of, moment_of, participant_of}
 use Rattle.day_tables.specs.declared.column.Column.{Column}
 use Rattle.day_tables.specs.declared.column.Column.TheVariants as column
 use Rattle.day_tables.specs.declared.kind.Kind.{Kind}
@@ -43,7 +44,7 @@ row_header row = do
   participant ← field column.Participant row.participant (participant_of row.participant)
   number ← field column.Number row.number (number_within 1 NUMBER_MOST row.number)
   moment ← field column.Moment row.moment (moment_of row.moment)
-  symbol ← field column.Symbol row.symbol (symbol_of row.symbol)
+  symbol ← field column.Symbol row.symbol (symbol_named row.symbol)
   Ok (record { participant = participant; number = number; moment = moment; symbol = symbol })
 
 -- the number of the report that is meant

@@ -4,7 +4,8 @@ use Rattle.tape_types.specs.Ranges.{IsParticipant, IsPrice, IsSymbol, name_of}
 use Rattle.sale_matrix.specs.Matrix.{IsCondition}
 use Rattle.day_tables.specs.Kinds.{kind_letter, kind_of, kind_word}
 use Rattle.day_tables.specs.Numbers.{DIGITS_MOST, DOLLAR, number_within, price_of}
-use Rattle.day_tables.specs.Texts.{condition_of, moment_of, participant_of, symbol_of}
+use Rattle.tape_types.specs.Names.{symbol_named}
+use Rattle.day_tables.specs.Texts.{condition_of, moment_of, participant_of}
 use Rattle.day_tables.specs.Writing.{condition_text, digit_at}
 use Rattle.day_tables.specs.declared.kind.Kind.{Kind}
 
@@ -62,7 +63,7 @@ ParticipantIsSpelled = (participant : ℕ) (text : List ℕ)
 
 -- a symbol is read from a text exactly where the text is its name
 abbrev pub SymbolIsSpelled : Type 0
-SymbolIsSpelled = (symbol text : List ℕ) → (symbol_of text ≡ Some symbol) ↔ (IsSymbol symbol × (text ≡ name_of symbol))
+SymbolIsSpelled = (symbol text : List ℕ) → (symbol_named text ≡ Some symbol) ↔ (IsSymbol symbol × (text ≡ name_of symbol))
 
 -- a condition is read from a text exactly where the text is its four codes, with `_` for a blank
 abbrev pub ConditionIsSpelled : Type 0

@@ -1,7 +1,7 @@
--- How a table writes a participant, a symbol, a sale condition and a moment.
-use Rattle.std.specs.Prelude.{ℕ, ◌-◌, ◌^◌, ◌==◌, ◌&&◌, nat_le, nat_lt, List, [], ◌∷◌, ◌++◌, length, map, replicate, Option, Some, None, if◌then◌else◌}
-use Rattle.std.specs.List.{list_all, list_any}
-use Rattle.tape_types.specs.Ranges.{FIRST_PARTICIPANT, LAST_PARTICIPANT, is_name_byte}
+-- How a table writes a participant, a sale condition and a moment.
+use Rattle.std.specs.Prelude.{ℕ, ◌-◌, ◌^◌, ◌==◌, List, [], ◌∷◌, map, Option, Some, None, if◌then◌else◌}
+use Rattle.std.specs.List.{list_any}
+use Rattle.tape_types.specs.Ranges.{FIRST_PARTICIPANT, LAST_PARTICIPANT}
 use Rattle.reports.specs.Texts.{is_condition}
 use Rattle.day_tables.specs.Numbers.{number_within, within}
 
@@ -10,13 +10,6 @@ abbrev pub participant_of : List ℕ → Option ℕ
 participant_of [] = None
 participant_of (letter ∷ []) = within FIRST_PARTICIPANT LAST_PARTICIPANT letter
 participant_of (letter ∷ next ∷ rest) = None
-
--- a symbol by its name: one to eight bytes that may stand in one, with spaces to the end
-abbrev pub symbol_of : List ℕ → Option (List ℕ)
-symbol_of name =
-    if nat_lt 0 (length name) && (nat_le (length name) 8 && list_all is_name_byte name)
-    then Some (name ++ replicate (8 - length name) 32)
-    else None
 
 -- a moment: a number, or nothing for 0
 abbrev pub moment_of : List ℕ → Option ℕ

@@ -1,8 +1,8 @@
-//! Participants and symbols by their names.
+//! Participants by their letters.
 ghost use Rattle.std.specs.Prelude.{◌≡◌};
-ghost use Rattle.day_tables.specs.Texts.{participant_of, symbol_of};
+ghost use Rattle.day_tables.specs.Texts.{participant_of};
 
-use tape_types::{Participant, Symbol};
+use tape_types::Participant;
 
 /// The participant of a letter.
 pub fn participant_of(name: &[u8]) -> Option<Participant>
@@ -12,23 +12,4 @@ pub fn participant_of(name: &[u8]) -> Option<Participant>
         [letter] => Participant::try_new(*letter),
         _ => None,
     }
-}
-
-/// The symbol of a name, which stands without the spaces at its end.
-pub fn symbol_of(name: &[u8]) -> Option<Symbol>
-    ensures { result ≡ symbol_of name.now }
-{
-    if name.len() > 8 {
-        return None;
-    }
-    let mut bytes = [b' '; 8];
-    bytes[..name.len()].copy_from_slice(name);
-    let Some(symbol) = Symbol::try_new(bytes) else {
-        return None;
-    };
-    // A space at the end of a name would pass for padding.
-    if symbol.name() != name {
-        return None;
-    }
-    Some(symbol)
 }

@@ -7,13 +7,13 @@ ghost use Rattle.day_tables.specs.Rows.{field, row_content, row_header, row_mess
 ghost use Rattle.day_tables.specs.Texts.{moment_of};
 
 use crate::condition::condition_of;
-use crate::named::{participant_of, symbol_of};
+use crate::named::participant_of;
 use crate::number::number_within;
 use crate::price::price_of;
 use crate::{Column, FaultText, Kind, RowFault, TableRow};
 use reports::{Header, Message, Moment};
 use sale_matrix::Content;
-use tape_types::{MsgNumber, SIZE_MOST, Size};
+use tape_types::{MsgNumber, SIZE_MOST, Size, Symbol};
 
 /// The value of a field, or the fault of a text that writes none.
 fn field<T: Copy>(column: Column, text: &[u8], value: Option<T>) -> Result<T, RowFault>
@@ -78,7 +78,7 @@ fn header(row: &TableRow) -> Result<Header, RowFault>
     )?;
     let number = field(Column::Number, row.number, message_number(row.number))?;
     let moment = field(Column::Moment, row.moment, moment_of(row.moment))?;
-    let symbol = field(Column::Symbol, row.symbol, symbol_of(row.symbol))?;
+    let symbol = field(Column::Symbol, row.symbol, Symbol::of_name(row.symbol))?;
     Ok(Header {
         participant,
         number,

@@ -18,13 +18,6 @@ pub const SESSION: u64 = 1;
 /// What is said where a day cannot be read.
 pub const NO_DAY: &str = "the first two lines make no listing, or memory ran out";
 
-/// The symbol of a name.
-fn symbol_named(name: &[u8]) -> Option<Symbol> {
-    let mut bytes = [b' '; 8];
-    bytes.get_mut(..name.len())?.copy_from_slice(name);
-    Symbol::try_new(bytes)
-}
-
 /// The participant of a name.
 fn participant_named(name: &[u8]) -> Option<Participant> {
     match name {
@@ -37,7 +30,7 @@ fn participant_named(name: &[u8]) -> Option<Participant> {
 fn read_symbols(alloc: Global, line: &[u8]) -> Option<Vec<Symbol>> {
     let mut symbols = Vec::new(alloc);
     for name in line.fields() {
-        symbols.push(symbol_named(name)?).ok()?;
+        symbols.push(Symbol::of_name(name)?).ok()?;
     }
     Some(symbols)
 }

@@ -1,6 +1,6 @@
--- The limit of a tape that is followed.
+-- The limit of a running day's tape and of its follower's.
 use Rattle.std.specs.Prelude.{ℕ}
 
--- the limit of a followed tape where no argument names one, in entries
-abbrev pub FEED_TAPE_MOST : ℕ
-FEED_TAPE_MOST = 1048576
+-- the limit where no argument names one, in entries
+abbrev pub LIMIT_LEFT_OUT : ℕ
+LIMIT_LEFT_OUT = 1048576

@@ -1,6 +1,6 @@
-//! Why arguments name no day to follow.
+//! Why arguments name no running day.
 
-/// Why arguments name no day to follow.
+/// Why arguments name no running day.
 #[derive(Clone, Copy, Debug, PartialEq, Eq)]
 pub enum WordsFault {
     /// They are too few or too many, or one is none of its kind.

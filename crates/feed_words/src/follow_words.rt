@@ -7,7 +7,7 @@ use crate::names::listing;
 use crate::reading::Words;
 use sale_matrix::Matrix;
 use std::alloc::Global;
-use tape_types::Listing;
+use tape_types::{Listing, PARTICIPANTS_MOST};
 
 /// The arguments of `follow`.
 #[derive(Drop)]
@@ -37,7 +37,7 @@ impl FollowWords {
         let session = words.number()?;
         let matrix = words.matrix()?;
         let limit = words.limit()?;
-        let listing = listing(alloc, symbols, participants)?;
+        let listing = listing(alloc, symbols, participants, PARTICIPANTS_MOST)?;
         Ok(FollowWords {
             listing,
             ports,

@@ -1,10 +1,14 @@
-//! The arguments by which a running day is followed.
+//! The arguments of a program as they are handed over, and those of a running day.
 #![tactic(auto)]
 
+mod arguments;
 mod fault;
 mod follow_words;
+mod live_words;
 mod names;
 mod reading;
 
+pub use arguments::words;
 pub use fault::WordsFault;
 pub use follow_words::FollowWords;
+pub use live_words::LiveWords;

@@ -2,14 +2,14 @@
 ghost use Rattle.std.specs.Prelude.{◌≡◌, [], IfOk, Ok, length};
 ghost use Rattle.std.specs.Iterator.{at_most};
 ghost use Rattle.tape_types.specs.Ranges.{IsTapeNumber};
-ghost use Rattle.feed_words.specs.Limits.{FEED_TAPE_MOST};
+ghost use Rattle.feed_words.specs.Limits.{LIMIT_LEFT_OUT};
 
 use crate::WordsFault;
 use sale_matrix::Matrix;
 use std::str;
 use tape_types::TapeNumber;
 
-/// The limit of a followed tape where no argument names one, in entries.
+/// The limit of a running day's tape and of its follower's where no argument names one, in entries.
 const FEED_TAPE_MOST: u32 = 1_048_576;
 
 /// The arguments that are left, each ended by a zero byte.
@@ -51,11 +51,16 @@ impl<'a> Words<'a> {
         decimal(self.word()?).ok_or(WordsFault::BadArguments)
     }
 
+    /// The next argument as a number up to 65,535.
+    pub fn short(&mut self) -> Result<u16, WordsFault> {
+        u16::try_from(self.number()?).map_err(|_| WordsFault::BadArguments)
+    }
+
     /// The next argument as a port, 1 to 65,535.
-    fn port(&mut self) -> Result<u16, WordsFault> {
-        match u16::try_from(self.number()?) {
-            Ok(0) | Err(_) => Err(WordsFault::BadArguments),
-            Ok(port) => Ok(port),
+    pub fn port(&mut self) -> Result<u16, WordsFault> {
+        match self.short()? {
+            0 => Err(WordsFault::BadArguments),
+            port => Ok(port),
         }
     }
 
@@ -81,7 +86,7 @@ impl<'a> Words<'a> {
     /// The last argument, if one is left, as the limit of a tape, 1 to `TAPE_MOST` entries: `FEED_TAPE_MOST` where none is.
     /// Refused where another one follows.
     pub fn limit(&mut self) -> Result<u32, WordsFault>
-        ensures left_out { self.old.rest.now ≡ [] → result ≡ Ok FEED_TAPE_MOST }
+        ensures left_out { self.old.rest.now ≡ [] → result ≡ Ok LIMIT_LEFT_OUT }
         ensures range { IfOk result IsTapeNumber }
         ensures last { IfOk result (λ _. self.new.rest.now ≡ []) }
     {

@@ -28,7 +28,7 @@ use crate::live::feed::Feed;
 use crate::live::running::{Joined, run_together};
 use crate::live::seated::{Ran, Reader, Waiting, seated_lines};
 use crate::live::sender::room_for_a_packet;
-use crate::live::starting::{accept_all, can_start, prepare_day};
+use crate::live::starting::{accept_all, prepare_day};
 use crate::report::write_day;
 use crate::{Fault, LiveSockets, Loss};
 use line_ledger::{Day, DayName, EndFault, LineSeat, Prepared, SharedTape, Token};
@@ -41,7 +41,7 @@ use std::os::fd::OwnedFd;
 use std::rt::Clock;
 use std::sync::Wait;
 use std::thread::Threads;
-use tape_types::Listing;
+use tape_types::{Listing, can_start};
 
 /// Ends the day with a seat of each participant.
 fn end_day<D: DayName>(shared: SharedTape<D>, seats: Vec<LineSeat<D>>) -> Result<Day, Fault>

@@ -12,7 +12,7 @@ use std::io::BufRead;
 use std::sync::Wait;
 use std::thread;
 use std::thread::Threads;
-use tape_types::Gate;
+use tape_types::{Gate, can_start};
 
 /// A line while it runs. It has no reader once it has ended.
 struct Running<D: DayName, R> {
@@ -122,17 +122,6 @@ fn run_one<D: DayName, R: BufRead + Drop, G: Gate, W: Wait>(
     } = running;
     if let Some(mut open) = reader.take() {
         *outcome = run_frames(rt, shared, line, seat, &mut open, gate);
-    }
-}
-
-/// Whether a thread can be started now. It does nothing, and its end is waited for.
-fn can_start<T: Threads>(rt: &T) -> bool {
-    match thread::spawn(rt, || ()) {
-        Ok(worker) => {
-            worker.join(rt);
-            true
-        }
-        Err(_) => false,
     }
 }
 

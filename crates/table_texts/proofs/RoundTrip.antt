@@ -1,16 +1,16 @@
 -- The text of messages reads back as those messages.
-use Rattle.std.proofs.Common.{◌≡◌, ◌<◌, ◌≤◌, ◌+◌, ◌-◌, ◌*◌, ◌/◌, ◌%◌, ◌==◌, ◌||◌, nat_le, nat_lt, nat_eq, ◌∷◌, ◌++◌, ◌∙◌, [], ℕ, suc, List, Bool, true, false, All, Some, None, Result, Ok}
-use Rattle.std.proofs.Common.{ap, append-nil, append_assoc, arith, drop, fold, inl, inr, length, length-append, length-take, map, refl, replicate, slice_index, subst, sym}
+use Rattle.std.proofs.Common.{◌≡◌, ◌<◌, ◌≤◌, ◌+◌, ◌-◌, ◌*◌, ◌/◌, ◌%◌, ◌==◌, ◌||◌, nat_le, nat_lt, nat_eq, ◌∷◌, ◌++◌, ◌∙◌, [], ℕ, List, Bool, true, false, All, Some, None, Result, Ok}
+use Rattle.std.proofs.Common.{ap, append-nil, append_assoc, arith, fold, inl, inr, length, length-append, map, refl, slice_index, sym}
 use Rattle.std.proofs.lemmas.Bool.{cases_Bool, ne_eqb}
 use Rattle.std.proofs.lemmas.Bool.Decides.{nat_tests}
 use Rattle.std.proofs.lemmas.List.Elements.{All-append, All-cons, All-head, All-nil, All-push, All-tail}
 use Rattle.std.proofs.lemmas.List.Splits.{length-slice_split, slice_split_at, slice_split_none}
-use Rattle.std.specs.List.{flat_map, join_with_byte, list_all, list_any, prefix_len, slice_split}
+use Rattle.std.specs.List.{flat_map, join_with_byte, list_all, list_any, slice_split}
 use Rattle.hex.specs.Hex.{encode_lower, encode_with, hex_digit_value, lower_digits}
 use Rattle.hex.proofs.HexLemmas.{IsDigits, IsDigits-lower_digits, length-encode_with}
 use Rattle.indexmap.specs.IndexSet.{insert_all, insert_key}
 use Rattle.memchr.specs.Find.{is_byte}
-use Rattle.batch.specs.Header.{all_named, header_listing, name_texts, participant_named, pieces_of, symbol_named}
+use Rattle.batch.specs.Header.{all_named, name_texts, names_listing, participant_named, pieces_of}
 use Rattle.batch.specs.Lines.{lines_of, without_empty_last}
 use Rattle.batch.specs.MessageLine.{hex_bytes, is_capital, line_message}
 use Rattle.reports.specs.Lemmas.Messages.{message_at-spelling}
@@ -25,7 +25,8 @@ use Rattle.table_texts.specs.DecodedTexts.{header_fault, text_messages, with_lin
 use Rattle.table_texts.specs.EncodedTexts.{encoded_text, header_text, message_line}
 use Rattle.table_texts.specs.Laws.{EncodedReadsBack}
 use Rattle.table_texts.specs.declared.text_end.TextEnd.{TextEnd}
-use Rattle.tape_types.specs.Names.{first_fault, has_repeat, is_nil, names_fault, symbol_eq}
+use Rattle.tape_types.specs.Lemmas.Symbols.{list_all-name_of, symbol_named-name}
+use Rattle.tape_types.specs.Names.{first_fault, has_repeat, is_nil, names_fault, symbol_eq, symbol_named}
 use Rattle.tape_types.specs.Ranges.{IsParticipant, IsSymbol, PARTICIPANTS_MOST, SYMBOLS_MOST, is_name_byte, name_of}
 use Rattle.tape_types.specs.declared.listing_fault.ListingFault.TheVariants.{Empty, TooMany, Repeated}
 
@@ -159,7 +160,7 @@ record IsName (name : List ℕ) : Type 0 where
   feedless : Lacks 10 name
 
 -- names between spaces are split into them
-pieces-joined : (first : List ℕ) (names : List (List ℕ)) → All IsName (first ∷ names) → pieces_of (join_with_byte 32 (first ∷ names)) ≡ first ∷ names
+pieces-joined : (first : List ℕ) (names : List (List ℕ)) → All IsName (first ∷ names) → pieces_of 32 (join_with_byte 32 (first ∷ names)) ≡ first ∷ names
 pieces-joined first [] all = slice_split_none (is_byte 32) first ((All-head IsName first [] all).spaceless)
 pieces-joined first (next ∷ names) all =
     slice_split_at (is_byte 32) first 32 (join_with_byte 32 (next ∷ names)) ((All-head IsName first (next ∷ names) all).spaceless) refl
@@ -179,28 +180,17 @@ joined-lacks (first ∷ next ∷ names) all =
     (All-cons (λ b. is_byte 10 b ≡ false) 32 (join_with_byte 32 (next ∷ names)) refl (joined-lacks (next ∷ names) (All-tail IsName first (next ∷ names) all)))
 
 -- a line with a byte has pieces
-texts-pieces : (line : List ℕ) → 0 < length line → name_texts line ≡ pieces_of line
+texts-pieces : (line : List ℕ) → 0 < length line → name_texts 32 line ≡ pieces_of 32 line
 texts-pieces [] some = absurd (omega arith)
 texts-pieces (byte ∷ line) some = refl
 
 -- the names of a line of names
-texts-joined : (names : List (List ℕ)) → is_nil names ≡ false → All IsName names → name_texts (join_with_byte 32 names) ≡ names
+texts-joined : (names : List (List ℕ)) → is_nil names ≡ false → All IsName names → name_texts 32 (join_with_byte 32 names) ≡ names
 texts-joined [] some all = cc
 texts-joined (first ∷ names) some all =
     texts-pieces (join_with_byte 32 (first ∷ names)) (joined-some first names (All-head IsName first names all)) ∙ pieces-joined first names all
 
 -- ## Symbols and participants by their names
-
--- all bytes of a name may stand in one
-list_all-name_of : (bytes : List ℕ) → list_all is_name_byte (name_of bytes) ≡ true
-list_all-name_of [] = refl
-list_all-name_of (b ∷ bytes) = elim (cases_Bool (is_name_byte b)) [
-  | inl name ↦
-      let one : 1 + prefix_len is_name_byte bytes ≡ suc (prefix_len is_name_byte bytes) = omega arith in
-      let rest = list_all-name_of bytes in
-      rw (name, one) (rw name rest)
-  | inr other ↦ rw other refl
-]
 
 -- bytes that may stand in a name are none that may not
 name-lacks : (stop : ℕ) (name : List ℕ) → is_name_byte stop ≡ false → list_all is_name_byte name ≡ true → Lacks stop name
@@ -210,50 +200,11 @@ name-lacks stop (b ∷ name) never all = elim (cases_Bool (is_name_byte b)) [
   | inr other ↦ let none = rw other at all in absurd (cc none)
 ]
 
--- spaces alone
-spaces-are : (bytes : List ℕ) → All (λ b. b ≡ 32) bytes → bytes ≡ replicate (length bytes) 32
-spaces-are [] all = refl
-spaces-are (b ∷ bytes) all =
-    let more = spaces-are bytes (All-tail (λ b. b ≡ 32) b bytes all) in
-    let first = All-head (λ b. b ≡ 32) b bytes all in
-    cc
-
--- a name with the spaces that stand behind it
-padded-back : (bytes : List ℕ) → All (λ b. b ≡ 32) (drop (length (name_of bytes)) bytes)
-    → bytes ≡ name_of bytes ++ replicate (length bytes - length (name_of bytes)) 32
-padded-back [] spaces = refl
-padded-back (b ∷ bytes) spaces = elim (cases_Bool (is_name_byte b)) [
-  | inl name ↦
-      let one : 1 + prefix_len is_name_byte bytes ≡ suc (prefix_len is_name_byte bytes) = omega arith in
-      let less : suc (length bytes) - suc (length (name_of bytes)) ≡ length bytes - length (name_of bytes) = omega arith in
-      let more = padded-back bytes (rw (name, one) at spaces) in
-      rw (name, one, less) (ap (λ (rest : List ℕ). b ∷ rest) more)
-  | inr other ↦
-      let all = rw other at spaces in
-      let all_of_it : suc (length bytes) - 0 ≡ suc (length bytes) = omega arith in
-      rw (other, all_of_it) (spaces-are (b ∷ bytes) all)
-]
-
--- a symbol's name names it
-symbol-named : (symbol : List ℕ) → IsSymbol symbol → symbol_named (name_of symbol) ≡ Some symbol
-symbol-named symbol is =
-    let few : length (name_of symbol) ≤ 8 = omega (arith, length-take (prefix_len is_name_byte symbol) symbol, is.eight) in
-    let padded : name_of symbol ++ replicate (8 - length (name_of symbol)) 32 ≡ symbol =
-    sym (subst (λ (n : ℕ). symbol ≡ name_of symbol ++ replicate (n - length (name_of symbol)) 32) is.eight (padded-back symbol is.padded)) in
-    named (name_of symbol) is.named few (list_all-name_of symbol) ∙ ap Some padded
-  where
-    named : (name : List ℕ) → 0 < length name → length name ≤ 8 → list_all is_name_byte name ≡ true
-        → symbol_named name ≡ Some (name ++ replicate (8 - length name) 32)
-    named name some few all =
-        let not_none : nat_lt 0 (length name) ≡ true = grind (arith, nat_tests) in
-        let not_many : nat_le (length name) 8 ≡ true = grind (arith, nat_tests) in
-        rw (not_none, not_many, all) refl
-
 -- symbols by their names
 all-symbols : (symbols : List (List ℕ)) → All IsSymbol symbols → all_named symbol_named (map name_of symbols) ≡ Some symbols
 all-symbols [] all = refl
 all-symbols (symbol ∷ symbols) all =
-    rw (symbol-named symbol (All-head IsSymbol symbol symbols all), all-symbols symbols (All-tail IsSymbol symbol symbols all)) refl
+    rw (symbol_named-name symbol (All-head IsSymbol symbol symbols all), all-symbols symbols (All-tail IsSymbol symbol symbols all)) refl
 
 -- a participant by its name
 participant-named : (letter : ℕ) → IsParticipant letter → participant_named (letter ∷ []) ≡ Some letter
@@ -324,14 +275,14 @@ each_fine false false false false false z none = (refl, refl, refl, refl)
 -- a header of two lists of names with nothing wrong has no fault
 header-fine : (symbols : List (List ℕ)) (participants : List ℕ) → All IsSymbol symbols → All IsParticipant participants → names_fault symbols participants ≡ None
     → header_fault (join_with_byte 32 (map name_of symbols)) (join_with_byte 32 (map (λ (p : ℕ). p ∷ []) participants)) ≡ None
-unfolding header_fault header_listing
+unfolding header_fault names_listing
 header-fine symbols participants are who fine =
     let (a, b, c, x) = each_fine (is_nil symbols) (nat_lt SYMBOLS_MOST (length symbols)) (has_repeat symbol_eq symbols) (is_nil participants)
     (nat_lt PARTICIPANTS_MOST (length participants)) (has_repeat nat_eq participants) fine in
     let beside : names_fault symbols (65 ∷ []) ≡ None = rw (a, b, c) refl in
-    let first : name_texts (join_with_byte 32 (map name_of symbols)) ≡ map name_of symbols =
+    let first : name_texts 32 (join_with_byte 32 (map name_of symbols)) ≡ map name_of symbols =
     texts-joined (map name_of symbols) (map-some name_of symbols a) (map-all IsSymbol IsName name_of symbol-name symbols are) in
-    let second : name_texts (join_with_byte 32 (map (λ (p : ℕ). p ∷ []) participants)) ≡ map (λ (p : ℕ). p ∷ []) participants =
+    let second : name_texts 32 (join_with_byte 32 (map (λ (p : ℕ). p ∷ []) participants)) ≡ map (λ (p : ℕ). p ∷ []) participants =
     texts-joined (map (λ (p : ℕ). p ∷ []) participants) (map-some (λ (p : ℕ). p ∷ []) participants x)
     (map-all IsParticipant IsName (λ (p : ℕ). p ∷ []) participant-name participants who) in
     rw (first, second, all-symbols symbols are, all-participants participants who, beside, fine) refl

@@ -1,3 +1,4 @@
 pub mod NumberMaps
 pub mod Pairs
 pub mod RisingEntries
+pub mod Symbols

@@ -1,10 +1,10 @@
 -- The listing of a day: two lists of distinct names, in order.
-use Rattle.std.specs.Prelude.{ℕ, Bool, cond, true, false, ◌||◌, nat_lt, nat_eq, List, [], ◌∷◌, length, Option, Some, None}
-use Rattle.std.specs.List.{list_any}
+use Rattle.std.specs.Prelude.{ℕ, ◌-◌, Bool, cond, true, false, ◌||◌, ◌&&◌, nat_le, nat_lt, nat_eq, List, [], ◌∷◌, ◌++◌, length, replicate, Option, Some, None, if◌then◌else◌}
+use Rattle.std.specs.List.{list_all, list_any}
 use Rattle.std.specs.Str.{bytes_eq}
 use Rattle.tape_types.specs.declared.listing_fault.ListingFault.{ListingFault}
 use Rattle.tape_types.specs.declared.listing_fault.ListingFault.TheVariants.{Empty, TooMany, Repeated}
-use Rattle.tape_types.specs.Ranges.{SYMBOLS_MOST, PARTICIPANTS_MOST}
+use Rattle.tape_types.specs.Ranges.{SYMBOLS_MOST, PARTICIPANTS_MOST, is_name_byte}
 
 -- what a contract sees of a listing
 pub record Names : Type 0 where
@@ -14,6 +14,13 @@ pub record Names : Type 0 where
 -- `==` of two symbols
 abbrev pub symbol_eq : List ℕ → List ℕ → Bool
 symbol_eq a b = bytes_eq a b
+
+-- a symbol by its name: one to eight bytes that may stand in one, with spaces to the end
+abbrev pub symbol_named : List ℕ → Option (List ℕ)
+symbol_named name =
+    if nat_lt 0 (length name) && (nat_le (length name) 8 && list_all is_name_byte name)
+    then Some (name ++ replicate (8 - length name) 32)
+    else None
 
 -- some element equals one before it
 abbrev pub has_repeat : {A : Type 0} → (A → A → Bool) → List A → Bool

@@ -16,7 +16,7 @@ mod symbol;
 mod tape_number;
 
 pub use four_bytes::{FOUR_BYTE_NUMBERS, FourBytes};
-pub use gate::{Gate, NoGate};
+pub use gate::{Gate, NoGate, can_start};
 pub use limits::{PARTICIPANTS_MOST, PRICE_MOST, SIZE_MOST, SYMBOLS_MOST, TAPE_MOST};
 pub use listing::Listing;
 pub use listing_fault::ListingFault;

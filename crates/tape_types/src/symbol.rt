@@ -2,7 +2,7 @@
 ghost use Rattle.std.specs.Prelude.{◌≡◌, ◌≤◌, ℕ, List, [], ◌∷◌, length, All, ◌↔◌, IsSome, IfSome, IsTrue};
 ghost use Rattle.std.specs.Cmp.Rules.{comparing, hashing};
 ghost use Rattle.std.proofs.Common.{rules};
-ghost use Rattle.tape_types.specs.Names.{symbol_eq};
+ghost use Rattle.tape_types.specs.Names.{symbol_eq, symbol_named};
 ghost use Rattle.tape_types.specs.Ranges.{IsSymbol, is_name_byte, name_of};
 
 use std::hash::{Hash, Hasher};
@@ -36,6 +36,25 @@ impl Symbol {
         } else {
             None
         }
+    }
+
+    /// The symbol of a name without padding, or `None` where it is no name of one to eight bytes.
+    pub fn of_name(name: &[u8]) -> Option<Self>
+        ensures named { result ≡ symbol_named name.now }
+    {
+        if name.len() > 8 {
+            return None;
+        }
+        let mut bytes = [b' '; 8];
+        bytes[..name.len()].copy_from_slice(name);
+        let Some(symbol) = Symbol::try_new(bytes) else {
+            return None;
+        };
+        // A space at the end of a name would pass for padding.
+        if symbol.name() != name {
+            return None;
+        }
+        Some(symbol)
     }
 
     /// The eight bytes: the name, and spaces to the end.

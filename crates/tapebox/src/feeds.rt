@@ -4,9 +4,9 @@ ghost use Rattle.live_feed.specs.Reports.{WritesOneReport};
 ghost use Rattle.tapebox.specs.Program.{IsFeedStatus, RunsFeed, feed_text};
 ghost use Rattle.row_reads.specs.Writing.{WritesPrefix};
 
-use crate::command::{FollowWords, LiveWords};
 use crate::writing::say;
 use batch::BatchEnd;
+use feed_words::{FollowWords, LiveWords};
 use live_feed::{Fault, FollowSockets, LiveSockets, NoLoss, NoSink, follow_over, here, live_over};
 use std::alloc::Global;
 use std::io;

@@ -1,6 +1,5 @@
 -- What the program's arguments ask for.
-use Rattle.std.specs.Prelude.{◌==◌, ◌||◌, ◌&&◌, ◌++◌, ◌∷◌, ℕ, List, [], Option, Some, None, String, Bool, codes, drop, find, length, nat_eq, not, string_bytes, if◌then◌else◌}
-use Rattle.std.specs.Global.{Global}
+use Rattle.std.specs.Prelude.{◌==◌, ◌||◌, ◌&&◌, ◌++◌, ◌∷◌, ℕ, List, [], Option, Some, None, Bool, codes, drop, find, length, nat_eq, not, if◌then◌else◌}
 use Rattle.std.specs.List.{starts_with}
 use Rattle.std.specs.Option.{option_and_then, option_map}
 use Rattle.std.specs.Str.{bytes_eq}
@@ -12,10 +11,6 @@ use Rattle.tapedesk.specs.declared.command.Command.{Command}
 use Rattle.tapedesk.specs.declared.command.Command.TheVariants.{Report, Tape, Encode, Decode, Line, Help, HelpOn}
 use Rattle.tapedesk.specs.declared.command.Word.{Word}
 use Rattle.tapedesk.specs.declared.command.Word.TheVariants as word
-
--- an argument as it is handed over: ended by a zero byte
-abbrev pub ended_word : String Global → List ℕ
-ended_word word = string_bytes word ++ 0 ∷ []
 
 -- the argument that names a word, ended by a zero byte
 abbrev pub ended_name : Word → List ℕ

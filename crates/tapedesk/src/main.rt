@@ -11,9 +11,9 @@ mod refusal_lines;
 mod saying;
 #[cfg(test)]
 mod tests;
-mod words;
 
 use command::{asks_for_rows, followed_words};
+use feed_words::words;
 pub use follow::follow;
 use follow::follow_to;
 pub use program::program;
@@ -23,7 +23,6 @@ use std::alloc::AllocError;
 use std::env;
 use std::io::IsTerminal;
 use std::process::ExitCode;
-use words::words;
 
 /// Whether rows are asked for which nobody sees scroll by, so that a line may tell how many were written.
 fn writes_unseen_rows(rt: &HostRuntime, words: &Result<Vec<u8>, AllocError>) -> bool {

@@ -9,22 +9,9 @@ use sale_matrix::Matrix;
 use std::alloc::Global;
 use std::io::BufReader;
 use std::net::TcpListener;
-use std::thread;
-use std::thread::Threads;
 use summaries::IndexStore;
 use tape_core::Tape;
 use tape_types::Listing;
-
-/// Whether a thread can be started now. It does nothing, and its end is waited for.
-pub(crate) fn can_start<R: Threads>(rt: &R) -> bool {
-    match thread::spawn(rt, || ()) {
-        Ok(worker) => {
-            worker.join(rt);
-            true
-        }
-        Err(_) => false,
-    }
-}
 
 /// An empty tape of the listing and the matrix, and the memory that its day takes.
 pub(crate) fn prepare_day(

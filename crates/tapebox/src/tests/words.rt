@@ -1,6 +1,7 @@
 //! The arguments of `live` and of `follow`: each number is the field of its place.
 
-use crate::command::{Command, CommandFault, FollowWords, LiveWords, read_command};
+use crate::command::{Command, read_command};
+use feed_words::{FollowWords, LiveWords, WordsFault};
 use sale_matrix::Matrix;
 use std::alloc::{AllocError, Global};
 use std::test::Fail;
@@ -110,7 +111,7 @@ fn the_matrix_is_the_word_behind_the_session_or_one(rt: HostRuntime) {
 }
 
 /// What stands behind the session, and what is asked for as the limit then.
-const LIMITS: [(&[u8], Result<u32, CommandFault>); 18] = [
+const LIMITS: [(&[u8], Result<u32, WordsFault>); 18] = [
     (b"", Ok(1_048_576)),
     (b"1\0", Ok(1_048_576)),
     (b"2\0", Ok(1_048_576)),
@@ -119,25 +120,25 @@ const LIMITS: [(&[u8], Result<u32, CommandFault>); 18] = [
     (b"1\01048577\0", Ok(1_048_577)),
     (b"1\016777216\0", Ok(16_777_216)),
     (b"2\00016777216\0", Ok(16_777_216)),
-    (b"1\00\0", Err(CommandFault::BadArguments)),
-    (b"1\016777217\0", Err(CommandFault::BadArguments)),
-    (b"1\04294967297\0", Err(CommandFault::BadArguments)),
-    (b"1\0x\0", Err(CommandFault::BadArguments)),
-    (b"1\0+5\0", Err(CommandFault::BadArguments)),
-    (b"1\0\0", Err(CommandFault::BadArguments)),
-    (b"1\05", Err(CommandFault::BadArguments)),
-    (b"1\05\0\0", Err(CommandFault::BadArguments)),
-    (b"1\05\05\0", Err(CommandFault::BadArguments)),
+    (b"1\00\0", Err(WordsFault::BadArguments)),
+    (b"1\016777217\0", Err(WordsFault::BadArguments)),
+    (b"1\04294967297\0", Err(WordsFault::BadArguments)),
+    (b"1\0x\0", Err(WordsFault::BadArguments)),
+    (b"1\0+5\0", Err(WordsFault::BadArguments)),
+    (b"1\0\0", Err(WordsFault::BadArguments)),
+    (b"1\05", Err(WordsFault::BadArguments)),
+    (b"1\05\0\0", Err(WordsFault::BadArguments)),
+    (b"1\05\05\0", Err(WordsFault::BadArguments)),
     // No limit stands without a matrix.
-    (b"5\0", Err(CommandFault::BadArguments)),
+    (b"5\0", Err(WordsFault::BadArguments)),
 ];
 
 /// The limit that arguments ask for.
-fn asked_limit(alloc: Global, words: &[u8]) -> Result<u32, CommandFault> {
+fn asked_limit(alloc: Global, words: &[u8]) -> Result<u32, WordsFault> {
     match read_command(alloc, words)? {
         Command::Live(live) => Ok(live.limit),
         Command::Follow(follow) => Ok(follow.limit),
-        Command::Batch(_) => Err(CommandFault::BadArguments),
+        Command::Batch(_) => Err(WordsFault::BadArguments),
     }
 }
 

@@ -7,14 +7,14 @@ use Rattle.batch.proofs.header.names.Goals as goal
 
 pub loop-piece-init : goal.loop-piece-init
 loop-piece-init g c =
-    let left : pieces_left c.into_iter-piece-iterator.result ≡ name_texts c.args.line.now =
+    let left : pieces_left c.into_iter-piece-iterator.result ≡ name_texts c.args.separator c.args.text.now =
     ap pieces_left c.into_iter-piece-iterator.ensures.into_iter_gives ∙ c.new-piece-items.ensures
-    ∙ sym (name_texts-some c.args.line.now c.if-is_empty.ensures) in
+    ∙ sym (name_texts-some c.args.separator c.args.text.now c.if-is_empty.ensures) in
     record {
       can = tt;
       finite = tt;
       left = ap (λ (ts : List (List ℕ)). is_some (all_named g.N.Named.named ts)) left;
-      names = λ fits. rw (c.new-names.ensures.items, left) (names_with-nil g.N.Named.named (name_texts c.args.line.now));
+      names = λ fits. rw (c.new-names.ensures.items, left) (names_with-nil g.N.Named.named (name_texts c.args.separator c.args.text.now));
     }
 
 pub loop-piece-preserved : goal.loop-piece-preserved

@@ -6,7 +6,7 @@ pub returns-in-Some-clause-first : goal.returns-in-Some-clause-first
 returns-in-Some-clause-first c =
     let text = c.args.text.now in
     let end = c.in-Some.end in
-    rw (take-behind text end) (first_part (is_byte 32) text end c.in-Some.ensures)
+    rw (take-behind text end) (first_part (is_byte c.args.separator) text end c.in-Some.ensures)
 
 pub returns-in-None-clause-last : goal.returns-in-None-clause-last
-returns-in-None-clause-last c = one_part (is_byte 32) c.args.text.now c.in-None.ensures
+returns-in-None-clause-last c = one_part (is_byte c.args.separator) c.args.text.now c.in-None.ensures

@@ -10,5 +10,5 @@ invariant-loop-piece l = record {
   can : (goal.iterator-loop-piece).can_next l.piece-iterator;
   finite : (goal.iterator-loop-piece).is_finite l.piece-iterator;
   -- the pieces that are left decide
-  left : list_any (λ piece. bytes_eq piece l.name) (pieces_left l.piece-iterator) ≡ list_any (λ piece. bytes_eq piece l.name) (pieces_of l.fn.text);
+  left : list_any (λ piece. bytes_eq piece l.name) (pieces_left l.piece-iterator) ≡ list_any (λ piece. bytes_eq piece l.name) (pieces_of l.fn.separator l.fn.text);
 }

@@ -6,21 +6,21 @@ use Rattle.batch.proofs.PartLemmas.{fewer_parts, first_part, one_part, take-behi
 use Rattle.batch.proofs.pieces.PiecesIterator.next.Goals as goal
 
 pub returns-in-None-clause-steps : goal.returns-in-None-clause-steps
-returns-in-None-clause-steps c = ap pieces_of_rest c.in_ok-rest.was ∙ one_part (is_byte 32) c.in_ok-rest.rest.now c.in-None.ensures
+returns-in-None-clause-steps c = ap (pieces_of_rest c.args.self.now.separator) c.in_ok-rest.was ∙ one_part (is_byte c.args.self.now.separator) c.in_ok-rest.rest.now c.in-None.ensures
 
 pub returns-in-Some-clause-steps : goal.returns-in-Some-clause-steps
 returns-in-Some-clause-steps c =
     let text = c.in_ok-rest.rest.now in
     let end = c.in-Some.end in
-    rw (take-behind text end) (ap pieces_of_rest c.in_ok-rest.was ∙ first_part (is_byte 32) text end c.in-Some.ensures)
+    rw (take-behind text end) (ap (pieces_of_rest c.args.self.now.separator) c.in_ok-rest.was ∙ first_part (is_byte c.args.self.now.separator) text end c.in-Some.ensures)
 
 pub returns-in-Some-clause-goes : goal.returns-in-Some-clause-goes
 returns-in-Some-clause-goes c =
     let text = c.in_ok-rest.rest.now in
     let end = c.in-Some.end in
-    let left : pieces_left c.args.self.now ≡ pieces_of text = ap pieces_of_rest c.in_ok-rest.was in
+    let left : pieces_left c.args.self.now ≡ pieces_of c.args.self.now.separator text = ap (pieces_of_rest c.args.self.now.separator) c.in_ok-rest.was in
     record {
-      on = λ _. (tt, tt, rw left (fewer_parts pieces_of text end (first_part (is_byte 32) text end c.in-Some.ensures)));
+      on = λ _. (tt, tt, rw left (fewer_parts (pieces_of c.args.self.now.separator) text end (first_part (is_byte c.args.self.now.separator) text end c.in-Some.ensures)));
       keeps = tt;
       rests = λ _. tt;
     }

@@ -1,9 +1,9 @@
-//! The program's arguments.
+//! The arguments of a program.
 ghost use Rattle.std.specs.Prelude.{◌≡◌, ◌≢◌, [], IfOk, IfErr, IsOk, IsErr, drop};
 ghost use Rattle.std.specs.IoError.{error_kind};
 ghost use Rattle.std.specs.List.{flat_map};
 ghost use Rattle.std.specs.Vec.Iter.{into_iter_items};
-ghost use Rattle.tapedesk.specs.Commands.{ended_word};
+ghost use Rattle.feed_words.specs.Arguments.{ended_word};
 
 use std::alloc::{AllocError, Global};
 use std::env::Args;

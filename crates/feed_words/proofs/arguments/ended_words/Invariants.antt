@@ -1,8 +1,8 @@
 use Rattle.std.proofs.Common.{◌≡◌, ◌++◌, drop}
 use Rattle.std.specs.List.{flat_map}
 use Rattle.std.specs.Vec.Iter.{into_iter_items}
-use Rattle.tapedesk.specs.Commands.{ended_word}
-use Rattle.tapedesk.proofs.words.ended_words.Given as goal
+use Rattle.feed_words.specs.Arguments.{ended_word}
+use Rattle.feed_words.proofs.arguments.ended_words.Given as goal
 
 abbrev pub invariant-loop-word : goal.invariant-loop-word
 invariant-loop-word l = record {
