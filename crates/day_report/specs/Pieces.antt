@@ -7,8 +7,8 @@ use Rattle.day_report.specs.declared.pieces.Piece.{Piece}
 use Rattle.day_report.specs.declared.row.Row.{Row}
 
 -- how many workers a report has at most
-abbrev pub WORKERS_MOST : ℕ
-WORKERS_MOST = 64
+abbrev pub MOST_WORKERS : ℕ
+MOST_WORKERS = 64
 
 -- a piece is what stands in a list from a position on
 pub record IsPieceAt {X : Type 0} (whole : List X) (start : ℕ) (piece : List X) : Type 0 where

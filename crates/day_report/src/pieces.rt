@@ -1,7 +1,7 @@
 //! The rows of a report, made by pieces of the listing.
 ghost use Rattle.std.specs.Prelude.{◌≡◌, ◌≢◌, ◌++◌, ◌+◌, ◌*◌, ◌^◌, ◌<◌, ◌≤◌, Err, Some, None, IfErr, IfOk, IfSome, OnOk, length, slice_get, take, drop};
 ghost use Rattle.std.specs.List.{flat_map};
-ghost use Rattle.day_report.specs.Pieces.{IsPieceAt, AreMade, AreFrom, WORKERS_MOST};
+ghost use Rattle.day_report.specs.Pieces.{IsPieceAt, AreMade, AreFrom, MOST_WORKERS};
 ghost use denote.Param.Send.{IsSync};
 ghost use Rattle.day_report.specs.Rows.{report_rows, symbol_rows};
 ghost use Rattle.day_report.specs.declared.report_fault.ReportFault.TheVariants.{BadWorkers, Unstarted, WriteFault};
@@ -14,7 +14,7 @@ use std::thread;
 use std::thread::Threads;
 use summaries::Store;
 use tape_core::Tape;
-use tape_types::{Gate, SYMBOLS_MOST, Symbol};
+use tape_types::{Gate, SYMBOLS_MOST, Symbol, can_start};
 
 /// The greatest number of workers of a report.
 pub const WORKERS_MOST: usize = 64;
@@ -195,17 +195,15 @@ fn joined<S: Store>(
     Ok(rows)
 }
 
-/// Starts a thread that does nothing, and waits for its end: `Unstarted` where none can be started. Where a thread is
-/// refused later, the caller's own thread takes its worker's place.
+/// Tries to start a thread: `Unstarted` where none can be started. Where a thread is refused later, the caller's own thread
+/// takes its worker's place.
 fn try_start<R: Threads>(rt: &R) -> Result<(), ReportFault>
     ensures { IfErr result (λ fault. fault ≡ Unstarted) }
 {
-    match thread::spawn(rt, || ()) {
-        Ok(worker) => {
-            worker.join(rt);
-            Ok(())
-        }
-        Err(_) => Err(ReportFault::Unstarted),
+    if can_start(rt) {
+        Ok(())
+    } else {
+        Err(ReportFault::Unstarted)
     }
 }
 
@@ -226,8 +224,8 @@ pub fn rows<S: Store + Sync, G: Gate + Sync, R: Threads + Sync>(
     gate: &G,
 ) -> Result<Vec<Row>, ReportFault>
     ensures rows { IfOk result (λ rows. rows.items ≡ report_rows tape.now) }
-    ensures bad { result ≡ Err BadWorkers → ¬ ((1 ≤ workers) × (workers ≤ WORKERS_MOST)) }
-    ensures within { ¬ ((1 ≤ workers) × (workers ≤ WORKERS_MOST)) → result ≡ Err BadWorkers }
+    ensures bad { result ≡ Err BadWorkers → ¬ ((1 ≤ workers) × (workers ≤ MOST_WORKERS)) }
+    ensures within { ¬ ((1 ≤ workers) × (workers ≤ MOST_WORKERS)) → result ≡ Err BadWorkers }
     ensures unstarted { result ≡ Err Unstarted → 2 ≤ workers }
     ensures written { result ≢ Err WriteFault }
 {
