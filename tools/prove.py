@@ -2,9 +2,10 @@
 """Proves programs and what they stand on, several crates at a time: prove.py PROGRAM..
 
 A crate is proved once all below it are, and of those that can be begun the one with the longest chain of others above it comes first. A
-line on standard error tells of each that is proved, and one a minute what is being proved. What is proved is kept: stopped by Ctrl-C, by
-a signal to end, or by a crate that is not proved, it says what is left, and goes on there the next time. It drives the module that the
-`rt` of the kit is made of. Where a kit's rt is made otherwise it says so and does nothing: `rt run` then proves one crate after the other.
+line on standard error tells of each that is proved, and one a minute what is being proved. What is proved is kept, crate by crate:
+stopped by Ctrl-C, by a signal to end, or by a crate that is not proved, it says what is left, and goes on there the next time. It drives
+the module that the `rt` of the kit is made of. Where a kit's rt is made otherwise it says so and does nothing: `rt run` then proves one
+crate after the other.
 
 Statuses: 0 where all are proved, or left to `rt run`; 1 where a crate is not proved; 2 where a word names no program of the repository.
 """
@@ -12,9 +13,9 @@ Statuses: 0 where all are proved, or left to `rt run`; 1 where a crate is not pr
 import argparse
 import importlib.util
 import io
+import math
 import os
 import queue
-import re
 import shutil
 import signal
 import sys
@@ -30,8 +31,6 @@ CALLS = ["below", "build_rlib", "check", "is_built", "makes_rlib", "need"]
 NICENESS = 10
 # A line is written after so many seconds in which no crate was proved.
 SILENCE = 60
-# What the kit says of a crate that is not proved yet.
-SO_FAR = re.compile(r"^so far: (\d+ of \d+) functions", re.MULTILINE)
 
 
 def say(text):
@@ -66,12 +65,6 @@ def longest_chains(kit, crates):
     return chains
 
 
-def at_work(crate):
-    """A crate that is being proved, with how many of its functions are, where the kit has told."""
-    told = SO_FAR.findall(crate.out.getvalue())
-    return f"{crate.name} ({told[-1]} functions)" if told else crate.name
-
-
 class Proving:
     """Crates that are proved side by side."""
 
@@ -80,38 +73,51 @@ class Proving:
         self.chains = longest_chains(kit, crates)
         self.done = [crate for crate in crates if crate.makes_rlib() and crate.is_built()]
         self.left = [crate for crate in sorted(crates, key=self.chains.get, reverse=True) if crate not in self.done]
-        self.running = []
+        # By crate that is being proved, by how many processes.
+        self.running = {}
         self.ended = queue.SimpleQueue()
-        # Two thirds of what the kit names as likely at most for a check in batches, which no crate was seen to pass with four jobs.
+        # Two thirds of what the kit names as likely at most for a check in batches, which is more than any crate was seen to take.
         self.memory = {crate: 2 * crate.need(batches=True) // 3 for crate in self.left}
         self.began = time.monotonic()
 
-    def has_room_for(self, crate):
-        """Whether there are a processor and memory for a crate beside those that run, which have taken a part of theirs already."""
-        return not self.running or self.kit.fits(self.memory[crate], *(self.memory[other] // 2 for other in self.running))
+    def has_room_for(self, crate, first):
+        """Whether there are a processor and memory for a crate beside those that begin first and those that run, which have taken a part of theirs
+        already."""
+        taken = [self.memory[other] for other in first] + [self.memory[other] // 2 for other in self.running]
+        return not taken or self.kit.fits(self.memory[crate], *taken)
+
+    def to_begin(self):
+        """The crates that can be begun now, beside one another and those that run."""
+        first = []
+        for crate in self.left:
+            if all(below in self.done for below in crate.below()) and self.has_room_for(crate, first):
+                first.append(crate)
+        return first
 
     def begin(self):
-        """Begins the crates that can be begun."""
-        for crate in [it for it in self.left if all(below in self.done for below in it.below())]:
-            if not self.has_room_for(crate):
-                return
-            leads = crate is max(self.left + self.running, key=self.chains.get)
+        """Begins the crates that can be begun. Each process of a crate loads the crates below for itself: two cost a third more processor time than
+        one, and four nearly twice as much. So a crate has as many as there are processors that no other crate waits for."""
+        crates = self.to_begin()
+        for at, crate in enumerate(crates):
+            leads = crate is max([*self.left, *self.running], key=self.chains.get)
+            idle = self.kit.cores() - sum(self.running.values())
+            jobs = max(math.ceil(idle / (len(crates) - at)), 1)
             self.left.remove(crate)
-            self.running.append(crate)
+            self.running[crate] = jobs
             crate.out = io.StringIO()
-            threading.Thread(target=self.prove, args=(crate, leads), daemon=True).start()
+            threading.Thread(target=self.prove, args=(crate, leads, jobs), daemon=True).start()
 
-    def prove(self, crate, leads):
-        """Proves a crate and puts down how that ended. The crate that leads has a process for each processor. The others have half as many, which
-        run where the first ones leave a processor idle, as they do while they load the crates below and at the last functions."""
+    def prove(self, crate, leads, jobs):
+        """Proves a crate by so many processes, and puts down how that ended. The crate that leads goes before the others."""
         if not leads:
             # Linux keeps this for each thread, and hands it on to the commands that the thread starts.
             os.setpriority(os.PRIO_PROCESS, 0, NICENESS)
-        jobs = self.kit.cores() if leads else max(self.kit.cores() // 2, 1)
         try:
             os.makedirs(f"{crate.folder}/out", exist_ok=True)
             flags = ["--jobs", str(jobs)]
-            status = crate.build_rlib(flags, anew=False) if crate.makes_rlib() else crate.check(flags)
+            # To keep work, the kit checks one layer of calls after the other and loads all modules anew for each, so a library is proved as the
+            # gate proves it, with nothing kept. A program is checked over kept work, from which it is built next.
+            status = crate.build_rlib(flags, anew=True) if crate.makes_rlib() else crate.check(flags)
         except (Exception, SystemExit) as fault:
             # However it ends, the other thread waits to be told.
             print(f"{type(fault).__name__}: {fault}", file=crate.out)
@@ -127,9 +133,9 @@ class Proving:
             try:
                 crate, status = self.ended.get(timeout=SILENCE)
             except queue.Empty:
-                self.say_how_far(f"at {', '.join(map(at_work, self.running))}")
+                self.say_how_far(f"at {', '.join(crate.name for crate in self.running)}")
                 continue
-            self.running.remove(crate)
+            del self.running[crate]
             if status:
                 self.left.append(crate)
                 print(crate.out.getvalue(), end="", file=sys.stderr)
@@ -147,7 +153,7 @@ class Proving:
 
     def say_left(self):
         """Says what is not proved, in the order in which it would have been."""
-        left = sorted(self.running + self.left, key=self.chains.get, reverse=True)
+        left = sorted([*self.running, *self.left], key=self.chains.get, reverse=True)
         say(f"left: {', '.join(crate.name for crate in left)}; the next time it goes on there")
 
 
@@ -179,9 +185,11 @@ def main():
         os.kill(os.getpid(), signal.SIGINT)
     if not is_proved:
         proving.say_left()
+        # At once, and the other crates' commands with it: Python would wait for the threads in which the kit runs them.
+        os._exit(1)
     for folder in held:
         os.close(folder)
-    return 0 if is_proved else 1
+    return 0
 
 
 if __name__ == "__main__":
