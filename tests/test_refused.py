@@ -43,6 +43,32 @@ class Calls(Sweeps):
                 self.assertTrue(any(re.search(pattern, text) for text in printed), sorted(printed))
 
 
+class Arguments(Case):
+    # A port, a session, a matrix and a limit that are none.
+    BAD = ["live AB N,Q 0 9101 9102 9200 1 7", "live AB N,Q 9000 9101 9102 9200 1 x", "follow AB N,Q 9101 9102 9200 7 3", "follow AB N,Q 9101 9102 9200 7 1 0"]
+
+    @classmethod
+    def setUpClass(cls):
+        built(HEAP)
+
+    def requests_of(self, words):
+        """How many requests for memory bad arguments make: each is refused in turn, and then the status is another."""
+        for request in range(1, MOST + 1):
+            was_met, end = run_refused(words, request, limit=SOON)
+            if not was_met:
+                self.assertEqual(end, Ended(2, b"", b"tapebox: bad arguments\n"))
+                return request - 1
+            self.assertEqual((end.status, end.said), OUT_OF_MEMORY)
+        return self.fail(f"{MOST} requests and more")
+
+    def test_bad_arguments(self):
+        """OPERATING, "Statuses": arguments of which one is bad take memory for themselves alone, as an unknown command does, and none for the names."""
+        for text in self.BAD:
+            with self.subTest(text):
+                word, *rest = text.split()
+                self.assertEqual(self.requests_of([word, *rest]), self.requests_of([word.upper(), *rest]))
+
+
 class Batch(Case):
     REPORTS = 40
 
