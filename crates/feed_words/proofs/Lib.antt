@@ -1,1 +1,3 @@
+mod DigitLemmas
 mod Listings
+mod WordLemmas

@@ -1,6 +1,8 @@
 //! The arguments of a day that is followed.
 ghost use Rattle.std.specs.Prelude.{IfOk};
 ghost use Rattle.tape_types.specs.Ranges.{IsTapeNumber};
+ghost use Rattle.feed_words.specs.Days.{NameFollow};
+ghost use Rattle.feed_words.specs.Words.{words_of};
 
 use crate::WordsFault;
 use crate::names::listing;
@@ -29,6 +31,7 @@ pub struct FollowWords {
 impl FollowWords {
     /// Reads the arguments after `follow`, each ended by a zero byte. Memory is taken for the names once all else is right.
     pub fn read(alloc: Global, words: &[u8]) -> Result<FollowWords, WordsFault>
+        ensures day { IfOk result (λ day. NameFollow (words_of words.now) day) }
         ensures limit { IfOk result (λ words. IsTapeNumber words.limit) }
     {
         let mut words = Words { rest: words };

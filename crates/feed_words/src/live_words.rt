@@ -1,6 +1,8 @@
 //! The arguments of a day whose tape is made from lines.
 ghost use Rattle.std.specs.Prelude.{◌+◌, ◌^◌, ◌≤◌, IfOk, length};
 ghost use Rattle.tape_types.specs.Ranges.{IsTapeNumber};
+ghost use Rattle.feed_words.specs.Days.{NameLive};
+ghost use Rattle.feed_words.specs.Words.{words_of};
 
 use crate::WordsFault;
 use crate::names::listing;
@@ -37,6 +39,7 @@ impl LiveWords {
     /// Reads the arguments after `live`, each ended by a zero byte. Memory is taken for the names once all else is right, which
     /// includes a port for the last participant's line.
     pub fn read(alloc: Global, words: &[u8]) -> Result<LiveWords, WordsFault>
+        ensures day { IfOk result (λ day. NameLive (words_of words.now) day) }
         ensures limit { IfOk result (λ words. IsTapeNumber words.limit) }
         ensures ports { IfOk result (λ words. words.first_port + length words.listing.participants ≤ 2 ^ 16) }
     {

@@ -1,6 +1,6 @@
 //! `live` and `follow`: their sockets, their engines, and what is said of how they end.
 ghost use Rattle.std.specs.Prelude.{◌≡◌, ◌≢◌, []};
-ghost use Rattle.live_feed.specs.Reports.{WritesOneReport};
+ghost use Rattle.live_feed.specs.Reports.{WritesItsReport};
 ghost use Rattle.tapebox.specs.Program.{IsFeedStatus, RunsFeed, feed_text};
 ghost use Rattle.row_reads.specs.Writing.{WritesPrefix};
 
@@ -92,12 +92,12 @@ fn report_status<E: Write>(errors: &mut E, status: u8) -> u8
     status
 }
 
-/// The status of `live` with its arguments. Where it is 0, the report of the day is written.
+/// The status of `live` with its arguments. Where it is 0, the report of a legal tape is written.
 fn live_status<T, W>(rt: &T, alloc: Global, words: LiveWords, writer: &mut W) -> u8
 where
     T: Threads + Wait + Clock + Net<Listener = TcpListener, Stream = TcpStream> + Sync,
     W: Write,
-    ensures report { result ≡ 0 → WritesOneReport (W.contents writer.old) (W.contents writer.new) }
+    ensures report { result ≡ 0 → WritesItsReport words.listing words.matrix (W.contents writer.old) (W.contents writer.new) }
     ensures unwritten { result ≢ 0 → result ≢ 4 → writer.new ≡ writer.old }
     ensures known { IsFeedStatus result }
 {
@@ -130,7 +130,7 @@ where
     T: Threads + Wait + Clock + Net<Listener = TcpListener, Stream = TcpStream> + Sync,
     W: Write,
     E: Write,
-    ensures { RunsFeed result writer.old writer.new (W.contents writer.old) (W.contents writer.new) errors.old errors.new
+    ensures { RunsFeed (WritesItsReport words.listing words.matrix) result writer.old writer.new (W.contents writer.old) (W.contents writer.new) errors.old errors.new
         (E.contents errors.old) (E.contents errors.new) }
 {
     let status = live_status(rt, alloc, words, writer);
@@ -142,7 +142,7 @@ fn follow_status<T, W>(rt: &T, alloc: Global, words: FollowWords, writer: &mut W
 where
     T: Threads + Wait + Net<Listener = TcpListener, Stream = TcpStream> + Sync,
     W: Write,
-    ensures report { result ≡ 0 → WritesOneReport (W.contents writer.old) (W.contents writer.new) }
+    ensures report { result ≡ 0 → WritesItsReport words.listing words.matrix (W.contents writer.old) (W.contents writer.new) }
     ensures unwritten { result ≢ 0 → result ≢ 4 → writer.new ≡ writer.old }
     ensures known { IsFeedStatus result }
 {
@@ -176,7 +176,7 @@ where
     T: Threads + Wait + Net<Listener = TcpListener, Stream = TcpStream> + Sync,
     W: Write,
     E: Write,
-    ensures { RunsFeed result writer.old writer.new (W.contents writer.old) (W.contents writer.new) errors.old errors.new
+    ensures { RunsFeed (WritesItsReport words.listing words.matrix) result writer.old writer.new (W.contents writer.old) (W.contents writer.new) errors.old errors.new
         (E.contents errors.old) (E.contents errors.new) }
 {
     let status = follow_status(rt, alloc, words, writer);

@@ -1,5 +1,5 @@
 -- The rows of a followed tape, the line of the columns' names before them, and the statuses of a run.
-use Rattle.std.proofs.Common.{◌≡◌, ◌≤◌, ◌++◌, ◌∙◌, ◌∷◌, ◌+◌, ◌-◌, ◌⊎◌, inl, inr, arith, [], List, ℕ, Option, Some, None, ap, append-nil, drop, length, refl, subst, sym, take}
+use Rattle.std.proofs.Common.{◌≡◌, ◌++◌, ◌∙◌, ◌∷◌, ◌+◌, ◌-◌, ◌⊎◌, inl, inr, arith, [], List, ℕ, Option, Some, None, ap, append-nil, drop, length, refl, subst, sym, take}
 use Rattle.std.proofs.KnownBytes.{Appends-kept, Keeps-refl}
 use Rattle.std.proofs.Math.Seq.{take-append-add}
 use Rattle.std.proofs.lemmas.List.{take-append-drop}
@@ -10,9 +10,12 @@ use Rattle.sale_matrix.specs.declared.matrix.Matrix.{Matrix}
 use Rattle.tape_types.specs.Names.{Names}
 use Rattle.tape_core.specs.Tape.{IsLegal, empty_tape}
 use Rattle.tape_core.specs.declared.entry.Entry.{Entry}
-use Rattle.live_feed.specs.Sinks.{GivesPart, GivesTape, HasPart, IsTapeOf, figures_of, rows_after}
+use Rattle.feed_words.specs.Days.{NameFollow}
+use Rattle.feed_words.specs.Words.{words_of}
+use Rattle.feed_words.specs.declared.follow_words.FollowWords.{FollowWords}
+use Rattle.live_feed.specs.Sinks.{GivesPart, GivesTape, HasPart, figures_of, rows_after}
 use Rattle.table_days.specs.TapeRows.{entry_rows, head_line, rows_text}
-use Rattle.tapedesk.specs.Follows.{IsRunStatus, WritesOneTape, WritesPartOf, WritesPartOfOne, WritesTapeOf, entry_line, followed_text}
+use Rattle.tapedesk.specs.Follows.{IsRunStatus, WritesNamedTape, WritesPartOf, WritesPartOfNamed, WritesTapeOf, entry_line, followed_text}
 
 -- ## Rows
 
@@ -78,15 +81,16 @@ tape_part listing matrix old mid has new head given kept =
       WritesPrefix-kept (followed_text t) old has new (subst (λ (l : List ℕ). WritesPrefix (head_line ++ l) old has) (sym (rows_same t.matrix [] t.entries)) some) kept,
     )
 
--- the tape of a day's names and matrix is some legal tape
-pub one_tape : (listing : Names) (matrix : Matrix) (old new : Option (List ℕ)) → WritesTapeOf listing matrix old new → WritesOneTape old new
-one_tape listing matrix old new whole = (whole.0, whole.1.legal, whole.2)
+-- the tape of the day that arguments name
+pub named_tape : (words : List ℕ) (day : FollowWords) (old new : Option (List ℕ)) → NameFollow (words_of words) day
+    → WritesTapeOf day.listing day.matrix old new → WritesNamedTape words old new
+named_tape words day old new named whole = (day, named, whole)
 
--- a part of it is a part of some legal tape
-pub one_part : {W : Type 0} (listing : Names) (matrix : Matrix) (old new : Option (List ℕ)) (first last : W)
-    → (last ≡ first) ⊎ WritesPartOf listing matrix old new → (last ≡ first) ⊎ WritesPartOfOne old new
-one_part listing matrix old new first last (inl same) = inl same
-one_part listing matrix old new first last (inr part) = inr (part.0, part.1.legal, part.2)
+-- a part of it
+pub named_part : {W : Type 0} (words : List ℕ) (day : FollowWords) (old new : Option (List ℕ)) (first last : W) → NameFollow (words_of words) day
+    → (last ≡ first) ⊎ WritesPartOf day.listing day.matrix old new → (last ≡ first) ⊎ WritesPartOfNamed words old new
+named_part words day old new first last named (inl same) = inl same
+named_part words day old new first last named (inr part) = inr (day, named, part)
 
 -- known bytes that are left alone are kept
 pub keeps_same : (known : Option (List ℕ)) → Keeps known known

@@ -5,10 +5,13 @@ use Rattle.row_reads.specs.Writing.{WritesPrefix}
 use Rattle.sale_matrix.specs.declared.matrix.Matrix.{Matrix}
 use Rattle.scratch_fold.specs.declared.summary.Summary.{Summary}
 use Rattle.tape_types.specs.Names.{Names}
-use Rattle.tape_core.specs.Tape.{TapeState, IsLegal}
+use Rattle.tape_core.specs.Tape.{TapeState}
 use Rattle.tape_core.specs.declared.entry.Entry.{Entry}
 use Rattle.day_tables.specs.declared.table_write_fault.TableWriteFault.{TableWriteFault}
 use Rattle.day_tables.specs.declared.table_write_fault.TableWriteFault.TheVariants.{OutOfMemory, WriteFault}
+use Rattle.feed_words.specs.Days.{NameFollow}
+use Rattle.feed_words.specs.Words.{words_of}
+use Rattle.feed_words.specs.declared.follow_words.FollowWords.{FollowWords}
 use Rattle.live_feed.specs.Sinks.{IsTapeOf}
 use Rattle.live_feed.specs.declared.follow.sink.SinkFault.{SinkFault}
 use Rattle.live_feed.specs.declared.follow.sink.SinkFault.TheVariants as sink
@@ -30,13 +33,13 @@ WritesTapeOf listing matrix old new = (t : TapeState) × IsTapeOf listing matrix
 abbrev pub WritesPartOf : Names → Matrix → Option (List ℕ) → Option (List ℕ) → Type 0
 WritesPartOf listing matrix old new = (t : TapeState) × IsTapeOf listing matrix t × WritesPrefix (followed_text t) old new
 
--- the rows of all entries of some legal tape were written, and nothing else
-abbrev pub WritesOneTape : Option (List ℕ) → Option (List ℕ) → Type 0
-WritesOneTape old new = (t : TapeState) × IsLegal t × Appends old new (followed_text t)
+-- the rows of all entries of some legal tape were written, of the listing and the matrix that arguments name, and nothing else
+abbrev pub WritesNamedTape : List ℕ → Option (List ℕ) → Option (List ℕ) → Type 0
+WritesNamedTape words old new = (day : FollowWords) × NameFollow (words_of words) day × WritesTapeOf day.listing day.matrix old new
 
 -- a part of such a text was written, from its front
-abbrev pub WritesPartOfOne : Option (List ℕ) → Option (List ℕ) → Type 0
-WritesPartOfOne old new = (t : TapeState) × IsLegal t × WritesPrefix (followed_text t) old new
+abbrev pub WritesPartOfNamed : List ℕ → Option (List ℕ) → Option (List ℕ) → Type 0
+WritesPartOfNamed words old new = (day : FollowWords) × NameFollow (words_of words) day × WritesPartOf day.listing day.matrix old new
 
 -- what is said of a status
 abbrev pub follow_status_text : ℕ → List ℕ

@@ -2,7 +2,7 @@
 ghost use Rattle.std.specs.Prelude.{◌≡◌, ◌⊎◌, []};
 ghost use Rattle.std.specs.Io.KnownBytes.{Keeps};
 ghost use Rattle.row_reads.specs.Writing.{WritesPrefix};
-ghost use Rattle.tapedesk.specs.Follows.{IsFollowStatus, IsRunStatus, WritesOneTape, WritesPartOf, WritesPartOfOne, WritesTapeOf, entry_line, follow_status_text, row_fault};
+ghost use Rattle.tapedesk.specs.Follows.{IsFollowStatus, IsRunStatus, WritesNamedTape, WritesPartOf, WritesPartOfNamed, WritesTapeOf, entry_line, follow_status_text, row_fault};
 
 use crate::command::BAD_ARGUMENTS;
 use crate::saying::say;
@@ -160,15 +160,15 @@ fn end_follow<E: Write>(errors: &mut E, status: u8) -> u8
 /// come to a writer, which comes back with the status. It is flushed whenever no entry more is ready. Bad arguments read and write nothing.
 /// The statuses are those of `tapebox follow`: 0 where the whole tape was written, 2 for bad arguments, 3 for a read fault or a socket
 /// that cannot be opened, 4 for a write fault, 5 where memory ran out, 6 where no thread was started and 7 where the tape disagrees.
-#[tactic(auto, using(crate::proofs::FollowLemmas::not_bad, crate::proofs::FollowLemmas::one_part, crate::proofs::FollowLemmas::one_tape))]
+#[tactic(auto, using(crate::proofs::FollowLemmas::not_bad, crate::proofs::FollowLemmas::named_part, crate::proofs::FollowLemmas::named_tape))]
 pub fn follow<T, W, E>(rt: &T, alloc: Global, words: &[u8], writer: W, errors: &mut E) -> (u8, W)
 where
     T: Threads + Wait + Net<Listener = TcpListener, Stream = TcpStream> + Sync,
     W: Write + Send + Drop,
     E: Write,
     ensures known { IsFollowStatus result.0 }
-    ensures whole { result.0 ≡ 0 → WritesOneTape (W.contents writer) (W.contents result.1) }
-    ensures part { (result.1 ≡ writer) ⊎ WritesPartOfOne (W.contents writer) (W.contents result.1) }
+    ensures whole { result.0 ≡ 0 → WritesNamedTape words.now (W.contents writer) (W.contents result.1) }
+    ensures part { (result.1 ≡ writer) ⊎ WritesPartOfNamed words.now (W.contents writer) (W.contents result.1) }
     ensures bad { result.0 ≡ 2 → result.1 ≡ writer }
     ensures quiet { follow_status_text result.0 ≡ [] → errors.new ≡ errors.old }
     ensures said { WritesPrefix (follow_status_text result.0) (E.contents errors.old) (E.contents errors.new) }

@@ -1,0 +1,42 @@
+-- The arguments of a running day, each in its place.
+use Rattle.std.specs.Prelude.{◌≡◌, ◌∷◌, [], ℕ, List, Ok}
+use Rattle.batch.specs.Header.{names_listing}
+use Rattle.feed_words.specs.Listings.{COMMA}
+use Rattle.feed_words.specs.Values.{ArePorts, IsLimitOrLeftOut, IsMatrixOrOne, IsNumber, IsPort}
+use Rattle.feed_words.specs.Words.{IsFirst}
+use Rattle.feed_words.specs.declared.follow_words.FollowWords.{FollowWords}
+use Rattle.feed_words.specs.declared.live_words.LiveWords.{LiveWords}
+
+-- the arguments after `live` name this day
+pub record NameLive (words : List (List ℕ)) (day : LiveWords) : Type 0 where
+  pub symbols : List ℕ
+  pub participants : List ℕ
+  pub behind_names : List (List ℕ)
+  pub behind_first_port : List (List ℕ)
+  pub behind_ports : List (List ℕ)
+  pub behind_serves : List (List ℕ)
+  pub behind_session : List (List ℕ)
+  pub behind_matrix : List (List ℕ)
+  pub names : words ≡ symbols ∷ participants ∷ behind_names
+  pub listing : names_listing COMMA symbols participants ≡ Ok day.listing
+  pub first_port : IsFirst IsPort behind_names behind_first_port day.first_port
+  pub ports : ArePorts behind_first_port behind_ports day.ports day.retransmission
+  pub serves : IsFirst IsNumber behind_ports behind_serves day.serves
+  pub session : IsFirst IsNumber behind_serves behind_session day.session
+  pub matrix : IsMatrixOrOne behind_session behind_matrix day.matrix
+  pub limit : IsLimitOrLeftOut behind_matrix [] day.limit
+
+-- the arguments after `follow` name this day
+pub record NameFollow (words : List (List ℕ)) (day : FollowWords) : Type 0 where
+  pub symbols : List ℕ
+  pub participants : List ℕ
+  pub behind_names : List (List ℕ)
+  pub behind_ports : List (List ℕ)
+  pub behind_session : List (List ℕ)
+  pub behind_matrix : List (List ℕ)
+  pub names : words ≡ symbols ∷ participants ∷ behind_names
+  pub listing : names_listing COMMA symbols participants ≡ Ok day.listing
+  pub ports : ArePorts behind_names behind_ports day.ports day.retransmission
+  pub session : IsFirst IsNumber behind_ports behind_session day.session
+  pub matrix : IsMatrixOrOne behind_session behind_matrix day.matrix
+  pub limit : IsLimitOrLeftOut behind_matrix [] day.limit

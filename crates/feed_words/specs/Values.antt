@@ -1,0 +1,44 @@
+-- What arguments name.
+use Rattle.std.specs.Prelude.{◌≡◌, ◌≤◌, ◌<◌, ◌∷◌, [], ◌⊎◌, ℕ, List, codes, length, true}
+use Rattle.std.specs.Char.{is_ascii_digit}
+use Rattle.std.specs.List.{list_all}
+use Rattle.std.specs.Str.Parse.{digits_value}
+use Rattle.sale_matrix.specs.declared.matrix.Matrix.{Matrix}
+use Rattle.sale_matrix.specs.declared.matrix.Matrix.TheVariants.{One, Two}
+use Rattle.feed_words.specs.Limits.{LIMIT_LEFT_OUT}
+use Rattle.feed_words.specs.Words.{IsFirst}
+
+-- decimal digits alone, and their number; zeros may stand first
+pub record IsNumber (word : List ℕ) (number : ℕ) : Type 0 where
+  pub some : 0 < length word
+  pub digits : list_all is_ascii_digit word ≡ true
+  pub value : number ≡ digits_value 10 word
+
+-- a number that is a port
+pub record IsPort (word : List ℕ) (port : ℕ) : Type 0 where
+  pub number : IsNumber word port
+  pub some : 1 ≤ port
+
+-- a matrix by its number
+abbrev pub IsMatrix : List ℕ → Matrix → Type 0
+IsMatrix word One = word ≡ codes "1"
+IsMatrix word Two = word ≡ codes "2"
+
+-- the first three arguments are the ports of both lines and of the retransmission
+pub record ArePorts (words left : List (List ℕ)) (lines : List ℕ) (retransmission : ℕ) : Type 0 where
+  pub a : ℕ
+  pub b : ℕ
+  pub behind_a : List (List ℕ)
+  pub behind_b : List (List ℕ)
+  pub first : IsFirst IsPort words behind_a a
+  pub second : IsFirst IsPort behind_a behind_b b
+  pub third : IsFirst IsPort behind_b left retransmission
+  pub lines_are : lines ≡ a ∷ b ∷ []
+
+-- the first argument is a matrix, which is One where no argument is left
+abbrev pub IsMatrixOrOne : List (List ℕ) → List (List ℕ) → Matrix → Type 0
+IsMatrixOrOne words left matrix = ((words ≡ []) × (left ≡ []) × (matrix ≡ One)) ⊎ IsFirst IsMatrix words left matrix
+
+-- the first argument is a limit, which is the one that holds where no argument is left
+abbrev pub IsLimitOrLeftOut : List (List ℕ) → List (List ℕ) → ℕ → Type 0
+IsLimitOrLeftOut words left limit = ((words ≡ []) × (left ≡ []) × (limit ≡ LIMIT_LEFT_OUT)) ⊎ IsFirst IsNumber words left limit
