@@ -1,5 +1,5 @@
 #!/usr/bin/env python3
-"""Draws a day as a picture: plot_day.py [REPORT] > day.svg, or plot_day.py --symbol SYMBOL [TAPE] > symbol.svg
+"""Draws a day as a picture: plot_day.py [REPORT] > day.svg, or plot_day.py --symbol SYMBOL [--explained FILE] [TAPE] > symbol.svg
 
 REPORT is what `tapebox` writes, with or without the answers of a batch before the report; without it standard input is read. Each
 symbol has a panel with a row for its consolidated figures and one for each participant: a bar from the low to the high, a ring at the
@@ -10,8 +10,11 @@ refused. The picture has the symbol's trades by tape number and price: a dot for
 for one that was corrected a ring at each price that it had, with a line to the last one. Where the table has a column `last`, a line
 follows it.
 
-Statuses: 0 if the picture was written; 1 if the file can't be read or has no report, or no row of the symbol, and then nothing is
-written; 2 if the words are others.
+FILE is what `tapedesk explain` writes of the same table by the same matrix. The trades that set the symbol's open, high, low and last have
+a ring each, and a line to the figure's name and price at the right.
+
+Statuses: 0 if the picture was written; 1 if a file can't be read or has no report, or no row of the symbol, or has a bad row, or FILE is
+not of this tape, and then nothing is written; 2 if the words are others.
 """
 
 import argparse
@@ -34,6 +37,9 @@ NAMES_MOST = 4
 TOP = 66
 # How high the picture of a tape is.
 TAPE_HEIGHT = 380
+FIGURES = ("open", "high", "low", "last")
+# What the figures' names and prices take at the right of a tape, and how far one is below another at least.
+NAMES_RIGHT, NAME_HEIGHT = 132, 15
 STYLE = """
     text { font: 13px system-ui, sans-serif; fill: #333a44; }
     .title { font-size: 15px; font-weight: 600; }
@@ -62,16 +68,22 @@ TAPE_STYLE = """    .cancelled { fill: none; stroke: #c0392b; stroke-width: 2; }
       .former, .moved { stroke: #6db1ff; }
     }
 """
+MARK_STYLE = """    .mark circle { fill: none; stroke: #333a44; stroke-width: 1.5; }
+    .mark path { fill: none; stroke: #333a44; stroke-opacity: .6; stroke-dasharray: 2 3; }
+    @media (prefers-color-scheme: dark) {
+      .mark circle, .mark path { stroke: #d5dae1; }
+    }
+"""
 
 
-class BadPrice(Exception):
-    """Says which text is no price."""
+class BadRow(Exception):
+    """Says what a row can't have."""
 
 
 def ten_thousandths(text):
     """A price in dollars as ten-thousandths."""
     if not re.fullmatch(r"[0-9]+(\.[0-9]{1,4})?", text):
-        raise BadPrice(f"{text!r} is no price with at most four decimals")
+        raise BadRow(f"{text!r} is no price with at most four decimals")
     dollars, _, decimals = text.partition(".")
     return int(dollars + decimals.ljust(4, "0"))
 
@@ -196,24 +208,31 @@ class Trade:
     stands: bool = True
 
 
-def read_tape(path, symbol):
-    """The trades of a symbol, and what was last after each row, by tape number."""
-    rows = csv.DictReader(read_lines(path))
-    missing = {"tape", "kind", "participant", "number", "symbol", "target", "price"} - {*(rows.fieldnames or [])}
+def read_table(path, columns, lacking=None):
+    """The rows of a table that has these columns. A field that a row lacks is given as `lacking`."""
+    rows = csv.DictReader(read_lines(path), restval=lacking)
+    missing = columns - {*(rows.fieldnames or [])}
     if missing:
         fail(path, f": no column {', '.join(sorted(missing))}")
-    trades, lasts = {}, []
+    return rows
+
+
+def read_tape(path, symbol):
+    """The trades of a symbol, what was last after each row, by tape number, and those figures after its last row that the table has."""
+    rows = read_table(path, {"tape", "kind", "participant", "number", "symbol", "target", "price"}, "")
+    trades, lasts, figures = {}, [], {}
     for row in rows:
         if row["symbol"] != symbol or not row["tape"].isdecimal():
             continue
         try:
             follow(trades, row)
             lasts += [(int(row["tape"]), ten_thousandths(row["last"]))] if row.get("last") else []
-        except (BadPrice, KeyError) as fault:
-            fail(path, f", line {rows.line_num}: {fault if isinstance(fault, BadPrice) else 'no such report before it'}")
+        except (BadRow, KeyError) as fault:
+            fail(path, f", line {rows.line_num}: {fault if isinstance(fault, BadRow) else 'no such report before it'}")
+        figures = {name: row[name] for name in FIGURES if name in row}
     if not trades:
         fail(path, f": no trade of {symbol}")
-    return list(trades.values()), lasts
+    return list(trades.values()), lasts, figures
 
 
 def follow(trades, row):
@@ -224,6 +243,91 @@ def follow(trades, row):
     trade = trades[row["participant"], row["target"]]
     trade.stands = row["kind"] != "cancel"
     trade.prices += [ten_thousandths(row["price"])] if row["kind"] == "correct" else []
+
+
+def read_explained(path, symbol, trades, figures):
+    """The trade that sets each figure of a symbol, by what became of the reports of the tape that has these trades and figures."""
+    rows = read_table(path, {"symbol", "tape", "participant", "number", "price", "state", "sets"})
+    untold, setters = {trade.who: trade for trade in trades}, {}
+    for row in rows:
+        if row["symbol"] != symbol:
+            continue
+        try:
+            check_whole(row, rows.fieldnames)
+            trade = untold.pop(f"{row['participant']} {row['number']}", None)
+            check_same(row, trade)
+            set_figures(setters, row["sets"].split(), trade)
+        except BadRow as fault:
+            fail(path, f", line {rows.line_num}: {fault}")
+    for who in untold:
+        fail(path, f": no row of {who}, which is on the tape")
+    check_figures(path, setters, figures)
+    return setters
+
+
+def check_whole(row, columns):
+    """Refuses a row with fewer fields than columns, or more."""
+    fields = sum(row[name] is not None for name in columns) + len(row.get(None, ()))
+    if fields != len(columns):
+        raise BadRow(f"{fields} fields, and the header row has {len(columns)}")
+
+
+def check_same(row, trade):
+    """Refuses a row that tells of another report than the tape has."""
+    if trade is None:
+        raise BadRow(f"{row['participant']} {row['number']} is not on the tape, or a row before has it")
+    state = "standing" if trade.stands else "cancelled"
+    same = {"tape": row["tape"] == str(trade.at), "price": ten_thousandths(row["price"]) == trade.prices[-1], "state": row["state"] == state}
+    for name in same:
+        if not same[name]:
+            raise BadRow(f"the tape has {trade.who} with another {name} than {row[name]}")
+
+
+def set_figures(setters, names, trade):
+    """Lets a trade set these figures, each of which no other trade may set."""
+    for name in names:
+        if name not in FIGURES:
+            raise BadRow(f"{name!r} is no figure")
+        if not trade.stands or name in setters:
+            raise BadRow(f"{trade.who} can't set the {name}: {'it is cancelled' if not trade.stands else f'{setters[name].who} does'}")
+        setters[name] = trade
+
+
+def is_price(text, price):
+    """Whether a text is this price, or is empty if there is none."""
+    try:
+        return ten_thousandths(text) == price
+    except BadRow:
+        return text == "" and price is None
+
+
+def check_figures(path, setters, figures):
+    """Ends the script if a figure on the tape is another than that of the trade that is said to set it, as by another matrix."""
+    for name, text in figures.items():
+        price = setters[name].prices[-1] if name in setters else None
+        if not is_price(text, price):
+            fail(path, f": the {name} is {dollars(price) if name in setters else 'none'}, and on the tape {text or 'none'}: by the other matrix?")
+
+
+def beside(heights):
+    """Where names stand, from the highest, each beside its price or as near as the others leave room."""
+    below = 0
+    for at, height in enumerate(heights):
+        lowest = TAPE_HEIGHT - 40 - NAME_HEIGHT * (len(heights) - 1 - at)
+        below = max(min(height, lowest), below + NAME_HEIGHT)
+        yield below
+
+
+def draw_marks(setters, across, place):
+    """A ring at the trade that sets each figure, and a line to the figure's name and price at the right."""
+    names = sorted((name for name in FIGURES if name in setters), key=lambda name: -setters[name].prices[-1])
+    end = WIDTH - NAMES_RIGHT + 12
+    for name, at in zip(names, beside([place(setters[name].prices[-1]) for name in names])):
+        trade = setters[name]
+        x, y, price = across(trade.at), place(trade.prices[-1]), dollars(trade.prices[-1])
+        yield f'<g class="mark"><title>{name}: {escape(trade.who)}, {price}</title><circle cx="{x:.1f}" cy="{y:.1f}" r="8"/>'
+        yield f'<path d="M{x + 8:.1f} {y:.1f}H{end}L{end + 6} {at:.1f}"/>'
+        yield f'<text class="small" x="{end + 10}" y="{at + 4:.1f}">{name} {price}</text></g>'
 
 
 def draw_trade(trade, x, place):
@@ -253,31 +357,39 @@ def tape_legend(symbol, trades, has_lasts):
     ] + ['<line class="follows" x1="440" y1="40" x2="464" y2="40"/><text class="small" x="474" y="44">last</text>'] * has_lasts
 
 
-def draw_tape(symbol, trades, lasts):
-    """The picture of a symbol's trades as text."""
+def draw_tape(symbol, trades, lasts, setters=None):
+    """The picture of a symbol's trades as text, with marks at those that set its figures if they are known."""
+    right = WIDTH - (RIGHT if setters is None else NAMES_RIGHT)
     prices = [price for trade in trades for price in trade.prices]
     ends = [trade.at for trade in trades] + [at for at, _ in lasts]
-    across, place = scale(min(ends), max(ends), (LEFT, WIDTH - RIGHT)), scale(min(prices), max(prices), (TAPE_HEIGHT - 40, TOP + 10))
+    across, place = scale(min(ends), max(ends), (LEFT, right)), scale(min(prices), max(prices), (TAPE_HEIGHT - 40, TOP + 10))
     lines = tape_legend(symbol, trades, bool(lasts))
     for price in sorted({min(prices), (min(prices) + max(prices)) // 2, max(prices)}):
-        lines.append(f'<line class="grid" x1="{LEFT - 8}" y1="{place(price):.1f}" x2="{WIDTH - RIGHT}" y2="{place(price):.1f}"/>')
+        lines.append(f'<line class="grid" x1="{LEFT - 8}" y1="{place(price):.1f}" x2="{right}" y2="{place(price):.1f}"/>')
         lines.append(f'<text class="small" x="{LEFT - 14}" y="{place(price) + 4:.1f}" text-anchor="end">{dollars(price)}</text>')
     for at in sorted({min(ends), max(ends)}):
         lines.append(f'<text class="small" x="{across(at):.1f}" y="{TAPE_HEIGHT - 12}" text-anchor="middle">tape {at:,}</text>')
     steps = "".join(f"H{across(at):.1f}V{place(price):.1f}" for at, price in lasts[1:])
     lines += [f'<path class="follows" d="M{across(lasts[0][0]):.1f} {place(lasts[0][1]):.1f}{steps}"/>'] if lasts else []
+    # Below the trades, so that no price is covered.
+    lines += draw_marks(setters or {}, across, place)
     for trade in trades:
         lines += draw_trade(trade, across(trade.at), place)
-    return picture(f"The trades of {escape(symbol)}", lines, TAPE_HEIGHT, STYLE + TAPE_STYLE)
+    return picture(f"The trades of {escape(symbol)}", lines, TAPE_HEIGHT, STYLE + TAPE_STYLE + (MARK_STYLE if setters is not None else ""))
 
 
 def main():
     parser = argparse.ArgumentParser(description=__doc__, formatter_class=argparse.RawDescriptionHelpFormatter)
     parser.add_argument("--symbol", metavar="SYMBOL", help="draw the trades of this symbol on a tape")
     parser.add_argument("file", nargs="?", metavar="REPORT|TAPE")
+    parser.add_argument("--explained", metavar="FILE", help="mark the trades that set its open, high, low and last, by what tapedesk explain wrote")
     words = parser.parse_args()
+    if words.explained is not None and not words.symbol:
+        parser.error("--explained needs --symbol")
     if words.symbol:
-        sys.stdout.write(draw_tape(words.symbol, *read_tape(words.file, words.symbol)))
+        trades, lasts, figures = read_tape(words.file, words.symbol)
+        setters = read_explained(words.explained, words.symbol, trades, figures) if words.explained is not None else None
+        sys.stdout.write(draw_tape(words.symbol, trades, lasts, setters))
     else:
         sys.stdout.write(draw(*read(words.file)))
 

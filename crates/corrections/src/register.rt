@@ -169,6 +169,13 @@ impl Register {
         Ok((located, held.standing))
     }
 
+    /// The report that a participant sent under a message number, whether it stands or is cancelled. It takes no memory.
+    pub fn report(&self, who: Participant, number: MsgNumber) -> Option<Target>
+        ensures report { result ≡ map.get (targets_of self.now) (who, number) }
+    {
+        self.rows[who.row_index()].get(number)
+    }
+
     /// Notes that a standing report is cancelled. It takes no memory.
     pub fn cancel(&mut self, who: Participant, target: MsgNumber)
         requires standing { IsStanding (map.get (targets_of self.old) (who, target)) }
@@ -256,7 +263,7 @@ impl Register {
     /// The report that a participant's number names and its index among the participant's reports, if there is one. It looks at the
     /// index first, and searches only where another report is there.
     #[inline(always)]
-    fn held_near(
+    pub fn held_near(
         &self,
         who: Participant,
         target: MsgNumber,

@@ -53,3 +53,20 @@ participant_row-Some t index symbol who z at_index has_participant is some =
           (λ none. some (sym (ap (λ (s : Summary). s.trades) there) ∙ participant_summary-trades t symbol who ∙ none)),
       there,
     ) refl
+
+-- a participant whose own summary counts no trade has no row
+pub own_row-None : (t : TapeState) (symbol : List ℕ) (who : ℕ) (z : Summary) → participant_summary t.matrix (messages_of t.entries) symbol who ≡ z → z.trades ≡ 0
+    → participant_row t symbol who ≡ None
+own_row-None t symbol who z there none =
+    rw ((list_any-filter (λ r. r.who == who) (standing_reports (messages_of t.entries) symbol)).0 (sym (participant_summary-trades t symbol who)
+    ∙ ap (λ (s : Summary). s.trades) there ∙ none)) refl
+
+-- and one whose own summary counts trades has a row of it
+pub own_row-Some : (t : TapeState) (symbol : List ℕ) (who : ℕ) (z : Summary) → participant_summary t.matrix (messages_of t.entries) symbol who ≡ z → z.trades ≢ 0
+    → participant_row t symbol who ≡ Some (record { symbol = symbol; who = Some who; summary = z })
+own_row-Some t symbol who z there some =
+    rw (
+      (list_any-filter (λ r. r.who == who) (standing_reports (messages_of t.entries) symbol)).1
+          (λ none. some (sym (ap (λ (s : Summary). s.trades) there) ∙ participant_summary-trades t symbol who ∙ none)),
+      there,
+    ) refl

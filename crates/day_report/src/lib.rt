@@ -1,11 +1,13 @@
 //! The day's report: the rows of a tape, made by one worker or many, and their text.
 #![tactic(auto)]
 
+mod ends;
 mod pieces;
 mod report_fault;
 mod row;
 mod text;
 
+pub use ends::end_rows;
 pub use pieces::{WORKERS_MOST, rows};
 pub use report_fault::ReportFault;
 pub use row::Row;

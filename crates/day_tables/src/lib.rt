@@ -36,4 +36,4 @@ pub use table_fault::TableFault;
 pub use table_row::TableRow;
 pub use table_text::{table_round_trip, write_table};
 pub use table_write_fault::TableWriteFault;
-pub use writing::{push_number, push_price, push_row, row_round_trip, write_row};
+pub use writing::{push_content, push_number, push_price, push_row, row_round_trip, write_row};

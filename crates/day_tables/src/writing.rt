@@ -111,8 +111,8 @@ fn push_target(row: &mut ByteRecord, target: Option<MsgNumber>) -> Result<(), Al
     }
 }
 
-/// Adds the price, the size and the condition, or nothing for each.
-fn push_content(row: &mut ByteRecord, content: Option<Content>) -> Result<(), AllocError>
+/// Adds the price, the size and the condition, or nothing for each, as fields of a record that may have others.
+pub fn push_content(row: &mut ByteRecord, content: Option<Content>) -> Result<(), AllocError>
     requires { partial_of row.old ≡ [] }
     ensures fields { OnOk result (fields_of row.new ≡ fields_of row.old ++ (
         text_or_none (λ content. price_text content.price) content

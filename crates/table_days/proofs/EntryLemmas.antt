@@ -38,6 +38,11 @@ matrix-after t m = cases (refusal t m)
     cases None = refl
     cases (Some refused) = refl
 
+-- and so it does over messages
+pub matrix-kept : (t : TapeState) (messages : List Message) → (fold tape_after t messages).matrix ≡ t.matrix
+matrix-kept t [] = refl
+matrix-kept t (m ∷ messages) = matrix-kept (tape_after t m) messages ∙ matrix-after t m
+
 -- the entries of messages come after those before them
 entries-gained : (t : TapeState) (messages : List Message) → (fold tape_after t messages).entries ≡ t.entries ++ gained t messages
 unfolding gained

@@ -1,6 +1,11 @@
+pub mod AccountLemmas
 pub mod DayLemmas
+pub mod EndDayLemmas
 pub mod EndLemmas
 pub mod EntryLemmas
+pub mod ExplainLemmas
+pub mod FigureLemmas
 pub mod ListingLemmas
 pub mod RefusalLemmas
+pub mod SumLemmas
 pub mod TapeLemmas

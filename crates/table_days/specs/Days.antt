@@ -16,7 +16,9 @@ use Rattle.day_report.specs.Rows.{report_rows}
 use Rattle.table_days.specs.Answers.{answers, tape_after}
 use Rattle.table_days.specs.Refusals.{AreRefusals}
 use Rattle.day_tables.specs.Tables.{FIRST_ROW}
+use Rattle.tape_core.specs.Ending.{KeepsEnd}
 use Rattle.table_days.specs.declared.day.Day.{Day}
+use Rattle.table_days.specs.declared.end_day.EndDay.{EndDay}
 
 -- the symbol of a message
 abbrev pub symbol_of : Message → List ℕ
@@ -65,3 +67,14 @@ pub record HasAnswered (t : TapeState) (messages : List Message) (day : Day) : T
 abbrev pub AnswersMore : Day → Day → List Message → Type 0
 AnswersMore old new messages =
     (t : TapeState) (before : List Message) → HasAnswered t before old → HasAnswered t (before ++ messages) new
+
+-- a day of which only the end is asked began with this tape, and has answered these messages
+pub record HasEnded (t : TapeState) (messages : List Message) (day : EndDay) : Type 0 where
+  pub tape : KeepsEnd (fold tape_after t messages) day.tape
+  pub refusals : AreRefusals (answers t messages) day.refusals
+  pub row : day.row ≡ length messages + FIRST_ROW
+
+-- it answered these messages more
+abbrev pub EndsMore : EndDay → EndDay → List Message → Type 0
+EndsMore old new messages =
+    (t : TapeState) (before : List Message) → HasEnded t before old → HasEnded t (before ++ messages) new

@@ -1,6 +1,9 @@
+pub mod Accounts
 pub mod Answers
 pub mod Days
 pub mod EndTexts
+pub mod Explained
+pub mod ExplainedLaws
 pub mod Laws
 pub mod Refusals
 pub mod TableEnds

@@ -16,7 +16,7 @@ pub type TableTape = Tape<IndexStore>;
 pub type Answer = Result<TapeNumber, Refusal>;
 
 /// Whether memory ran out.
-fn is_out_of_memory(refusal: Refusal) -> bool
+pub fn is_out_of_memory(refusal: Refusal) -> bool
     ensures { IsTrue result ↔ (refusal ≡ OutOfMemory) }
 {
     matches!(refusal, Refusal::OutOfMemory)

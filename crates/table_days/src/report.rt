@@ -5,31 +5,32 @@ ghost use Rattle.day_report.specs.ReportText.{report_text};
 ghost use Rattle.day_report.specs.Rows.{report_rows};
 ghost use Rattle.row_reads.specs.Writing.{WritesPrefix};
 ghost use Rattle.table_days.specs.Answers.{answers};
-ghost use Rattle.table_days.specs.Days.{HasAnswered, day_text, first_tape};
+ghost use Rattle.table_days.specs.Days.{HasEnded, day_text, first_tape};
 ghost use Rattle.day_tables.specs.Tables.{FIRST_ROW};
+ghost use Rattle.tape_core.specs.Ending.{IsKept, KeepsEnd};
+ghost use Rattle.tape_core.specs.Tape.{TapeState};
 ghost use Rattle.table_days.specs.Refusals.{AreRefusals};
 ghost use Rattle.table_days.specs.TableEnds.{IsMessagesEnd, IsTableEnd, WritesTable, WritesTablePart};
 ghost use Rattle.table_days.specs.declared.table_end.TableEnd.TheVariants.{OutOfMemory, WriteFault as TableWriteFault};
 
-use crate::day::Day;
+use crate::end_day::EndDay;
 use crate::table_end::flushed;
-use crate::{Refusals, TableEnd, TableTape};
-use day_report::{ReportFault, rows, write_report};
+use crate::{Refusals, TableEnd};
+use day_report::{ReportFault, end_rows, write_report};
 use day_tables::read_table;
 use reports::Message;
 use sale_matrix::Matrix;
 use std::alloc::Global;
 use std::io::{Read, Write};
-use std::thread::Threads;
-use tape_types::NoGate;
+use tape_core::EndTape;
 
-/// The day of messages, by a matrix.
-fn day_of(alloc: Global, matrix: Matrix, messages: &[Message]) -> Result<Day, TableEnd>
+/// The day of messages, by a matrix, of which only the end is asked.
+fn day_of(alloc: Global, matrix: Matrix, messages: &[Message]) -> Result<EndDay, TableEnd>
     requires few { length messages.now + FIRST_ROW < 2 ^ 64 }
-    ensures day { IfOk result (HasAnswered (first_tape matrix messages.now) messages.now) }
+    ensures day { IfOk result (HasEnded (first_tape matrix messages.now) messages.now) }
     ensures end { IfErr result (λ end. (end ≢ TableWriteFault) × IsMessagesEnd messages.now end) }
 {
-    let mut day = match Day::of_names(alloc, matrix, messages) {
+    let mut day = match EndDay::of_names(alloc, matrix, messages) {
         Ok(day) => day,
         Err(end) => return Err(end),
     };
@@ -39,20 +40,17 @@ fn day_of(alloc: Global, matrix: Matrix, messages: &[Message]) -> Result<Day, Ta
     }
 }
 
-/// Writes the report of a tape, whose rows one worker makes.
-fn write_day<T: Threads + Sync, W: Write>(
-    rt: &T,
-    alloc: Global,
-    tape: &TableTape,
-    writer: &mut W,
-) -> Result<(), TableEnd>
-    ensures written { OnOk result (Appends (W.contents writer.old) (W.contents writer.new) (report_text (report_rows tape.now))) }
+/// Writes the report of a tape of which only the end is asked.
+fn write_day<W: Write>(alloc: Global, tape: &EndTape, writer: &mut W) -> Result<(), TableEnd>
+    requires kept { IsKept tape.now }
+    ensures written { OnOk result ((t : TapeState) → KeepsEnd t tape.now
+        → Appends (W.contents writer.old) (W.contents writer.new) (report_text (report_rows t))) }
     ensures memory { result ≢ Err TableWriteFault → OnErr result (writer.new ≡ writer.old) }
-    ensures prefix { result ≡ Err TableWriteFault
-        → WritesPrefix (report_text (report_rows tape.now)) (W.contents writer.old) (W.contents writer.new) }
+    ensures prefix { result ≡ Err TableWriteFault → (t : TapeState) → KeepsEnd t tape.now
+        → WritesPrefix (report_text (report_rows t)) (W.contents writer.old) (W.contents writer.new) }
     ensures ends { IfErr result (λ end. (end ≡ OutOfMemory) ⊎ (end ≡ TableWriteFault)) }
 {
-    let Ok(rows) = rows(rt, alloc, tape, 1, &NoGate) else {
+    let Ok(rows) = end_rows(alloc, tape) else {
         return Err(TableEnd::OutOfMemory);
     };
     match write_report(alloc, &rows, writer) {
@@ -63,8 +61,7 @@ fn write_day<T: Threads + Sync, W: Write>(
 }
 
 /// Writes the report of messages, and gives what their tape refused.
-fn write_report_of<T: Threads + Sync, W: Write>(
-    rt: &T,
+fn write_report_of<W: Write>(
     alloc: Global,
     matrix: Matrix,
     messages: &[Message],
@@ -82,7 +79,7 @@ fn write_report_of<T: Threads + Sync, W: Write>(
         Ok(day) => day,
         Err(end) => return Err(end),
     };
-    match write_day(rt, alloc, &day.tape, writer) {
+    match write_day(alloc, &day.tape, writer) {
         Ok(()) => flushed(writer, day.refusals),
         Err(end) => Err(end),
     }
@@ -92,8 +89,7 @@ fn write_report_of<T: Threads + Sync, W: Write>(
 /// writes the report of the tape. It gives what the tape refused. What was written is flushed at the end.
 ///
 /// Where there is no report the end says why, and nothing is written but at a `WriteFault`.
-pub fn report_over<T: Threads + Sync, R: Read + Drop, W: Write>(
-    rt: &T,
+pub fn report_over<R: Read + Drop, W: Write>(
     alloc: Global,
     matrix: Matrix,
     reader: R,
@@ -109,7 +105,7 @@ pub fn report_over<T: Threads + Sync, R: Read + Drop, W: Write>(
         → IfSome (R.remaining reader) (λ input. WritesTablePart day_text matrix input (W.contents writer.old) (W.contents writer.new)) }
 {
     match read_table(alloc, reader) {
-        Ok(messages) => write_report_of(rt, alloc, matrix, &messages, writer),
+        Ok(messages) => write_report_of(alloc, matrix, &messages, writer),
         Err(fault) => Err(TableEnd::Table(fault)),
     }
 }

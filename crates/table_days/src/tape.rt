@@ -47,7 +47,7 @@ fn lines_of(
 }
 
 /// Writes a part of the text.
-fn write_part<W: Write>(writer: &mut W, text: &[u8]) -> Result<(), TableEnd>
+pub fn write_part<W: Write>(writer: &mut W, text: &[u8]) -> Result<(), TableEnd>
     ensures written { OnOk result (Appends (W.contents writer.old) (W.contents writer.new) text.now) }
     ensures prefix { WritesPrefix text.now (W.contents writer.old) (W.contents writer.new) }
     ensures ends { IfErr result (λ end. end ≡ TableWriteFault) }

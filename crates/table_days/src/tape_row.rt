@@ -142,7 +142,7 @@ pub fn put_row(
 }
 
 /// The figures of a message's symbol, which the tape lists.
-fn figures_of(tape: &TableTape, message: &Message) -> Summary
+pub fn figures_of(tape: &TableTape, message: &Message) -> Summary
     requires { lists_symbol tape.now.listing (symbol_of message.now) ≡ true }
     ensures { result ≡ figures_after tape.now message.now }
 {

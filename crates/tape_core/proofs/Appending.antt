@@ -30,20 +30,20 @@ use Rattle.tape_core.proofs.NamedTargets.{IsTarget, IsTarget-faultless, IsTarget
 use Rattle.std.specs.FinMap as map
 
 -- a change of the report that a message's target names, cancelled where the message reinstates it, and standing where it is another message
-abbrev ChangesNamed : List NumberedMessage → Bool → Header → ℕ → (NamedReport → Content → Change) → ℕ → Change → Type 0
+abbrev pub ChangesNamed : List NumberedMessage → Bool → Header → ℕ → (NamedReport → Content → Change) → ℕ → Change → Type 0
 ChangesNamed tape gone header target made index change =
     (place : ℕ) × (content : Content) × IsTarget tape gone header.participant target header.symbol place content
     × (change_at made target index (place, content) ≡ change)
 
 -- what a change has to be to be a message's that the tape does not refuse
-abbrev IsMade : List NumberedMessage → Message → ℕ → Change → Type 0
+abbrev pub IsMade : List NumberedMessage → Message → ℕ → Change → Type 0
 IsMade tape (Report header content) index change = make.Enter content ≡ change
 IsMade tape (Cancel header target) index change = ChangesNamed tape false header target (λ named latest. make.Cancel named) index change
 IsMade tape (Correct header target content) index change = ChangesNamed tape false header target (λ named latest. make.Correct named content) index change
 IsMade tape (Reinstate header target) index change = ChangesNamed tape true header target (λ named latest. make.Reinstate named latest) index change
 
 -- and so it is
-made : (t : TapeState) (m : Message) (index : ℕ) (change : Change) → refusal t m ≡ None → message_change (messages_of t.entries) m index ≡ Some change
+pub made : (t : TapeState) (m : Message) (index : ℕ) (change : Change) → refusal t m ≡ None → message_change (messages_of t.entries) m index ≡ Some change
     → IsMade (messages_of t.entries) m index change
 made t (Report header content) index change none is = same_Some (make.Enter content) change is
 made t (Cancel header target) index change none is =

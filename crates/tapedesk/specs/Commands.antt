@@ -8,7 +8,7 @@ use Rattle.sale_matrix.specs.declared.matrix.Matrix.TheVariants.{One, Two}
 use Rattle.day_tables.specs.Numbers.{within}
 use Rattle.tape_types.specs.Ranges.{FIRST_PARTICIPANT, LAST_PARTICIPANT}
 use Rattle.tapedesk.specs.declared.command.Command.{Command}
-use Rattle.tapedesk.specs.declared.command.Command.TheVariants.{Report, Tape, Encode, Decode, Line, Help, HelpOn}
+use Rattle.tapedesk.specs.declared.command.Command.TheVariants.{Report, Tape, Explain, Encode, Decode, Line, Help, HelpOn}
 use Rattle.tapedesk.specs.declared.command.Word.{Word}
 use Rattle.tapedesk.specs.declared.command.Word.TheVariants as word
 
@@ -16,6 +16,7 @@ use Rattle.tapedesk.specs.declared.command.Word.TheVariants as word
 abbrev pub ended_name : Word → List ℕ
 ended_name word.Report = codes "report\0"
 ended_name word.Tape = codes "tape\0"
+ended_name word.Explain = codes "explain\0"
 ended_name word.Encode = codes "encode\0"
 ended_name word.Decode = codes "decode\0"
 ended_name word.Line = codes "line\0"
@@ -23,7 +24,7 @@ ended_name word.Follow = codes "follow\0"
 
 -- every word, in the order in which help lists them
 abbrev pub all_words : List Word
-all_words = word.Report ∷ word.Tape ∷ word.Encode ∷ word.Decode ∷ word.Line ∷ word.Follow ∷ []
+all_words = word.Report ∷ word.Tape ∷ word.Explain ∷ word.Encode ∷ word.Decode ∷ word.Line ∷ word.Follow ∷ []
 
 -- whether arguments begin with a word
 abbrev pub begins : List ℕ → Word → Bool
@@ -37,9 +38,9 @@ rest_of words word = drop (length (ended_name word)) words
 abbrev pub word_of : List ℕ → Option Word
 word_of words = find (begins words) all_words
 
--- whether arguments begin as those for a readable tape
+-- whether arguments begin as those for a row of each message, or of each report
 abbrev pub asks_for_rows : List ℕ → Bool
-asks_for_rows words = begins words word.Tape
+asks_for_rows words = begins words word.Tape || begins words word.Explain
 
 -- the argument that asks for help
 abbrev pub help_word : List ℕ
@@ -71,6 +72,7 @@ participant_of (letter ∷ end ∷ next ∷ rest) = None
 abbrev pub asked : Word → List ℕ → Option Command
 asked word.Report words = option_map Report (matrix_of words)
 asked word.Tape words = option_map Tape (matrix_of words)
+asked word.Explain words = option_map Explain (matrix_of words)
 asked word.Encode words = if bytes_eq words [] then Some Encode else None
 asked word.Decode words = if bytes_eq words [] then Some Decode else None
 asked word.Line words = option_map Line (participant_of words)

@@ -8,6 +8,7 @@ use Rattle.reports.specs.declared.message.Message.{Message}
 use Rattle.row_reads.specs.Writing.{WritesPrefix}
 use Rattle.table_days.specs.Days.{day_text}
 use Rattle.table_days.specs.EndTexts.{end_status}
+use Rattle.table_days.specs.Explained.{explain_text}
 use Rattle.table_days.specs.TableEnds.{IsTableEnd, WritesTable, WritesTablePart}
 use Rattle.table_days.specs.TapeRows.{tape_text}
 use Rattle.table_days.specs.declared.refusals.Refusals.{Refusals}
@@ -21,7 +22,7 @@ use Rattle.tapedesk.specs.HelpTexts.{help_text, word_help_text}
 use Rattle.tapedesk.specs.RefusalLines.{refusal_lines}
 use Rattle.tapedesk.specs.TextRuns.{RunsText, end_line, table_ends, text_ends}
 use Rattle.tapedesk.specs.declared.command.Command.{Command}
-use Rattle.tapedesk.specs.declared.command.Command.TheVariants.{Report, Tape, Encode, Decode, Line, Help, HelpOn}
+use Rattle.tapedesk.specs.declared.command.Command.TheVariants.{Report, Tape, Explain, Encode, Decode, Line, Help, HelpOn}
 
 -- ## What is said
 
@@ -75,6 +76,8 @@ AnswersCommand (Some (Report matrix)) status input reader_old reader_new writer_
     RunsTable day_text matrix input old new status writer_old writer_new errors_old errors_new said_old said_new
 AnswersCommand (Some (Tape matrix)) status input reader_old reader_new writer_old writer_new old new errors_old errors_new said_old said_new =
     RunsTable tape_text matrix input old new status writer_old writer_new errors_old errors_new said_old said_new
+AnswersCommand (Some (Explain matrix)) status input reader_old reader_new writer_old writer_new old new errors_old errors_new said_old said_new =
+    RunsTable explain_text matrix input old new status writer_old writer_new errors_old errors_new said_old said_new
 AnswersCommand (Some Encode) status input reader_old reader_new writer_old writer_new old new errors_old errors_new said_old said_new =
     RunsText table_ends IsTable encoded_text IsTableEnd input old new status writer_old writer_new errors_old errors_new said_old said_new
 AnswersCommand (Some Decode) status input reader_old reader_new writer_old writer_new old new errors_old errors_new said_old said_new =

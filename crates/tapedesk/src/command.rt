@@ -13,6 +13,8 @@ pub enum Word {
     Report,
     /// The readable tape of a table.
     Tape,
+    /// What became of the reports of a table, and what each sets.
+    Explain,
     /// The text of a batch of a table.
     Encode,
     /// The table of a batch's text.
@@ -30,6 +32,8 @@ pub enum Command {
     Report(Matrix),
     /// The readable tape of a table, by a matrix.
     Tape(Matrix),
+    /// What became of the reports of a table and what each sets, by a matrix.
+    Explain(Matrix),
     /// The text of a batch of a table.
     Encode,
     /// The table of a batch's text.
@@ -46,9 +50,10 @@ pub enum Command {
 pub const BAD_ARGUMENTS: u8 = 2;
 
 /// Every word, in the order in which help lists them.
-const ALL_WORDS: [Word; 6] = [
+const ALL_WORDS: [Word; 7] = [
     Word::Report,
     Word::Tape,
+    Word::Explain,
     Word::Encode,
     Word::Decode,
     Word::Line,
@@ -72,6 +77,7 @@ impl Word {
         match self {
             Word::Report => b"report\0",
             Word::Tape => b"tape\0",
+            Word::Explain => b"explain\0",
             Word::Encode => b"encode\0",
             Word::Decode => b"decode\0",
             Word::Line => b"line\0",
@@ -102,11 +108,11 @@ impl Word {
     }
 }
 
-/// Whether arguments begin as those for a readable tape.
+/// Whether arguments begin as those for a row of each message, or of each report.
 pub fn asks_for_rows(words: &[u8]) -> bool
     ensures { result ≡ asks_for_rows words.now }
 {
-    words.starts_with(Word::Tape.ended_name())
+    words.starts_with(Word::Tape.ended_name()) || words.starts_with(Word::Explain.ended_name())
 }
 
 /// The arguments of a day that is to be followed, or `None` where others are given, or help on it is asked for.
@@ -151,6 +157,7 @@ fn asked(word: Word, words: &[u8]) -> Option<Command>
     match word {
         Word::Report => Some(Command::Report(matrix_of(words)?)),
         Word::Tape => Some(Command::Tape(matrix_of(words)?)),
+        Word::Explain => Some(Command::Explain(matrix_of(words)?)),
         Word::Encode if words.is_empty() => Some(Command::Encode),
         Word::Decode if words.is_empty() => Some(Command::Decode),
         Word::Encode | Word::Decode | Word::Follow => None,

@@ -13,6 +13,8 @@ tapedesk report [1|2] < TABLE.csv\n\
 Writes the report of the day, by Matrix One or 2; rows that the tape refuses are counted on standard error.\n\
 tapedesk tape [1|2] < TABLE.csv\n\
 Writes each row with its tape number or its refusal, and its symbol's figures after it, by Matrix One or 2.\n\
+tapedesk explain [1|2] < TABLE.csv\n\
+Writes what became of each report that the tape admits and which figures it sets, by Matrix One or 2.\n\
 tapedesk encode < TABLE.csv\n\
 Writes the messages as the text of a batch: the symbols, the participants, and each message's letter and bytes.\n\
 tapedesk decode < DAY.txt\n\
@@ -33,6 +35,9 @@ pub fn word_help_text(word: Word) -> &'static [u8]
         }
         Word::Tape => {
             b"tapedesk tape [1|2] < TABLE.csv\nWrites each row with its tape number or its refusal, and its symbol's figures after it, by Matrix One or 2.\n"
+        }
+        Word::Explain => {
+            b"tapedesk explain [1|2] < TABLE.csv\nWrites what became of each report that the tape admits and which figures it sets, by Matrix One or 2.\n"
         }
         Word::Encode => {
             b"tapedesk encode < TABLE.csv\nWrites the messages as the text of a batch: the symbols, the participants, and each message's letter and bytes.\n"

@@ -1,5 +1,5 @@
-//! `tapedesk`: a desk's table of trade messages in, the day's report, a readable tape or the day's bytes out; or the readable tape of a
-//! running day, as it comes.
+//! `tapedesk`: a desk's table of trade messages in, the day's report, a readable tape, what became of each report or the day's bytes out;
+//! or the readable tape of a running day, as it comes.
 #![tactic(auto)]
 
 mod command;
@@ -54,7 +54,6 @@ fn main(rt: HostRuntime) -> ExitCode {
         None
     };
     let status = run(
-        &rt,
         rt.alloc(),
         &words,
         &mut ToldReader::new(rt.stdin(), told),

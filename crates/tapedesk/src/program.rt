@@ -3,6 +3,7 @@ ghost use Rattle.std.specs.Prelude.{◌≡◌, IfOk, OnErr, Ok, Err, Some};
 ghost use Rattle.day_tables.specs.TableTexts.{table_text};
 ghost use Rattle.day_tables.specs.Tables.{IsTable};
 ghost use Rattle.table_days.specs.Days.{day_text};
+ghost use Rattle.table_days.specs.Explained.{explain_text};
 ghost use Rattle.table_days.specs.TableEnds.{IsTableEnd};
 ghost use Rattle.table_days.specs.TapeRows.{tape_text};
 ghost use Rattle.table_days.specs.declared.table_end.TableEnd.TheVariants.{OutOfMemory};
@@ -21,14 +22,12 @@ use row_reads::write_text;
 use sale_matrix::Matrix;
 use std::alloc::{AllocError, Global};
 use std::io::{Read, Write};
-use std::thread::Threads;
-use table_days::{TableEnd, report_over, tape_over};
+use table_days::{TableEnd, explain_over, report_over, tape_over};
 use table_texts::{decode_over, encode_over, line_over};
 use tape_types::Participant;
 
 /// Writes the report of a table, says what it refused or why there is none, and gives the status.
-fn run_report<T: Threads + Sync, R: Read, W: Write, E: Write>(
-    rt: &T,
+fn run_report<R: Read, W: Write, E: Write>(
     alloc: Global,
     matrix: Matrix,
     reader: &mut R,
@@ -38,7 +37,7 @@ fn run_report<T: Threads + Sync, R: Read, W: Write, E: Write>(
     ensures { RunsTable day_text matrix (R.remaining reader.old) (W.contents writer.old) (W.contents writer.new) result
         writer.old writer.new errors.old errors.new (E.contents errors.old) (E.contents errors.new) }
 {
-    let run = report_over(rt, alloc, matrix, reader, writer);
+    let run = report_over(alloc, matrix, reader, writer);
     end_run(alloc, errors, run)
 }
 
@@ -54,6 +53,21 @@ fn run_tape<R: Read, W: Write, E: Write>(
         writer.old writer.new errors.old errors.new (E.contents errors.old) (E.contents errors.new) }
 {
     let run = tape_over(alloc, matrix, reader, writer);
+    end_run(alloc, errors, run)
+}
+
+/// Writes what became of the reports of a table, says what the tape refused or why the text is not whole, and gives the status.
+fn run_explain<R: Read, W: Write, E: Write>(
+    alloc: Global,
+    matrix: Matrix,
+    reader: &mut R,
+    writer: &mut W,
+    errors: &mut E,
+) -> u8
+    ensures { RunsTable explain_text matrix (R.remaining reader.old) (W.contents writer.old) (W.contents writer.new) result
+        writer.old writer.new errors.old errors.new (E.contents errors.old) (E.contents errors.new) }
+{
+    let run = explain_over(alloc, matrix, reader, writer);
     end_run(alloc, errors, run)
 }
 
@@ -111,8 +125,7 @@ fn help<W: Write, E: Write>(alloc: Global, text: &[u8], writer: &mut W, errors: 
 }
 
 /// Does what the program was asked for, and gives the status.
-fn run_command<T: Threads + Sync, R: Read, W: Write, E: Write>(
-    rt: &T,
+fn run_command<R: Read, W: Write, E: Write>(
     alloc: Global,
     command: Command,
     reader: &mut R,
@@ -123,8 +136,9 @@ fn run_command<T: Threads + Sync, R: Read, W: Write, E: Write>(
         (W.contents writer.old) (W.contents writer.new) errors.old errors.new (E.contents errors.old) (E.contents errors.new) }
 {
     match command {
-        Command::Report(matrix) => run_report(rt, alloc, matrix, reader, writer, errors),
+        Command::Report(matrix) => run_report(alloc, matrix, reader, writer, errors),
         Command::Tape(matrix) => run_tape(alloc, matrix, reader, writer, errors),
+        Command::Explain(matrix) => run_explain(alloc, matrix, reader, writer, errors),
         Command::Encode => run_encode(alloc, reader, writer, errors),
         Command::Decode => run_decode(alloc, reader, writer, errors),
         Command::Line(participant) => run_line(alloc, participant, reader, writer, errors),
@@ -136,13 +150,13 @@ fn run_command<T: Threads + Sync, R: Read, W: Write, E: Write>(
 /// Runs the program on its arguments, without its own name and each ended by a zero byte, over its standard streams, and
 /// returns its status.
 ///
-/// `report` reads a table from `reader` and writes the day's report to `writer`, `tape` its readable tape, `encode` the text of a
-/// batch, and `line` the bytes of one participant's messages; `decode` reads the text of a batch and writes its table. `--help`, alone
-/// or after a word, writes what they do. Any other arguments are bad ones, those of a running day too, which are for `follow`. What a
-/// report's or a readable tape's rows were refused for, and what goes wrong, is said on `errors`, each in one line. The status is 0 where
-/// all is done, 2 for a bad table, a bad text or bad arguments, 3 for a read fault, 4 for a write fault and 5 where memory ran out.
-pub fn program<T: Threads + Sync, R: Read, W: Write, E: Write>(
-    rt: &T,
+/// `report` reads a table from `reader` and writes the day's report to `writer`, `tape` its readable tape, `explain` what became of its
+/// reports, `encode` the text of a batch, and `line` the bytes of one participant's messages; `decode` reads the text of a batch and
+/// writes its table. `--help`, alone or after a word, writes what they do. Any other arguments are bad ones, those of a running day too,
+/// which are for `follow`. `errors` has a line for each reason for which the first three refused rows, and one for what goes wrong. The
+/// status is 0 where all is done, 2 for a bad table, a bad text or bad arguments, 3 for a read fault, 4 for a write fault and 5 where
+/// memory ran out.
+pub fn program<R: Read, W: Write, E: Write>(
     alloc: Global,
     words: &[u8],
     reader: &mut R,
@@ -153,7 +167,7 @@ pub fn program<T: Threads + Sync, R: Read, W: Write, E: Write>(
         (W.contents writer.old) (W.contents writer.new) errors.old errors.new (E.contents errors.old) (E.contents errors.new) }
 {
     match read_command(words) {
-        Some(command) => run_command(rt, alloc, command, reader, writer, errors),
+        Some(command) => run_command(alloc, command, reader, writer, errors),
         None => {
             say(errors, b"tapedesk: bad arguments\n");
             BAD_ARGUMENTS
@@ -163,8 +177,7 @@ pub fn program<T: Threads + Sync, R: Read, W: Write, E: Write>(
 
 /// Runs the program on the arguments that it was given, as `program` does. Where memory ran out for them, nothing is read or
 /// written, `errors` is told that memory ran out, and the status is 5.
-pub fn run<T: Threads + Sync, R: Read, W: Write, E: Write>(
-    rt: &T,
+pub fn run<R: Read, W: Write, E: Write>(
     alloc: Global,
     words: &Result<Vec<u8>, AllocError>,
     reader: &mut R,
@@ -177,7 +190,7 @@ pub fn run<T: Threads + Sync, R: Read, W: Write, E: Write>(
         × OnlySays (end_line OutOfMemory) writer.old writer.new (E.contents errors.old) (E.contents errors.new)) }
 {
     match words {
-        Ok(words) => program(rt, alloc, words, reader, writer, errors),
+        Ok(words) => program(alloc, words, reader, writer, errors),
         Err(_) => say_end(alloc, errors, &TableEnd::OutOfMemory),
     }
 }

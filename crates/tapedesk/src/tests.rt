@@ -7,7 +7,6 @@ use std::alloc::Global;
 use std::io;
 use std::io::{ErrorKind, Read, Write};
 use std::process::Abort;
-use std::thread::Threads;
 
 /// A table by two participants, of which a row is refused.
 const TABLE: &[u8] = b"\
@@ -30,6 +29,12 @@ tape,refused,kind,participant,number,moment,symbol,target,price,size,condition,o
 2,,report,Q,1,0,AB,,10.10,200,@___,10.00,10.10,10.00,10.10,300,2\n\
 ,35 Stale,report,Q,1,0,AB,,10.20,500,@___,10.00,10.10,10.00,10.10,300,2\n\
 3,,cancel,Q,2,0,AB,1,,,,10.00,10.00,10.00,10.00,100,1\n";
+
+/// What became of its reports.
+const EXPLAINED: &[u8] = b"\
+symbol,tape,row,participant,number,moment,price,size,condition,state,changed,high_low,last,volume,sets,own_high_low,own_last,own_sets\n\
+AB,1,2,N,1,0,10.00,100,@___,standing,,yes,yes,yes,open high low last,yes,yes,open high low last\n\
+AB,2,3,Q,1,0,10.10,200,@___,cancelled,3,yes,yes,yes,,yes,yes,\n";
 
 /// The text of a batch of it.
 const ENCODED: &[u8] = b"\
@@ -100,7 +105,7 @@ impl Write for Room {
 }
 
 /// Asserts the status of the program over a reader, what it writes, and what it says.
-fn assert_answers<T: Abort + Threads + Sync, R: Read>(
+fn assert_answers<T: Abort, R: Read>(
     rt: &T,
     alloc: Global,
     words: &[u8],
@@ -111,14 +116,14 @@ fn assert_answers<T: Abort + Threads + Sync, R: Read>(
 ) {
     let mut output = Vec::new(alloc);
     let mut errors = Vec::new(alloc);
-    let ended = program(rt, alloc, words, reader, &mut output, &mut errors);
+    let ended = program(alloc, words, reader, &mut output, &mut errors);
     assert_eq!(rt; ended, status);
     assert_eq!(rt; output.as_slice(), text);
     assert_eq!(rt; errors.as_slice(), said);
 }
 
 #[test]
-fn a_table_has_a_report_and_a_readable_tape(rt: HostRuntime) {
+fn a_table_has_a_report_a_readable_tape_and_what_became_of_its_reports(rt: HostRuntime) {
     assert_answers(
         &rt,
         rt.alloc(),
@@ -135,6 +140,15 @@ fn a_table_has_a_report_and_a_readable_tape(rt: HostRuntime) {
         &mut { TABLE },
         0,
         TAPE,
+        REFUSED,
+    );
+    assert_answers(
+        &rt,
+        rt.alloc(),
+        b"explain\x001\0",
+        &mut { TABLE },
+        0,
+        EXPLAINED,
         REFUSED,
     );
 }
@@ -176,6 +190,7 @@ fn help_is_told_of_all_words_and_of_each(rt: HostRuntime) {
     for (words, text) in [
         (b"--help\0".as_slice(), help_text()),
         (b"tape\0--help\0", word_help_text(Word::Tape)),
+        (b"explain\0--help\0", word_help_text(Word::Explain)),
         (b"decode\0--help\0", word_help_text(Word::Decode)),
         (b"line\0--help\0", word_help_text(Word::Line)),
         (b"follow\0--help\0", word_help_text(Word::Follow)),
@@ -209,7 +224,13 @@ fn a_bad_table_writes_nothing(rt: HostRuntime) {
         ),
     ];
     for (table, said) in faults {
-        for words in [b"report\0".as_slice(), b"tape\0", b"encode\0", b"line\0N\0"] {
+        for words in [
+            b"report\0".as_slice(),
+            b"tape\0",
+            b"explain\0",
+            b"encode\0",
+            b"line\0N\0",
+        ] {
             assert_answers(&rt, rt.alloc(), words, &mut { *table }, 2, b"", said);
         }
     }
@@ -221,6 +242,7 @@ fn bad_arguments_are_told(rt: HostRuntime) {
         b"".as_slice(),
         b"report\x003\0",
         b"tape\x001\x002\0",
+        b"explain\x003\0",
         b"reports\0",
         b"encode\x001\0",
         b"line\0",
@@ -246,6 +268,7 @@ fn a_read_that_fails_writes_nothing(rt: HostRuntime) {
     for (words, input) in [
         (b"report\0".as_slice(), TABLE),
         (b"tape\0", TABLE),
+        (b"explain\0", TABLE),
         (b"encode\0", TABLE),
         (b"decode\0", ENCODED),
         (b"line\0N\0", TABLE),
@@ -268,6 +291,7 @@ fn a_write_and_a_flush_that_fail_are_told(rt: HostRuntime) {
     for (words, input, text) in [
         (b"report\0".as_slice(), TABLE, REPORT),
         (b"tape\0", TABLE, TAPE),
+        (b"explain\0", TABLE, EXPLAINED),
         (b"encode\0", TABLE, ENCODED),
         (b"decode\0", ENCODED, DECODED),
         (b"line\0N\0", TABLE, BYTES_OF_N),
@@ -279,14 +303,7 @@ fn a_write_and_a_flush_that_fail_are_told(rt: HostRuntime) {
                 flushes,
             };
             let mut errors = Vec::new(rt.alloc());
-            let ended = program(
-                &rt,
-                rt.alloc(),
-                words,
-                &mut { input },
-                &mut writer,
-                &mut errors,
-            );
+            let ended = program(rt.alloc(), words, &mut { input }, &mut writer, &mut errors);
             assert_eq!(rt; ended, 4);
             assert_eq!(rt; writer.taken.as_slice(), &text[..left]);
             assert_eq!(rt; errors.as_slice(), b"tapedesk: a write failed\n".as_slice());

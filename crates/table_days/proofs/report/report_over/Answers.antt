@@ -3,8 +3,10 @@ use Rattle.table_days.specs.Days.{day_text}
 use Rattle.table_days.proofs.EndLemmas.{table_part, table_written}
 use Rattle.table_days.proofs.report.report_over.Goals as goal
 
-pub write_report_of-requires-clause-few : goal.write_report_of-requires-clause-few
-write_report_of-requires-clause-few g c = omega (arith, ap length c.deref.ensures.value, c.in-Ok.messages.ok.0, c.in-Ok.messages.ok.1, c.in-Ok.messages.small)
+pub write_report_of-requires : goal.write_report_of-requires
+write_report_of-requires g c = record {
+  few = omega (arith, ap length c.deref.ensures.value, c.in-Ok.messages.ok.0, c.in-Ok.messages.ok.1, c.in-Ok.messages.small);
+}
 
 pub returns-in-Ok-clause-written : goal.returns-in-Ok-clause-written
 returns-in-Ok-clause-written g c =

@@ -1,13 +1,11 @@
-use Rattle.std.proofs.Common.{subst}
-use Rattle.std.specs.Io.KnownBytes.{Appends}
 use Rattle.std.proofs.KnownBytes.{Appends-kept}
-use Rattle.day_report.specs.ReportText.{report_text}
-use Rattle.day_report.specs.Rows.{report_rows}
 use Rattle.row_reads.specs.Lemmas.WriteLemmas.{WritesPrefix-kept, WritesPrefix-whole}
-use Rattle.tape_core.specs.Tape.{TapeState}
-use Rattle.table_days.specs.Days.{day_text}
+use Rattle.table_days.specs.Days.{day_text, tape_of}
 use Rattle.table_days.proofs.EndLemmas.{any_ok, flushed_end, flushed_refusals, flushed_silent}
 use Rattle.table_days.proofs.report.write_report_of.Goals as goal
+
+pub write_day-requires : goal.write_day-requires
+write_day-requires g c = record { kept = (tape_of c.args.matrix c.args.messages.now, c.in-Ok.ensures.day.tape) }
 
 pub returns-in-Ok-write_day-clause-refused : goal.returns-in-Ok-write_day-clause-refused
 returns-in-Ok-write_day-clause-refused g c = flushed_refusals c.flushed.result _ _ c.flushed.ensures.ok c.in-Ok.ensures.day.refusals
@@ -18,7 +16,7 @@ returns-in-Ok-write_day-clause-written g c =
     let mid = g.W.Write.contents c.write_day.new.writer in
     any_ok c.flushed.result _
     (Appends-kept old mid _ (day_text c.args.matrix c.args.messages.now)
-    (subst (λ (t : TapeState). Appends old mid (report_text (report_rows t))) c.in-Ok.ensures.day.tape c.in-Ok-write_day.ensures.written) c.flushed.ensures.kept)
+    (c.in-Ok-write_day.ensures.written _ c.in-Ok.ensures.day.tape) c.flushed.ensures.kept)
 
 pub returns-in-Ok-write_day-clause-end : goal.returns-in-Ok-write_day-clause-end
 returns-in-Ok-write_day-clause-end g c = flushed_end c.flushed.result c.args.messages.now c.flushed.ensures.err
@@ -33,4 +31,4 @@ returns-in-Ok-write_day-clause-prefix g c = λ _.
     let text = day_text c.args.matrix c.args.messages.now in
     WritesPrefix-kept text old mid _
     (WritesPrefix-whole text old mid
-    (subst (λ (t : TapeState). Appends old mid (report_text (report_rows t))) c.in-Ok.ensures.day.tape c.in-Ok-write_day.ensures.written)) c.flushed.ensures.kept
+    (c.in-Ok-write_day.ensures.written _ c.in-Ok.ensures.day.tape)) c.flushed.ensures.kept

@@ -1,0 +1,149 @@
+//! What the rows that tell of a day's reports are made from.
+ghost use Rattle.std.specs.Prelude.{◌≡◌, ◌≢◌, ◌+◌, ◌<◌, ◌^◌, ◌++◌, ◌∷◌, ℕ, [], IfErr, IfOk, OnOk, length, slice_index, if◌then◌else◌, true};
+ghost use Rattle.day_tables.specs.Tables.{FIRST_ROW};
+ghost use Rattle.reports.specs.Messages.{header_of};
+ghost use Rattle.tape_core.specs.Standing.{participant_summary};
+ghost use Rattle.tape_core.specs.Tape.{lists_participant, lists_symbol, messages_of, numbered_message};
+ghost use Rattle.table_days.specs.Answers.{answers};
+ghost use Rattle.table_days.specs.Days.{AnswersMore, HasAnswered, first_tape, symbol_of};
+ghost use Rattle.table_days.specs.Explained.{admitted_rows, explained_at, is_change_at, rows_of};
+ghost use Rattle.table_days.specs.Accounts.{AreChanges, IsAccount};
+ghost use Rattle.table_days.specs.TableEnds.{IsMessagesEnd};
+ghost use Rattle.table_days.specs.declared.table_end.TableEnd.TheVariants.{WriteFault};
+
+use crate::day::Day;
+use crate::explained::Explained;
+use crate::tape_row::figures_of;
+use crate::{Answer, TableEnd, TableTape};
+use reports::Message;
+use sale_matrix::{Matrix, cells};
+use scratch_fold::Summary;
+use std::alloc::{AllocError, Global};
+use tape_core::Entry;
+
+/// A day that has answered its messages, and what is told of its reports besides.
+#[derive(Drop)]
+pub struct Account {
+    /// The day.
+    pub day: Day,
+    /// The row of the table of each entry of the tape.
+    pub rows: Vec<u64>,
+    /// The tape number of the last message that changed the report at each index of the entries, 0 for none.
+    pub changes: Vec<u32>,
+}
+
+/// Notes the number of a row if its message is admitted.
+#[tactic(auto, unfolding(crate::specs::Explained::admitted_rows))]
+fn note_row(rows: &mut Vec<u64>, row: u64, answered: &Answer) -> Result<(), AllocError>
+    ensures { OnOk result (rows.new.items ≡ rows.old.items ++ admitted_rows row (answered.now ∷ [])) }
+{
+    if answered.is_ok() {
+        rows.push(row)?;
+    }
+    Ok(())
+}
+
+/// Answers the messages of a day's next rows, in order, and gives the number of each row whose message is admitted.
+fn admitted_rows(alloc: Global, day: &mut Day, messages: &[Message]) -> Result<Vec<u64>, AllocError>
+    requires { day.old.row + length messages.now < 2 ^ 64 }
+    ensures rows { IfOk result (λ rows. rows.items ≡ admitted_rows day.old.row (answers day.old.tape messages.now)) }
+    ensures more { OnOk result (AnswersMore day.old day.new messages.now) }
+{
+    let mut rows = Vec::new(alloc);
+    for message in messages {
+        let row = day.row;
+        let answered = day.answer(*message)?;
+        note_row(&mut rows, row, &answered)?;
+    }
+    Ok(rows)
+}
+
+/// Notes an entry as the last change of the report that its message names, if it names one.
+fn note_change(tape: &TableTape, entry: &Entry, changes: &mut [u32])
+    ensures { (k : ℕ) → k < length changes.old → slice_index changes.new k
+        ≡ (if is_change_at (messages_of tape.now.entries) (k + 1) (numbered_message entry.now) then entry.now.number else slice_index changes.old k) }
+{
+    let Some(target) = entry.message.target() else {
+        return;
+    };
+    let Some(report) = tape.report_of(entry.message.header().participant, target) else {
+        return;
+    };
+    let index = report.place.value() as usize - 1;
+    if index < changes.len() {
+        changes[index] = entry.number.value();
+    }
+}
+
+/// The last change of each report of a tape.
+fn changes_of(alloc: Global, tape: &TableTape) -> Result<Vec<u32>, AllocError>
+    ensures { IfOk result (λ changes. AreChanges (messages_of tape.now.entries) (messages_of tape.now.entries) changes.items) }
+{
+    let entries = tape.entries();
+    let mut changes = vec![in alloc; 0; entries.len()]?;
+    for entry in entries {
+        note_change(tape, entry, &mut changes);
+    }
+    Ok(changes)
+}
+
+/// A participant's own figures in a message's symbol, both of which the tape lists.
+fn own_figures_of(tape: &TableTape, message: &Message) -> Summary
+    requires symbol { lists_symbol tape.now.listing (symbol_of message.now) ≡ true }
+    requires participant { lists_participant tape.now.listing (header_of message.now).participant ≡ true }
+    ensures { result
+        ≡ participant_summary tape.now.matrix (messages_of tape.now.entries) (symbol_of message.now) (header_of message.now).participant }
+{
+    let header = message.header();
+    match tape.summary_of(header.symbol, header.participant) {
+        Some(figures) => figures,
+        None => unreachable!(),
+    }
+}
+
+impl Account {
+    /// The day of messages, by a matrix, and what is told of its reports besides.
+    pub fn of_messages(
+        alloc: Global,
+        matrix: Matrix,
+        messages: &[Message],
+    ) -> Result<Account, TableEnd>
+        requires few { length messages.now + FIRST_ROW < 2 ^ 64 }
+        ensures day { IfOk result (λ account. HasAnswered (first_tape matrix messages.now) messages.now account.day) }
+        ensures rows { IfOk result (λ account. account.rows.items ≡ rows_of matrix messages.now) }
+        ensures account { IfOk result IsAccount }
+        ensures end { IfErr result (λ end. (end ≢ WriteFault) × IsMessagesEnd messages.now end) }
+    {
+        let mut day = match Day::of_names(alloc, matrix, messages) {
+            Ok(day) => day,
+            Err(end) => return Err(end),
+        };
+        let Ok(rows) = admitted_rows(alloc, &mut day, messages) else {
+            return Err(TableEnd::OutOfMemory);
+        };
+        match changes_of(alloc, &day.tape) {
+            Ok(changes) => Ok(Account { day, rows, changes }),
+            Err(_) => Err(TableEnd::OutOfMemory),
+        }
+    }
+
+    /// What is told of the report at an index of the tape's entries; `None` where another message is there.
+    pub fn explained_at(&self, index: usize) -> Option<Explained>
+        requires index { index < length self.now.day.tape.entries }
+        requires account { IsAccount self.now }
+        ensures { result ≡ explained_at self.now.day.tape self.now.rows.items index }
+    {
+        let tape = &self.day.tape;
+        let report = tape.report_at(index)?;
+        let message = &tape.entries()[index].message;
+        Some(Explained {
+            report,
+            header: message.header(),
+            row: self.rows[index],
+            changed: self.changes[index],
+            cells: cells(tape.matrix(), &report.content.condition),
+            figures: figures_of(tape, message),
+            own: own_figures_of(tape, message),
+        })
+    }
+}

@@ -1,0 +1,203 @@
+//! A table in, what became of each of its reports out.
+ghost use Rattle.std.specs.Prelude.{◌≡◌, ◌≢◌, ◌⊎◌, ◌+◌, ◌≤◌, ◌<◌, ◌^◌, ◌++◌, Err, IfErr, IfOk, IfSome, OnErr, OnOk, length};
+ghost use Rattle.std.specs.Io.KnownBytes.{Appends};
+ghost use Rattle.csv.specs.Writing.{default_writer, row_text};
+ghost use Rattle.day_report.specs.CsvLines.{IsAtLineStart, lines_text};
+ghost use Rattle.row_reads.specs.Writing.{WritesPrefix};
+ghost use Rattle.day_tables.specs.Tables.{FIRST_ROW};
+ghost use Rattle.table_days.specs.Answers.{answers};
+ghost use Rattle.table_days.specs.Days.{first_tape};
+ghost use Rattle.table_days.specs.Explained.{entry_line, explain_text, explained_at, explained_names, explained_rows, explained_text, explained_to};
+ghost use Rattle.table_days.specs.Accounts.{IsAccount};
+ghost use Rattle.table_days.specs.ExplainedLaws.{CancelledSetNothing, RowsAddUp, RowsOfFigures, RowsOfOwnFigures, RowsOfReports};
+ghost use Rattle.table_days.specs.Refusals.{AreRefusals};
+ghost use Rattle.table_days.specs.TableEnds.{IsMessagesEnd, IsTableEnd, WritesTable, WritesTablePart};
+ghost use Rattle.table_days.specs.declared.table_end.TableEnd.TheVariants.{OutOfMemory, WriteFault as TableWriteFault};
+
+use crate::account::Account;
+use crate::explained::{explained_head, put_explained};
+use crate::lines::{into_text, lines_in};
+use crate::table_end::flushed;
+use crate::tape::write_part;
+use crate::{Refusals, TableEnd};
+use csv::{ByteRecord, Writer};
+use day_tables::read_table;
+use reports::Message;
+use sale_matrix::Matrix;
+use std::alloc::{AllocError, Global};
+use std::io::{Read, Write};
+
+/// Of how many entries the rows are written at once.
+const ENTRIES_AT_ONCE: usize = 512;
+
+/// Writes what is told of the report at an index of the entries as a line, or nothing where another message is there.
+fn put_entry(
+    account: &Account,
+    index: usize,
+    writer: &mut Writer<Vec<u8>>,
+    fields: &mut ByteRecord,
+) -> Result<(), AllocError>
+    requires index { index < length account.now.day.tape.entries }
+    requires account { IsAccount account.now }
+    requires start { IsAtLineStart writer.old }
+    ensures start { OnOk result (IsAtLineStart writer.new) }
+    ensures text { OnOk result (lines_text writer.new ≡ lines_text writer.old
+        ++ entry_line (explained_at account.now.day.tape account.now.rows.items index)) }
+{
+    match account.explained_at(index) {
+        Some(row) => put_explained(writer, fields, &row),
+        None => Ok(()),
+    }
+}
+
+/// The lines of the reports at the indexes of a tape's entries from one to before another, in the memory of a text that is used again.
+fn lines_of(
+    account: &Account,
+    fields: &mut ByteRecord,
+    text: Vec<u8>,
+    from: usize,
+    to: usize,
+) -> Result<Vec<u8>, AllocError>
+    requires order { from ≤ to }
+    requires within { to ≤ length account.now.day.tape.entries }
+    requires account { IsAccount account.now }
+    ensures { IfOk result (λ lines. explained_to account.now.day.tape account.now.rows.items to
+        ≡ explained_to account.now.day.tape account.now.rows.items from ++ lines.items) }
+{
+    let mut writer = lines_in(text);
+    for index in from..to {
+        put_entry(account, index, &mut writer, fields)?;
+    }
+    into_text(writer)
+}
+
+/// Writes a part of the text, and makes the lines of the next reports in its memory.
+fn next_lines<W: Write>(
+    account: &Account,
+    fields: &mut ByteRecord,
+    text: Vec<u8>,
+    from: usize,
+    to: usize,
+    writer: &mut W,
+) -> Result<Vec<u8>, TableEnd>
+    requires order { from ≤ to }
+    requires within { to ≤ length account.now.day.tape.entries }
+    requires account { IsAccount account.now }
+    ensures lines { IfOk result (λ lines. explained_to account.now.day.tape account.now.rows.items to
+        ≡ explained_to account.now.day.tape account.now.rows.items from ++ lines.items) }
+    ensures written { OnOk result (Appends (W.contents writer.old) (W.contents writer.new) text.items) }
+    ensures prefix { OnErr result (WritesPrefix text.items (W.contents writer.old) (W.contents writer.new)) }
+    ensures ends { IfErr result (λ end. (end ≡ OutOfMemory) ⊎ (end ≡ TableWriteFault)) }
+{
+    match write_part(writer, &text) {
+        Ok(()) => {}
+        Err(end) => return Err(end),
+    }
+    match lines_of(account, fields, text, from, to) {
+        Ok(lines) => Ok(lines),
+        Err(_) => Err(TableEnd::OutOfMemory),
+    }
+}
+
+/// Writes the line of the columns' names, and then the rows of the reports of a tape, many at once.
+fn write_rows<W: Write>(
+    alloc: Global,
+    account: &Account,
+    head: Vec<u8>,
+    writer: &mut W,
+) -> Result<(), TableEnd>
+    requires head { head.items ≡ row_text default_writer explained_names }
+    requires account { IsAccount account.now }
+    ensures written { OnOk result (Appends (W.contents writer.old) (W.contents writer.new)
+        (explained_text (explained_rows account.now.day.tape account.now.rows.items))) }
+    ensures prefix { OnErr result (WritesPrefix
+        (explained_text (explained_rows account.now.day.tape account.now.rows.items)) (W.contents writer.old) (W.contents writer.new)) }
+    ensures ends { IfErr result (λ end. (end ≡ OutOfMemory) ⊎ (end ≡ TableWriteFault)) }
+{
+    let count = account.day.tape.entries().len();
+    let mut fields = ByteRecord::new(alloc);
+    let mut text = head;
+    let mut from = 0;
+    while from < count {
+        let to = from + (count - from).min(ENTRIES_AT_ONCE);
+        text = match next_lines(account, &mut fields, text, from, to, writer) {
+            Ok(lines) => lines,
+            Err(end) => return Err(end),
+        };
+        from = to;
+    }
+    write_part(writer, &text)
+}
+
+/// Writes what is told of the reports of messages, and gives what their tape refused.
+fn write_explained<W: Write>(
+    alloc: Global,
+    matrix: Matrix,
+    messages: &[Message],
+    writer: &mut W,
+) -> Result<Refusals, TableEnd>
+    requires few { length messages.now + FIRST_ROW < 2 ^ 64 }
+    ensures refused { IfOk result (AreRefusals (answers (first_tape matrix messages.now) messages.now)) }
+    ensures written { OnOk result (Appends (W.contents writer.old) (W.contents writer.new) (explain_text matrix messages.now)) }
+    ensures end { IfErr result (IsMessagesEnd messages.now) }
+    ensures silent { result ≢ Err TableWriteFault → result ≢ Err OutOfMemory → OnErr result (writer.new ≡ writer.old) }
+    ensures prefix { (result ≡ Err TableWriteFault) ⊎ (result ≡ Err OutOfMemory)
+        → WritesPrefix (explain_text matrix messages.now) (W.contents writer.old) (W.contents writer.new) }
+{
+    let account = match Account::of_messages(alloc, matrix, messages) {
+        Ok(account) => account,
+        Err(end) => return Err(end),
+    };
+    let Ok(head) = explained_head(alloc) else {
+        return Err(TableEnd::OutOfMemory);
+    };
+    match write_rows(alloc, &account, head, writer) {
+        Ok(()) => flushed(writer, account.day.refusals),
+        Err(end) => Err(end),
+    }
+}
+
+/// Reads a table whole, answers its messages in order by a tape of the names in it, in the order in which they first appear, and
+/// tells of each report that the tape admitted: a row by rising tape number, with the report as it is after all messages, and the
+/// figures that it sets. It gives what the tape refused. The rows are written while they are made, many at once, so the text is never
+/// held whole. What was written is flushed at the end.
+///
+/// Where the text is not written whole the end says why. At a `WriteFault` a part of it from the front was written, and at
+/// `OutOfMemory` such a part or nothing; at every other end nothing was.
+pub fn explain_over<R: Read + Drop, W: Write>(
+    alloc: Global,
+    matrix: Matrix,
+    reader: R,
+    writer: &mut W,
+) -> Result<Refusals, TableEnd>
+    ensures written { IfSome (R.remaining reader) (λ input. IfOk result (λ refusals.
+        WritesTable explain_text matrix input refusals (W.contents writer.old) (W.contents writer.new))) }
+    ensures end { IfSome (R.remaining reader) (λ input. IfErr result (IsTableEnd input)) }
+
+    // Whatever the reader: nothing is written at another end than these two, at which a part from the front may be.
+    ensures silent { result ≢ Err TableWriteFault → result ≢ Err OutOfMemory → OnErr result (writer.new ≡ writer.old) }
+    ensures prefix { (result ≡ Err TableWriteFault) ⊎ (result ≡ Err OutOfMemory)
+        → IfSome (R.remaining reader) (λ input. WritesTablePart explain_text matrix input (W.contents writer.old) (W.contents writer.new)) }
+{
+    match read_table(alloc, reader) {
+        Ok(messages) => write_explained(alloc, matrix, &messages, writer),
+        Err(fault) => Err(TableEnd::Table(fault)),
+    }
+}
+
+/// The rows that tell of a symbol's reports are those that the tape admitted, each once, by rising place.
+pub fn rows_of_reports()
+    ensures holds { RowsOfReports }
+{}
+
+/// The rows of a symbol's reports that stand add up to its volume, where their conditions count there, and to its number of trades.
+pub fn rows_add_up()
+    ensures holds { RowsAddUp }
+{}
+
+/// Each figure of a symbol, and of a participant in it, has exactly one row, which tells of its report. A cancelled report sets nothing.
+pub fn rows_of_figures()
+    ensures consolidated { RowsOfFigures }
+    ensures own { RowsOfOwnFigures }
+    ensures cancelled { CancelledSetNothing }
+{}

@@ -1,0 +1,194 @@
+//! A tape of which only the end is asked.
+ghost use Rattle.std.specs.Prelude.{◌≡◌, ℕ, ◌+◌, ◌-◌, ◌<◌, [], length, All, IfOk, OnOk, OnErr};
+ghost use Rattle.tape_types.specs.Ranges.{TAPE_MOST};
+ghost use Rattle.tape_core.specs.Tape.{TapeState, empty_tape, is_in_matrix, messages_of};
+ghost use Rattle.tape_core.specs.Ending.{AnswersEnd, AreOfAtMost, AreTableOf, CountsMessage, HasMore, IsKept, IsRouted, IsSameEnd, KeepsEnd, RoutesEnd, sent_of};
+
+use crate::end_figures::empty_table;
+use crate::notes::note_change;
+use crate::route::Route;
+use crate::tape::matrix_has;
+use crate::{Refusal, SymbolFigures, targets};
+use corrections::{Register, Standing};
+use reports::Message;
+use sale_matrix::{Matrix, cells};
+use std::alloc::{AllocError, Global};
+use tape_types::{Listing, MsgNumber, PARTICIPANTS_MOST, Participant, TAPE_MOST, TapeNumber};
+
+/// A report, as its participant sent it.
+#[derive(Clone, Copy, Debug, PartialEq, Eq)]
+pub struct Sent {
+    /// The participant.
+    pub who: Participant,
+    /// The participant's number of it.
+    pub number: MsgNumber,
+}
+
+/// A tape of which only the end is asked: it answers messages as a tape of the same listing and matrix does, with the greatest limit. It
+/// keeps the register that the answers need, and by tape number which report a message is. No summary is kept: they are all made at once.
+#[derive(Drop)]
+pub struct EndTape {
+    listing: Listing,
+    matrix: Matrix,
+    register: Register,
+    /// By tape number: the report that the message is, or nothing.
+    reports: Vec<Option<Sent>>,
+}
+
+impl EndTape {
+    /// An empty one. It takes no memory.
+    pub fn new(alloc: Global, listing: Listing, matrix: Matrix) -> EndTape
+        ensures { KeepsEnd (empty_tape listing TAPE_MOST matrix) result }
+    {
+        EndTape {
+            listing,
+            matrix,
+            register: Register::new(alloc),
+            reports: Vec::new(alloc),
+        }
+    }
+
+    /// Admits a message and gives the number of its entry, or says why not, as a tape's `admit` does. Nothing has changed on a refusal.
+    pub fn admit(&mut self, message: Message) -> Result<TapeNumber, Refusal>
+        requires kept { IsKept self.old }
+        ensures answers { AnswersEnd self.old message result self.new }
+    {
+        match self.route(&message) {
+            Ok(route) => self.append(route, &message).or(Err(Refusal::OutOfMemory)),
+            Err(refused) => Err(refused),
+        }
+    }
+
+    /// Where the message goes, or the refusal of the first rule that it breaks.
+    fn route(&self, message: &Message) -> Result<Route, Refusal>
+        ensures { RoutesEnd self.now message.now result }
+    {
+        let header = message.header();
+        let count = self.reports.len();
+        if count >= TAPE_MOST as usize {
+            return Err(Refusal::Full);
+        }
+        if !self.listing.has(header.participant) {
+            return Err(Refusal::UnknownParticipant);
+        }
+        if header.number.value() <= self.register.last_number(header.participant) {
+            return Err(Refusal::Stale);
+        }
+        let Some(book) = self.listing.position(header.symbol) else {
+            return Err(Refusal::UnknownSymbol);
+        };
+        if !matrix_has(self.matrix, message) {
+            return Err(Refusal::NotInMatrix);
+        }
+        match targets::locate(&self.register, message) {
+            Ok(change) => Ok(Route {
+                book,
+                number: number_after(count),
+                change,
+            }),
+            Err(refused) => Err(refused),
+        }
+    }
+
+    /// Appends a message's entry and gives its number. Where memory runs out, nothing has changed.
+    fn append(&mut self, route: Route, message: &Message) -> Result<TapeNumber, AllocError>
+        requires routed { IsRouted self.old message.now route }
+        ensures number { IfOk result (λ number. number ≡ route.number) }
+        ensures ok { OnOk result (HasMore self.old message.now route self.new) }
+        ensures err { OnErr result (IsSameEnd self.old self.new) }
+    {
+        self.reports.reserve(1)?;
+        let header = message.header();
+        note_change(&mut self.register, &route, &header)?;
+        self.register.advance(header.participant, header.number);
+        self.reports.push_reserved(sent_of(message));
+        Ok(route.number)
+    }
+
+    /// The symbols and participants of the day.
+    pub fn listing(&self) -> &Listing
+        ensures listing { (t : TapeState) → KeepsEnd t self.now → result.now ≡ t.listing }
+    {
+        &self.listing
+    }
+
+    /// What the reports that stand come to, for each symbol in the order of the listing. One pass goes over the reports by rising place.
+    pub fn figures(&self, alloc: Global) -> Result<Vec<SymbolFigures>, AllocError>
+        requires kept { IsKept self.now }
+        ensures figures { IfOk result (λ table. (t : TapeState) → KeepsEnd t self.now → AreTableOf t (messages_of t.entries) table.items) }
+        ensures count { IfOk result (λ table. length table.items ≡ length self.now.listing.symbols) }
+    {
+        let mut table = empty_table(alloc, self.listing.symbols().as_slice().len())?;
+        self.count_all(&mut table);
+        Ok(table)
+    }
+
+    /// Counts what is kept of each message.
+    fn count_all(&self, table: &mut Vec<SymbolFigures>)
+        requires kept { IsKept self.now }
+        requires none { All (AreOfAtMost 0) table.old.items }
+        ensures figures { (t : TapeState) → KeepsEnd t self.now → AreTableOf t [] table.old.items → AreTableOf t (messages_of t.entries) table.new.items }
+        ensures count { length table.new.items ≡ length table.old.items }
+    {
+        let mut near = [0; PARTICIPANTS_MOST];
+        for sent in self.reports.as_slice() {
+            self.count(table, &mut near, *sent);
+        }
+    }
+
+    /// Counts what is kept of a message, where it is a report and stands. The register has it at or after the index near which the last
+    /// one of the participant was found.
+    fn count(
+        &self,
+        table: &mut Vec<SymbolFigures>,
+        near: &mut [usize; PARTICIPANTS_MOST],
+        sent: Option<Sent>,
+    )
+        requires kept { IsKept self.now }
+        requires few { All (AreOfAtMost (TAPE_MOST - 1)) table.old.items }
+        ensures few { (most : ℕ) → All (AreOfAtMost most) table.old.items → All (AreOfAtMost (most + 1)) table.new.items }
+        ensures figures { CountsMessage self.now sent table.old.items table.new.items }
+        ensures count { length table.new.items ≡ length table.old.items }
+    {
+        let Some(sent) = sent else {
+            return;
+        };
+        let row = sent.who.row_index();
+        let Some((index, target)) = self.register.held_near(sent.who, sent.number, near[row]) else {
+            return;
+        };
+        near[row] = index.saturating_add(1);
+        if target.standing == Standing::Cancelled {
+            return;
+        }
+        let Some(at) = self.listing.position(target.symbol) else {
+            return;
+        };
+        if at >= table.len() {
+            return;
+        }
+        let cells = cells(self.matrix, &target.content.condition);
+        table[at].count(target.place, sent.who, &target.content, cells);
+    }
+}
+
+/// The report that a message is.
+fn sent_of(message: &Message) -> Option<Sent>
+    ensures { (number : ℕ) → result ≡ sent_of (number, message.now) }
+{
+    match message {
+        Message::Report { header, .. } => Some(Sent {
+            who: header.participant,
+            number: header.number,
+        }),
+        Message::Cancel { .. } | Message::Correct { .. } | Message::Reinstate { .. } => None,
+    }
+}
+
+/// The number of the entry after so many.
+fn number_after(count: usize) -> TapeNumber
+    requires { count < TAPE_MOST }
+    ensures { result ≡ count + 1 }
+{
+    TapeNumber::try_new(count as u32 + 1).unwrap()
+}
