@@ -10,15 +10,19 @@ prints after the symbols, each list on a line of its own and with commas between
 connected too and sends nothing, since `live` waits for each.
 
 Messages leave in the order of the rows, but participants' lines run at once: without a pause after each message the tape may
-have another order between participants. Connecting is tried for ten seconds.
+have another order between participants. Connecting is tried for ten seconds. After the last row the lines end, and it waits until
+`live` has closed them, for ten seconds at most: whether a message was admitted is not told by a line.
 
     TAPEDESK  the program (the one that ./run finds)
 
 Statuses: 0 if all was sent, or printed; 1 if the table can't be read, at its first bad row, and then nothing is sent, if nothing
-listens, or at the first row whose message could not be sent; 2 if the words are others.
+listens, or if a line was closed at the other end before all of its messages were sent and read: the participant is named then, and how
+many were sent; 2 if the words are others.
 """
 
 import argparse
+import collections
+import contextlib
 import os
 import socket
 import subprocess
@@ -29,6 +33,8 @@ from pathlib import Path
 RUN = Path(__file__).resolve().parent.parent / "run"
 HOST = "127.0.0.1"
 CONNECTING_SECONDS = 10
+# How long the other ends are waited for after the last row.
+CLOSING_SECONDS = 10
 # The number of the row of the first message, as tapedesk counts rows: the header row is the first.
 FIRST_ROW = 2
 
@@ -77,16 +83,64 @@ def connect(participants, port):
     return {letter: dial(port + position, deadline) for position, letter in enumerate(participants)}
 
 
-def send(path, messages, connections, pause):
-    """Sends each message of a table on its participant's connection, and then closes all."""
-    for row, (letter, message) in enumerate(messages, FIRST_ROW):
-        try:
-            connections[letter].sendall(message)
-        except OSError as fault:
-            sys.exit(f"send_day.py: {path}, row {row}: not sent to participant {letter}'s line: {fault}")
-        time.sleep(pause)
+def has_closed(connection):
+    """Whether the other end has closed the connection, which sends nothing else."""
+    try:
+        return connection.recv(1, socket.MSG_PEEK | socket.MSG_DONTWAIT) == b""
+    except BlockingIOError:
+        return False
+    except OSError:
+        return True
+
+
+def sent(connection, message):
+    """Whether a message was sent, which it is not once the other end has closed the connection."""
+    if has_closed(connection):
+        return False
+    try:
+        connection.sendall(message)
+    except OSError:
+        return False
+    return True
+
+
+def was_read(connection, deadline):
+    """Whether the other end read all of a line that has ended, as far as the deadline lets it be seen: else it has closed the line before."""
+    connection.settimeout(max(deadline - time.monotonic(), 0.001))
+    try:
+        while connection.recv(4096):
+            pass
+    except socket.timeout:
+        return True
+    except OSError:
+        return False
+    # Set if something was sent after the other end had closed.
+    return connection.getsockopt(socket.SOL_SOCKET, socket.SO_ERROR) == 0
+
+
+def end_lines(connections):
+    """Ends all lines, and returns the letters of those that were closed at the other end before all was read."""
     for connection in connections.values():
-        connection.close()
+        with contextlib.suppress(OSError):
+            connection.shutdown(socket.SHUT_WR)
+    deadline = time.monotonic() + CLOSING_SECONDS
+    return [letter for letter, connection in connections.items() if not was_read(connection, deadline)]
+
+
+def send(path, messages, connections, pause):
+    """Sends each message of a table on its participant's connection, and then ends all lines."""
+    counts, totals = collections.Counter(), collections.Counter(letter for letter, _ in messages)
+
+    def fail(letter, place, when):
+        sys.exit(f"send_day.py: {path}{place}: participant {letter}'s line was closed at the other end{when}; messages sent: {counts[letter]} of {totals[letter]}")
+
+    for row, (letter, message) in enumerate(messages, FIRST_ROW):
+        if not sent(connections[letter], message):
+            fail(letter, f", row {row}", "")
+        counts[letter] += 1
+        time.sleep(pause)
+    for letter in end_lines(connections):
+        fail(letter, "", " before all was read")
 
 
 def listed(word, path, messages):

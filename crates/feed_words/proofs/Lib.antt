@@ -1,3 +1,5 @@
+mod DayLemmas
 mod DigitLemmas
 mod Listings
+mod PortLemmas
 mod WordLemmas

@@ -5,7 +5,9 @@ use Rattle.std.specs.List.{list_all}
 use Rattle.std.specs.Str.Parse.{digits_value}
 use Rattle.sale_matrix.specs.declared.matrix.Matrix.{Matrix}
 use Rattle.sale_matrix.specs.declared.matrix.Matrix.TheVariants.{One, Two}
+use Rattle.batch.specs.Header.{pieces_of}
 use Rattle.feed_words.specs.Limits.{LIMIT_LEFT_OUT}
+use Rattle.feed_words.specs.Listings.{COMMA}
 use Rattle.feed_words.specs.Words.{IsFirst}
 
 -- decimal digits alone, and their number; zeros may stand first
@@ -18,6 +20,21 @@ pub record IsNumber (word : List ℕ) (number : ℕ) : Type 0 where
 pub record IsPort (word : List ℕ) (port : ℕ) : Type 0 where
   pub number : IsNumber word port
   pub some : 1 ≤ port
+
+-- each text is the port at its place
+abbrev pub NamePorts : List (List ℕ) → List ℕ → Type 0
+NamePorts [] [] = Unit {0}
+NamePorts [] (port ∷ ports) = ⊥
+NamePorts (text ∷ texts) [] = ⊥
+NamePorts (text ∷ texts) (port ∷ ports) = IsPort text port × NamePorts texts ports
+
+-- ports with single commas between them
+abbrev pub ListPorts : List ℕ → List ℕ → Type 0
+ListPorts text ports = NamePorts (pieces_of COMMA text) ports
+
+-- a text that lists ports, whichever they are
+abbrev pub ListSomePorts : List ℕ → Type 0
+ListSomePorts text = (ports : List ℕ) × ListPorts text ports
 
 -- a matrix by its number
 abbrev pub IsMatrix : List ℕ → Matrix → Type 0

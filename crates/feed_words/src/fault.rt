@@ -5,6 +5,6 @@
 pub enum WordsFault {
     /// They are too few or too many, or one is none of its kind.
     BadArguments,
-    /// Memory ran out for the names.
+    /// Memory ran out for the names or the ports.
     OutOfMemory,
 }

@@ -10,8 +10,8 @@ use batch::{HeaderFault, read_names};
 use std::alloc::Global;
 use tape_types::{Listing, ListingFault};
 
-/// What stands between two names.
-const SEPARATOR: u8 = b',';
+/// What stands between two names, and between two ports.
+pub(crate) const SEPARATOR: u8 = b',';
 
 /// The listing of the symbols and the participants in two arguments, of at most so many participants. Out of memory is
 /// answered only where nothing is wrong with either.

@@ -1,16 +1,20 @@
 //! Arguments, one after another.
-ghost use Rattle.std.specs.Prelude.{◌≡◌, ◌∷◌, [], IfOk, IfSome, Ok, position};
+ghost use Rattle.std.specs.Prelude.{◌≡◌, ◌∷◌, ◌++◌, [], ℕ, IfErr, IfOk, IfSome, IsOk, Ok, OnOk, position};
 ghost use Rattle.std.specs.Char.{is_ascii_digit};
 ghost use Rattle.std.specs.Iterator.{YieldsFirstRef, item_count};
 ghost use Rattle.std.specs.List.{list_all};
 ghost use Rattle.memchr.specs.Find.{is_byte};
 ghost use Rattle.tape_types.specs.Ranges.{IsTapeNumber};
 ghost use Rattle.feed_words.specs.Limits.{LIMIT_LEFT_OUT};
-ghost use Rattle.feed_words.specs.Values.{ArePorts, IsLimitOrLeftOut, IsMatrixOrOne, IsNumber, IsPort};
+ghost use Rattle.feed_words.specs.Listings.{COMMA};
+ghost use Rattle.feed_words.specs.Values.{ArePorts, IsLimitOrLeftOut, IsMatrixOrOne, IsNumber, IsPort, ListPorts, ListSomePorts};
 ghost use Rattle.feed_words.specs.Words.{IsFirst, words_left};
+ghost use Rattle.feed_words.specs.declared.fault.WordsFault.TheVariants.{BadArguments};
 
 use crate::WordsFault;
+use crate::names::SEPARATOR;
 use sale_matrix::Matrix;
+use std::alloc::Global;
 use std::str;
 use tape_types::TapeNumber;
 
@@ -63,31 +67,93 @@ fn decimal(word: &[u8]) -> Option<u64>
     str::from_utf8(word).ok()?.parse::<u64>().ok()
 }
 
+/// A port in decimal digits, 1 to 65,535.
+fn port_of(word: &[u8]) -> Result<u16, WordsFault>
+    ensures port { IfOk result (λ port. IsPort word.now port) }
+    ensures bad { IfErr result (λ fault. fault ≡ BadArguments) }
+{
+    let number = decimal(word).ok_or(WordsFault::BadArguments)?;
+    match u16::try_from(number) {
+        Ok(0) | Err(_) => Err(WordsFault::BadArguments),
+        Ok(port) => Ok(port),
+    }
+}
+
+/// Takes one port more.
+fn push_port(ports: &mut Vec<u16>, word: &[u8]) -> Result<(), WordsFault>
+    ensures { OnOk result ((port : ℕ) × IsPort word.now port × (ports.new.items ≡ ports.old.items ++ port ∷ [])) }
+{
+    let port = port_of(word)?;
+    match ports.push(port) {
+        Ok(()) => Ok(()),
+        Err(_) => Err(WordsFault::OutOfMemory),
+    }
+}
+
+/// Where the first port of some ends.
+fn end_of_port(text: &[u8]) -> Option<usize>
+    ensures { result ≡ position (is_byte COMMA) text.now }
+{
+    text.iter().position(|byte| *byte == SEPARATOR)
+}
+
+/// Judges a text as ports with single commas between them. It takes no memory.
+fn judge_ports(text: &[u8]) -> Result<(), WordsFault>
+    ensures ports { IsOk result → ListSomePorts text.now }
+    ensures bad { IfErr result (λ fault. fault ≡ BadArguments) }
+{
+    let mut rest = text;
+    while let Some(end) = end_of_port(rest) {
+        port_of(&rest[..end])?;
+        rest = &rest[end + 1..];
+    }
+    port_of(rest)?;
+    Ok(())
+}
+
+/// The ports of a text, with single commas between them.
+pub(crate) fn ports_of(alloc: Global, text: &[u8]) -> Result<Vec<u16>, WordsFault>
+    ensures { IfOk result (λ ports. ListPorts text.now ports.items) }
+{
+    let mut ports = Vec::new(alloc);
+    let mut rest = text;
+    while let Some(end) = end_of_port(rest) {
+        push_port(&mut ports, &rest[..end])?;
+        rest = &rest[end + 1..];
+    }
+    push_port(&mut ports, rest)?;
+    Ok(ports)
+}
+
 impl<'a> Words<'a> {
     /// The next argument.
     fn word(&mut self) -> Result<&'a [u8], WordsFault>
-        ensures { IfOk result (λ word. words_left self.old ≡ word.now ∷ words_left self.new) }
+        ensures word { IfOk result (λ word. words_left self.old ≡ word.now ∷ words_left self.new) }
+        ensures bad { IfErr result (λ fault. fault ≡ BadArguments) }
     {
         self.next().ok_or(WordsFault::BadArguments)
     }
 
     /// The next argument as a number up to 18,446,744,073,709,551,615.
     pub fn number(&mut self) -> Result<u64, WordsFault>
-        ensures { IfOk result (λ number. IsFirst IsNumber (words_left self.old) (words_left self.new) number) }
+        ensures number { IfOk result (λ number. IsFirst IsNumber (words_left self.old) (words_left self.new) number) }
+        ensures bad { IfErr result (λ fault. fault ≡ BadArguments) }
     {
         decimal(self.word()?).ok_or(WordsFault::BadArguments)
     }
 
     /// The next argument as a number up to 65,535.
     pub fn short(&mut self) -> Result<u16, WordsFault>
-        ensures { IfOk result (λ number. IsFirst IsNumber (words_left self.old) (words_left self.new) number) }
+        ensures number { IfOk result (λ number. IsFirst IsNumber (words_left self.old) (words_left self.new) number) }
+        ensures bad { IfErr result (λ fault. fault ≡ BadArguments) }
     {
         u16::try_from(self.number()?).map_err(|_| WordsFault::BadArguments)
     }
 
     /// The next argument as a port, 1 to 65,535.
     pub fn port(&mut self) -> Result<u16, WordsFault>
-        ensures { IfOk result (λ port. IsFirst IsPort (words_left self.old) (words_left self.new) port) }
+        ensures port { IfOk result (λ port. IsFirst IsPort (words_left self.old) (words_left self.new) port) }
+        ensures bad { IfErr result (λ fault. fault ≡ BadArguments) }
     {
         match self.short()? {
             0 => Err(WordsFault::BadArguments),
@@ -95,9 +161,20 @@ impl<'a> Words<'a> {
         }
     }
 
+    /// The next argument as a text of ports with single commas between them, one at least, which `ports_of` makes of it. It takes no memory.
+    pub fn port_list(&mut self) -> Result<&'a [u8], WordsFault>
+        ensures ports { IfOk result (λ text. (words_left self.old ≡ text.now ∷ words_left self.new) × ListSomePorts text.now) }
+        ensures bad { IfErr result (λ fault. fault ≡ BadArguments) }
+    {
+        let text = self.word()?;
+        judge_ports(text)?;
+        Ok(text)
+    }
+
     /// The next two arguments, the symbols and the participants.
     pub fn names(&mut self) -> Result<(&'a [u8], &'a [u8]), WordsFault>
-        ensures { IfOk result (λ names. words_left self.old ≡ names.0.now ∷ names.1.now ∷ words_left self.new) }
+        ensures names { IfOk result (λ names. words_left self.old ≡ names.0.now ∷ names.1.now ∷ words_left self.new) }
+        ensures bad { IfErr result (λ fault. fault ≡ BadArguments) }
     {
         Ok((self.word()?, self.word()?))
     }
@@ -111,7 +188,8 @@ impl<'a> Words<'a> {
 
     /// The next argument, if one is left, as a matrix: Matrix One where none is.
     pub fn matrix(&mut self) -> Result<Matrix, WordsFault>
-        ensures { IfOk result (λ matrix. IsMatrixOrOne (words_left self.old) (words_left self.new) matrix) }
+        ensures matrix { IfOk result (λ matrix. IsMatrixOrOne (words_left self.old) (words_left self.new) matrix) }
+        ensures bad { IfErr result (λ fault. fault ≡ BadArguments) }
     {
         match self.next() {
             None | Some(b"1") => Ok(Matrix::One),
@@ -125,6 +203,7 @@ impl<'a> Words<'a> {
     fn entries(&mut self) -> Result<u32, WordsFault>
         ensures left_out { self.old.rest.now ≡ [] → (result ≡ Ok LIMIT_LEFT_OUT) × (self.new ≡ self.old) }
         ensures read { IfOk result (λ limit. IsLimitOrLeftOut (words_left self.old) (words_left self.new) limit) }
+        ensures bad { IfErr result (λ fault. fault ≡ BadArguments) }
     {
         if self.rest.is_empty() {
             return Ok(FEED_TAPE_MOST);
@@ -140,6 +219,7 @@ impl<'a> Words<'a> {
         ensures range { IfOk result IsTapeNumber }
         ensures read { IfOk result (λ limit. IsLimitOrLeftOut (words_left self.old) [] limit) }
         ensures last { IfOk result (λ _. self.new.rest.now ≡ []) }
+        ensures bad { IfErr result (λ fault. fault ≡ BadArguments) }
     {
         let limit = self.entries()?;
         match TapeNumber::try_new(limit) {

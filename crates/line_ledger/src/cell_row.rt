@@ -4,8 +4,8 @@ ghost use Rattle.std.specs.Vec.{vec_capacity};
 ghost use Rattle.line_ledger.specs.Cells.{IsTokenOf, TokenAt, NextTokens, SeenAt, FirstSeen, NextSeen};
 ghost use Rattle.tape_types.specs.Ranges.{TAPE_MOST};
 
-use crate::Token;
 use crate::same_entry::is_same;
+use crate::{Sighting, Token};
 use once_cell::race::OnceBox;
 use seen_cells::Seen;
 use std::alloc::{AllocError, Global};
@@ -179,6 +179,26 @@ impl CellRow {
             number: token.number,
             entry: token.entry,
             seen: token.seen.again(),
+        }
+    }
+
+    /// The token of a cell that was seen to hold its entry, which is read there again. It takes no lock and never waits, and the same few
+    /// steps at each number.
+    pub(crate) fn show(&self, number: u32, sighting: &Sighting) -> Token
+        requires cell { IsTokenOf self.now sighting.now }
+        requires number { sighting.now.number ≡ number }
+        ensures { result ≡ sighting.now }
+    {
+        let cell = &self.cells[number as usize - 1];
+        let mut note = cell.note();
+        sighting.seen.tell(&mut note);
+        match cell.get_as(&mut note) {
+            Some(entry) => Token {
+                number,
+                entry: *entry,
+                seen: sighting.seen.again(),
+            },
+            None => unreachable!(),
         }
     }
 

@@ -6,7 +6,7 @@ ghost use Rattle.line_ledger.specs.Cells.{IsTokenOf};
 ghost use Rattle.line_ledger.specs.Days.{Terms};
 
 use crate::same_entry::is_same;
-use crate::{CellRow, NotOnTape, Token};
+use crate::{CellRow, NotOnTape, Sighting, Token};
 use seen_cells::Seen;
 use std::marker::{Brand, Model};
 use std::sync::ledger::Ledger;
@@ -79,6 +79,17 @@ impl Day {
             Some(entry) if is_same(entry, &token.entry()) => Ok(()),
             _ => Err(NotOnTape),
         }
+    }
+
+    /// Confirms that the day has what was seen in the cell of this number, or answers 93 NotOnTape, as `confirm` does with a token of the
+    /// cell.
+    pub fn confirm_seen(&self, number: u32, sighting: &Sighting) -> Result<(), NotOnTape>
+        requires cell { IsTokenOf self.now.names sighting.now }
+        requires number { sighting.now.number ≡ number }
+        ensures exact { IsOk result ↔ (slice_get self.now.tape.entries (sighting.now.number - 1) ≡ Some sighting.now.entry) }
+        ensures sure { sighting.now.number ≤ self.now.published → IsOk result }
+    {
+        self.confirm(&self.row.show(number, sighting))
     }
 
     /// A cell is set once, so the token shows the entry that the end saw in its cell, which is the day's.

@@ -6,7 +6,7 @@ ghost use Rattle.tape_frames.specs.Sources.{BeginsWith, IsPublished};
 ghost use Rattle.line_ledger.specs.Cells.{FirstTokens, shown};
 ghost use Rattle.line_ledger.specs.Publishing.{GoesOn};
 
-use crate::{DayName, SharedTape, Token};
+use crate::{DayName, SharedTape, Sighting};
 use scratch_fold::{Mark, Summary};
 use std::alloc::AllocError;
 use std::marker::Model;
@@ -15,11 +15,11 @@ use tape_frames::Source;
 use tape_types::TapeNumber;
 
 /// The entries that were found in a shared tape's cells, from the first on, as a source: it takes no lock, so it never waits
-/// for the lines.
+/// for the lines. It keeps what was seen, which takes no bytes, and how many entries there are, and reads an entry in its cell again.
 #[derive(Drop)]
 pub struct Published<'a, D: DayName> {
     shared: &'a SharedTape<D>,
-    tokens: Vec<Token>,
+    found: Vec<Sighting>,
     count: u32,
 }
 
@@ -31,9 +31,9 @@ impl<'a, D: DayName> Model for Published<'a, D> {
 
     ghost Value = { PublishedState };
 
-    ghost view = { λ p. record { names = p.shared.now; tokens = p.tokens.items } };
+    ghost view = { λ p. record { names = p.shared.now; tokens = p.found.items } };
 
-    ghost invariant = { λ p. (length p.tokens.items ≡ p.count) × FirstTokens p.shared.now p.tokens.items × IsPublished (shown p.tokens.items) };
+    ghost invariant = { λ p. (length p.found.items ≡ p.count) × FirstTokens p.shared.now p.found.items × IsPublished (shown p.found.items) };
 }
 
 impl<'a, D: DayName> Published<'a, D> {
@@ -44,23 +44,23 @@ impl<'a, D: DayName> Published<'a, D> {
     {
         Published {
             shared,
-            tokens: Vec::new(shared.alloc()),
+            found: Vec::new(shared.alloc()),
             count: 0,
         }
     }
 
-    /// A token for each entry, in order.
-    pub fn into_tokens(self) -> Vec<Token>
+    /// What was seen of each entry, in order.
+    pub fn into_sightings(self) -> Vec<Sighting>
         ensures tokens { result.items ≡ self.entry.tokens }
         ensures first { FirstTokens self.entry.names result.items }
         ensures published { IsPublished (shown result.items) }
     {
         let Published {
             shared: _,
-            tokens,
+            found,
             count: _,
         } = self;
-        tokens
+        found
     }
 
     /// Looks at the next cell: whether it had one entry more.
@@ -79,7 +79,7 @@ impl<'a, D: DayName> Published<'a, D> {
         if !can_follow(&token.entry(), token.number()) {
             return Ok(false);
         }
-        self.tokens.push(token)?;
+        self.found.push(token.into_sighting())?;
         self.count += 1;
         Ok(true)
     }
@@ -89,7 +89,7 @@ impl<'a, D: DayName> Published<'a, D> {
         requires { count ≤ length self.old.tokens }
         ensures { self.new ≡ record self.old { tokens = take count self.old.tokens } }
     {
-        self.tokens.truncate(count as usize);
+        self.found.truncate(count as usize);
         self.count = count;
     }
 }
@@ -171,7 +171,10 @@ impl<D: DayName> Source for Published<'_, D> {
     }
 
     fn entry(&self, number: u32) -> Option<Entry> {
-        let at = (number as usize).checked_sub(1)?;
-        Some(self.tokens.get(at)?.entry())
+        if number == 0 || self.count < number {
+            return None;
+        }
+        let seen = &self.found[number as usize - 1];
+        Some(self.shared.show(number, seen).entry())
     }
 }

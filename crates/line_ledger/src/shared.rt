@@ -13,7 +13,7 @@ ghost use Rattle.line_ledger.specs.Views.{IsShown};
 
 use crate::{
     CellRow, Day, DayName, EndFault, LineRefusal, LineSeat, Locked, OpenFault, Prepared,
-    PublishFault, Receipt, Token, Unended, View, ViewFault,
+    PublishFault, Receipt, Sighting, Token, Unended, View, ViewFault,
 };
 use reports::Message;
 use std::alloc::Global;
@@ -146,6 +146,15 @@ impl<D: DayName> SharedTape<D> {
         ensures same { result ≡ token.now }
     {
         self.row.again(token)
+    }
+
+    /// The token of a cell that was seen to hold its entry, which is read there again. It takes no lock and never waits.
+    pub fn show(&self, number: u32, sighting: &Sighting) -> Token
+        requires cell { IsTokenOf self.now sighting.now }
+        requires number { sighting.now.number ≡ number }
+        ensures same { result ≡ sighting.now }
+    {
+        self.row.show(number, sighting)
     }
 
     /// Two tokens of one number show one entry, whichever threads got them.

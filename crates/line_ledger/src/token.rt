@@ -1,6 +1,7 @@
 //! What one cell was seen to hold.
 ghost use Rattle.std.specs.Prelude.{◌≡◌};
 
+use crate::Sighting;
 use seen_cells::Seen;
 use std::marker::Model;
 use tape_core::Entry;
@@ -38,5 +39,17 @@ impl Token {
         ensures entry { result ≡ self.now.entry }
     {
         self.entry
+    }
+
+    /// That the cell was seen to hold the entry, which takes no bytes.
+    pub fn into_sighting(self) -> Sighting
+        ensures same { result ≡ self }
+    {
+        let Token {
+            number,
+            entry,
+            seen,
+        } = self;
+        Sighting::of(number, &entry, seen)
     }
 }

@@ -1,3 +1,4 @@
+pub mod Crossing
 pub mod Kept
 pub mod Least
 pub mod Rows

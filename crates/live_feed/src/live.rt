@@ -31,7 +31,7 @@ use crate::live::sender::room_for_a_packet;
 use crate::live::starting::{accept_all, prepare_day};
 use crate::report::write_day;
 use crate::{Fault, LiveSockets, Loss};
-use line_ledger::{Day, DayName, EndFault, LineSeat, Prepared, SharedTape, Token};
+use line_ledger::{Day, DayName, EndFault, LineSeat, Prepared, SharedTape, Sighting};
 use sale_matrix::Matrix;
 use std::alloc::Global;
 use std::io::Write;
@@ -62,13 +62,14 @@ fn end_day<D: DayName>(shared: SharedTape<D>, seats: Vec<LineSeat<D>>) -> Result
     }
 }
 
-/// Whether the day has what each token shows.
-fn confirms_all(day: &Day, tokens: &[Token]) -> bool
-    requires { FirstTokens day.now.names tokens.now }
-    ensures { result ≡ true → HaveAll day.now.tape.entries tokens.now }
+/// Whether the day has what was seen in each of the first so many cells.
+fn confirms_all(day: &Day, tokens: &Vec<Sighting>, many: u32) -> bool
+    requires cells { FirstTokens day.now.names tokens.now.items }
+    requires many { length tokens.now.items ≡ many }
+    ensures { result ≡ true → HaveAll day.now.tape.entries tokens.now.items }
 {
-    for token in tokens {
-        if day.confirm(token).is_err() {
+    for at in 0..many {
+        if day.confirm_seen(at + 1, &tokens[at as usize]).is_err() {
             return false;
         }
     }
@@ -77,14 +78,14 @@ fn confirms_all(day: &Day, tokens: &[Token]) -> bool
 
 /// Whether the day is what was sent of it: the number that the end told is how many entries it has and the sender had tokens
 /// of, and each of these stands on its tape. A cell is set once, so its token stands for whatever was sent or served of it.
-fn is_as_sent(day: &Day, tokens: &[Token], number: u32) -> bool
-    requires { FirstTokens day.now.names tokens.now }
-    ensures number { result ≡ true → (length tokens.now ≡ number) × (length day.now.tape.entries ≡ number) }
-    ensures tokens { result ≡ true → HaveAll day.now.tape.entries tokens.now }
+fn is_as_sent(day: &Day, tokens: &Vec<Sighting>, number: u32) -> bool
+    requires { FirstTokens day.now.names tokens.now.items }
+    ensures number { result ≡ true → (length tokens.now.items ≡ number) × (length day.now.tape.entries ≡ number) }
+    ensures tokens { result ≡ true → HaveAll day.now.tape.entries tokens.now.items }
 {
     tokens.len() == number as usize
         && day.tape().entries().len() == number as usize
-        && confirms_all(day, tokens)
+        && confirms_all(day, tokens, number)
 }
 
 /// Ends the day that was joined: the day, whose entries are those that were sent, or the fault of the least status that was met.
@@ -244,11 +245,11 @@ fn live<R: Threads + Wait + Clock + Sync, L: Loss + Sync, W: Write>(
 ///
 /// It waits for one connection of each participant, in listing order, closes the listener at which it came, and runs the lines
 /// at once. What they admit is published up to `PUBLISHED_AT_ONCE` entries at a time, and each publication is sent as one packet
-/// on lines A and B, unless `loss` drops it. The sender rests at a pace that rises while nothing is asked for again. Once the
+/// to each port of lines A and B, unless `loss` drops it on a line. The sender rests at a pace that rises while nothing is asked for again. Once the
 /// lines have ended, the end is sent three times on each, and then each second while a connection is served or awaited, unless a
-/// line or the sender met a fault. Beside that `serves`
-/// retransmission connections are served, one after the other; with 0 of them none is awaited. After all are joined the day is
-/// ended, each entry that was sent is confirmed, and the number that the end told is compared with the day's length.
+/// line or the sender met a fault. Beside that `serves` retransmission connections are served, all at once; with 0 of them none is
+/// awaited. After all are joined the day is ended, each entry that was sent is confirmed, and the number that the end told is
+/// compared with the day's length.
 ///
 /// The status is 0 only where the report was written whole and flushed. A connection whose peer misbehaves ends
 /// alone, and a packet that cannot be sent is lost. What else goes wrong is answered by the least status of all, and then
@@ -277,7 +278,8 @@ pub fn live_over<R: Threads + Wait + Clock + Sync, L: Loss + Sync, W: Write>(
         lines,
         retransmission,
         sender,
-        ports,
+        a,
+        b,
     } = sockets;
     let Ok(handle) = retransmission.try_clone() else {
         return Fault::Read.status();
@@ -288,7 +290,8 @@ pub fn live_over<R: Threads + Wait + Clock + Sync, L: Loss + Sync, W: Write>(
         sender: &sender,
         retransmission: &retransmission,
         closing: &closing,
-        ports,
+        a: &a,
+        b: &b,
         loss,
         session,
         serves,

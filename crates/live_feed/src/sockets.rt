@@ -11,8 +11,10 @@ pub struct LiveSockets {
     pub retransmission: TcpListener,
     /// The socket from which the packets of both lines are sent.
     pub sender: UdpSocket,
-    /// The ports of lines A and B, on this machine.
-    pub ports: [u16; 2],
+    /// The ports that line A is sent to, on this machine: one for each follower.
+    pub a: Vec<u16>,
+    /// The same of line B.
+    pub b: Vec<u16>,
 }
 
 /// The open sockets of a follower, and the port at which it asks.

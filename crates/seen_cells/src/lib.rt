@@ -47,6 +47,13 @@ impl<T> Seen<T> {
         }
     }
 
+    /// Tells a note of the same cell what is known. A read of the cell by this note then finds it: a cell that was seen to be set is
+    /// never seen empty.
+    pub fn tell(&self, note: &mut Note<T>)
+        requires { note.old.cell ≡ self.now.cell }
+        ensures told { (note.new.cell ≡ note.old.cell) × (note.new.known ≡ self.now.known) }
+    {}
+
     /// A cell is set once: where both know what one cell holds, they know the same value.
     pub fn agrees(&self, other: &Seen<T>)
         requires { other.now.cell ≡ self.now.cell }

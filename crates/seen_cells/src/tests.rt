@@ -16,6 +16,16 @@ fn seen(cell: &OnceBox<u32>) -> Option<(u32, Seen<u32>)>
     Some((value, Seen::of(&mut note)))
 }
 
+/// What a note of the same cell finds that was told of this.
+fn found_by_one_that_was_told(cell: &OnceBox<u32>, one: &Seen<u32>) -> Option<u32>
+    requires { one.now.cell ≡ cell_name cell.now }
+    ensures { IfSome one.now.known (λ value. result ≡ Some value) }
+{
+    let mut note = cell.note();
+    one.tell(&mut note);
+    cell.get_as(&mut note).copied()
+}
+
 /// Copies of the fact, made in two threads at once: that this compiles is the test.
 fn found_twice<R: Threads + Sync>(rt: &R, one: &Seen<u32>) -> (Seen<u32>, Seen<u32>) {
     join(rt, || one.again(), || one.again())
@@ -29,6 +39,7 @@ fn what_was_seen_is_seen_again(rt: HostRuntime) -> Result<(), Fail> {
     let (value, one) = seen(&cell).ok_or("a value")?;
     let (same, other) = seen(&cell).ok_or("a value")?;
     one.agrees(&other);
+    assert_eq!(rt; found_by_one_that_was_told(&cell, &one), Some(7));
     let (_, _) = found_twice(&rt, &one);
     assert_eq!(rt; (value, same), (7, 7));
     Ok(())

@@ -35,6 +35,14 @@ fn open_lines<T: Net<Listener = TcpListener, Stream = TcpStream>>(
     Ok(lines)
 }
 
+/// The same ports.
+fn copy_of(alloc: Global, ports: &[u16]) -> Result<Vec<u16>, Fault> {
+    match Vec::from_slice(alloc, ports) {
+        Ok(ports) => Ok(ports),
+        Err(_) => Err(Fault::Memory),
+    }
+}
+
 /// Opens the sockets of `live`.
 fn open_live<T: Net<Listener = TcpListener, Stream = TcpStream>>(
     rt: &T,
@@ -42,6 +50,8 @@ fn open_live<T: Net<Listener = TcpListener, Stream = TcpStream>>(
     words: &LiveWords,
 ) -> Result<LiveSockets, Fault> {
     let lines = open_lines(rt, alloc, words)?;
+    let a = copy_of(alloc, &words.a)?;
+    let b = copy_of(alloc, &words.b)?;
     let retransmission = TcpListener::bind(rt, here(words.retransmission));
     let sender = UdpSocket::bind(rt, here(0));
     let (Ok(retransmission), Ok(sender)) = (retransmission, sender) else {
@@ -51,7 +61,8 @@ fn open_live<T: Net<Listener = TcpListener, Stream = TcpStream>>(
         lines,
         retransmission,
         sender,
-        ports: words.ports,
+        a,
+        b,
     })
 }
 

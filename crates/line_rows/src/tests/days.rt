@@ -2,7 +2,7 @@
 ghost use Rattle.std.specs.Prelude.{◌≡◌, IfSome};
 ghost use Rattle.line_ledger.specs.Cells.{FirstTokens};
 
-use line_ledger::{Day, DayName, EndFault, LineSeat, Prepared, SharedTape, Token, prepare};
+use line_ledger::{Day, DayName, EndFault, LineSeat, Prepared, SharedTape, Sighting, prepare};
 use sale_matrix::Matrix;
 use std::alloc::Global;
 use std::process::Abort;
@@ -89,16 +89,18 @@ pub(super) fn ended_day<D: DayName, A: Abort>(
     }
 }
 
-/// How many entries an ended day has, how many its end found published, and how many tokens it confirms.
+/// How many entries an ended day has, how many its end found published, and how many that were seen it confirms.
 pub(super) type Confirmed = (usize, u32, usize);
 
 /// What the day confirms.
-pub(super) fn confirmed(day: &Day, tokens: &[Token]) -> Confirmed
-    requires { FirstTokens day.now.names tokens.now }
+pub(super) fn confirmed(day: &Day, tokens: &Vec<Sighting>) -> Confirmed
+    requires { FirstTokens day.now.names tokens.now.items }
 {
     let mut many: usize = 0;
-    for token in tokens {
-        if day.confirm(token).is_ok() {
+    // There are no more than a tape has entries.
+    let count = u32::try_from(tokens.len()).unwrap_or(0);
+    for at in 0..count {
+        if day.confirm_seen(at + 1, &tokens[at as usize]).is_ok() {
             many = many.saturating_add(1);
         }
     }
@@ -110,9 +112,9 @@ pub(super) fn confirmed_at_end<D: DayName, A: Abort>(
     rt: &A,
     shared: SharedTape<D>,
     seats: Vec<LineSeat<D>>,
-    tokens: &[Token],
+    tokens: &Vec<Sighting>,
 ) -> Option<Confirmed>
-    requires { FirstTokens shared tokens.now }
+    requires { FirstTokens shared tokens.now.items }
 {
     let day = ended_day(rt, shared, seats)?;
     Some(confirmed(&day, tokens))

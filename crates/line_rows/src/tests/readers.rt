@@ -5,7 +5,7 @@ ghost use Rattle.line_ledger.specs.Days.{terms_of};
 
 use super::days::{Confirmed, TURNS, confirmed, day_of_two, ended_day};
 use super::sending::send_all;
-use line_ledger::{DayName, LineSeat, Prepared, Published, SharedTape, Token};
+use line_ledger::{DayName, LineSeat, Prepared, Published, SharedTape, Sighting};
 use std::alloc::Global;
 use std::marker::Brand;
 use std::process::Abort;
@@ -52,7 +52,7 @@ impl Gate for Readers {
 }
 
 /// Looks for what is published, again and again until that is all that the lines send, and answers a token for each entry.
-fn read_all<D: DayName>(shared: &SharedTape<D>, readers: &Readers) -> Vec<Token>
+fn read_all<D: DayName>(shared: &SharedTape<D>, readers: &Readers) -> Vec<Sighting>
     ensures { FirstTokens shared.now result.items }
 {
     let mut published = Published::new(shared);
@@ -65,7 +65,7 @@ fn read_all<D: DayName>(shared: &SharedTape<D>, readers: &Readers) -> Vec<Token>
         readers.note(before, published.published());
         thread::yield_now();
     }
-    published.into_tokens()
+    published.into_sightings()
 }
 
 /// What two readers found.
@@ -73,15 +73,15 @@ fn read_twice<D: DayName + Send + Sync, T: Threads + Sync>(
     rt: &T,
     shared: &SharedTape<D>,
     readers: &Readers,
-) -> (Vec<Token>, Vec<Token>)
+) -> (Vec<Sighting>, Vec<Sighting>)
     ensures { FirstTokens shared.now result.0.items × FirstTokens shared.now result.1.items }
 {
     join(
         rt,
-        || -> Vec<Token>
+        || -> Vec<Sighting>
             ensures { FirstTokens shared.entry.now result.items }
         { read_all(shared, readers) },
-        || -> Vec<Token>
+        || -> Vec<Sighting>
             ensures { FirstTokens shared.entry.now result.items }
         { read_all(shared, readers) },
     )
@@ -93,13 +93,13 @@ fn read_while_sent<D: DayName + Send + Sync, T: Threads + Wait + Sync>(
     shared: &SharedTape<D>,
     seats: &mut Vec<LineSeat<D>>,
     readers: &Readers,
-) -> (Vec<Token>, Vec<Token>)
+) -> (Vec<Sighting>, Vec<Sighting>)
     ensures { FirstTokens shared.now result.0.items × FirstTokens shared.now result.1.items }
 {
     let ((), tokens) = join(
         rt,
         || send_all(rt, shared, seats, &[MANY, MANY], 64, readers),
-        || -> (Vec<Token>, Vec<Token>)
+        || -> (Vec<Sighting>, Vec<Sighting>)
             ensures { FirstTokens shared.entry.now result.0.items × FirstTokens shared.entry.now result.1.items }
         { read_twice(rt, shared, readers) },
     );
@@ -111,11 +111,11 @@ fn both_confirmed<D: DayName, A: Abort>(
     rt: &A,
     shared: SharedTape<D>,
     seats: Vec<LineSeat<D>>,
-    one: &[Token],
-    other: &[Token],
+    one: &Vec<Sighting>,
+    other: &Vec<Sighting>,
 ) -> Option<(Confirmed, Confirmed)>
-    requires one { FirstTokens shared one.now }
-    requires other { FirstTokens shared other.now }
+    requires one { FirstTokens shared one.now.items }
+    requires other { FirstTokens shared other.now.items }
 {
     let day = ended_day(rt, shared, seats)?;
     Some((confirmed(&day, one), confirmed(&day, other)))
@@ -135,7 +135,7 @@ fn read_day<D: DayName + Send + Sync, T: Threads + Wait + Abort + Sync>(
         return None;
     };
     let (one, other) = read_while_sent(rt, &shared, &mut seats, readers);
-    both_confirmed(rt, shared, seats, one.as_slice(), other.as_slice())
+    both_confirmed(rt, shared, seats, &one, &other)
 }
 
 fn read_prepared<T: Threads + Wait + Abort + Sync>(

@@ -8,7 +8,7 @@ use super::days::{Confirmed, confirmed, ended_day};
 use super::lines::{LineFigures, run_inputs};
 use super::shared_days::put;
 use super::together::Meeting;
-use line_ledger::{Day, DayName, LineSeat, Prepared, Published, SharedTape, Token, prepare};
+use line_ledger::{Day, DayName, LineSeat, Prepared, Published, SharedTape, Sighting, prepare};
 use participant_lines::Ended;
 use reports::{Content, Header, Message, Moment};
 use sale_matrix::{Condition, Matrix};
@@ -283,7 +283,7 @@ fn found<D: DayName, W: Wait>(
     rt: &W,
     shared: &SharedTape<D>,
     seats: &[LineSeat<D>],
-) -> (Found, Vec<Token>)
+) -> (Found, Vec<Sighting>)
     ensures { FirstTokens shared.now result.1.items }
 {
     let shown = shown(rt, shared, seats);
@@ -293,7 +293,10 @@ fn found<D: DayName, W: Wait>(
     let many = published.published();
     let last = shared.look(ENTRIES).is_some();
     let is_beyond = shared.look(ENTRIES + 1).is_some();
-    ((shown, set, many, last, is_beyond), published.into_tokens())
+    (
+        (shown, set, many, last, is_beyond),
+        published.into_sightings(),
+    )
 }
 
 /// The ended day, and what it confirms.
@@ -301,9 +304,9 @@ fn confirmed_day<D: DayName, A: Abort>(
     rt: &A,
     shared: SharedTape<D>,
     seats: Vec<LineSeat<D>>,
-    tokens: &[Token],
+    tokens: &Vec<Sighting>,
 ) -> Option<(Day, Confirmed)>
-    requires { FirstTokens shared tokens.now }
+    requires { FirstTokens shared tokens.now.items }
 {
     let day = ended_day(rt, shared, seats)?;
     let confirmed = confirmed(&day, tokens);
@@ -330,7 +333,7 @@ fn lines_of_a_day<D: DayName + Send + Sync, T: Threads + Wait + Abort + Sync>(
     };
     let (seats, figures) = run_inputs(rt, alloc, &shared, seats, inputs, meeting);
     let (found, tokens) = found(rt, &shared, seats.as_slice());
-    let ended = confirmed_day(rt, shared, seats, tokens.as_slice());
+    let ended = confirmed_day(rt, shared, seats, &tokens);
     Some((found, figures.zip(ended)))
 }
 

@@ -8,7 +8,8 @@ use super::days::{Confirmed, confirmed_at_end};
 use super::sending::send_all;
 use super::shared_days::{Sent, message, prepared_of};
 use line_ledger::{
-    CellRow, DayName, LineSeat, Locked, Prepared, PublishFault, Published, SharedTape, Token,
+    CellRow, DayName, LineSeat, Locked, Prepared, PublishFault, Published, SharedTape, Sighting,
+    Token,
 };
 use sale_matrix::Matrix;
 use std::alloc::Global;
@@ -33,7 +34,7 @@ type SetIn = Result<usize, PublishFault>;
 fn publications<D: DayName, R: Wait>(
     rt: &R,
     shared: &SharedTape<D>,
-) -> (Set, (u32, u32), Vec<Token>)
+) -> (Set, (u32, u32), Vec<Sighting>)
     ensures { FirstTokens shared.now result.2.items }
 {
     let mut published = Published::new(shared);
@@ -43,7 +44,7 @@ fn publications<D: DayName, R: Wait>(
     let set = (first, shared.publish(rt, 64), shared.publish(rt, 64));
     let _ = published.refresh();
     let all = published.published();
-    (set, (found, all), published.into_tokens())
+    (set, (found, all), published.into_sightings())
 }
 
 /// The numbers of the cells that show an entry, each with one more, so that a cell of number 0 would be seen, added up. The
@@ -130,7 +131,7 @@ fn five_published<D: DayName + Send + Sync, R: Threads + Wait + Abort + Sync>(
     let (set, found, tokens) = publications(rt, &shared);
     let shown = numbers_shown(&shared);
     let is_same = is_found_twice(rt, &shared);
-    let confirmed = confirmed_at_end(rt, shared, seats, tokens.as_slice());
+    let confirmed = confirmed_at_end(rt, shared, seats, &tokens);
     Some((set, found, shown, is_same, confirmed))
 }
 

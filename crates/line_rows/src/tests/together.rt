@@ -8,7 +8,8 @@ use super::days::{
 };
 use super::lines::{LineFigures, day_of_lines, run_inputs, seats_taken_back};
 use line_ledger::{
-    Day, DayName, EndFault, LineSeat, Prepared, PublishFault, Published, SharedTape, Token, Unended,
+    Day, DayName, EndFault, LineSeat, Prepared, PublishFault, Published, SharedTape, Sighting,
+    Unended,
 };
 use participant_lines::Ended;
 use std::alloc::Global;
@@ -142,7 +143,10 @@ fn views<D: DayName, W: Wait>(
 }
 
 /// What is published, and a token for each entry that was found.
-fn publications<D: DayName, W: Wait>(rt: &W, shared: &SharedTape<D>) -> (Publications, Vec<Token>)
+fn publications<D: DayName, W: Wait>(
+    rt: &W,
+    shared: &SharedTape<D>,
+) -> (Publications, Vec<Sighting>)
     ensures { FirstTokens shared.now result.1.items }
 {
     let set = [shared.publish(rt, 64), shared.publish(rt, 64)];
@@ -150,7 +154,7 @@ fn publications<D: DayName, W: Wait>(rt: &W, shared: &SharedTape<D>) -> (Publica
     let _ = published.refresh();
     let found = published.published();
     let is_beyond = shared.look(6).is_some();
-    ((set, found, is_beyond), published.into_tokens())
+    ((set, found, is_beyond), published.into_sightings())
 }
 
 /// The number of an end's fault, 0 for none.
@@ -185,9 +189,9 @@ fn late_end<D: DayName, A: Abort>(
     rt: &A,
     shared: SharedTape<D>,
     seats: Vec<LineSeat<D>>,
-    tokens: &[Token],
+    tokens: &Vec<Sighting>,
 ) -> (u8, Option<Confirmed>)
-    requires { FirstTokens shared tokens.now }
+    requires { FirstTokens shared tokens.now.items }
 {
     let mut seats = seats;
     let Some(last) = seats.pop() else {
@@ -219,7 +223,7 @@ fn two_lines<D: DayName + Send + Sync, T: Threads + Wait + Abort + Sync>(
     let seats = seats_taken_back(rt, alloc, seats);
     let shown = views(rt, &shared, seats.as_slice());
     let (published, tokens) = publications(rt, &shared);
-    let (code, confirmed) = late_end(rt, shared, seats, tokens.as_slice());
+    let (code, confirmed) = late_end(rt, shared, seats, &tokens);
     Some((counts, shown, published, code, confirmed))
 }
 

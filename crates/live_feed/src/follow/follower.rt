@@ -352,6 +352,13 @@ impl<N: HeldName, S: EntrySink> Follower<N, S> {
         }
     }
 
+    /// Whether the run goes on, with the subscriber that it has.
+    pub(crate) fn goes_on(&self) -> bool
+        ensures { IsTrue result ↔ ((self.now.has_restarted ≡ false) × (self.now.over ≡ None)) }
+    {
+        !self.has_restarted && self.over.is_none()
+    }
+
     /// Takes note that the new subscriber has its connection, or ends the run by the fault that kept it from it.
     pub(crate) fn connected(&mut self, connected: Result<(), Fault>)
         ensures connected { self.new.has_restarted ≡ false }

@@ -1,5 +1,5 @@
 //! What asks for what a follower lacks, beside its lines.
-ghost use Rattle.std.specs.Prelude.{◌≡◌, ◌≢◌};
+ghost use Rattle.std.specs.Prelude.{◌≡◌, ◌≢◌, ◌↔◌, ◌⊎◌, Err, IsTrue};
 ghost use Rattle.live_feed.specs.declared.fault.Fault.TheVariants.{Disagrees, Memory, Read, Write};
 ghost use Rattle.retransmit.specs.declared.ask_fault.AskFault.TheVariants.{OutOfMemory as AskOutOfMemory, ReadFault, WriteFault};
 
@@ -30,6 +30,8 @@ pub(crate) struct Requester {
     pub(crate) port: u16,
     /// Where memory comes from.
     pub(crate) alloc: Global,
+    /// Whether a request was answered on this connection.
+    has_answered: bool,
 }
 
 /// Connects to the retransmission at a port of this machine.
@@ -60,6 +62,13 @@ fn fault_of_ask(fault: AskFault) -> Fault
     }
 }
 
+/// Whether a connection has ended on which a request brought this: it could not be read or written.
+fn has_ended(brought: &Result<Vec<Vec<u8>>, Fault>) -> bool
+    ensures { IsTrue result ↔ ((brought.now ≡ Err Read) ⊎ (brought.now ≡ Err Write)) }
+{
+    matches!(brought, Err(Fault::Read | Fault::Write))
+}
+
 impl Requester {
     /// One that is connected.
     pub(crate) fn new<R: Net<Listener = TcpListener, Stream = TcpStream>>(
@@ -72,6 +81,7 @@ impl Requester {
             connection,
             port,
             alloc,
+            has_answered: false,
         })
     }
 
@@ -117,10 +127,48 @@ impl Requester {
         match dial(rt, self.port) {
             Ok(connection) => {
                 self.connection = connection;
+                self.has_answered = false;
                 run.connected(rt, self.handle());
             }
             Err(fault) => run.connected(rt, Err(fault)),
         }
+    }
+
+    /// Connects anew after a connection that has ended, and tells whether that could be done.
+    fn connect_again<
+        N: HeldName,
+        S: EntrySink,
+        R: Net<Listener = TcpListener, Stream = TcpStream> + Wait,
+    >(&mut self, rt: &R, run: &Run<'_, N, S>) -> bool {
+        let Ok(connection) = dial(rt, self.port) else {
+            return false;
+        };
+        let Ok(handle) = connection.try_clone() else {
+            return false;
+        };
+        self.connection = connection;
+        self.has_answered = false;
+        run.replace_connection(rt, handle);
+        true
+    }
+
+    /// Asks for what is missing. Where the connection has ended after a request was answered on it, the follower connects anew, and then
+    /// looks again at what is missing. So at most one connection is opened for each request that was answered. Where it cannot connect, or
+    /// nothing was answered, the run ends by the fault of the connection that has ended.
+    fn ask_for<
+        N: HeldName,
+        S: EntrySink,
+        R: Net<Listener = TcpListener, Stream = TcpStream> + Wait,
+    >(&mut self, rt: &R, run: &Run<'_, N, S>, request: &Request) {
+        let brought = self.bring(request);
+        let is_lost = self.has_answered && has_ended(&brought);
+        if is_lost && run.goes_on(rt) && self.connect_again(rt, run) {
+            return;
+        }
+        if brought.is_ok() {
+            self.has_answered = true;
+        }
+        run.answer(rt, request, brought);
     }
 
     /// Asks for what is missing until the run is over, and sleeps while nothing is missing. What one line lost is waited for
@@ -142,10 +190,7 @@ impl Requester {
                     run.rest(rt, Duration::from_millis(TURN));
                     run.waited(rt, number);
                 }
-                Next::Ask(request) => {
-                    let brought = requester.bring(&request);
-                    run.answer(rt, &request, brought);
-                }
+                Next::Ask(request) => requester.ask_for(rt, run, &request),
                 Next::Connect => requester.reconnect(rt, run),
                 Next::End => break,
             }

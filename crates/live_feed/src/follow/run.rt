@@ -222,7 +222,7 @@ impl<'a, N: HeldName, S: EntrySink> Run<'a, N, S> {
     pub(crate) fn connected<R: Wait>(&self, rt: &R, connected: Result<TcpStream, Fault>) {
         let connected = match connected {
             Ok(connection) => {
-                *self.connection.lock(rt) = connection;
+                self.replace_connection(rt, connection);
                 Ok(())
             }
             Err(fault) => Err(fault),
@@ -230,6 +230,19 @@ impl<'a, N: HeldName, S: EntrySink> Run<'a, N, S> {
         let mut turn = self.shared.turn(rt);
         turn.follower.connected(connected);
         self.work_off(rt, turn.end());
+    }
+
+    /// Takes another handle of the connection that replaces the requester's.
+    pub(crate) fn replace_connection<R: Wait>(&self, rt: &R, connection: TcpStream) {
+        *self.connection.lock(rt) = connection;
+    }
+
+    /// Whether the run goes on, with the subscriber that it has.
+    pub(crate) fn goes_on<R: Wait>(&self, rt: &R) -> bool {
+        let turn = self.shared.turn(rt);
+        let goes_on = turn.follower.goes_on();
+        self.work_off(rt, turn.end());
+        goes_on
     }
 
     /// Ends the run by a fault, unless it is over.

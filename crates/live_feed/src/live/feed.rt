@@ -12,8 +12,10 @@ pub(crate) struct Feed<'a, L> {
     pub(crate) retransmission: &'a TcpListener,
     /// Another handle of that listener, by which it is shut down.
     pub(crate) closing: &'a TcpStream,
-    /// The ports of lines A and B.
-    pub(crate) ports: [u16; 2],
+    /// The ports that line A is sent to.
+    pub(crate) a: &'a [u16],
+    /// The ports that line B is sent to.
+    pub(crate) b: &'a [u16],
     /// Which data packets are lost.
     pub(crate) loss: &'a L,
     /// The session of the day.

@@ -110,7 +110,7 @@ pub(crate) fn run_together<
     ensures whos { whos result.ran.seats.items ≡ map (λ l. l.0.who) waiting.lines.items }
     ensures first { FirstTokens shared.now result.sent.tokens.items }
 {
-    let serving = Serving::new();
+    let serving = Serving::new(feed.alloc);
     let mut waiting = Some(waiting);
     let (served, both) = join_mut(
         rt,

@@ -18,7 +18,7 @@ use crate::live::request_flag::RequestFlag;
 use crate::live::serving::Serving;
 use crate::{Fault, Loss, here};
 use arbitration::Line;
-use line_ledger::{DayName, PublishFault, Published, SharedTape, Token};
+use line_ledger::{DayName, PublishFault, Published, SharedTape, Sighting};
 use std::alloc::Global;
 use std::rt::Clock;
 use std::sync::Wait;
@@ -39,8 +39,8 @@ const PAUSE_BEFORE_LATER_END: u64 = 1_000;
 /// The outcome of the sender.
 #[derive(Drop)]
 pub(crate) struct Sent {
-    /// A token of each entry that it found published, in order. What it sent was cut from these entries.
-    pub(crate) tokens: Vec<Token>,
+    /// What was seen of each entry that it found published, in order. What it sent was cut from these entries.
+    pub(crate) tokens: Vec<Sighting>,
     /// The number of the last entry that was sent, which the end tells.
     pub(crate) number: u32,
     /// Why it did not go on to the last entry, or sent no end: its own fault, or one that the lines met.
@@ -84,15 +84,17 @@ pub(crate) fn room_for_a_packet(alloc: Global) -> Result<Vec<u8>, Fault> {
     }
 }
 
-/// Sends bytes to a line's port. A failed send is a lost packet.
-fn send<L>(feed: &Feed<'_, L>, port: u16, bytes: &[u8]) {
-    let _ = feed.sender.send_to(bytes, here(port));
+/// Sends bytes to each port of a line. A failed send is a lost packet.
+fn send<L>(feed: &Feed<'_, L>, ports: &[u16], bytes: &[u8]) {
+    for port in ports {
+        let _ = feed.sender.send_to(bytes, here(*port));
+    }
 }
 
-/// Sends bytes to both ports. No line loses them before.
+/// Sends bytes to the ports of both lines. No line loses them before.
 fn send_to_both<L>(feed: &Feed<'_, L>, bytes: &[u8]) {
-    send(feed, feed.ports[0], bytes);
-    send(feed, feed.ports[1], bytes);
+    send(feed, feed.a, bytes);
+    send(feed, feed.b, bytes);
 }
 
 /// Makes the text that of a packet, whatever it was before.
@@ -127,9 +129,9 @@ fn send_data<D: DayName, L: Loss>(
 {
     // For the proof alone: only clauses speak of it.
     let _ = published;
-    for (line, port) in [(Line::A, feed.ports[0]), (Line::B, feed.ports[1])] {
+    for (line, ports) in [(Line::A, feed.a), (Line::B, feed.b)] {
         if !feed.loss.drops(line, from) {
-            send(feed, port, bytes);
+            send(feed, ports, bytes);
         }
     }
 }
@@ -308,7 +310,7 @@ pub(crate) fn send_entries<D: DayName, R: Wait + Clock, L: Loss>(
         serving.give_up(rt, feed.closing);
     }
     Sent {
-        tokens: published.into_tokens(),
+        tokens: published.into_sightings(),
         number,
         fault,
     }

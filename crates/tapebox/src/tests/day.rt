@@ -251,12 +251,19 @@ pub fn open_all<R: Abort + Net<Listener = TcpListener, Stream = TcpStream>>(
     let (b, at_b) = open(rt);
     let (sender, _) = open(rt);
     let (retransmission, asked_at) = listen(rt);
+    let (Ok(to_a), Ok(to_b)) = (
+        Vec::from_slice(alloc, &[at_a]),
+        Vec::from_slice(alloc, &[at_b]),
+    ) else {
+        panic!(rt; "no room for the ports")
+    };
     Opened {
         live: LiveSockets {
             lines,
             retransmission,
             sender,
-            ports: [at_a, at_b],
+            a: to_a,
+            b: to_b,
         },
         follow: FollowSockets {
             a,

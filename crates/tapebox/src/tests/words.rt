@@ -21,9 +21,18 @@ fn listed(listing: &Listing) -> [usize; 2] {
     ]
 }
 
+/// The port of a line that is sent to one port alone.
+fn only_port(ports: &[u16]) -> u16 {
+    match ports {
+        [port] => *port,
+        _ => 0,
+    }
+}
+
 /// How many names are listed, and the numbers in the order of the arguments.
 fn numbers_of_live(live: &LiveWords) -> ([usize; 2], [u16; 5], u64) {
-    let [a, b] = live.ports;
+    let a = only_port(&live.a);
+    let b = only_port(&live.b);
     let numbers = [live.first_port, a, b, live.retransmission, live.serves];
     (listed(&live.listing), numbers, live.session)
 }
@@ -71,6 +80,23 @@ fn the_greatest_numbers_are_taken(rt: HostRuntime) {
     let follow = b"follow\0AB\0N\065535\01\065535\018446744073709551615\0";
     let wanted = Some(([1, 1], [65_535, 1, 65_535], u64::MAX));
     assert!(rt; follow_numbers(rt.alloc(), follow) == wanted);
+}
+
+/// Whether arguments are those of `live`, with these ports of line A and of line B.
+fn has_ports(alloc: Global, words: &[u8], a: &[u16], b: &[u16]) -> bool {
+    match read_command(alloc, words) {
+        Ok(Command::Live(live)) => live.a.as_slice() == a && live.b.as_slice() == b,
+        _ => false,
+    }
+}
+
+#[test]
+fn a_line_is_sent_to_each_of_its_ports(rt: HostRuntime) {
+    let live = b"live\0AB\0N\09000\09101,9111\09102,9112,9122\09203\05\077\0";
+    assert!(rt; has_ports(rt.alloc(), live, &[9101, 9111], &[9102, 9112, 9122]));
+    // One port may stand twice, and in both lines.
+    let live = b"live\0AB\0N\09000\09101,9101\09101\09203\05\077\0";
+    assert!(rt; has_ports(rt.alloc(), live, &[9101, 9101], &[9101]));
 }
 
 #[test]

@@ -1,18 +1,13 @@
-use Rattle.std.proofs.Common.{arith, ◌≡◌, ◌≤◌, ℕ, List, length, Option, Some, None, IfSome, refl, ap, subst, sym, ◌∙◌}
-use Rattle.line_ledger.specs.Cells.{FirstTokens, HaveAll, TokenState}
+use Rattle.std.proofs.Common.{arith, ◌≡◌, ◌≤◌, Option, Some, None, IfSome, refl, subst, sym, ◌∙◌}
+use Rattle.line_ledger.specs.Cells.{FirstTokens, HaveAll}
 use Rattle.live_feed.specs.Faults.{NoneBefore, fault_status}
 use Rattle.live_feed.specs.declared.fault.Fault.{Fault}
 use Rattle.live_feed.proofs.Sendings.{shown_all}
 use Rattle.live_feed.proofs.live.finish_day.Goals as goal
 
 -- the tokens of the shared tape's cells are those of the day's
-of_day : (cells names : List ℕ) (found tokens : List TokenState) → FirstTokens cells found → names ≡ cells → tokens ≡ found → FirstTokens names tokens
-of_day cells names found tokens first same lent =
-    subst (λ n. FirstTokens n tokens) (sym same) (subst (λ t. FirstTokens cells t) (sym lent) first)
-
 pub is_as_sent-requires : goal.is_as_sent-requires
-is_as_sent-requires g c =
-    of_day _ c.in_ok-day.day.names _ c.deref.result.now c.requires.tokens c.in_ok-day.ensures.cells c.deref.ensures.value
+is_as_sent-requires g c = subst (λ names. FirstTokens names c.args.joined.sent.tokens.items) (sym c.in_ok-day.ensures.cells) c.requires.tokens
 
 -- nothing of two is before their least
 least_of_one : (fault : Fault) (least met : Option Fault) → least ≡ Some fault
@@ -42,7 +37,5 @@ returns-clause-sent g c =
     let entries = c.in_ok-day.day.tape.entries in
     let tokens = c.args.joined.sent.tokens.items in
     let many = c.is_as_sent.ensures.number c.if-not-is_as_sent.false in
-    let has : HaveAll entries tokens =
-    subst (λ (ts : List TokenState). HaveAll entries ts) c.deref.ensures.value (c.is_as_sent.ensures.tokens c.if-not-is_as_sent.false) in
-    let lent : length tokens ≡ length c.deref.result.now = ap length (sym c.deref.ensures.value) in
-    shown_all _ tokens entries c.requires.tokens has (lent ∙ many.0 ∙ sym many.1)
+    let has : HaveAll entries tokens = c.is_as_sent.ensures.tokens c.if-not-is_as_sent.false in
+    shown_all _ tokens entries c.requires.tokens has (many.0 ∙ sym many.1)

@@ -1,15 +1,17 @@
-use Rattle.std.proofs.Common.{rules, ◌≡◌, ◌+◌, ◌++◌, [], ◌∷◌, ℕ, length, subst, arith}
+use Rattle.std.proofs.Common.{rules, ◌≡◌, ◌+◌, ◌++◌, [], ◌∷◌, ℕ, length, subst, ap, ◌∙◌, arith}
 use Rattle.tape_core.specs.declared.entry.Entry.{Entry}
 use Rattle.tape_frames.specs.EntryRows.{Carries, HasNoLaterPlaces}
+use Rattle.line_ledger.specs.Cells.{TokenState}
 use Rattle.line_ledger.proofs.Pushes.{first_push, published_push}
 use Rattle.line_ledger.proofs.published.Published.look_on.Goals as goal
 
 -- one token more, whose entry follows
 pub invariant_of-self-2 : goal.invariant_of-self-2
 invariant_of-self-2 g c =
-    let found = c.self.inside.tokens.items in
+    let found = c.self.inside.found.items in
     let token = c.in-Some.token in
-    let pushed : c.push.new.self.items ≡ found ++ token ∷ [] = c.in_ok-push.ensures.items in
+    let pushed : c.push.new.self.items ≡ found ++ token ∷ [] =
+    c.in_ok-push.ensures.items ∙ ap (λ (t : TokenState). found ++ t ∷ []) c.into_sighting.ensures.same in
     let number : token.number ≡ length found + 1 = omega (arith, c.self.invariant.0, c.in-Some.ensures.token.0) in
     let numbered : (c.entry.result.number ≡ token.number) × Carries c.entry.result × HasNoLaterPlaces c.entry.result =
     subst (λ (n : ℕ). (c.entry.result.number ≡ n) × Carries c.entry.result × HasNoLaterPlaces c.entry.result) c.number.ensures.number

@@ -3,4 +3,4 @@ use Rattle.line_ledger.specs.Cells.{FirstTokens}
 use Rattle.line_rows.proofs.tests.days.confirmed_at_end.Goals as goal
 
 pub confirmed-requires : goal.confirmed-requires
-confirmed-requires g c = subst (λ names. FirstTokens names c.args.tokens.now) (sym c.in_ok-day.ensures) c.requires
+confirmed-requires g c = subst (λ names. FirstTokens names c.args.tokens.now.items) (sym c.in_ok-day.ensures) c.requires

@@ -1,0 +1,66 @@
+-- The day that judged arguments name.
+use Rattle.std.proofs.Common.{◌≡◌, ◌∷◌, [], ℕ, List, Result, Ok, Err, None, refl}
+use Rattle.std.specs.Result.{result_err}
+use Rattle.sale_matrix.specs.declared.matrix.Matrix.{Matrix}
+use Rattle.tape_types.specs.Names.{Names}
+use Rattle.batch.specs.Header.{names_listing}
+use Rattle.feed_words.specs.Days.{LiveDay, NameLive}
+use Rattle.feed_words.specs.Listings.{COMMA}
+use Rattle.feed_words.specs.Values.{IsLimitOrLeftOut, IsMatrixOrOne, IsNumber, IsPort, ListSomePorts}
+use Rattle.feed_words.specs.Words.{IsFirst}
+
+-- what is no error is there
+pub found : {A E : Type 0} (result : Result A E) → result_err result ≡ None → (value : A) × (result ≡ Ok value)
+found (Ok value) none = (value, refl)
+found (Err error) none = absurd (cc none)
+
+-- each argument is judged, so they name a day
+pub day_named : (words behind_names behind_first_port behind_a behind_b behind_ports behind_serves behind_session behind_matrix : List (List ℕ))
+    (symbols participants a b : List ℕ) (first_port retransmission serves session : ℕ) (matrix : Matrix) (limit : ℕ)
+    → words ≡ symbols ∷ participants ∷ behind_names
+    → IsFirst IsPort behind_names behind_first_port first_port
+    → (behind_first_port ≡ a ∷ behind_a) × ListSomePorts a
+    → (behind_a ≡ b ∷ behind_b) × ListSomePorts b
+    → IsFirst IsPort behind_b behind_ports retransmission
+    → IsFirst IsNumber behind_ports behind_serves serves
+    → IsFirst IsNumber behind_serves behind_session session
+    → IsMatrixOrOne behind_session behind_matrix matrix
+    → IsLimitOrLeftOut behind_matrix [] limit
+    → (names : Names) × (names_listing COMMA symbols participants ≡ Ok names)
+    → (day : LiveDay) × NameLive words day
+day_named words behind_names behind_first_port behind_a behind_b behind_ports behind_serves behind_session behind_matrix symbols participants a b first_port
+    retransmission serves session matrix limit names first of_a of_b third served of_session by_matrix limited listed = (
+      record {
+        listing = listed.0;
+        first_port = first_port;
+        a = of_a.1.0;
+        b = of_b.1.0;
+        retransmission = retransmission;
+        serves = serves;
+        session = session;
+        matrix = matrix;
+        limit = limit;
+      },
+      record {
+        symbols = symbols;
+        participants = participants;
+        behind_names = behind_names;
+        behind_first_port = behind_first_port;
+        behind_a = behind_a;
+        behind_b = behind_b;
+        behind_ports = behind_ports;
+        behind_serves = behind_serves;
+        behind_session = behind_session;
+        behind_matrix = behind_matrix;
+        names = names;
+        listing = listed.1;
+        first_port = first;
+        a = record { word = a; order = of_a.0; is = of_a.1.1 };
+        b = record { word = b; order = of_b.0; is = of_b.1.1 };
+        retransmission = third;
+        serves = served;
+        session = of_session;
+        matrix = by_matrix;
+        limit = limited;
+      },
+    )

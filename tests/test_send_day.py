@@ -1,0 +1,105 @@
+"""tools/send_day.py, as it ends where a line is closed at the other end."""
+
+import contextlib
+import os
+import socket
+import struct
+import tempfile
+
+from support import HOST, LIMIT, TAPEDESK, TOOLS, Case, Ended, ended, ports, report, started, table_of
+
+import send_day
+
+COLUMNS = ["participant", "number", "symbol", "price", "size", "condition"]
+# The rows of N and Q in turn: three messages of each.
+ROWS = [[who, number, "AB", "10.00", 100, "@___"] for number in (1, 2, 3) for who in "NQ"]
+LENGTH = len(report("N", 1))
+RESET = struct.pack("ii", 1, 0)
+
+
+def read(connection, count):
+    """So many messages of a line."""
+    taken = b""
+    while len(taken) < count * LENGTH and (more := connection.recv(count * LENGTH - len(taken))):
+        taken += more
+    return taken
+
+
+class Closed(Case):
+    @contextlib.contextmanager
+    def sending(self, *options):
+        """The script, which sends the rows to the case's own two lines: their connections, how it ended, and the table's path."""
+        first, second = ports(2)
+        with tempfile.NamedTemporaryFile(suffix=".csv") as table, contextlib.ExitStack() as stack:
+            table.write(table_of([COLUMNS, *ROWS]))
+            table.flush()
+            servers = [stack.enter_context(socket.create_server((HOST, port))) for port in (first, second)]
+            words = [*options, table.name, first, "N,Q"]
+            script = stack.enter_context(started(words, program=TOOLS / "send_day.py", env=os.environ | {"TAPEDESK": str(TAPEDESK)}))
+            lines = []
+            for server in servers:
+                server.settimeout(LIMIT)
+                lines.append(stack.enter_context(server.accept()[0]))
+                lines[-1].settimeout(LIMIT)
+            yield lines, lambda: ended(script), table.name
+
+    def assert_fails(self, end, fault):
+        """It ended with status 1, and one line says why."""
+        self.assertEqual(end, Ended(1, b"", f"send_day.py: {fault}\n".encode()))
+
+    def test_all_is_read(self):
+        """send_day.py, 0: each line is read to its end, and closed then; or it has no rows left and is closed before."""
+        with self.sending() as ((n, q), end, _):
+            self.assertEqual(read(n, 4) + read(q, 4), b"".join(report(who, number) for who in "NQ" for number in (1, 2, 3)))
+            n.close()
+            q.close()
+            self.assertEqual(end(), Ended(0, b"", b""))
+
+    def test_closed_between_two_messages(self):
+        """send_day.py, 1: a line that is closed, or reset, after some of its messages is named with how many were sent, before any more are."""
+        for how in ("closed", "reset"):
+            with self.subTest(how), self.sending("--pause", "0.3") as ((n, q), end, table):
+                read(q, 2)
+                if how == "reset":
+                    q.setsockopt(socket.SOL_SOCKET, socket.SO_LINGER, RESET)
+                q.close()
+                self.assert_fails(end(), f"{table}, row 7: participant Q's line was closed at the other end; messages sent: 2 of 3")
+
+    def test_closed_before_all_was_read(self):
+        """send_day.py, 1: so is a line whose messages were all sent, and which is closed with some of them unread."""
+        with self.sending() as ((n, q), end, table):
+            read(q, 4)
+            q.close()
+            read(n, 2)
+            # The last message has come, and is not read.
+            n.recv(LENGTH, socket.MSG_PEEK | socket.MSG_WAITALL)
+            n.close()
+            self.assert_fails(end(), f"{table}: participant N's line was closed at the other end before all was read; messages sent: 3 of 3")
+
+    def test_closed_while_the_last_was_sent(self):
+        """send_day.py, 1: what leaves just as a line is closed, all of which was read before, was not read."""
+        for more, unread in [(b"", []), (report("N", 2), ["N"])]:
+            with self.subTest(unread), socket.create_server((HOST, 0)) as server, socket.create_connection(server.getsockname()) as line:
+                line.sendall(report("N", 1))
+                with server.accept()[0] as peer:
+                    read(peer, 1)
+                self.assertEqual(line.recv(1), b"")
+                line.sendall(more)
+                self.assertEqual(send_day.end_lines({"N": line}), unread)
+
+    def test_a_day_that_is_gone(self):
+        """send_day.py, 1: so is a line of a `live` that is killed."""
+        line, a, b, retransmission = ports(4)
+        rows = [["N", number, "AB", "10.00", 100, "@___"] for number in range(1, 1_001)]
+        with tempfile.NamedTemporaryFile(suffix=".csv") as table, started(["live", "AB", "N", line, a, b, retransmission, 0, 7]) as live:
+            table.write(table_of([COLUMNS, *rows]))
+            table.flush()
+            with started(["--pause", "0.01", table.name, line], program=TOOLS / "send_day.py", env=os.environ | {"TAPEDESK": str(TAPEDESK)}) as script:
+                with socket.socket(socket.AF_INET, socket.SOCK_DGRAM) as heard:
+                    heard.settimeout(LIMIT)
+                    heard.bind((HOST, a))
+                    heard.recv(1)
+                live.kill()
+                end = ended(script)
+        self.assertEqual((end.status, end.written), (1, b""))
+        self.assertRegex(end.said.decode(), rf"\Asend_day\.py: {table.name}, row \d+: participant N's line was closed at the other end; messages sent: \d+ of 1000\n\Z")
