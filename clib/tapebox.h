@@ -1,0 +1,243 @@
+/* A tape, its sender and its subscriber in a process of your own: the calls of the static library libtapebox_c.a.
+ *
+ * Each call is proved (crates/tapebox_c): it is safe, it returns, and it answers as written here, as long as its caller keeps these,
+ * which nothing checks:
+ *
+ * 1. A pointer to a struct points to one, written by its owner alone, and no two pointers of a call point to the same. A pointer to
+ *    bytes is not null, also for a length of 0, and that many bytes can be read there. Nothing is kept of either after the call.
+ * 2. A handle is all zeros before its first call. Only these calls change it. It may be moved, but not copied and used twice.
+ * 3. No two calls that run at once have the same handle. One thread at a time uses a handle, and each starts its turn after a lock or a join.
+ * 4. malloc, realloc and free are of one allocator. No call is made from a signal handler, or by a forked child of threads.
+ *
+ * A handle that holds nothing, holds the other kind, or was freed twice is no fault of a caller: such a call answers 101, 102 or does nothing.
+ *
+ * A call that returns uint32_t returns 0, or the number of a refusal (docs/RULES.md, "Refusals by number and name", and those below).
+ * What a refused call would have changed is as it was before, unless it is said otherwise. */
+#ifndef TAPEBOX_H
+#define TAPEBOX_H
+
+#include <stdbool.h>
+#include <stddef.h>
+#include <stdint.h>
+
+#ifdef __cplusplus
+extern "C" {
+#endif
+
+/* Refusals of the calls themselves, besides those of docs/RULES.md. */
+enum {
+    TAPEBOX_NO_TAPE = 101,       /* the handle holds no tape (for a summary, a count or an entry: holds nothing) */
+    TAPEBOX_NO_SUBSCRIBER = 102, /* the handle holds no subscriber */
+    TAPEBOX_IN_USE = 103,        /* the handle holds something already */
+    TAPEBOX_BAD_MATRIX = 104,    /* the matrix is neither 1 nor 2 */
+    TAPEBOX_NO_ENTRY = 105,      /* the tape, the packet or the answer has none of that number or place */
+    TAPEBOX_NO_LINE = 106,       /* the line is none of 0, 1 and 2 */
+    TAPEBOX_NO_REQUEST = 107,    /* a request has 14 bytes */
+    TAPEBOX_NO_ROOM = 108,       /* the row is shorter than the answer */
+    TAPEBOX_OUT_OF_MEMORY = 109  /* memory ran out for a packet or an answer */
+};
+
+/* How many bytes the longest packet and the longest answer to a request have. */
+#define TAPEBOX_LONGEST_PACKET 1823
+#define TAPEBOX_LONGEST_ANSWER 7370
+
+/* What you keep of a tape or of a subscriber. TAPEBOX_HANDLE is one that holds nothing. */
+typedef struct tapebox_handle {
+    bool is_open;
+    void *inside;
+} tapebox_handle;
+#define TAPEBOX_HANDLE {false, NULL}
+
+/* A report that a summary names: its price in ten-thousandths of a dollar, its place and its participant's letter. All 0 for none. */
+typedef struct tapebox_mark {
+    uint64_t price;
+    uint32_t place;
+    uint32_t who;
+} tapebox_mark;
+
+typedef struct tapebox_figures {
+    tapebox_mark opening, high, low, last;
+    uint64_t volume;
+    uint64_t trades;
+} tapebox_figures;
+
+/* An admission: the tape number, and the symbol's figures after it where the entry carries them (every kind but a report). */
+typedef struct tapebox_answer {
+    uint32_t number;
+    uint32_t carries; /* 1 or 0; all of `after` is 0 then */
+    tapebox_figures after;
+} tapebox_answer;
+
+/* An entry of a tape, with its message's bytes. */
+typedef struct tapebox_entry_row {
+    tapebox_answer answer;
+    uint32_t len;
+    uint8_t message[44];
+} tapebox_entry_row;
+
+/* The fields of a message: kind 'R', 'X', 'C' or 'S'; the symbol filled up with spaces; those that a kind does not have are not read. */
+typedef struct tapebox_fields {
+    uint64_t moment, price;
+    uint32_t number, target, size;
+    uint8_t kind, participant, condition[4], symbol[8];
+} tapebox_fields;
+
+typedef struct tapebox_message {
+    uint32_t len;
+    uint8_t bytes[44];
+} tapebox_message;
+
+/* What became of a packet's entries. `conflict` is the entry of which another is known where the packet was refused with 62, else 0. */
+typedef struct tapebox_taken {
+    uint32_t fresh, repeated, beyond, conflict;
+} tapebox_taken;
+
+/* A request for what is missing, if count is not 0. */
+typedef struct tapebox_request {
+    uint32_t count;
+    uint8_t bytes[14];
+} tapebox_request;
+
+/* What a subscriber knows of its feed. `ended` counts only where is_ended is 1. A gap is open where more was announced than is held.
+ * brought_a, brought_b and brought_r are the entries that each line was the first to bring. */
+typedef struct tapebox_news {
+    uint32_t held, announced, is_ended, ended, brought_a, brought_b, brought_r;
+} tapebox_news;
+
+/* A packet. */
+typedef struct tapebox_packet {
+    uint32_t len;
+    uint8_t bytes[TAPEBOX_LONGEST_PACKET];
+} tapebox_packet;
+
+/* What a packet says besides its entries: version 1 or 2; kind 'D' (entries), 'H' (a beat) or 'E' (an end); the number of its first entry,
+ * or the one that a beat or an end tells; and how many entries it has, 0 for a beat or an end. */
+typedef struct tapebox_packet_fields {
+    uint64_t session;
+    uint32_t number, count;
+    uint8_t version, kind;
+} tapebox_packet_fields;
+
+/* A request: `count` entries from the number `from` on. */
+typedef struct tapebox_request_fields {
+    uint64_t session;
+    uint32_t from, count;
+} tapebox_request_fields;
+
+/* An answer to a request: how many packets it has, how many bytes were read of it, and the number of its refusal (71 to 73) or 0. */
+typedef struct tapebox_reply {
+    size_t packets, taken;
+    uint32_t refusal;
+} tapebox_reply;
+
+/* What a participant has sent: the shares of its reports, how many messages of every kind, and its greatest number. */
+typedef struct tapebox_totals_row {
+    uint64_t shares;
+    uint32_t messages, last;
+} tapebox_totals_row;
+
+/* A symbol's name, with spaces to the end. */
+typedef struct tapebox_name {
+    uint8_t bytes[8];
+} tapebox_name;
+
+/* Which figures a sale condition changes: 'Y' or 'N'; for a last also 'S' (only where its market set the last) or 'F' (only the first). */
+typedef struct tapebox_cells_row {
+    uint8_t high_low, last, own_high_low, own_last, volume;
+} tapebox_cells_row;
+
+/* Opens a tape. Names have single spaces between them, as in a batch's header ("AB CD", "N Q"). Refused, the first that applies:
+ * 103, 104, 5 (limit), 9, 1, 2, 3 (names), and 4 or 6 where memory runs out. */
+uint32_t tapebox_open(tapebox_handle *handle, const uint8_t *symbols, size_t symbols_len, const uint8_t *participants,
+                      size_t participants_len, uint32_t matrix, uint32_t limit);
+
+/* Admits the message that all the bytes are. Refused: 101, 11 to 21 and 23 (its bytes), 31 to 40, 43 and 44 (the tape). */
+uint32_t tapebox_admit(tapebox_handle *handle, const uint8_t *message, size_t len, tapebox_answer *answer);
+
+/* Closes a tape: it admits nothing more. Refused: 101. */
+uint32_t tapebox_close(tapebox_handle *handle);
+
+/* These ten read a tape, or a subscriber's own tape. */
+
+/* The consolidated figures of a symbol, by its name without padding. Refused: 101, 36. */
+uint32_t tapebox_summary(tapebox_handle *handle, const uint8_t *symbol, size_t len, tapebox_figures *row);
+
+/* A participant's own figures of a symbol. Refused: 101, 36, 34. */
+uint32_t tapebox_summary_of(tapebox_handle *handle, const uint8_t *symbol, size_t len, uint8_t participant, tapebox_figures *row);
+
+/* How many entries there are, 0 for a handle that holds nothing. */
+uint32_t tapebox_count(tapebox_handle *handle);
+
+/* The entry of a tape number, from 1. Refused: 101, 105. */
+uint32_t tapebox_entry(tapebox_handle *handle, uint32_t number, tapebox_entry_row *row);
+
+/* What a participant has sent; zeros for one that is not listed. Refused: 101, 34 (no letter). */
+uint32_t tapebox_totals(tapebox_handle *handle, uint8_t participant, tapebox_totals_row *row);
+
+/* The symbol, or the participant's letter, at a place of the listing, from 0. Refused: 101, and 36 or 34 where there are no more. */
+uint32_t tapebox_symbol(tapebox_handle *handle, uint32_t place, tapebox_name *row);
+uint32_t tapebox_participant(tapebox_handle *handle, uint32_t place, uint8_t *letter);
+
+/* The packet of the entries from the number `from` on: as many as the version takes, but none above `to` (UINT32_MAX for no bound) or
+ * above the version's greatest number. Refused: 52 (the version), 101, 105 (`from`), 109. */
+uint32_t tapebox_cut(tapebox_handle *handle, uint32_t version, uint64_t session, uint32_t from, uint32_t to, tapebox_packet *row);
+
+/* The answer to a request, with what is on the tape at the time, at the front of `bytes`, and how many bytes it has. A request that can't be
+ * served is answered too, by one byte. Refused: 107, 52, 101, 109, 108 (TAPEBOX_LONGEST_ANSWER bytes are always enough). */
+uint32_t tapebox_serve(tapebox_handle *handle, uint32_t version, uint64_t session, const uint8_t *request, size_t request_len, uint8_t *bytes,
+                       size_t bytes_len, size_t *len);
+
+/* Frees what the handle holds, if anything. It holds nothing then, and may be opened again. */
+void tapebox_free(tapebox_handle *handle);
+
+/* Opens a subscriber of a session. Refused as tapebox_open. */
+uint32_t tapebox_subscribe(tapebox_handle *handle, const uint8_t *symbols, size_t symbols_len, const uint8_t *participants,
+                           size_t participants_len, uint32_t matrix, uint32_t limit, uint64_t session);
+
+/* Takes the packet that the bytes are, by line 0 (A), 1 (B) or 2 (retransmission). Refused: 106, 102, 64, 51 to 57, 61 to 63. A refusal
+ * but for 106 and 102 writes `conflict`, and nothing else. */
+uint32_t tapebox_deliver(tapebox_handle *handle, uint32_t line, const uint8_t *packet, size_t len, tapebox_taken *row);
+
+/* Replays what is ready. `drained` is written also where it stops. Refused: 102 (nothing is written); stops: 31 to 44, 64. */
+uint32_t tapebox_drain(tapebox_handle *handle, uint32_t *drained);
+
+/* A request for the first numbers that are missing; its count is 0 where none is. Refused: 102. */
+uint32_t tapebox_missing(tapebox_handle *handle, tapebox_request *row);
+
+/* What is held, announced, ended and brought. Refused: 102. */
+uint32_t tapebox_news_of(tapebox_handle *handle, tapebox_news *row);
+
+/* The bytes of a message made of its fields. Refused: 13, 15 to 21. */
+uint32_t tapebox_encode(const tapebox_fields *fields, tapebox_message *row);
+
+/* The fields of the message that all the bytes are. Refused: 11 to 21, 23. */
+uint32_t tapebox_decode(const uint8_t *message, size_t len, tapebox_fields *fields);
+
+/* A beat, which tells how many entries the tape has so far, and an end, which tells how many it has. Refused: 52 (the version),
+ * 54 (the number is above the version's greatest), 109. */
+uint32_t tapebox_beat(uint32_t version, uint64_t session, uint32_t last, tapebox_packet *row);
+uint32_t tapebox_end(uint32_t version, uint64_t session, uint32_t count, tapebox_packet *row);
+
+/* The packet that all the bytes are, and its entry at a place from 0. Refused: 51 to 57; 105 (it has fewer entries). */
+uint32_t tapebox_read_packet(const uint8_t *packet, size_t len, tapebox_packet_fields *row);
+uint32_t tapebox_packet_entry(const uint8_t *packet, size_t len, uint32_t place, tapebox_entry_row *row);
+
+/* The request that all the bytes are. Refused: 107, 73. */
+uint32_t tapebox_read_request(const uint8_t *request, size_t len, tapebox_request_fields *row);
+
+/* The answer at the front of the bytes. Refused: 74 (it goes on after them), 76 (it is no answer), 77 (the request was refused), 78 (memory ran
+ * out). With each but 78 `taken` is written, with 77 also `refusal`. */
+uint32_t tapebox_read_answer(const uint8_t *answer, size_t len, tapebox_reply *row);
+
+/* The packet at a place, from 0, in the answer at the front of the bytes, at the front of `bytes`, and how many bytes it has. What they say
+ * is not looked at. Refused: 74, 76 to 78; 105 (it has fewer packets); 108 (TAPEBOX_LONGEST_PACKET bytes are always enough). */
+uint32_t tapebox_answer_packet(const uint8_t *answer, size_t answer_len, uint32_t place, uint8_t *bytes, size_t bytes_len, size_t *len);
+
+/* The cells of a sale condition, four bytes, by a matrix. Refused: 104, 21, 44. */
+uint32_t tapebox_cells(uint32_t matrix, const uint8_t *condition, size_t len, tapebox_cells_row *row);
+
+#ifdef __cplusplus
+}
+#endif
+
+#endif

@@ -1,0 +1,6 @@
+mod AsBox
+mod FieldTexts
+mod InsideSteps
+mod PacketRows
+mod Served
+mod Values

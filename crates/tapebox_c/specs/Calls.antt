@@ -1,0 +1,52 @@
+-- What the calls of another language answer.
+use Rattle.std.specs.Prelude.{◌≡◌, ◌==◌, ◌-◌, ℕ, true, List, length, slice_get, Option, None, Some, Result, Ok, Err, unwrap_or, if◌then◌else◌}
+use Rattle.batch.specs.MessageLine.{is_capital}
+use Rattle.reports.specs.Reading.{message_at}
+use Rattle.reports.specs.declared.fault.MessageFault.{MessageFault}
+use Rattle.reports.specs.declared.message.Message.{Message}
+use Rattle.tape_core.specs.Tape.{TapeState, Answers, refusal}
+use Rattle.tape_core.specs.declared.entry.Entry.{Entry}
+use Rattle.tape_core.specs.declared.refusal.Refusal.TheVariants.{OutOfMemory}
+use Rattle.tapebox_c.specs.declared.fault.Fault.{Fault}
+use Rattle.tapebox_c.specs.declared.fault.Fault.TheVariants.{NoTape, NoMessage, ExtraBytes, Refused}
+use Rattle.tapebox_c.specs.declared.held.Held.{Held}
+use Rattle.tapebox_c.specs.declared.held.Held.TheVariants.{Tape, Subscriber}
+
+-- the tape that is held, or the subscriber's own
+abbrev pub own_tape : Held → TapeState
+own_tape (Tape t) = t
+own_tape (Subscriber s) = s.tape
+
+-- the message that was read, where it took all the bytes
+abbrev pub message_of_all : ℕ → Result (Message × ℕ) MessageFault → Result Message Fault
+message_of_all len (Err fault) = Err (NoMessage fault)
+message_of_all len (Ok read) = if read.1 == len then Ok read.0 else Err ExtraBytes
+
+-- the message that all the bytes are, or what is wrong with them
+abbrev pub whole_message : List ℕ → Result Message Fault
+whole_message bytes = message_of_all (length bytes) (message_at bytes)
+
+-- a message is answered by a tape: it is admitted, or the fault of its bytes, the tape's first refusal, or out of memory is told, and nothing changes
+abbrev pub Takes : TapeState → Result Message Fault → Result Entry Fault → TapeState → Type 0
+Takes old (Err fault) answer new = (answer ≡ Err fault) × (new ≡ old)
+Takes old (Ok m) (Ok e) new = Answers old m (Ok e) new
+Takes old (Ok m) (Err fault) new = (fault ≡ Refused (unwrap_or (refusal old m) OutOfMemory)) × (new ≡ old)
+
+-- bytes are answered by what a handle holds
+abbrev pub Admits : Held → List ℕ → Result Entry Fault → Held → Type 0
+Admits (Subscriber s) bytes answer new = (answer ≡ Err NoTape) × (new ≡ Subscriber s)
+Admits (Tape t) bytes answer (Tape u) = Takes t (whole_message bytes) answer u
+Admits (Tape t) bytes answer (Subscriber s) = ⊥
+
+-- a tape is closed
+abbrev pub Closes : Held → Result (Unit {0}) Fault → Held → Type 0
+Closes (Subscriber s) answer new = (answer ≡ Err NoTape) × (new ≡ Subscriber s)
+Closes (Tape t) answer new = (answer ≡ Ok tt) × (new ≡ Tape (record t { closed = true }))
+
+-- the entry of a number, from 1
+abbrev pub entry_numbered : List Entry → ℕ → Option Entry
+entry_numbered entries number = if number == 0 then None else slice_get entries (number - 1)
+
+-- a participant by its letter
+abbrev pub letter_named : ℕ → Option ℕ
+letter_named letter = if is_capital letter then Some letter else None

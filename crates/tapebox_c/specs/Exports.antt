@@ -1,0 +1,85 @@
+-- What each exported call answers by its number and its row.
+use Rattle.std.specs.Prelude.{◌≡◌, ◌⊎◌, ℕ, List, length, Option, None, Some, Result, Ok, Err, option_and_then, is_some, if◌then◌else◌}
+use Rattle.std.specs.Option.{option_map}
+use Rattle.tape_types.specs.Names.{symbol_named}
+use Rattle.scratch_fold.specs.declared.summary.Summary.{Summary}
+use Rattle.tape_core.specs.Tape.{TapeState, summary_at, participant_summary_at}
+use Rattle.tape_core.specs.declared.entry.Entry.{Entry}
+use Rattle.tapebox_c.specs.Calls.{Admits, Closes, own_tape, letter_named, entry_numbered}
+use Rattle.tapebox_c.specs.Faults.{fault_code}
+use Rattle.tapebox_c.specs.Rows.{answer_row, summary_row, IsEntryRow}
+use Rattle.tapebox_c.specs.declared.fault.Fault.{Fault}
+use Rattle.tapebox_c.specs.declared.held.Held.{Held}
+use Rattle.tapebox_c.specs.declared.rows.AnswerRow.{AnswerRow}
+use Rattle.tapebox_c.specs.declared.rows.EntryRow.{EntryRow}
+use Rattle.tapebox_c.specs.declared.rows.SummaryRow.{SummaryRow}
+
+-- the tape of what is held
+abbrev pub held_tape : Option Held → Option TapeState
+held_tape held = option_map own_tape held
+
+-- the number of what was refused: the one that is due, or out of memory (4 or 6) where none is
+abbrev pub IsCodeOf : {X : Type 0} → Result X Fault → ℕ → Type 0
+IsCodeOf (Err due) code = code ≡ fault_code due
+IsCodeOf (Ok made) code = (code ≡ 4) ⊎ (code ≡ 6)
+
+-- a handle is opened: it holds what was to be made and 0 is given, or it is as it was
+abbrev pub OpensIn : {X : Type 0} → (X → Held) → Option Held → Result X Fault → ℕ → Option Held → Type 0
+OpensIn make (Some held) due code new = (code ≡ 103) × (new ≡ Some held)
+OpensIn make None due code None = IsCodeOf due code
+OpensIn make None (Ok made) code (Some now) = (code ≡ 0) × (now ≡ make made)
+OpensIn make None (Err fault) code (Some now) = ⊥
+
+-- an answer is told: 0 and the entry's row, or the fault's number and the row as it was
+abbrev pub Tells : Result Entry Fault → ℕ → AnswerRow → AnswerRow → Type 0
+Tells (Ok e) code old new = (code ≡ 0) × (new ≡ answer_row e)
+Tells (Err fault) code old new = (code ≡ fault_code fault) × (new ≡ old)
+
+-- bytes are answered by what a handle holds, if anything
+abbrev pub AdmitsIn : Option Held → List ℕ → ℕ → AnswerRow → AnswerRow → Option Held → Type 0
+AdmitsIn None bytes code row row' held' = (code ≡ 101) × (row' ≡ row) × (held' ≡ None)
+AdmitsIn (Some held) bytes code row row' None = ⊥
+AdmitsIn (Some held) bytes code row row' (Some held') = (answer : Result Entry Fault) × Admits held bytes answer held' × Tells answer code row row'
+
+-- 0, or the number of the fault
+abbrev pub code_of : {X : Type 0} → Result X Fault → ℕ
+code_of (Ok done) = 0
+code_of (Err fault) = fault_code fault
+
+-- the tape of a handle is closed, if there is one
+abbrev pub ClosesIn : Option Held → ℕ → Option Held → Type 0
+ClosesIn None code new = (code ≡ 101) × (new ≡ None)
+ClosesIn (Some held) code None = ⊥
+ClosesIn (Some held) code (Some held') = (answer : Result (Unit {0}) Fault) × Closes held answer held' × (code ≡ code_of answer)
+
+-- a summary that was looked for is told
+abbrev pub told_or : ℕ → Option Summary → SummaryRow → ℕ × SummaryRow
+told_or code None row = (code, row)
+told_or code (Some s) row = (0, summary_row s)
+
+-- a symbol's consolidated summary is told: 101 without a tape, 36 where the symbol is not listed
+abbrev pub summary_told : Option TapeState → List ℕ → SummaryRow → ℕ × SummaryRow
+summary_told None name row = (101, row)
+summary_told (Some t) name row = told_or 36 (option_and_then (summary_at t) (symbol_named name)) row
+
+-- a participant's own summary is told: 36 where the symbol is not listed, 34 where the participant is not
+abbrev pub summary_of_told : Option TapeState → List ℕ → ℕ → SummaryRow → ℕ × SummaryRow
+summary_of_told None name letter row = (101, row)
+summary_of_told (Some t) name letter row =
+    told_or (if is_some (option_and_then (summary_at t) (symbol_named name)) then 34 else 36)
+    (option_and_then (λ symbol. option_and_then (participant_summary_at t symbol) (letter_named letter)) (symbol_named name)) row
+
+-- how many entries a tape has
+abbrev pub count_told : Option TapeState → ℕ
+count_told None = 0
+count_told (Some t) = length t.entries
+
+-- an entry that was looked for is told, or that there is none
+abbrev pub EntryTold : Option Entry → ℕ → EntryRow → EntryRow → Type 0
+EntryTold None code old new = (code ≡ 105) × (new ≡ old)
+EntryTold (Some e) code old new = (code ≡ 0) × IsEntryRow e new
+
+-- the entry of a number is told: 101 without a tape, 105 where the tape has none of that number
+abbrev pub EntryIn : Option TapeState → ℕ → ℕ → EntryRow → EntryRow → Type 0
+EntryIn None number code old new = (code ≡ 101) × (new ≡ old)
+EntryIn (Some t) number code old new = EntryTold (entry_numbered t.entries number) code old new

@@ -1,0 +1,14 @@
+pub mod Asked
+pub mod Calls
+pub mod Coding
+pub mod Exports
+pub mod Faults
+pub mod Feeds
+pub mod Filling
+pub mod Inside
+pub mod Listed
+pub mod Matrices
+pub mod Opening
+pub mod Packets
+pub mod Rows
+pub mod Sending

@@ -1,0 +1,82 @@
+//! Why a call of another language did nothing.
+ghost use Rattle.std.specs.Prelude.{◌≡◌};
+ghost use Rattle.tapebox_c.specs.Faults.{fault_code};
+
+use batch::HeaderFault;
+use reports::MessageFault;
+use retransmit::AskFault;
+use subscriber::{DeliveryFault, Stop};
+use tape_core::{Refusal, TapeFault};
+use tape_frames::{PacketFault, RequestFault};
+
+/// Why a call did nothing, by the number that it returns. 0 is no fault.
+#[derive(Clone, Copy)]
+pub enum Fault {
+    /// The handle holds no tape.
+    NoTape,
+    /// The handle holds no subscriber.
+    NoSubscriber,
+    /// The handle holds something already.
+    InUse,
+    /// The matrix is neither 1 nor 2.
+    BadMatrix,
+    /// The tape has no entry of that number, or the packet or the answer nothing at that place.
+    NoEntry,
+    /// The line is none of 0 (A), 1 (B) and 2 (retransmission).
+    NoLine,
+    /// The bytes are not as many as a request has.
+    NoRequest,
+    /// The row is shorter than the answer.
+    NoRoom,
+    /// Memory ran out for a packet or an answer.
+    OutOfMemory,
+    /// The names make no listing.
+    NoListing(HeaderFault),
+    /// No tape can be made.
+    NotMade(TapeFault),
+    /// The bytes are no message.
+    NoMessage(MessageFault),
+    /// Bytes follow the message.
+    ExtraBytes,
+    /// The tape refuses the message.
+    Refused(Refusal),
+    /// The subscriber refuses the bytes.
+    NotDelivered(DeliveryFault),
+    /// The drain stopped.
+    Stopped(Stop),
+    /// The bytes are no packet, or no packet can say what it was to say.
+    NoPacket(PacketFault),
+    /// The bytes are no request.
+    BadRequest(RequestFault),
+    /// The bytes are no answer with packets.
+    NotAnswered(AskFault),
+}
+
+impl Fault {
+    /// The number of the fault.
+    pub fn code(self) -> u32
+        ensures number { result ≡ fault_code self }
+    {
+        match self {
+            Fault::NoTape => 101,
+            Fault::NoSubscriber => 102,
+            Fault::InUse => 103,
+            Fault::BadMatrix => 104,
+            Fault::NoEntry => 105,
+            Fault::NoLine => 106,
+            Fault::NoRequest => 107,
+            Fault::NoRoom => 108,
+            Fault::OutOfMemory => 109,
+            Fault::NoListing(fault) => u32::from(fault.code()),
+            Fault::NotMade(fault) => u32::from(fault.code()),
+            Fault::NoMessage(fault) => u32::from(fault.code()),
+            Fault::ExtraBytes => 23,
+            Fault::Refused(refusal) => u32::from(refusal.code()),
+            Fault::NotDelivered(fault) => u32::from(fault.code()),
+            Fault::Stopped(stop) => u32::from(stop.code()),
+            Fault::NoPacket(fault) => u32::from(fault.code()),
+            Fault::BadRequest(fault) => u32::from(fault.code()),
+            Fault::NotAnswered(fault) => u32::from(fault.code()),
+        }
+    }
+}

@@ -1,0 +1,86 @@
+//! How a tape and a subscriber are made.
+ghost use Rattle.std.specs.Prelude.{◌≡◌, Ok, IfOk, IfErr};
+ghost use Rattle.batch.specs.Header.{header_listing};
+ghost use Rattle.tapebox_c.specs.Opening.{IsFaultOf, is_limit, matrix_numbered, subscriber_opened, tape_opened};
+
+use crate::fault::Fault;
+use batch::read_header;
+use sale_matrix::Matrix;
+use std::alloc::Global;
+use subscriber::Subscriber;
+use summaries::IndexStore;
+use tape_core::{Tape, TapeFault};
+use tape_types::TAPE_MOST;
+
+/// The matrix of a number.
+pub(crate) fn matrix_numbered(number: u32) -> Option<Matrix>
+    ensures { result ≡ matrix_numbered number }
+{
+    match number {
+        1 => Some(Matrix::One),
+        2 => Some(Matrix::Two),
+        _ => None,
+    }
+}
+
+/// Whether a tape can have this limit.
+fn is_limit(limit: u32) -> bool
+    ensures { result ≡ is_limit limit }
+{
+    1 <= limit && limit <= TAPE_MOST
+}
+
+/// An empty open tape. What needs no memory is looked at first, so that out of memory comes last.
+pub(crate) fn open_tape(
+    alloc: Global,
+    symbols: &[u8],
+    participants: &[u8],
+    matrix: u32,
+    limit: u32,
+) -> Result<Tape<IndexStore>, Fault>
+    ensures ok { IfOk result (λ t. tape_opened (matrix_numbered matrix) limit (header_listing symbols.now participants.now) ≡ Ok t) }
+    ensures err { IfErr result (λ f. IsFaultOf f (tape_opened (matrix_numbered matrix) limit (header_listing symbols.now participants.now))) }
+{
+    let Some(matrix) = matrix_numbered(matrix) else {
+        return Err(Fault::BadMatrix);
+    };
+    if !is_limit(limit) {
+        return Err(Fault::NotMade(TapeFault::BadLimit));
+    }
+    let listing = match read_header(alloc, symbols, participants) {
+        Ok(listing) => listing,
+        Err(fault) => return Err(Fault::NoListing(fault)),
+    };
+    match Tape::new(alloc, listing, limit, matrix) {
+        Ok(tape) => Ok(tape),
+        Err(fault) => Err(Fault::NotMade(fault)),
+    }
+}
+
+/// A subscriber that holds nothing. Refused as a tape is.
+pub(crate) fn open_subscriber(
+    alloc: Global,
+    symbols: &[u8],
+    participants: &[u8],
+    matrix: u32,
+    limit: u32,
+    session: u64,
+) -> Result<Subscriber, Fault>
+    ensures ok { IfOk result (λ s. subscriber_opened (matrix_numbered matrix) limit session (header_listing symbols.now participants.now) ≡ Ok s) }
+    ensures err { IfErr result (λ f. IsFaultOf f (subscriber_opened (matrix_numbered matrix) limit session (header_listing symbols.now participants.now))) }
+{
+    let Some(matrix) = matrix_numbered(matrix) else {
+        return Err(Fault::BadMatrix);
+    };
+    if !is_limit(limit) {
+        return Err(Fault::NotMade(TapeFault::BadLimit));
+    }
+    let listing = match read_header(alloc, symbols, participants) {
+        Ok(listing) => listing,
+        Err(fault) => return Err(Fault::NoListing(fault)),
+    };
+    match Subscriber::new(alloc, listing, limit, session, matrix) {
+        Ok(subscriber) => Ok(subscriber),
+        Err(fault) => Err(Fault::NotMade(fault)),
+    }
+}

@@ -1,0 +1,215 @@
+"""The static library for other languages: what it exports, its layouts, its examples, and the cases of its Python module."""
+
+import ctypes
+import os
+import re
+import shlex
+import shutil
+import subprocess
+import sys
+import tempfile
+import unittest
+import unittest.mock
+from pathlib import Path
+
+from support import CRATES, ROOT, SAMPLES, TAPEDESK, Case, desk, run
+
+CLIB = ROOT / "clib"
+ARCHIVE = CRATES / "tapebox_c" / "out" / "libtapebox_c.a"
+HEADER = CLIB / "tapebox.h"
+COMPILER = os.environ.get("CC", "cc")
+TABLES = sorted(SAMPLES.glob("*.csv"))
+# The header's structs by the names that the Python module has for them, and its fields where they have another name.
+STRUCTS = {
+    "Mark": "mark",
+    "Figures": "figures",
+    "Answer": "answer",
+    "EntryRow": "entry_row",
+    "Fields": "fields",
+    "Message": "message",
+    "Taken": "taken",
+    "Request": "request",
+    "News": "news",
+    "Packet": "packet",
+    "PacketFields": "packet_fields",
+    "RequestFields": "request_fields",
+    "Reply": "reply",
+    "Totals": "totals_row",
+    "Name": "name",
+    "Cells": "cells_row",
+    "Handle": "handle",
+}
+RENAMED = {"from_": "from"}
+PRINTS_LAYOUT = """#include "{header}"
+#include <stdio.h>
+
+int main(void) {{
+{lines}    return 0;
+}}
+"""
+
+
+def module():
+    """The Python module over the library that was linked here."""
+    if str(CLIB) not in sys.path:
+        sys.path.insert(0, str(CLIB))
+    # Other cases start programs of their own over the library that stands beside the module.
+    with unittest.mock.patch.dict(os.environ, {"TAPEBOX_LIBRARY": str(Linked.library)}):
+        import tapebox
+
+    return tapebox
+
+
+def compiled(folder, source, *flags):
+    """A program of this C text, or none where it does not compile."""
+    (folder / "source.c").write_text(source, encoding="utf-8")
+    words = [*shlex.split(COMPILER), "-std=c11", "-Wall", "-Wextra", "-Werror", "-o", folder / "compiled", folder / "source.c", *flags]
+    done = subprocess.run(words, stdout=subprocess.DEVNULL, stderr=subprocess.DEVNULL, check=False)
+    return None if done.returncode else folder / "compiled"
+
+
+def fields_of(structure):
+    """A structure's fields, as it is defined: name, offset and length in bytes."""
+    return [(RENAMED.get(name, name), getattr(structure, name).offset, getattr(structure, name).size) for name, _ in structure._fields_]
+
+
+@unittest.skipUnless(shutil.which(shlex.split(COMPILER)[0]), "there is no C compiler")
+@unittest.skipUnless(ARCHIVE.exists(), "crates/tapebox_c was not built (clib/build)")
+class Linked(Case):
+    """Cases over what is linked of the static library as it was built."""
+
+    @classmethod
+    def setUpClass(cls):
+        folder = tempfile.TemporaryDirectory()
+        cls.addClassCleanup(folder.cleanup)
+        cls.folder = Path(folder.name)
+        cls.link(cls.folder)
+        Linked.library = cls.folder / "libtapebox.so"
+
+    @staticmethod
+    def link(folder, *flags):
+        """Links the shared library and the examples, with no warning."""
+        done = run(["link", folder], program=CLIB / "build", env=os.environ | {"CC": COMPILER, "CFLAGS": shlex.join(["-Werror", *flags])})
+        if done.status:
+            raise AssertionError(done.said.decode())
+
+    def assert_reports(self, folder):
+        """Each example in this folder prints the report of each sample that the program prints, and says nothing but which rows are refused."""
+        for table in TABLES:
+            given = table.read_bytes()
+            wanted, batch = desk("report", given=given), desk("encode", given=given).written
+            self.assertEqual(wanted.status, 0)
+            refused = sum(map(int, re.findall(rb": (\d+) rows? refused", wanted.said)))
+            for example in ("report", "feed"):
+                with self.subTest(table.name, example=example):
+                    got = run([], batch, program=folder / "examples" / example)
+                    self.assertEqual((got.status, got.written), (0, wanted.written))
+                    self.assertRegex(got.said, rb"\A(refused \d+\n){%d}\Z" % refused)
+
+
+class Examples(Linked):
+    def test_reports_in_c(self):
+        """clib/examples: a tape in C has the report of each sample, and so has a subscriber to which C sends it on two lines that lose packets."""
+        self.assert_reports(self.folder)
+
+    def test_reports_in_python(self):
+        """clib/examples: so has a tape in Python."""
+        for table in TABLES:
+            with self.subTest(table.name):
+                given = table.read_bytes()
+                options = {"program": sys.executable, "env": os.environ | {"TAPEBOX_LIBRARY": str(self.library)}}
+                got = run(["-B", CLIB / "examples" / "report.py"], given, **options)
+                self.assertEqual((got.status, got.written), (0, desk("report", given=given).written))
+
+    def test_examples_under_a_sanitizer(self):
+        """clib/tapebox.h: what the examples keep is freed at their end, and nothing outside it is read or written."""
+        flag = "-fsanitize=address,undefined"
+        with tempfile.TemporaryDirectory() as name:
+            folder = Path(name)
+            if not compiled(folder, "int main(void) { return 0; }\n", flag):
+                self.skipTest("the C compiler has no sanitizers")
+            self.link(folder, flag)
+            self.assert_reports(folder)
+            # What is not freed is seen.
+            lost = (CLIB / "examples" / "report.c").read_text(encoding="utf-8").replace("tapebox_free(&tape);", "tape.inside = NULL;")
+            self.assertNotIn("tapebox_free", lost)
+            (folder / "day.h").write_text((CLIB / "examples" / "day.h").read_text(encoding="utf-8").replace("../tapebox.h", str(HEADER)), encoding="utf-8")
+            kit = Path(shutil.which("rt")).resolve().parent.parent
+            leaks = compiled(folder, lost, flag, ARCHIVE, kit / "c" / "liblibc_c.a")
+            self.assertTrue(leaks)
+            ended = run([], b"AB\nN\n", program=leaks)
+            self.assertNotEqual(ended.status, 0)
+            self.assertIn(b"detected memory leaks", ended.said)
+
+
+class Interface(Linked):
+    def test_layouts(self):
+        """clib/tapebox.h, clib/tapebox.py: each struct has the same fields at the same places in both."""
+        structures = {name: getattr(module(), f"_{name}") for name in STRUCTS}
+        everything = {value.__name__ for value in vars(module()).values() if isinstance(value, type) and issubclass(value, ctypes.Structure)}
+        self.assertEqual(everything, {f"_{name}" for name in STRUCTS})
+        self.assertEqual(set(re.findall(r"^\} tapebox_(\w+);", HEADER.read_text(encoding="utf-8"), re.M)), set(STRUCTS.values()))
+        lines, wanted = "", []
+        for name, struct in STRUCTS.items():
+            lines += f'    printf("{struct} %zu\\n", sizeof(tapebox_{struct}));\n'
+            wanted.append(f"{struct} {ctypes.sizeof(structures[name])}")
+            for field, offset, size in fields_of(structures[name]):
+                of = f"tapebox_{struct}, {field}"
+                lines += f'    printf("{struct} {field} %zu %zu\\n", offsetof({of}), sizeof((({"tapebox_" + struct} *)0)->{field}));\n'
+                wanted.append(f"{struct} {field} {offset} {size}")
+        with tempfile.TemporaryDirectory() as name:
+            program = compiled(Path(name), PRINTS_LAYOUT.format(header=HEADER, lines=lines))
+            self.assertTrue(program)
+            self.assertEqual(run([], program=program).written.decode().splitlines(), wanted)
+
+    def test_limits(self):
+        """clib/tapebox.h, clib/tapebox.py: both have the same limits and numbers of refusals, and RULES has the names."""
+        header = HEADER.read_text(encoding="utf-8")
+        for name in ("LONGEST_PACKET", "LONGEST_ANSWER"):
+            self.assertEqual(re.findall(rf"^#define TAPEBOX_{name} (\d+)$", header, re.M), [str(getattr(module(), name))])
+        names = {int(number): name.title().replace("_", "") for name, number in re.findall(r"^    TAPEBOX_(\w+) = (\d+)", header, re.M)}
+        self.assertEqual(names, {number: name for number, name in module().NAMES.items() if number > 100})
+        rules = (ROOT / "docs" / "RULES.md").read_text(encoding="utf-8")
+        for number, name in module().NAMES.items():
+            self.assertRegex(rules, rf"\b{number} {name}\b")
+
+    def test_calls(self):
+        """clib/tapebox.h, clib/tapebox.py: both have each call that the crate exports, and no other."""
+        exported = set()
+        for source in (CRATES / "tapebox_c" / "src").glob("*.rt"):
+            exported |= set(re.findall(r'pub extern "C" fn (\w+)', source.read_text(encoding="utf-8")))
+        self.assertEqual(set(re.findall(r"\b(tapebox_\w+)\(", HEADER.read_text(encoding="utf-8"))), exported)
+        python = (CLIB / "tapebox.py").read_text(encoding="utf-8")
+        self.assertEqual({f"tapebox_{name}" for name in re.findall(r'^    "(\w+)": \[', python, re.M)}, exported)
+        library = ctypes.CDLL(str(self.library))
+        for name in exported:
+            self.assertTrue(getattr(library, name))
+
+    def test_the_header_in_cpp(self):
+        """clib/tapebox.h: it is C++ too."""
+        compiler = shutil.which(os.environ.get("CXX", "c++"))
+        if not compiler:
+            self.skipTest("there is no C++ compiler")
+        ended = run(["-std=c++17", "-Wall", "-Wextra", "-Werror", "-fsyntax-only", "-x", "c++", HEADER], program=compiler)
+        self.assertEqual((ended.status, ended.said), (0, b""))
+
+
+class Module(Linked):
+    def test_cases_of_the_module(self):
+        """clib/test_tapebox.py: the cases of the Python module."""
+        options = {"program": sys.executable, "env": os.environ | {"TAPEBOX_LIBRARY": str(self.library)}}
+        ended = run(["-B", CLIB / "test_tapebox.py"], **options)
+        self.assertEqual(ended.status, 0, ended.said.decode())
+        self.assertRegex(ended.said, rb"Ran \d\d tests in .*\n\nOK\n")
+
+
+class Builds(Case):
+    def test_words(self):
+        """clib/build says what it does, and takes no other words."""
+        ended = run(["-h"], program=CLIB / "build")
+        self.assertEqual((ended.status, ended.said), (0, b""))
+        self.assertIn(b"Statuses", ended.written)
+        for words in (["all"], ["link", "a", "b"]):
+            with self.subTest(words):
+                ended = run(words, program=CLIB / "build")
+                self.assertEqual((ended.status, ended.written), (2, b""))
