@@ -40,6 +40,9 @@ pub struct Day<K> {
     listed: [Option<u8>; 26],
     last: [u32; 26],
     length: u32,
+    /// How many entries it takes: none once it is closed.
+    limit: u32,
+    is_closed: bool,
 }
 
 impl<K: Keep> Day<K> {
@@ -63,14 +66,34 @@ impl<K: Keep> Day<K> {
             listed,
             last: [0; 26],
             length: 0,
+            limit: LIMIT,
+            is_closed: false,
         }
+    }
+
+    /// The same day, which takes so many entries at most; or says by number and name that no day does.
+    pub fn limited(self, limit: u32) -> Result<Self, &'static str> {
+        match limit {
+            1..=LIMIT => Ok(Day { limit, ..self }),
+            _ => Err("5 BadLimit"),
+        }
+    }
+
+    /// Ends the day: it admits nothing more.
+    pub fn close(&mut self) {
+        self.limit = 0;
+        self.is_closed = true;
     }
 
     /// Admits the message and answers its tape number, or says by number and name why it is refused.
     pub fn admit(&mut self, message: Message) -> Result<u32, &'static str> {
         let letter = index(message.participant);
-        if self.length == LIMIT {
-            return Err("32 Full");
+        if self.length >= self.limit {
+            return Err(if self.is_closed {
+                "31 Closed"
+            } else {
+                "32 Full"
+            });
         }
         let participant = self.listed[letter].ok_or("34 UnknownParticipant")?;
         if message.number <= self.last[letter] {

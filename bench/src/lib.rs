@@ -35,16 +35,18 @@ pub use day::Day;
 pub use desk::{TableWord, desk, write_messages};
 pub use feed::{Figures, feed};
 pub use forward::forward;
-pub use header::Names;
+pub use frames::write_message;
+pub use header::{Names, read as read_names};
 pub use keep::{Entry, Keep, Reports, Tape};
 pub use latency::{Course, LATENCY_SYMBOLS, LatencyFigures, latency};
 pub use lines::{NoLine, Said};
 pub use matrix::{Cells, LastRule, Matrix};
-pub use message::{Content, Kind, Message};
+pub use message::{Content, Kind, Message, decode_front};
 pub use program::run;
 pub use random::Random;
 pub use summary::{Mark, Summary};
 pub use table::{BadTable, read_table};
+pub use table_rows::{COLUMNS, write_message as write_row, write_price};
 pub use wire::{Rest, WireFigures, wire};
 
 /// The greatest number of bytes of an input.

@@ -53,7 +53,7 @@ pub fn write_figures(figures: &Summary, text: &mut Vec<u8>) {
 }
 
 /// Adds a price in dollars: with two decimals where it is whole cents, else with four.
-fn write_price(price: u64, text: &mut Vec<u8>) {
+pub fn write_price(price: u64, text: &mut Vec<u8>) {
     write_number(price / 10_000, text);
     text.push(b'.');
     let part = price % 10_000;

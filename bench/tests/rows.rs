@@ -1,613 +1,454 @@
-//! The worked rows that a batch can show, with their figures written out.
+//! The worked rows of `rows/`, played over the plain programs: those of a tape, of the matrices and of messages.
 
-use bench::{Day, Kind, LastRule, Mark, Matrix, Reports, Summary, Tape, batch};
-use std::num::NonZeroU32;
+use bench::{
+    COLUMNS, Day, Keep, Kind, LastRule, Mark, Matrix, Message, Reports, Summary, Tape,
+    decode_front, read_names, read_table, write_message, write_price, write_row,
+};
+use std::collections::HashSet;
+use std::str::SplitWhitespace;
 
-const HEADER: &str = "symbol,who,open,open_at,high,high_at,low,low_at,last,last_at,volume,trades";
+const TAPE: &str = include_str!("../../rows/tape.rows");
+const MATRIX: &str = include_str!("../../rows/matrix.rows");
+const MESSAGES: &str = include_str!("../../rows/messages.rows");
 
-/// The batch's output by Matrix One, line by line.
-fn output(input: &str) -> Vec<String> {
-    output_by(Matrix::One, input)
-}
+/// What is answered to a step: also a refusal, or why the step can't be taken, is an answer.
+type Answer = Result<String, String>;
 
-/// The batch's output, line by line: with a tape the same as without.
-fn output_by(matrix: Matrix, input: &str) -> Vec<String> {
-    let [mut text, mut least] = [Vec::new(), Vec::new()];
-    let kept = batch::<Tape>(matrix, input.as_bytes(), &mut text).is_ok();
-    let reported = batch::<Reports>(matrix, input.as_bytes(), &mut least).is_ok();
-    assert_eq!(reported, kept);
-    assert_eq!(text, least);
-    let text = String::from_utf8(text).unwrap();
-    text.lines().map(String::from).collect()
-}
+/// The words of a step, which are taken one by one.
+struct Words<'a>(std::iter::Peekable<SplitWhitespace<'a>>);
 
-/// A moment that tells a participant's messages apart.
-fn moment(number: u32) -> u64 {
-    34_200_000_000_000 + u64::from(number)
-}
-
-/// A message line from a kind, a participant, a number, a symbol and the bytes that the kind adds.
-fn line(kind: char, who: char, number: u32, symbol: &str, rest: &[u8]) -> String {
-    let mut body = vec![kind as u8, who as u8];
-    body.extend(number.to_be_bytes());
-    body.extend(moment(number).to_be_bytes());
-    body.extend(format!("{symbol:8}").bytes());
-    body.extend(rest);
-    let digits: String = body.iter().map(|byte| format!("{byte:02x}")).collect();
-    format!("{who} {:04x}{digits}", body.len())
-}
-
-fn content(price: u64, size: u32, condition: &str) -> Vec<u8> {
-    [
-        &price.to_be_bytes()[..],
-        &size.to_be_bytes(),
-        condition.as_bytes(),
-    ]
-    .concat()
-}
-
-fn report(who: char, number: u32, condition: &str, price: u64, size: u32) -> String {
-    line('R', who, number, "AB", &content(price, size, condition))
-}
-
-fn cancel(who: char, number: u32, symbol: &str, target: u32) -> String {
-    line('X', who, number, symbol, &target.to_be_bytes())
-}
-
-fn reinstate(who: char, number: u32, symbol: &str, target: u32) -> String {
-    line('S', who, number, symbol, &target.to_be_bytes())
-}
-
-fn correct(who: char, number: u32, target: u32, price: u64) -> String {
-    correct_to(who, number, target, price, "@   ")
-}
-
-fn correct_to(who: char, number: u32, target: u32, price: u64, condition: &str) -> String {
-    let rest = [&target.to_be_bytes()[..], &content(price, 100, condition)].concat();
-    line('C', who, number, "AB", &rest)
-}
-
-/// Runs the messages by Matrix One, as `check_by` does.
-fn check(participants: &str, messages: &[String], answers: &[&str], rows: &[&str]) {
-    check_by(Matrix::One, participants, messages, answers, rows);
-}
-
-/// Runs the messages over AB and CD and compares the answers and the rows of AB.
-fn check_by(
-    matrix: Matrix,
-    participants: &str,
-    messages: &[String],
-    answers: &[&str],
-    rows: &[&str],
-) {
-    let input = format!("AB CD\n{participants}\n{}", messages.join("\n"));
-    let written = output_by(matrix, &input);
-    let (told, report) = written.split_at(messages.len());
-    assert_eq!(told, answers);
-    assert_eq!(report[0], HEADER);
-    assert_eq!(&report[1..report.len() - 1], rows);
-    assert_eq!(report.last().unwrap(), "CD,ALL,,,,,,,,,0,0");
-}
-
-/// The day of the messages over AB and CD, with its tape.
-fn day(participants: &str, messages: &[String]) -> Day<Tape> {
-    let input = format!("AB CD\n{participants}\n{}", messages.join("\n"));
-    batch(Matrix::One, input.as_bytes(), &mut Vec::new()).unwrap()
-}
-
-fn mark(price: u64, place: u32, participant: char) -> Option<Mark> {
-    Some(Mark {
-        price,
-        place: NonZeroU32::new(place).unwrap(),
-        participant: participant as u8,
-    })
-}
-
-#[test]
-fn an_empty_day_has_a_row_a_symbol() {
-    check("N", &[], &[], &["AB,ALL,,,,,,,,,0,0"]);
-}
-
-#[test]
-fn an_odd_lot_alone_changes_the_volume() {
-    let rows = ["AB,ALL,,,,,,,,,50,1", "AB,N,,,,,,,,,50,1"];
-    check("N", &[report('N', 1, "@  I", 100_000, 50)], &["1"], &rows);
-}
-
-#[test]
-fn a_sale_out_of_sequence_sets_the_first_last_alone() {
-    let messages = [
-        report('N', 1, "@ Z ", 100_000, 100),
-        report('Q', 1, "@ Z ", 101_000, 200),
-    ];
-    let rows = [
-        "AB,ALL,100000,1,101000,2,100000,1,100000,1,300,2",
-        "AB,N,100000,1,100000,1,100000,1,100000,1,100,1",
-        "AB,Q,101000,2,101000,2,101000,2,101000,2,200,1",
-    ];
-    check("N Q", &messages, &["1", "2"], &rows);
-}
-
-#[test]
-fn a_sold_last_follows_a_last_of_its_own_market() {
-    let messages = [
-        report('N', 1, "@   ", 100_000, 100),
-        report('Q', 1, "@ L ", 100_500, 100),
-        report('N', 2, "@ L ", 99_000, 100),
-    ];
-    let rows = [
-        "AB,ALL,100000,1,100500,2,99000,3,99000,3,300,3",
-        "AB,N,100000,1,100000,1,99000,3,99000,3,200,2",
-        "AB,Q,100500,2,100500,2,100500,2,100500,2,100,1",
-    ];
-    check("N Q", &messages, &["1", "2", "3"], &rows);
-}
-
-#[test]
-fn a_cancel_gives_the_last_back() {
-    let messages = [
-        report('Q', 1, "@   ", 100_000, 100),
-        report('N', 1, "@   ", 101_000, 100),
-        report('Q', 2, "@ L ", 100_500, 100),
-        cancel('N', 2, "AB", 1),
-    ];
-    let rows = [
-        "AB,ALL,100000,1,100500,3,100000,1,100500,3,200,2",
-        "AB,Q,100000,1,100500,3,100000,1,100500,3,200,2",
-    ];
-    check("N Q", &messages, &["1", "2", "3", "4"], &rows);
-    let rows = [
-        "AB,ALL,100000,1,101000,2,100000,1,101000,2,300,3",
-        "AB,N,101000,2,101000,2,101000,2,101000,2,100,1",
-        "AB,Q,100000,1,100500,3,100000,1,100500,3,200,2",
-    ];
-    check("N Q", &messages[..3], &["1", "2", "3"], &rows);
-}
-
-#[test]
-fn two_cancels_in_turn_give_two_former_lasts_back() {
-    let mut messages = vec![
-        report('N', 1, "@ Z ", 100_000, 100),
-        report('Q', 1, "@ L ", 101_000, 100),
-        report('P', 1, "@   ", 102_000, 100),
-        report('Q', 2, "@ L ", 100_500, 100),
-        cancel('P', 2, "AB", 1),
-    ];
-    let answers = ["1", "2", "3", "4", "5", "6"];
-    let rows = [
-        "AB,ALL,100000,1,101000,2,100000,1,100000,1,300,3",
-        "AB,N,100000,1,100000,1,100000,1,100000,1,100,1",
-        "AB,Q,101000,2,101000,2,100500,4,100500,4,200,2",
-    ];
-    check("N P Q", &messages, &answers[..5], &rows);
-    messages.push(cancel('N', 2, "AB", 1));
-    let rows = [
-        "AB,ALL,101000,2,101000,2,100500,4,100500,4,200,2",
-        "AB,Q,101000,2,101000,2,100500,4,100500,4,200,2",
-    ];
-    check("N P Q", &messages, &answers, &rows);
-}
-
-#[test]
-fn a_correction_keeps_its_place() {
-    let messages = [
-        report('N', 1, "@   ", 100_000, 100),
-        report('N', 2, "@   ", 102_000, 100),
-        report('N', 3, "@   ", 102_000, 100),
-        correct('N', 4, 2, 99_000),
-    ];
-    let rows = [
-        "AB,ALL,100000,1,102000,3,99000,2,102000,3,300,3",
-        "AB,N,100000,1,102000,3,99000,2,102000,3,300,3",
-    ];
-    check("N", &messages, &["1", "2", "3", "4"], &rows);
-}
-
-#[test]
-fn the_tape_carries_the_summary_after_a_cancel() {
-    let messages = [
-        report('Q', 1, "@   ", 100_000, 100),
-        report('N', 1, "@   ", 101_000, 100),
-        report('Q', 2, "@ L ", 100_500, 100),
-        cancel('N', 2, "AB", 1),
-    ];
-    let after = Summary {
-        open: mark(100_000, 1, 'Q'),
-        high: mark(100_500, 3, 'Q'),
-        low: mark(100_000, 1, 'Q'),
-        last: mark(100_500, 3, 'Q'),
-        volume: 200,
-        trades: 2,
-    };
-    let entries = day("N Q", &messages).kept.entries;
-    let carried: Vec<_> = entries.iter().map(|entry| entry.after).collect();
-    assert_eq!(carried, [None, None, None, Some(after)]);
-    assert_eq!(entries[3].message.kind, Kind::Cancel { target: 1 });
-}
-
-#[test]
-fn the_tape_carries_the_summary_after_a_correction() {
-    let messages = [
-        report('N', 1, "@   ", 100_000, 100),
-        report('N', 2, "@   ", 102_000, 100),
-        report('N', 3, "@   ", 102_000, 100),
-        correct('N', 4, 2, 99_000),
-        line('R', 'N', 5, "CD", &content(50_000, 100, "@   ")),
-        correct('N', 6, 3, 98_000),
-    ];
-    let after = Summary {
-        open: mark(100_000, 1, 'N'),
-        high: mark(102_000, 3, 'N'),
-        low: mark(99_000, 2, 'N'),
-        last: mark(102_000, 3, 'N'),
-        volume: 300,
-        trades: 3,
-    };
-    let later = Summary {
-        high: mark(100_000, 1, 'N'),
-        low: mark(98_000, 3, 'N'),
-        last: mark(98_000, 3, 'N'),
-        ..after
-    };
-    let entries = day("N", &messages).kept.entries;
-    let carried: Vec<_> = entries.iter().map(|entry| entry.after).collect();
-    assert_eq!(carried, [None, None, None, Some(after), None, Some(later)]);
-}
-
-#[test]
-fn a_carried_summary_is_the_row_of_its_moment() {
-    let conditions = [
-        "@   ", "@ L ", "@ Z ", "@4  ", "@  I", "@  M", "@9  ", "@F P",
-    ];
-    let mut messages = Vec::new();
-    let mut carried = [0; 3];
-    for number in 1..=200 {
-        let mixed = number * 7_919 % 1_009;
-        let who = ['N', 'P', 'Q'][mixed as usize % 3];
-        let condition = conditions[mixed as usize / 3 % 8];
-        let price = 100_000 + 100 * u64::from(mixed % 11);
-        let target = 1 + mixed % number.min(20);
-        messages.push(match mixed % 7 {
-            0 => cancel(who, number, "AB", target),
-            1 | 2 => reinstate(who, number, "AB", target),
-            3 | 4 => correct(who, number, target, price),
-            _ => report(who, number, condition, price, mixed),
-        });
-        let input = format!("AB\nN P Q\n{}", messages.join("\n"));
-        let day = day("N P Q", &messages);
-        let last = day.kept.entries.last();
-        let Some((last, after)) = last.and_then(|last| Some((last, last.after?))) else {
-            continue;
-        };
-        carried[match last.message.kind {
-            Kind::Cancel { .. } => 0,
-            Kind::Reinstate { .. } => 1,
-            _ => 2,
-        }] += 1;
-        let row = output(&input)[messages.len() + 1].clone();
-        assert_eq!(row, format!("AB,ALL,{}", figures(&after)), "{input}");
+impl<'a> Words<'a> {
+    fn word(&mut self) -> Result<&'a str, String> {
+        self.0
+            .next()
+            .ok_or("no answer: a word is missing".to_owned())
     }
-    assert!(carried.iter().all(|count| *count >= 5), "{carried:?}");
+
+    fn takes(&mut self, word: &str) -> bool {
+        self.0.next_if_eq(&word).is_some()
+    }
+
+    fn number<T: std::str::FromStr>(&mut self) -> Result<T, String> {
+        let word = self.word()?;
+        word.parse()
+            .map_err(|_| format!("no answer: {word} is no number"))
+    }
+
+    /// The number after this word, if the word is the next.
+    fn named<T: std::str::FromStr>(&mut self, word: &str) -> Result<Option<T>, String> {
+        self.takes(word).then(|| self.number()).transpose()
+    }
+
+    fn matrix(&mut self) -> Result<Matrix, String> {
+        match self.word()? {
+            "1" => Ok(Matrix::One),
+            "2" => Ok(Matrix::Two),
+            other => Err(format!("no answer: {other} is no matrix")),
+        }
+    }
+
+    /// The message of a participant under a number that the words write from its kind on.
+    fn message(&mut self, who: &str, number: u32) -> Result<Message, String> {
+        let (kind, symbol) = (self.word()?, self.word()?);
+        let has_content = matches!(kind, "report" | "correct");
+        let target = if kind == "report" { "" } else { self.word()? };
+        let mut content = [""; 3];
+        if has_content {
+            content = [self.word()?, self.word()?, self.word()?];
+        }
+        let moment: u64 = self.named("moment")?.unwrap_or(0);
+        let columns = str::from_utf8(COLUMNS).unwrap();
+        let content = content.join(",");
+        let table =
+            format!("{columns}\n{kind},{who},{number},{moment},{symbol},{target},{content}\n");
+        let read = read_table(table.as_bytes()).map_err(|_| "no answer: no message")?;
+        Ok(read[0])
+    }
 }
 
-/// The figures as a report's row has them.
-fn figures(summary: &Summary) -> String {
+fn range(first: u32, last: u32) -> String {
+    match first == last {
+        true => first.to_string(),
+        false => format!("{first}..{last}"),
+    }
+}
+
+fn message_text(message: &Message) -> String {
+    let mut row = Vec::new();
+    write_row(message, &mut row);
+    let row = String::from_utf8(row).unwrap();
+    let fields: Vec<&str> = row.split(',').collect();
+    let mut words: Vec<&str> = [1, 2, 0, 4, 5, 6, 7, 8].map(|at| fields[at]).into();
+    if fields[3] != "0" {
+        words.extend(["moment", fields[3]]);
+    }
+    words.retain(|word| !word.is_empty());
+    words.join(" ")
+}
+
+fn mark_text(mark: Mark) -> String {
+    let mut price = Vec::new();
+    write_price(mark.price, &mut price);
+    let price = String::from_utf8(price).unwrap();
+    format!("{} {price} at {}", char::from(mark.participant), mark.place)
+}
+
+fn summary_text(summary: &Summary) -> String {
+    let names = ["open", "high", "low", "last"];
     let marks = [summary.open, summary.high, summary.low, summary.last];
-    let marks = marks.map(|mark| match mark {
-        Some(mark) => format!("{},{}", mark.price, mark.place),
-        None => ",".into(),
-    });
-    format!("{},{},{}", marks.join(","), summary.volume, summary.trades)
-}
-
-#[test]
-fn an_entry_has_all_of_its_message() {
-    let messages = [
-        report('N', 7, "@ Z ", 100_000, 100),
-        report('N', 7, "@   ", 100_000, 100),
-        report('Q', 9, "@F L", 100_000, 100),
-        report('Q', 9, "@F I", 101_000, 200),
-    ];
-    let entries = day("N Q", &messages).kept.entries;
-    let numbers: Vec<_> = entries.iter().map(|entry| entry.number.get()).collect();
-    assert_eq!(numbers, [1, 2]);
-    let message = entries[1].message;
-    let told = (message.participant, message.number, message.moment);
-    assert_eq!(told, (b'Q', 9, moment(9)));
-    assert_eq!(&message.symbol, b"AB      ");
-    let Kind::Report(content) = message.kind else {
-        panic!("{message:?} is no report");
-    };
-    assert_eq!((content.price, content.size), (101_000, 200));
-    assert_eq!(&content.condition, b"@F I");
-    let cells = Matrix::One.cells(content.condition).unwrap();
-    assert_eq!(cells.last, [LastRule::Never; 2]);
-}
-
-#[test]
-fn targets_of_every_kind_are_told_apart() {
-    let messages = [
-        report('N', 1, "@   ", 100_000, 100),
-        correct('N', 2, 1, 100_000),
-        correct('N', 3, 2, 100_000),
-        cancel('N', 3, "CD", 1),
-        cancel('N', 3, "AB", 1),
-        correct('N', 4, 1, 100_000),
-        cancel('N', 4, "AB", 9),
-    ];
-    let answers = [
-        "1",
-        "2",
-        "refused 37 NoSuchReport",
-        "refused 38 OtherSymbol",
-        "3",
-        "refused 39 Cancelled",
-        "refused 37 NoSuchReport",
-    ];
-    check("N", &messages, &answers, &["AB,ALL,,,,,,,,,0,0"]);
-}
-
-#[test]
-fn a_reinstated_report_stands_in_its_first_place_with_its_latest_content() {
-    let messages = [
-        report('N', 1, "@   ", 100_000, 100),
-        report('N', 2, "@   ", 101_000, 100),
-        correct('N', 3, 1, 102_000),
-        cancel('N', 4, "AB", 1),
-        reinstate('N', 5, "CD", 1),
-        reinstate('N', 5, "AB", 3),
-        reinstate('N', 5, "AB", 2),
-        reinstate('N', 5, "AB", 1),
-        reinstate('N', 6, "AB", 1),
-        cancel('N', 6, "AB", 1),
-        reinstate('N', 7, "AB", 1),
-    ];
-    let answers = [
-        "1",
-        "2",
-        "3",
-        "4",
-        "refused 38 OtherSymbol",
-        "refused 37 NoSuchReport",
-        "refused 43 Standing",
-        "5",
-        "refused 43 Standing",
-        "6",
-        "7",
-    ];
-    let rows = [
-        "AB,ALL,102000,1,102000,1,101000,2,101000,2,200,2",
-        "AB,N,102000,1,102000,1,101000,2,101000,2,200,2",
-    ];
-    check("N", &messages, &answers, &rows);
-    let entries = day("N", &messages).kept.entries;
-    let again = Summary {
-        open: mark(102_000, 1, 'N'),
-        high: mark(102_000, 1, 'N'),
-        low: mark(101_000, 2, 'N'),
-        last: mark(101_000, 2, 'N'),
-        volume: 200,
-        trades: 2,
-    };
-    let alone = Summary {
-        open: again.last,
-        high: again.last,
-        volume: 100,
-        trades: 1,
-        ..again
-    };
-    let carried: Vec<_> = entries[3..].iter().map(|entry| entry.after).collect();
-    assert_eq!(carried, [alone, again, alone, again].map(Some));
-    assert_eq!(entries[4].message.kind, Kind::Reinstate { target: 1 });
-}
-
-#[test]
-fn a_reinstatement_gives_the_last_to_the_report_that_had_it() {
-    let messages = [
-        report('Q', 1, "@   ", 100_000, 100),
-        report('N', 1, "@   ", 101_000, 100),
-        report('Q', 2, "@ L ", 100_500, 100),
-        cancel('N', 2, "AB", 1),
-        reinstate('N', 3, "AB", 1),
-    ];
-    let rows = [
-        "AB,ALL,100000,1,101000,2,100000,1,101000,2,300,3",
-        "AB,N,101000,2,101000,2,101000,2,101000,2,100,1",
-        "AB,Q,100000,1,100500,3,100000,1,100500,3,200,2",
-    ];
-    check("N Q", &messages, &["1", "2", "3", "4", "5"], &rows);
-}
-
-#[test]
-fn matrix_two_has_odd_lots_among_the_prices_and_two_codes_more() {
-    let messages = [
-        report('N', 1, "@  I", 100_000, 50),
-        report('Q', 1, "@  2", 101_000, 100),
-        report('N', 2, "@  3", 99_000, 100),
-    ];
-    let rows = [
-        "AB,ALL,101000,2,101000,2,99000,3,101000,2,250,3",
-        "AB,N,99000,3,100000,1,99000,3,99000,3,150,2",
-        "AB,Q,101000,2,101000,2,101000,2,101000,2,100,1",
-    ];
-    check_by(Matrix::Two, "N Q", &messages, &["1", "2", "3"], &rows);
-    let refused = "refused 44 NotInMatrix";
-    let rows = ["AB,ALL,,,,,,,,,50,1", "AB,N,,,,,,,,,50,1"];
-    check("N Q", &messages, &["1", refused, refused], &rows);
-}
-
-#[test]
-fn a_condition_of_the_other_matrix_comes_behind_the_symbol_and_before_the_target() {
-    let messages = [
-        report('N', 1, "@   ", 100_000, 100),
-        line('R', 'N', 1, "EF", &content(100_000, 100, "@  2")),
-        line('R', 'N', 2, "EF", &content(100_000, 100, "@  2")),
-        correct_to('N', 2, 9, 100_000, "@  3"),
-        correct_to('N', 2, 1, 99_000, "@ L2"),
-        cancel('N', 3, "AB", 1),
-        correct_to('N', 4, 1, 99_000, "@  3"),
-        reinstate('N', 4, "AB", 1),
-    ];
-    let of_one = [
-        "1",
-        "refused 35 Stale",
-        "refused 36 UnknownSymbol",
-        "refused 44 NotInMatrix",
-        "refused 44 NotInMatrix",
-        "2",
-        "refused 44 NotInMatrix",
-        "3",
-    ];
-    let of_two = [
-        "1",
-        "refused 35 Stale",
-        "refused 36 UnknownSymbol",
-        "refused 37 NoSuchReport",
-        "2",
-        "3",
-        "refused 39 Cancelled",
-        "4",
-    ];
-    let row =
-        |who: &str, price: u64| format!("AB,{who},{price},1,{price},1,{price},1,{price},1,100,1");
-    for (matrix, answers, price) in [
-        (Matrix::One, of_one, 100_000),
-        (Matrix::Two, of_two, 99_000),
-    ] {
-        let rows = ["ALL", "N"].map(|who| row(who, price));
-        let rows = rows.each_ref().map(String::as_str);
-        check_by(matrix, "N", &messages, &answers, &rows);
-    }
-}
-
-#[test]
-fn a_refused_number_is_used_again() {
-    let plain = content(100_000, 100, "@   ");
-    let messages = [
-        report('N', 1, "@   ", 100_000, 100),
-        report('N', 1, "@   ", 100_000, 100),
-        line('R', 'N', 5, "EF", &plain),
-        report('N', 5, "@   ", 100_000, 100),
-        report('Q', 1, "@   ", 100_000, 100),
-        report('N', u32::MAX, "@   ", 100_000, 100),
-        report('N', u32::MAX, "@   ", 100_000, 100),
-    ];
-    let answers = [
-        "1",
-        "refused 35 Stale",
-        "refused 36 UnknownSymbol",
-        "2",
-        "refused 34 UnknownParticipant",
-        "3",
-        "refused 35 Stale",
-    ];
-    let rows = [
-        "AB,ALL,100000,1,100000,1,100000,1,100000,3,300,3",
-        "AB,N,100000,1,100000,1,100000,1,100000,3,300,3",
-    ];
-    check("N", &messages, &answers, &rows);
-}
-
-#[test]
-fn conditions_of_one_market_and_combined_codes_count_as_their_least_cells() {
-    let rows = [
-        "AB,ALL,,,,,,,,,0,1",
-        "AB,N,100000,1,100000,1,100000,1,100000,1,0,1",
-    ];
-    check("N", &[report('N', 1, "@  M", 100_000, 500)], &["1"], &rows);
-    let messages = [
-        report('N', 1, "@FTI", 100_000, 10),
-        report('N', 2, "@4  ", 101_000, 20),
-        report('N', 3, "@9 M", 102_000, 30),
-    ];
-    let rows = [
-        "AB,ALL,101000,2,101000,2,101000,2,101000,2,30,3",
-        "AB,N,101000,2,101000,2,101000,2,101000,2,30,3",
-    ];
-    check("N", &messages, &["1", "2", "3"], &rows);
-}
-
-#[test]
-fn the_first_fault_of_a_line_is_answered() {
-    let whole = report('N', 1, "@ Z ", 100_000, 100);
-    let digits = &whole[2..];
-    let with = |at: usize, bytes: &str| {
-        format!(
-            "N {}{bytes}{}",
-            &digits[..2 * at],
-            &digits[2 * at + bytes.len()..]
-        )
-    };
-    let mut cases: Vec<(String, &str)> = (0..40)
-        .map(|bytes| (format!("N {}", &digits[..2 * bytes]), "refused 12 Short"))
+    let named = names.into_iter().zip(marks);
+    let marks: String = named
+        .filter_map(|(name, mark)| Some(format!("{name} {}, ", mark_text(mark?))))
         .collect();
-    for bad in [
-        "",
-        "N",
-        "n 00",
-        "N 0",
-        "N  00",
-        "N 00\r",
-        "N zz",
-        "N \u{ff}\u{ff}",
-    ] {
-        cases.push((bad.into(), "refused 22 BadLine"));
+    format!(
+        "{marks}volume {}, trades {}",
+        summary.volume, summary.trades
+    )
+}
+
+fn condition(word: &str) -> Result<[u8; 4], String> {
+    let codes = word.replace('_', " ");
+    <[u8; 4]>::try_from(codes.as_bytes()).map_err(|_| "21 BadCondition".to_owned())
+}
+
+fn cells_text(matrix: Matrix, codes: [u8; 4]) -> Answer {
+    Matrix::Two.cells(codes).ok_or("21 BadCondition")?;
+    let cells = matrix.cells(codes).ok_or("44 NotInMatrix")?;
+    let yes = |holds: bool| if holds { 'Y' } else { 'N' };
+    let rule = |rule: LastRule| match rule {
+        LastRule::Never => 'N',
+        LastRule::FirstOnly => 'F',
+        LastRule::SameMarket => 'S',
+        LastRule::Always => 'Y',
+    };
+    let [whole, own] = [0, 1].map(|column| [yes(cells.high_low[column]), rule(cells.last[column])]);
+    Ok([&whole[..], &own, &[yes(cells.volume)]]
+        .concat()
+        .iter()
+        .collect())
+}
+
+/// The codes of a position, from 0, by rising bytes of which a blank is `_`.
+fn codes(matrix: Matrix, position: usize) -> Vec<u8> {
+    (0..=u8::MAX)
+        .filter(|code| {
+            let mut condition = *b"@   ";
+            condition[position] = *code;
+            matrix.cells(condition).is_some()
+        })
+        .map(|code| if code == b' ' { b'_' } else { code })
+        .collect()
+}
+
+fn bytes_of(digits: &str) -> Result<Vec<u8>, String> {
+    let pairs = digits.as_bytes().chunks(2);
+    pairs
+        .map(|pair| u8::from_str_radix(str::from_utf8(pair).unwrap(), 16))
+        .collect::<Result<_, _>>()
+        .map_err(|_| "no answer: no digits".to_owned())
+}
+
+fn read_text(bytes: &[u8]) -> Answer {
+    let (message, taken) = decode_front(bytes)?;
+    let left = match bytes.len() - taken {
+        0 => String::new(),
+        left => format!(", {left} left"),
+    };
+    Ok(format!("{}{left}", message_text(&message)))
+}
+
+/// A day with its tape, and the same without one.
+struct Days {
+    kept: Day<Tape>,
+    least: Day<Reports>,
+}
+
+impl Days {
+    /// The summary of a symbol, of all or of a participant: the same by both.
+    fn summary(&self, symbol: &str, who: Option<&str>) -> Option<Summary> {
+        let names = &self.kept.names;
+        let padded = format!("{symbol:8}");
+        let row = names
+            .symbols
+            .iter()
+            .position(|known| known == padded.as_bytes())?;
+        let column = match who {
+            None => 0,
+            Some(who) => {
+                let mut letters = names.participants.iter();
+                1 + letters.position(|letter| [*letter] == who.as_bytes())?
+            }
+        };
+        let at = row * (1 + names.participants.len()) + column;
+        let summary = self.kept.kept.summaries(names)[at];
+        assert_eq!(self.least.kept.summaries(names)[at], summary);
+        Some(summary)
     }
-    cases.extend([
-        (with(0, "0000"), "refused 11 Oversize"),
-        (with(0, "0041"), "refused 11 Oversize"),
-        ("N 0000".into(), "refused 11 Oversize"),
-        (with(2, "5a"), "refused 13 BadKind"),
-        (format!("{}00", with(0, "0027")), "refused 14 BadLength"),
-        (with(3, "61"), "refused 15 BadParticipant"),
-        (with(4, "00000000"), "refused 16 BadNumber"),
-        (with(16, "4120422020202020"), "refused 17 BadSymbol"),
-        (cancel('N', 1, "AB", 0), "refused 18 BadTarget"),
-        (reinstate('N', 1, "AB", 0), "refused 18 BadTarget"),
-        (with(24, "0000000000000000"), "refused 19 BadPrice"),
-        (with(24, "000000e8d4a51000"), "refused 19 BadPrice"),
-        (with(32, "05f5e100"), "refused 20 BadSize"),
-        (with(36, "40452020"), "refused 21 BadCondition"),
-        (format!("{whole}00"), "refused 23 ExtraBytes"),
-        (format!("Q {digits}"), "refused 33 WrongLine"),
-        (format!("Z {digits}"), "refused 33 WrongLine"),
-        (
-            report('Q', 1, "@   ", 100_000, 100),
-            "refused 34 UnknownParticipant",
-        ),
-    ]);
-    for (line, answer) in cases {
-        assert_eq!(output(&format!("AB\nN\n{line}\n"))[0], answer, "{line:?}");
+
+    fn admit(&mut self, message: Message) -> Result<u32, &'static str> {
+        let answer = self.kept.admit(message);
+        assert_eq!(self.least.admit(message), answer);
+        answer
+    }
+
+    /// Admits a message under each number of a range, up to the first that is refused.
+    fn admit_all(&mut self, message: Message, last: u32) -> Answer {
+        let (mut first, mut told) = (None, String::new());
+        for number in message.number..=last {
+            match self.admit(Message { number, ..message }) {
+                Ok(place) => told = range(*first.get_or_insert(place), place),
+                Err(refusal) if told.is_empty() => return Err(refusal.to_owned()),
+                Err(refusal) => return Err(format!("{told}, then {refusal}")),
+            }
+        }
+        Ok(told)
+    }
+
+    fn totals(&self, who: &str) -> Answer {
+        let entries = self.kept.kept.entries.iter();
+        let own: Vec<_> = entries
+            .filter(|entry| [entry.message.participant] == who.as_bytes())
+            .collect();
+        let shares: u64 = own
+            .iter()
+            .map(|entry| match entry.message.kind {
+                Kind::Report(content) => u64::from(content.size),
+                _ => 0,
+            })
+            .sum();
+        let last = own.last().map_or(0, |entry| entry.message.number);
+        Ok(format!(
+            "messages {}, shares {shares}, last {last}",
+            own.len()
+        ))
+    }
+
+    fn entry(&self, number: usize) -> Answer {
+        let entries = &self.kept.kept.entries;
+        let Some(entry) = number.checked_sub(1).and_then(|at| entries.get(at)) else {
+            return Ok("none".into());
+        };
+        let after = entry.after.as_ref();
+        let after = after.map_or(String::new(), |after| {
+            format!(" after it {}", summary_text(after))
+        });
+        Ok(format!("{}{after}", message_text(&entry.message)))
+    }
+
+    fn listing(&self) -> Answer {
+        let names = &self.kept.names;
+        let symbols = names.symbols.iter().map(|symbol| symbol.to_vec());
+        let letters = names.participants.iter().map(|letter| vec![*letter]);
+        let names: Vec<Vec<u8>> = symbols.chain([b"/".to_vec()]).chain(letters).collect();
+        Ok(String::from_utf8(names.join(&b' ')).unwrap())
+    }
+}
+
+/// What a row has made so far.
+#[derive(Default)]
+struct Stage {
+    days: Option<Days>,
+    named: Vec<(String, Vec<u8>)>,
+}
+
+impl Stage {
+    fn days(&mut self) -> Result<&mut Days, String> {
+        self.days.as_mut().ok_or("no answer: no tape".into())
+    }
+
+    fn open(&mut self, words: &mut Words) -> Answer {
+        let [mut symbols, mut participants] = [Vec::new(), Vec::new()];
+        while !words.takes("/") {
+            symbols.push(words.word()?);
+        }
+        while let Some(letter) = words.0.next_if(|word| word.len() == 1) {
+            participants.push(letter);
+        }
+        let limit = words.named("limit")?.unwrap_or(1_048_576);
+        let matrix = match words.takes("matrix") {
+            true => words.matrix()?,
+            false => Matrix::One,
+        };
+        let [symbols, participants] = [symbols, participants].map(|names| names.join(" "));
+        let names = || read_names(symbols.as_bytes(), participants.as_bytes());
+        self.days = Some(Days {
+            kept: Day::new(names()?, matrix, 0, 0).limited(limit)?,
+            least: Day::new(names()?, matrix, 0, 0).limited(limit)?,
+        });
+        Ok(String::new())
+    }
+
+    fn admit(&mut self, who: &str, words: &mut Words) -> Answer {
+        let numbers = words.word()?;
+        let (first, last) = numbers.split_once("..").unwrap_or((numbers, numbers));
+        let [first, last] = [first, last].map(|end| end.parse().unwrap_or(0));
+        let message = words.message(who, first)?;
+        self.days()?.admit_all(message, last)
+    }
+
+    /// The bytes that the next words begin.
+    fn begun(&mut self, words: &mut Words) -> Result<Vec<u8>, String> {
+        let mut bytes = Vec::new();
+        match words.word()? {
+            "hex" => bytes = bytes_of(words.word()?)?,
+            "message" => {
+                let (who, number) = (words.word()?, words.number()?);
+                write_message(&words.message(who, number)?, &mut bytes);
+            }
+            name => {
+                let known = self.named.iter().find(|(known, _)| known == name);
+                bytes = known.ok_or("no answer: no such bytes")?.1.clone();
+            }
+        }
+        Ok(bytes)
+    }
+
+    fn bytes(&mut self, words: &mut Words) -> Result<Vec<u8>, String> {
+        let mut bytes = self.begun(words)?;
+        loop {
+            if words.takes("with") {
+                let other = bytes_of(words.word()?)?;
+                let at: usize = words.named("at")?.ok_or("no answer: no place")?;
+                bytes[at..at + other.len()].copy_from_slice(&other);
+            } else if words.takes("first") {
+                bytes.truncate(words.number()?);
+            } else if words.takes("then") {
+                bytes.extend(self.begun(words)?);
+            } else {
+                return Ok(bytes);
+            }
+        }
+    }
+
+    fn name_bytes(&mut self, words: &mut Words) -> Answer {
+        let name = words.word()?.to_owned();
+        let bytes = match words.0.peek() {
+            Some(_) => self.bytes(words)?,
+            None => Vec::new(),
+        };
+        self.named.push((name, bytes));
+        Ok(String::new())
+    }
+
+    fn add_digits(&mut self, words: &mut Words) -> Answer {
+        let (_, bytes) = self.named.last_mut().ok_or("no answer: no bytes")?;
+        for digits in words.0.by_ref() {
+            bytes.extend(bytes_of(digits)?);
+        }
+        Ok(String::new())
+    }
+
+    fn spell(&mut self, words: &mut Words) -> Answer {
+        let bytes = self.bytes(words)?;
+        let known = self.named.iter().find(|(_, known)| *known == bytes);
+        Ok(known.ok_or("no answer: no name")?.0.clone())
+    }
+
+    /// What a front of the bytes is read as that is shorter than they are, if it is the same of each.
+    fn fronts(&mut self, words: &mut Words) -> Answer {
+        let bytes = self.bytes(words)?;
+        let answers = (0..bytes.len()).map(|length| read_text(&bytes[..length]));
+        let answers: HashSet<String> = answers.map(|read| read.unwrap_or_else(|no| no)).collect();
+        Ok(Vec::from_iter(answers).join(" or "))
+    }
+
+    /// Takes a step of a tape or of bytes.
+    fn take(&mut self, words: &mut Words) -> Answer {
+        match words.word()? {
+            "tape" => self.open(words),
+            "bytes" => self.name_bytes(words),
+            "|" => self.add_digits(words),
+            "spell" => self.spell(words),
+            "read" if words.takes("message") => read_text(&self.bytes(words)?),
+            "fronts" if words.takes("message") => self.fronts(words),
+            "cells" => cells_text(words.matrix()?, condition(words.word()?)?),
+            "codes" => {
+                let (matrix, position) = (words.matrix()?, words.number::<usize>()?);
+                Ok(String::from_utf8(codes(matrix, position - 1)).unwrap())
+            }
+            "conditions" => {
+                let matrix = words.matrix()?;
+                let counts = (0..4).map(|position| codes(matrix, position).len());
+                Ok(counts.product::<usize>().to_string())
+            }
+            who if who.len() == 1 => self.admit(who, words),
+            word => self.ask(word, words),
+        }
+    }
+
+    /// Takes a step that asks a tape, or closes it.
+    fn ask(&mut self, word: &str, words: &mut Words) -> Answer {
+        let days = self.days()?;
+        match word {
+            "close" => {
+                days.kept.close();
+                days.least.close();
+                Ok(String::new())
+            }
+            "summary" => {
+                let summary = days.summary(words.word()?, words.0.next());
+                Ok(summary.map_or("not listed".into(), |summary| summary_text(&summary)))
+            }
+            "last" => {
+                let summary = days.summary(words.word()?, None);
+                let last = summary.ok_or("36 UnknownSymbol")?.last;
+                Ok(last.map_or("none".into(), mark_text))
+            }
+            "totals" => days.totals(words.word()?),
+            "entry" => days.entry(words.number()?),
+            "listing" => days.listing(),
+            _ => Err("no answer: no step".into()),
+        }
+    }
+}
+
+/// Plays a script: how many answers it wants, and the number of each line that is answered otherwise, with what was answered.
+fn play(script: &str) -> (usize, Vec<(usize, String)>) {
+    let (mut stage, mut wants, mut differing) = (Stage::default(), 0, Vec::new());
+    for (at, line) in (1..).zip(script.lines()) {
+        let said = line.split('#').next().unwrap_or_default();
+        let (step, wanted) = said.split_once("->").unwrap_or((said, ""));
+        if step.starts_with("row ") {
+            stage = Stage::default();
+        }
+        if step.starts_with("row ") || step.trim().is_empty() {
+            continue;
+        }
+        wants += usize::from(!wanted.trim().is_empty());
+        let mut words = Words(step.split_whitespace().peekable());
+        let mut told = stage.take(&mut words).unwrap_or_else(|refusal| refusal);
+        if words.0.peek().is_some() {
+            told = format!("{told}, and a word is too many");
+        }
+        if !told.split_whitespace().eq(wanted.split_whitespace()) {
+            differing.push((at, told));
+        }
+    }
+    (wants, differing)
+}
+
+#[test]
+fn all_rows_are_answered_as_wanted() {
+    for script in [TAPE, MATRIX, MESSAGES] {
+        let (wants, differing) = play(script);
+        assert_eq!(differing, []);
+        assert_eq!(wants, script.matches("->").count());
     }
 }
 
 #[test]
-fn a_bad_header_is_the_only_line() {
-    let symbols: Vec<String> = (0..4_097).map(|number| format!("S{number}")).collect();
-    let too_many = format!("{}\nN", symbols.join(" "));
-    let letters: Vec<String> = ('A'..='Z').chain(['A']).map(String::from).collect();
-    let letters = format!("AB\n{}", letters.join(" "));
-    for (input, answer) in [
-        ("", "1 Empty"),
-        ("AB", "1 Empty"),
-        ("AB\n", "1 Empty"),
-        ("AB\n\nN 00\n", "1 Empty"),
-        ("\nN", "1 Empty"),
-        ("ab", "9 BadHeader"),
-        ("AB \nN", "9 BadHeader"),
-        (" AB\nN", "9 BadHeader"),
-        ("AB  CD\nN", "9 BadHeader"),
-        (" \nN", "9 BadHeader"),
-        ("A\tB\nN", "9 BadHeader"),
-        ("AB\r\nN", "9 BadHeader"),
-        ("ABCDEFGHI\nN", "9 BadHeader"),
-        ("AB\nNQ", "9 BadHeader"),
-        ("AB\nn", "9 BadHeader"),
-        (&too_many, "2 TooMany"),
-        (&letters, "2 TooMany"),
-        ("AB AB\nN", "3 Repeated"),
-        ("AB\nN N", "3 Repeated"),
-    ] {
-        assert_eq!(output(input), [format!("refused {answer}")], "{input:?}");
+fn whichever_answer_is_another_one_its_line_alone_differs() {
+    for script in [TAPE, MATRIX, MESSAGES] {
+        for (at, line) in script.lines().enumerate() {
+            let Some((step, _)) = line.split_once("->") else {
+                continue;
+            };
+            let mut lines: Vec<&str> = script.lines().collect();
+            let other = format!("{step}-> another answer");
+            lines[at] = &other;
+            let (_, differing) = play(&lines.join("\n"));
+            let numbers: Vec<usize> = differing.into_iter().map(|(number, _)| number).collect();
+            assert_eq!(numbers, [at + 1], "{line}");
+        }
     }
 }

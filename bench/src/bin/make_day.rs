@@ -121,7 +121,7 @@ const CONDITIONS: [&[u8; 4]; 32] = [
 
 /// Sale conditions that Matrix Two alone has.
 const CONDITIONS_OF_TWO: [&[u8; 4]; 8] = [
-    b"@  2", b"@  3", b"@F 2", b"@ L3", b"@ Z2", b"@4 3", b"@9 2", b"CTU3",
+    b"@  2", b"@  3", b"@F 2", b"@ L3", b"@ Z2", b"@4 3", b"@9 2", b"C U3",
 ];
 
 /// What is wrong with a line that is meant to be refused.

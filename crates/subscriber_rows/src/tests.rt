@@ -1,15 +1,9 @@
-//! Packets, requests and the window by worked rows and vectors, and a subscriber's worked rows and seeded schedules, each packet as its bytes.
+//! What scripts of rows can't play: readers, writers and sources that fail or are slow, the most requests, many full windows, and
+//! seeded schedules of packets.
 
 mod failing;
 mod feed;
-mod figures;
+mod held;
 mod limits;
-mod matrices;
-mod packets;
 mod requests;
-mod rows;
 mod schedules;
-mod sending;
-mod spans;
-mod steps;
-mod window;

@@ -3,11 +3,6 @@
 mod books;
 mod dice;
 mod limits;
-mod listing;
-mod matrix;
-mod messages;
-mod orders;
 mod report;
 mod steps;
 mod stores;
-mod tape;

@@ -1,9 +1,8 @@
 //! Readers and writers that fail, are slow, are interrupted or take nothing, and sources that grow or fail.
 ghost use Rattle.std.specs.Prelude.{take};
 
-use super::feed::equal_reports;
+use super::feed::{SESSION, equal_reports};
 use super::requests::{ANSWER, REQUEST, end, requests, served, source_of, told};
-use super::sending::SESSION;
 use retransmit::{AskFault, Ended, Refusal, ServeEnd, serve};
 use std::alloc::{AllocError, Global};
 use std::io;

@@ -1,17 +1,14 @@
-//! The longest answer, drains as long as the window, and a feed of many of them.
+//! How the longest answer leaves, and a feed of many full windows.
 
 use super::failing::Calls;
-use super::feed::{self, Feed};
-use super::sending::{SESSION, Sending, VERSIONS};
-use super::steps::Sent::Reports;
-use super::steps::Told::{Drained, Took};
-use super::steps::{
-    Told, answered, brings, deliver, deliver_all, drain, holds, is_served, subscriber,
-};
-use arbitration::Line::A;
+use super::feed::{self, Feed, SESSION};
+use super::held::{holds, subscriber};
+use arbitration::{Line, Taken};
+use retransmit::{Ended, ServeEnd, serve};
 use std::alloc::Global;
+use std::io::Write;
 use subscriber::Subscriber;
-use tape_frames::{Request, Span, Version};
+use tape_frames::{Request, SliceSource, Span, Version, write_request};
 
 /// A request for 64 entries from 2.
 fn most_asked() -> Option<Request> {
@@ -20,6 +17,24 @@ fn most_asked() -> Option<Request> {
         from: 2,
         count: Span::try_new(64)?,
     })
+}
+
+/// Whether a request is answered over the tape.
+fn is_served<W: Write>(
+    alloc: Global,
+    version: Version,
+    tape: &Feed,
+    asked: &Request,
+    writer: &mut W,
+) -> bool {
+    let text = write_request(asked);
+    let mut reader = text.as_slice();
+    let mut source = SliceSource::of(tape);
+    let end = serve(alloc, &mut source, SESSION, version, &mut reader, writer);
+    end == ServeEnd {
+        served: 1,
+        ended: Ended::Clean,
+    }
 }
 
 /// Whether a request is answered over the tape, and how many writes, flushes and bytes that takes.
@@ -51,67 +66,17 @@ fn the_longest_answer_is_one_write_and_one_flush(rt: HostRuntime) {
     }
 }
 
-/// How many packets of how many bytes carry 64 corrections in a version.
-fn longest(version: Version) -> (usize, usize) {
-    match version {
-        Version::One => (8, 919),
-        Version::Two => (4, 1_823),
-    }
-}
-
-/// Whether there are as many packets, of as many bytes.
-fn are_longest(version: Version, packets: &[Vec<u8>]) -> bool {
-    let (count, bytes) = longest(version);
-    for packet in packets.iter() {
-        if packet.len() != bytes {
-            return false;
-        }
-    }
-    packets.len() == count
-}
-
-/// What is told of entry 1 by A, of these packets by R, and of a drain.
-fn told_of(alloc: Global, subscriber: &mut Subscriber, packets: &[Vec<u8>]) -> Option<[Told; 3]> {
-    let sending = Sending::all_in(Version::One);
-    let first = brings(alloc, sending, subscriber, A, Reports(1, 1))?;
-    let rest = deliver_all(subscriber, packets);
-    Some([first, rest, drain(subscriber)])
-}
-
-/// The same of a new subscriber, if the packets are the longest.
-fn told_of_longest(alloc: Global, version: Version, packets: &[Vec<u8>]) -> Option<[Told; 3]> {
-    if !are_longest(version, packets) {
-        return None;
-    }
-    let mut subscriber = subscriber(alloc, 100)?;
-    told_of(alloc, &mut subscriber, packets)
-}
-
-/// The same of the packets that answer a request over the tape.
-fn told_over(alloc: Global, version: Version, tape: &Feed, asked: &Request) -> Option<[Told; 3]> {
-    let packets = answered(alloc, version, tape, asked)?;
-    told_of_longest(alloc, version, &packets)
-}
-
-/// The same of the most entries, each of which is a correction.
-fn told_of_the_most(alloc: Global, version: Version) -> Option<[Told; 3]> {
-    let asked = most_asked()?;
-    let tape = feed::corrected_often(alloc)?;
-    told_over(alloc, version, &tape, &asked)
-}
-
-#[test]
-fn the_longest_packets_are_read_taken_and_drained(rt: HostRuntime) {
-    let told = [Took(1, 0, 0), Took(64, 0, 0), Drained(65, 0)];
-    for version in VERSIONS {
-        assert!(rt; told_of_the_most(rt.alloc(), version) == Some(told));
-    }
-}
+/// Sixteen entries that are new.
+const FRESH: Taken = Taken {
+    fresh: 16,
+    repeated: 0,
+    beyond: 0,
+};
 
 /// Whether A brings sixteen entries of the tape from a number on, and all are fresh.
 fn comes(alloc: Global, subscriber: &mut Subscriber, tape: &Feed, from: u32) -> Option<bool> {
     let text = feed::packet(alloc, Version::Two, tape, SESSION, from)?;
-    Some(deliver(subscriber, A, text.as_slice()) == Took(16, 0, 0))
+    Some(subscriber.deliver(Line::A, &text) == Ok(FRESH))
 }
 
 /// Whether A brings as many entries of the tape above a number as a window has slots, and all are fresh.
@@ -127,7 +92,7 @@ fn fills(alloc: Global, subscriber: &mut Subscriber, tape: &Feed, base: u32) -> 
 
 /// Whether A fills the window above a number, and one drain gives all of it.
 fn is_drained(alloc: Global, subscriber: &mut Subscriber, tape: &Feed, base: u32) -> bool {
-    fills(alloc, subscriber, tape, base) && drain(subscriber) == Drained(1_024, 0)
+    fills(alloc, subscriber, tape, base) && subscriber.drain() == Ok(1_024)
 }
 
 /// How many full windows are drained in turn.
@@ -151,11 +116,6 @@ fn drained_anew(alloc: Global, tape: &Feed, windows: u32) -> Option<(u32, bool)>
 fn full_windows(alloc: Global, windows: u32) -> Option<(u32, bool)> {
     let tape = feed::reports(alloc, windows.wrapping_mul(1_024), 100_000)?;
     drained_anew(alloc, &tape, windows)
-}
-
-#[test]
-fn a_full_window_is_drained_at_once(rt: HostRuntime) {
-    assert_eq!(rt; full_windows(rt.alloc(), 1), Some((1, true)));
 }
 
 #[test]

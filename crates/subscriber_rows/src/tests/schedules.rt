@@ -3,9 +3,8 @@
 ghost use Rattle.std.specs.Prelude.{◌≤◌, ◌<◌};
 ghost use Rattle.tape_types.specs.Ranges.{TAPE_MOST};
 
-use super::feed::{self, Feed};
-use super::sending::SESSION;
-use super::steps::{holds, subscriber};
+use super::feed::{self, Feed, SESSION};
+use super::held::{holds, subscriber};
 use arbitration::Line;
 use reports::Message;
 use scratch_fold::Summary;

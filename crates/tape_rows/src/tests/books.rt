@@ -4,7 +4,6 @@ ghost use Rattle.sale_matrix.specs.Matrix.{is_within};
 ghost use Rattle.sale_matrix.specs.declared.matrix.Matrix.TheVariants.{One};
 
 use super::steps::{Figures, Point, content, figures_of};
-use super::tape::{CORRECTED, EMPTY, OF_N_ALONE, OF_Q_ALONE};
 use sale_matrix::{Content, Matrix};
 use std::alloc::{AllocError, Global};
 use summaries::{IndexStore, ScratchStore, Store};
@@ -32,6 +31,46 @@ const OF_N_ADDED: Figures = Figures {
     last: Some(Point(100_000, 1, b'N')),
     volume: 100,
     trades: 1,
+};
+
+/// After N's report has another content.
+const CORRECTED: Figures = Figures {
+    opening: Some(Point(99_000, 1, b'N')),
+    high: Some(Point(100_500, 2, b'Q')),
+    low: Some(Point(99_000, 1, b'N')),
+    last: Some(Point(99_000, 1, b'N')),
+    volume: 300,
+    trades: 2,
+};
+
+/// N's report with the other content.
+const OF_N_ALONE: Figures = Figures {
+    opening: Some(Point(99_000, 1, b'N')),
+    high: Some(Point(99_000, 1, b'N')),
+    low: Some(Point(99_000, 1, b'N')),
+    last: Some(Point(99_000, 1, b'N')),
+    volume: 200,
+    trades: 1,
+};
+
+/// The report of Q alone.
+const OF_Q_ALONE: Figures = Figures {
+    opening: Some(Point(100_500, 2, b'Q')),
+    high: Some(Point(100_500, 2, b'Q')),
+    low: Some(Point(100_500, 2, b'Q')),
+    last: Some(Point(100_500, 2, b'Q')),
+    volume: 100,
+    trades: 1,
+};
+
+/// No report stands.
+const EMPTY: Figures = Figures {
+    opening: None,
+    high: None,
+    low: None,
+    last: None,
+    volume: 0,
+    trades: 0,
 };
 
 /// What is shown after both reports are added, after N's has another content, and after it is gone.

@@ -3,7 +3,7 @@
 use super::steps::Kind::{Cancel, Correct, Reinstate, Report};
 use super::steps::Step::{Consolidated, Sends};
 use super::steps::Told::{Number, Shows};
-use super::steps::{AB, Figures, Point, Step, Told, fills, indexed, participants, told_so};
+use super::steps::{AB, Figures, Point, Step, Told, fills, listing_of, participants, told_so};
 use sale_matrix::Matrix;
 use std::alloc::Global;
 use summaries::IndexStore;
@@ -143,7 +143,9 @@ fn filled(tape: &mut Tape<IndexStore>) -> (u32, usize) {
 
 /// The same of a new tape whose limit is the last step's place.
 fn filled_anew(alloc: Global) -> Option<(u32, usize)> {
-    Some(filled(&mut indexed(alloc, LIMIT, Matrix::One)?))
+    let listing = listing_of(alloc, &[AB], b"N")?;
+    let mut tape = Tape::new(alloc, listing, LIMIT, Matrix::One).ok()?;
+    Some(filled(&mut tape))
 }
 
 #[test]

@@ -1,27 +1,20 @@
 //! The steps of a row: what a tape is sent or asked, and what it answers.
 
 use reports::{Content, Header, Message, Moment};
-use sale_matrix::{Condition, Matrix};
+use sale_matrix::Condition;
 use scratch_fold::{Mark, Summary};
 use std::alloc::Global;
-use summaries::{IndexStore, ScratchStore, Store};
+use summaries::Store;
 use tape_core::{Entry, Refusal, Tape};
 use tape_types::{Listing, MsgNumber, Participant, Price, Size, Symbol};
 
 pub(super) const AB: &[u8; 8] = b"AB      ";
-
-pub(super) const CD: &[u8; 8] = b"CD      ";
-
-/// A symbol that is not listed.
-pub(super) const EF: &[u8; 8] = b"EF      ";
 
 /// What a message says.
 #[derive(Clone, Copy)]
 pub(super) enum Kind {
     /// A report of a hundred shares: its condition and its price.
     Report(&'static [u8; 4], u64),
-    /// A report of other shares: its condition, its price and them.
-    Lot(&'static [u8; 4], u64, u32),
     /// A cancel of a message number.
     Cancel(u32),
     /// A correction of a message number: the condition, the price and the shares that it has from now on.
@@ -35,18 +28,8 @@ pub(super) enum Kind {
 pub(super) enum Step {
     /// A message of a participant's letter, its number and a symbol.
     Sends(u8, u32, &'static [u8; 8], Kind),
-    /// The tape is closed.
-    Closes,
-    /// The mark of the consolidated last.
-    Last,
     /// The consolidated summary.
     Consolidated,
-    /// A participant's own summary.
-    Own(u8),
-    /// The summary that the entry at an index carries.
-    Carried(usize),
-    /// A participant's totals.
-    Totals(u8),
 }
 
 /// What the tape answers.
@@ -54,12 +37,8 @@ pub(super) enum Step {
 pub(super) enum Told {
     /// The tape number of the entry, or the number of the refusal.
     Number(u32),
-    /// A mark.
-    At(Point),
     /// A summary.
     Shows(Figures),
-    /// How many messages a participant has on the tape, the shares that it reported, and its last number.
-    Counts(u32, u64, u32),
     /// Nothing to tell.
     Nothing,
 }
@@ -101,18 +80,6 @@ fn told_summary(summary: Option<Summary>) -> Told {
     }
 }
 
-fn told_last(summary: Option<Summary>) -> Told {
-    match summary {
-        Some(
-            Summary {
-                last: Some(last),
-                ..
-            },
-        ) => Told::At(point_of(last)),
-        _ => Told::Nothing,
-    }
-}
-
 fn told_answer(answer: &Result<Entry, Refusal>) -> Told {
     match answer {
         Ok(entry) => Told::Number(entry.number.value()),
@@ -143,10 +110,6 @@ fn message(header: Header, kind: Kind) -> Option<Message> {
             header,
             content: content(condition, price, 100)?,
         },
-        Kind::Lot(condition, price, shares) => Message::Report {
-            header,
-            content: content(condition, price, shares)?,
-        },
         Kind::Cancel(target) => Message::Cancel {
             header,
             target: MsgNumber::try_new(target)?,
@@ -163,36 +126,6 @@ fn message(header: Header, kind: Kind) -> Option<Message> {
     })
 }
 
-/// The message that a step sends.
-pub(super) fn sent(step: Step) -> Option<Message> {
-    match step {
-        Step::Sends(who, number, symbol, kind) => message(header(who, number, symbol)?, kind),
-        _ => None,
-    }
-}
-
-/// The messages that the steps send.
-pub(super) fn messages(alloc: Global, steps: &[(Step, Told)]) -> Option<Vec<Message>> {
-    let mut messages = Vec::new(alloc);
-    for (step, _told) in steps {
-        messages.push(sent(*step)?).ok()?;
-    }
-    Some(messages)
-}
-
-/// Whether the answers are those that the steps have to get.
-pub(super) fn are_told(answers: &[Result<Entry, Refusal>], steps: &[(Step, Told)]) -> bool {
-    if answers.len() != steps.len() {
-        return false;
-    }
-    for at in 0..answers.len() {
-        if told_answer(&answers[at]) != steps[at].1 {
-            return false;
-        }
-    }
-    true
-}
-
 fn admits<S: Store>(tape: &mut Tape<S>, message: Option<Message>) -> Told {
     match message {
         Some(message) => told_answer(&tape.admit(message)),
@@ -204,36 +137,16 @@ fn consolidated<S: Store>(tape: &Tape<S>) -> Option<Summary> {
     tape.summary(Symbol::try_new(*AB)?)
 }
 
-fn own<S: Store>(tape: &Tape<S>, who: u8) -> Option<Summary> {
-    tape.summary_of(Symbol::try_new(*AB)?, Participant::try_new(who)?)
-}
-
-fn carried<S: Store>(tape: &Tape<S>, index: usize) -> Option<Summary> {
-    tape.entries().get(index)?.after
-}
-
-fn totals<S: Store>(tape: &Tape<S>, who: u8) -> Told {
-    match Participant::try_new(who) {
-        Some(who) => Told::Counts(tape.count_of(who), tape.sizes_of(who), tape.last_of(who)),
-        None => Told::Nothing,
-    }
-}
-
-fn close<S: Store>(tape: &mut Tape<S>) -> Told {
-    tape.close();
-    Told::Nothing
+/// The message that a step sends.
+fn sent(who: u8, number: u32, symbol: &[u8; 8], kind: Kind) -> Option<Message> {
+    message(header(who, number, symbol)?, kind)
 }
 
 /// Sends a step's message or asks for what it shows, and tells the answer.
-pub(super) fn take<S: Store>(tape: &mut Tape<S>, step: Step) -> Told {
+fn take<S: Store>(tape: &mut Tape<S>, step: Step) -> Told {
     match step {
-        Step::Sends(..) => admits(tape, sent(step)),
-        Step::Closes => close(tape),
-        Step::Last => told_last(consolidated(tape)),
+        Step::Sends(who, number, symbol, kind) => admits(tape, sent(who, number, symbol, kind)),
         Step::Consolidated => told_summary(consolidated(tape)),
-        Step::Own(who) => told_summary(own(tape, who)),
-        Step::Carried(index) => told_summary(carried(tape, index)),
-        Step::Totals(who) => totals(tape, who),
     }
 }
 
@@ -282,18 +195,4 @@ pub(super) fn listing_of(alloc: Global, names: &[&[u8; 8]], letters: &[u8]) -> O
     let symbols = symbols(alloc, names)?;
     let participants = participants(alloc, letters)?;
     Listing::new(alloc, symbols.as_slice(), participants.as_slice()).ok()
-}
-
-fn listing(alloc: Global) -> Option<Listing> {
-    listing_of(alloc, &[AB, CD], b"NPQ")
-}
-
-/// An open tape of the symbols AB and CD and the participants N, P and Q, by a matrix, over the plain store.
-pub(super) fn plain(alloc: Global, limit: u32, matrix: Matrix) -> Option<Tape<ScratchStore>> {
-    Tape::new(alloc, listing(alloc)?, limit, matrix).ok()
-}
-
-/// The same over the indexes.
-pub(super) fn indexed(alloc: Global, limit: u32, matrix: Matrix) -> Option<Tape<IndexStore>> {
-    Tape::new(alloc, listing(alloc)?, limit, matrix).ok()
 }

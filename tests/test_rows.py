@@ -1,0 +1,171 @@
+"""The worked rows of rows/, played over plain rules and over the proved code, by the static library."""
+
+import contextlib
+import importlib
+import io
+import re
+import shutil
+import sys
+import tempfile
+import unittest
+from pathlib import Path
+
+import plain_orders
+import play_rows
+from support import ROOT, TESTS, Case, run
+
+FILES = sorted((ROOT / "rows").glob("*.rows"))
+LIBRARY = ROOT / "clib" / "libtapebox.so"
+# A row with its title, and a step of it with its answer.
+ROW = re.compile(r"^row (?P<title>.+)\n(?:(?!row ).*\n)*", re.MULTILINE)
+ANSWERED = re.compile(r"^(?P<step>[^#\n]*->)[^#\n]*", re.MULTILINE)
+OTHER = " another answer"
+# What is planted in the plain rules, one at a time: the file, what it says, what it says then, and a row that sees it.
+PLANTED = [
+    ("plain_tape.py", 'rule in "SF" and', 'rule in "S" and', "A sale out of sequence is the last only if it is the first"),
+    ("plain_tape.py", "last.who == report.who", "last.who != report.who", "A cancel gives the last back"),
+    ("plain_tape.py", "first or mark, mark", "mark, mark", "A sold last follows a last of its own market"),
+    ("plain_tape.py", "mark.price > high.price", "mark.price >= high.price", "A correction keeps its place"),
+    ("plain_tape.py", "mark.price < low.price", "mark.price <= low.price", "Among equal prices the earliest place is kept"),
+    ("plain_tape.py", "if own else", "if not own else", "An official close sets figures of its own market alone"),
+    ("plain_tape.py", '(of[4] == "Y")', "True", "Codes combine in the figures"),
+    ("plain_tape.py", "if report.symbol != symbol:", "if False:", "A target is a report of the symbol, and stands"),
+    ("plain_tape.py", 'report.stands = kind != "cancel"', 'report.stands = kind == "correct"', "A reinstatement takes the last back"),
+    ("plain_tape.py", "        if content:\n", "        if not content:\n            content = (1, 1, '@___')\n", "A reinstatement brings the latest content back"),
+    ("plain_tape.py", '<= self.totals(row["participant"])[2]', '< self.totals(row["participant"])[2]', "Nothing follows the last message number"),
+    ("plain_tape.py", "(31, self.closed)", "(31, self.closed and len(self.entries) < self.limit)", "A full tape refuses all, and a closed one before that"),
+    ("plain_tape.py", "len(self.entries) >= self.limit", "len(self.entries) > self.limit", "A subscriber holds no more than its own limit"),
+    ("plain_tape.py", "64, 999_999_999_999", "64, 1_000_000_000_000", "Each field of a message has a fault of its own"),
+    ("plain_tape.py", "1 <= number_at(content, 0, 8)", "1 < number_at(content, 0, 8)", "Every field takes its least value"),
+    ("plain_tape.py", "not 1 <= length", "not 1 < length", "A message's length is looked at first"),
+    ("plain_tape.py", "yield 18, number_at(body, 22, 4) > 0", "yield 18, True", "A cancel has 28 bytes"),
+    ("plain_feed.py", "1_024, 64, 8", "1_023, 64, 8", "The window reaches 1,024 numbers above what is held"),
+    ("plain_feed.py", "1_024, 64, 8", "1_025, 64, 8", "The window reaches 1,024 numbers above what is held"),
+    ("plain_feed.py", "1_024, 64, 8", "1_024, 63, 8", "As many entries as are asked for come in full packets"),
+    ("plain_feed.py", "2: (16, 16_777_216)", "2: (8, 16_777_216)", "Sixteen reports are one packet of version 2 or two of version 1"),
+    ("plain_feed.py", "present > 15 or ", "", "A correction's packet carries the summary after it"),
+    ("plain_feed.py", "    if rest:\n", "    if rest and False:\n", "A beat and an end have no entries"),
+    ("plain_feed.py", "if self.known(entry.number) not in (None, entry):", "if False:", "A conflict and what is past the end are refused"),
+    ("plain_feed.py", "packet.last > self.ended", "False", "A conflict and what is past the end are refused"),
+    ("plain_feed.py", "packet.last < self.announced", "False", "An end below what was announced is refused"),
+    ("plain_feed.py", "max(self.announced, packet.last)", "packet.last", "What two lossy lines bring between them is held"),
+    ("plain_feed.py", "self.entries[-1] != entry", "False", "Another summary than the feed's stops a subscriber for good"),
+    ("plain_feed.py", "raise Refused(42, drained)", "raise Refused(42, drained - 1)", "Another summary than the feed's stops a subscriber for good"),
+    ("plain_feed.py", "    if asked != session:\n", "    if False:\n", "A request is answered by packets of what is published, or by a refusal"),
+]
+
+
+def play(*words, given="", folder=TESTS):
+    """How the player ended."""
+    return run(["-B", folder / "play_rows.py", *words], given.encode(), program=sys.executable)
+
+
+def differing(ended):
+    """The titles of the rows of which an answer differed."""
+    return re.findall(r"(?m)^(.+): \d+ answers, [1-9]\d* differ$", ended.written.decode())
+
+
+def rows():
+    """Each row of all files, with its file; its lines have the numbers that they have there."""
+    for file in FILES:
+        text = file.read_text(encoding="ascii")
+        for row in ROW.finditer(text):
+            yield file, row["title"], "\n" * text.count("\n", 0, row.start()) + row[0]
+
+
+def changed(text):
+    """A row's text with each of its answers in turn another one, and the number of that line."""
+    for found in ANSWERED.finditer(text):
+        yield text.count("\n", 0, found.start()) + 1, text[: found.start()] + found["step"] + OTHER + text[found.end() :]
+
+
+class Rows(Case):
+    """Over plain rules."""
+
+    RULES = "plain_feed"
+
+    def test_all_rows(self):
+        """rows/README.md: all answers of all rows are as wanted."""
+        ended = play("--over", self.RULES, *FILES)
+        answers, count = sum(len(ANSWERED.findall(text)) for _, _, text in rows()), len(list(rows()))
+        self.assert_writes(ended, ended.written)
+        self.assertEqual(ended.written.decode().splitlines()[-1], f"{answers} answers of {count} rows, 0 differ")
+        self.assertIn(f"{answers} answers in {count} rows", (ROOT / "rows" / "README.md").read_text(encoding="utf-8"))
+
+    def test_each_answer_is_compared(self):
+        """rows/README.md, "Lines": whichever answer is another one, its line alone is named."""
+        rules = importlib.import_module(self.RULES)
+        for file, title, text in rows():
+            for line, other in changed(text):
+                with self.subTest(file=file.name, row=title, line=line), contextlib.redirect_stdout(io.StringIO()) as written:
+                    [(_, played)] = play_rows.play("-", other, rules)
+                    self.assertEqual((played.differ, re.findall(r"(?m)^-:(\d+): ", written.getvalue())), (1, [str(line)]))
+
+    def test_a_step_that_is_none_is_a_difference(self):
+        """rows/README.md, "Lines": a step that can't be taken is a difference too, whether it wants an answer or not."""
+        for step in ["tap AB / N", "N 1 report AB 10.00 100 @___ -> 1", "drain -> 0", "read packet", "close now", "spell hex 0", "spell X"]:
+            with self.subTest(step):
+                ended = play("--over", self.RULES, "-", given=f"row One\n{step}\n")
+                self.assertEqual(ended.status, 1)
+                self.assertIn(f"-:2: {step}\n    answered: no answer: ".encode(), ended.written)
+
+
+@unittest.skipUnless(LIBRARY.exists(), "clib/libtapebox.so was not built (clib/build)")
+class RowsOfTheLibrary(Rows):
+    """Over the proved code."""
+
+    RULES = "library_feed"
+
+    def test_changes_in_every_order(self):
+        """rows/README.md, "Generated rows": six reports are changed in every order, as a plain list of them answers, and each refusal is met."""
+        script = plain_orders.script(seed=7, changes=5_000)
+        ended = play("--over", self.RULES, "-", given=script)
+        self.assert_writes(ended, ended.written)
+        self.assertEqual(ended.written.decode().splitlines()[-1], f"{script.count(' -> ')} answers of 2 rows, 0 differ")
+        for refusal in plain_orders.REFUSALS:
+            with self.subTest(refusal):
+                self.assertGreater(script.count(f" -> {refusal}\n"), 100)
+
+
+class Page(Case):
+    def test_each_row_is_named_once(self):
+        """ROWS, "The suite": it names the rows of each file in their order, and no two rows have one name."""
+        page = " ".join((ROOT / "docs" / "ROWS.md").read_text(encoding="utf-8").split())
+        names = [title for _, title, _ in rows()]
+        self.assertEqual(len(set(names)), len(names))
+        for file in FILES:
+            with self.subTest(file.name):
+                self.assertIn(f"{file.name})**: {'; '.join(title for named, title, _ in rows() if named == file)}.", page)
+
+
+class Player(Case):
+    def test_bad_arguments(self):
+        """tests/play_rows.py: a module or a file that can't be read, or another word, ends it with status 2 before anything is played."""
+        for words in (["--over", "no_module", *FILES], [*FILES, "none.rows"], ["--other"]):
+            with self.subTest(words):
+                ended = play(*words)
+                self.assertEqual((ended.status, ended.written), (2, b""))
+
+
+class Planted(Case):
+    def test_a_planted_fault_is_seen(self):
+        """ROWS, "The suite": whatever is planted in the plain rules is seen by a row that is meant for it."""
+        with tempfile.TemporaryDirectory() as name:
+            folder = Path(name, "tests")
+            folder.mkdir()
+            Path(name, "docs").symlink_to(ROOT / "docs")
+            for file in [*TESTS.glob("plain_*.py"), TESTS / "play_rows.py"]:
+                shutil.copy(file, folder)
+            for file, old, new, row in PLANTED:
+                text = (TESTS / file).read_text(encoding="utf-8")
+                with self.subTest(file=file, old=old, new=new):
+                    self.assertEqual(text.count(old), 1)
+                    (folder / file).write_text(text.replace(old, new), encoding="utf-8")
+                    ended = play(*FILES, folder=folder)
+                    shutil.copy(TESTS / file, folder)
+                    self.assertEqual((ended.status, ended.said), (1, b""))
+                    self.assertIn(row, differing(ended))
+
+
+if __name__ == "__main__":
+    unittest.main()
