@@ -1,0 +1,4 @@
+mod AsBox
+mod InsideSteps
+mod TextLemmas
+mod Values
