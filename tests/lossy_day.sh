@@ -12,8 +12,8 @@ behind it, sends the table's messages (without an argument, those of samples/cor
 byte. Prints the report once, and on standard error what the relay did. Needs python3 and Linux, whose /proc/net tells which ports
 are bound.
 
-    TAPEBOX   the program (../crates/tapebox/out/tapebox, from here)
-    TAPEDESK  the one that reads the table (../crates/tapedesk/out/tapedesk)
+    TAPEBOX   the program (what ../run --which tapebox prints, from here)
+    TAPEDESK  the one that reads the table (what ../run --which tapedesk prints)
     FOLLOWED  1, or 0 for a day that nobody follows: `live` awaits no retransmission, and its report alone is printed (1)
     LOSE      the percentage of packets that is lost: of both lines, or as 100,10 of each (30)
     SEED      what the relay draws from (9, which loses the third packet of a line on both)
@@ -27,8 +27,9 @@ END
 case ${1-} in -h | --help) help; exit ;; esac
 [ $# -le 1 ] || { echo "usage: lossy_day.sh [TABLE.csv]" >&2; exit 2; }
 table=${1:-$samples/corrections.csv}
-tapebox=${TAPEBOX:-$tests/../crates/tapebox/out/tapebox}
-export TAPEDESK="${TAPEDESK:-$tests/../crates/tapedesk/out/tapedesk}"
+tapebox=${TAPEBOX:-$("$tests/../run" --which tapebox)} || exit 1
+TAPEDESK=${TAPEDESK:-$("$tests/../run" --which tapedesk)} || exit 1
+export TAPEDESK
 followed=${FOLLOWED:-1}
 lose=${LOSE:-30}
 seed=${SEED:-9}

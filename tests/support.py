@@ -4,6 +4,7 @@ import contextlib
 import csv
 import functools
 import io
+import os
 import re
 import socket
 import subprocess
@@ -23,9 +24,6 @@ TOOLS = ROOT / "tools"
 STORED_DAYS = [SAMPLES / "first-day.txt", TESTS / "days" / "stored-day.txt"]
 BENCH = ROOT / "bench"
 CRATES = ROOT / "crates"
-TAPEBOX = CRATES / "tapebox" / "out" / "tapebox"
-TAPEDESK = CRATES / "tapedesk" / "out" / "tapedesk"
-FEED_SPEED = CRATES / "feed_speed" / "out" / "feed_speed"
 HOST = "127.0.0.1"
 # Seconds until a program must have ended, unless a case says otherwise.
 LIMIT = 60
@@ -43,6 +41,51 @@ PATIENCE = 5
 # The states of a connection, and of a socket that awaits connections, in Linux's table.
 ESTABLISHED = "01"
 LISTENING = "0A"
+
+
+class Program(os.PathLike):
+    """A program of the crates. It is looked for when it is first called, and where it is not proved its draft is compiled then."""
+
+    all = []
+
+    def __init__(self, name):
+        self.name = name
+        self.all.append(self)
+
+    @functools.cached_property
+    def path(self):
+        """Where it is, which the cases take for its name."""
+        return located([self.name])[0]
+
+    @property
+    def is_draft(self):
+        """Whether it is a draft, since no proved program was built from exactly this tree."""
+        return self.path.endswith(".draft")
+
+    def __fspath__(self):
+        return self.path
+
+    __str__ = __fspath__
+
+
+def located(names):
+    """Where `./run` finds these programs. It says on standard error which are drafts, and why there is none."""
+    done = subprocess.run([ROOT / "run", "--which", *names], stdout=subprocess.PIPE, text=True, check=False)
+    if done.returncode:
+        raise RuntimeError(f"./run has no program, and ended with {done.returncode}")
+    return done.stdout.splitlines()
+
+
+def locate_all():
+    """Looks for all programs at once, so that drafts are compiled side by side, and returns the names of the drafts."""
+    for program, path in zip(Program.all, located([program.name for program in Program.all])):
+        program.path = path
+    return [program.name for program in Program.all if program.is_draft]
+
+
+TAPEBOX = Program("tapebox")
+TAPEDESK = Program("tapedesk")
+FEED_SPEED = Program("feed_speed")
 
 
 @dataclass(frozen=True)
@@ -95,10 +138,18 @@ def tried(times):
 
 def run(words, given=b"", program=TAPEBOX, limit=LIMIT, **options):
     """Runs a program on what it is given: bytes, or an open file."""
+    need(program)
     source = {"input": given} if isinstance(given, bytes) else {"stdin": given}
     options.setdefault("stdout", subprocess.PIPE)
     done = subprocess.run([program, *map(str_or_bytes, words)], stderr=subprocess.PIPE, timeout=limit, check=False, **source, **options)
     return Ended(done.returncode, done.stdout or b"", done.stderr)
+
+
+def need(program):
+    """Skips the case if the program is missing that only a gate or `rt test` builds, and the cases run over drafts."""
+    path = Path(program)
+    if CRATES in path.parents and not path.exists() and TAPEBOX.is_draft:
+        raise unittest.SkipTest(f"no {path.name}: it is built with its proofs alone, by the gate or `rt test`")
 
 
 def desk(*words, given=b"", **options):
@@ -121,6 +172,7 @@ def str_or_bytes(word):
 @contextlib.contextmanager
 def started(words, program=TAPEBOX, **options):
     """A program that runs beside the case, and is killed where it still runs after it."""
+    need(program)
     for stream in ("stdout", "stderr"):
         options.setdefault(stream, subprocess.PIPE)
     running = subprocess.Popen([program, *map(str_or_bytes, words)], **options)

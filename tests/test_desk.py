@@ -11,12 +11,13 @@ import unittest
 from collections import Counter
 from pathlib import Path
 
+import plain_explain
 from plain_table import COLUMNS, dollars
 from preloaded import CALL_FAILED, failing
 from refused import run_refused
 from support import HEADINGS, LIMIT, SAMPLES, TAPE_COLUMNS, TAPEDESK, Case, desk, started, table_of
 
-WORDS = ("report", "tape")
+WORDS = ("report", "tape", "explain")
 READ_FAULT = (3, b"tapedesk: a read failed\n")
 WRITE_FAULT = (4, b"tapedesk: a write failed\n")
 OUT_OF_MEMORY = (5, b"tapedesk: out of memory\n")
@@ -42,6 +43,14 @@ class Rising(Case):
         return ("\n".join([",".join(TAPE_COLUMNS), *rows]) + "\n").encode()
 
     @staticmethod
+    def explained(count):
+        """What became of the reports of these rows."""
+        sets = {1: "open low"} | {count: "high last"} if count > 1 else {1: "open high low last"}
+        rows = (f"AB,{at},{at + 1},N,{at},0,{dollars(10_000 + at)},100,@___,standing,,yes,yes,yes,{set_},yes,yes,{set_}"
+                for at in range(1, count + 1) for set_ in [sets.get(at, "")])
+        return ("\n".join([",".join(plain_explain.COLUMNS), *rows]) + "\n").encode()
+
+    @staticmethod
     def report(count):
         """The report of these rows."""
         figures = f"10001,1,{10_000 + count},{count},10001,1,{10_000 + count},{count},{100 * count},{count}"
@@ -58,6 +67,7 @@ class Long(Rising):
         self.assertGreater(len(table), 16_777_216)
         self.assert_writes(desk("report", given=table, limit=SOON), self.report(count))
         self.assert_writes(desk("tape", given=table, limit=SOON), self.tape(count))
+        self.assert_writes(desk("explain", given=table, limit=SOON), self.explained(count))
 
 
 class FailingCalls(Rising):
@@ -88,7 +98,7 @@ class FailingCalls(Rising):
     def test_writes(self):
         """OPERATING, "Statuses", 4: whichever write fails, a front of the text was written."""
         table = self.table(self.ROWS)
-        for word, whole in [("report", self.report(self.ROWS)), ("tape", self.tape(self.ROWS))]:
+        for word, whole in [("report", self.report(self.ROWS)), ("tape", self.tape(self.ROWS)), ("explain", self.explained(self.ROWS))]:
             fronts = set()
             for status, written, said in self.ends(word, "write", self.ENOSPC, table):
                 self.assertEqual((status, said), WRITE_FAULT)
@@ -123,7 +133,7 @@ class RefusedMemory(Case):
     MOST = 10_000
 
     def test_each_request(self):
-        """OPERATING, "Statuses", 5: whichever request is refused, no report is written and a front of the tape at most; or it was not missed, but for
+        """OPERATING, "Statuses", 5: whichever request is refused, no report is written and a front of another text at most; or it was not missed, but for
         the lines of refused rows."""
         rows = [["N", max(at, 2), f"S{at % 3}", "10.00", 100, "@___"] for at in range(2, self.ROWS)]
         table = table_of([["participant", "number", "symbol", "price", "size", "condition"], rows[0], *rows])
@@ -149,7 +159,7 @@ class RefusedMemory(Case):
         self.assertEqual((ended.status, ended.said), OUT_OF_MEMORY)
         if not ended.written:
             return "nothing"
-        self.assertEqual(word, "tape")
+        self.assertNotEqual(word, "report")
         self.assertTrue(whole.written.startswith(ended.written))
         return "a front"
 

@@ -3,6 +3,7 @@
 import contextlib
 import errno
 import os
+import re
 import signal
 import socket
 import statistics
@@ -51,11 +52,20 @@ class Follower:
     """A follower whose lines and retransmission are the case's own: its process, its connection once it has come, and what sends by each
     line."""
 
-    def __init__(self, follow, connection, sender, lines):
+    def __init__(self, follow, server, sender, lines):
         self.follow = follow
-        self.connection = connection
+        self.server = server
+        self.connection = None
+        self.accept()
         self.ports = lines
         self.by_a, self.by_b = (lambda packet, port=port: sender.sendto(packet, (HOST, port)) for port in lines)
+
+    def accept(self):
+        """Takes the follower's next connection in place of the one before."""
+        if self.connection:
+            self.connection.close()
+        self.connection, _ = self.server.accept()
+        self.connection.settimeout(LIMIT)
 
     def request(self):
         """The first number and the count of the next request; none where the follower closes."""
@@ -72,10 +82,11 @@ def follower(**options):
     with socket.create_server((HOST, retransmission)) as server, socket.socket(socket.AF_INET, socket.SOCK_DGRAM) as sender:
         server.settimeout(LIMIT)
         with started(["follow", "AB", "N", a, b, retransmission, SESSION], **options) as follow:
-            connection, _ = server.accept()
-            with connection:
-                connection.settimeout(LIMIT)
-                yield Follower(follow, connection, sender, (a, b))
+            peer = Follower(follow, server, sender, (a, b))
+            try:
+                yield peer
+            finally:
+                peer.connection.close()
 
 
 class Answers(Case):
@@ -110,6 +121,25 @@ class Answers(Case):
             peer.connection.close()
             peer.by_a(self.BEAT)
             self.assert_fault(ended(peer.follow), WRITE_FAULT)
+
+    def test_a_connection_that_is_lost(self):
+        """OPERATING: a follower whose connection ends after an answer opens another, and asks there for what is missing. Where that one ends
+        before an answer, a read has failed, or a write."""
+        for answers, ends in [(True, [(0, b"")]), (False, [READ_FAULT, WRITE_FAULT])]:
+            with self.subTest(answers), follower() as peer:
+                peer.by_a(self.BEAT)
+                self.assertEqual(peer.request(), (1, 4))
+                peer.connection.sendall(answer_of(entries(1, 1)))
+                self.assertEqual(peer.request(), (2, 3))
+                peer.accept()
+                self.assertEqual(peer.request(), (2, 3))
+                if answers:
+                    peer.connection.sendall(answer_of(entries(2, 4)))
+                    peer.by_a(packet(b"E", 4))
+                else:
+                    peer.connection.close()
+                end = ended(peer.follow)
+                self.assertIn((end.status, end.said), ends)
 
     def test_port_that_is_taken(self):
         """OPERATING, "Statuses", 3: a line's port that is taken is a read fault."""
@@ -224,7 +254,7 @@ class LateLines(Case):
         self.assertEqual(self.asked(5, send), [2, 4])
 
 
-    @tried(3)
+    @tried(5)
     def test_a_line_that_stays_late(self):
         """OPERATING: a line that was waited for in vain is not waited for again, whatever it brings, before it has come to the number that
         was asked for: but for the first gap the request comes at once."""
@@ -257,7 +287,7 @@ class LateLines(Case):
             peer.connection.sendall(answer_of(*(entries(start, min(start + self.ENTRIES_MOST - 1, held)) for start in starts)))
         return first
 
-    @tried(3)
+    @tried(5)
     def test_a_gap_that_fills_the_window(self):
         """OPERATING: a line is not waited for, though it was in time, once more than half of the window is announced."""
         seconds = []
@@ -310,6 +340,31 @@ class Counting(threading.Thread):
             back.join()
 
 
+class Cutting(Counting):
+    """Does so for two connections, and cuts the first one at its second request, which is asked after an answer."""
+
+    def run(self):
+        with self.listener:
+            for most in (1, None):
+                follow, _ = self.listener.accept()
+                with follow, connect(self.target) as live:
+                    self.pass_on(follow, live, most)
+
+    def pass_on(self, follow, live, most):
+        """Passes so many requests on, and their answers back, or all."""
+        back = threading.Thread(target=self.pass_back, args=[live, follow], daemon=True)
+        back.start()
+        with contextlib.suppress(OSError), follow.makefile("rb") as requests:
+            passed = 0
+            while (request := requests.read(REQUEST.size)) and passed != most:
+                passed += 1
+                self.asked += REQUEST.unpack(request)[2]
+                live.sendall(request)
+        with contextlib.suppress(OSError):
+            live.shutdown(socket.SHUT_RDWR)
+        back.join()
+
+
 class Tails(Case):
     def test_what_was_lost_last(self):
         """OPERATING: what both lines lost last is asked for once a beat tells of it, while the day goes on."""
@@ -360,7 +415,7 @@ class LateDays(Case):
         counting.join()
         return counting.asked
 
-    @tried(3)
+    @tried(5)
     def test_a_late_line_costs_no_more_than_a_dead_one(self):
         """OPERATING: a line that is late by 20 or 200 milliseconds costs not much more than one that is dead, and the reports are
         equal."""
@@ -401,6 +456,8 @@ class HeldUp(Case):
     """Followers that are held up during a day of 8,000 reports: their sockets hold only a part of it."""
 
     REPORTS = 8_000
+    # What the losses of each of three followers are drawn from.
+    SEEDS = (1, 2, 3)
 
     def assert_equal_reports(self, *programs):
         """All end well, with equal reports of the whole day."""
@@ -450,32 +507,82 @@ class HeldUp(Case):
             with started(["follow", "AB", "N", a, b, retransmission, SESSION]) as follow:
                 self.assert_equal_reports(live, follow)
 
-    def wait_turn(self, second, relays, first):
-        """Waits until the second follower's turn is to come: two seconds at least, and the end of the first one and of all packets."""
-        time.sleep(2)
-        first.wait(timeout=LIMIT)
-        for relay in relays:
-            relay.join(timeout=LIMIT)
-            self.assertFalse(relay.is_alive(), "an end never came")
-        self.assertIsNone(second.poll(), "the second follower ended before its turn")
-
-    def test_waiting_for_its_turn(self):
-        """OPERATING, "What you see": of two followers with gaps the second waits for its answer while another subscriber
-        has the retransmission, until the first has ended and each end has been passed on. It reads its lines on meanwhile."""
+    def test_served_at_once(self):
+        """OPERATING: two followers with gaps are served at once, beside a third connection that asks for nothing and stays open until both have
+        ended."""
         line, a, b, retransmission, *own = ports(8)
         relays = [Relay(a, own[::2]), Relay(b, own[1::2])]
         with started(["live", "AB", "N", line, a, b, retransmission, 3, SESSION]) as live, connect(line) as participant:
-            with started(["follow", "AB", "N", *own[:2], retransmission, SESSION]) as first:
-                wait_connected(first, retransmission, 1)
-                with connect(retransmission) as between, started(["follow", "AB", "N", *own[2:], retransmission, SESSION]) as second:
+            with connect(retransmission) as idle, started(["follow", "AB", "N", *own[:2], retransmission, SESSION]) as first:
+                wait_connected(first, retransmission, 2)
+                with started(["follow", "AB", "N", *own[2:], retransmission, SESSION]) as second:
                     wait_connected(second, retransmission, 3)
                     for relay in relays:
                         relay.start()
                     participant.sendall(reports("N", self.REPORTS))
                     participant.close()
-                    self.wait_turn(second, relays, first)
-                    between.close()
+                    for follow in (first, second):
+                        follow.wait(timeout=LIMIT)
+                    self.assertIsNone(live.poll(), "the day ended while a connection was open")
+                    idle.close()
                     self.assert_equal_reports(live, first, second)
+
+    def test_several_ports(self):
+        """OPERATING: each packet of a line goes to each of its five ports, the first and the last among them."""
+        line, retransmission, *row = ports(12)
+        ways = [row[at : at + 2] for at in range(0, len(row), 2)]
+        a, b = (",".join(str(way[which]) for way in ways) for which in (0, 1))
+        with started(["live", "AB", "N", line, a, b, retransmission, 2, SESSION]) as live, connect(line) as participant:
+            with contextlib.ExitStack() as stack:
+                follows = [stack.enter_context(started(["follow", "AB", "N", *way, retransmission, SESSION])) for way in (ways[0], ways[-1])]
+                for follow, way in zip(follows, (ways[0], ways[-1])):
+                    wait_bound(follow, *way)
+                wait_connected(follows[-1], retransmission, 2)
+                participant.sendall(reports("N", self.REPORTS))
+                participant.close()
+                self.assert_equal_reports(live, *follows)
+
+    def test_a_connection_that_is_cut(self):
+        """OPERATING: a follower whose connection is cut after an answer goes on by another one, which takes a turn of its own."""
+        line, a, b, retransmission, cut, *own = ports(7)
+        relays = [Relay(port, [target]) for port, target in zip((a, b), own)]
+        cutting = Cutting(cut, retransmission)
+        cutting.start()
+        with started(["live", "AB", "N", line, a, b, retransmission, 2, SESSION]) as live, connect(line) as participant:
+            with started(["follow", "AB", "N", *own, cut, SESSION]) as follow:
+                wait_bound(follow, *own)
+                for relay in relays:
+                    relay.start()
+                for number in range(1, self.REPORTS + 1):
+                    participant.sendall(report("N", number))
+                participant.close()
+                self.assert_equal_reports(live, follow)
+        cutting.join(timeout=LIMIT)
+        self.assertFalse(cutting.is_alive(), "no second connection came")
+
+    def test_three_behind_losses(self):
+        """OPERATING: three followers on ports of their own, of which each loses a tenth of the packets of either line, end as the day does."""
+        line, retransmission, *row = ports(2 + 4 * len(self.SEEDS))
+        ways = [row[at : at + 4] for at in range(0, len(row), 4)]
+        a, b = (",".join(str(way[which]) for way in ways) for which in (0, 1))
+        with contextlib.ExitStack() as stack:
+            live = stack.enter_context(started(["live", "AB", "N", line, a, b, retransmission, len(ways), SESSION]))
+            participant = stack.enter_context(connect(line))
+            relays, follows = [], []
+            for seed, way in zip(self.SEEDS, ways):
+                relays.append(stack.enter_context(started([LOSSY_RELAY, "--lose", "10", "--seed", seed, *way], program=sys.executable)))
+                follows.append(stack.enter_context(started(["follow", "AB", "N", *way[2:], retransmission, SESSION])))
+                wait_bound(relays[-1], *way[:2])
+                wait_bound(follows[-1], *way[2:])
+            wait_connected(live, retransmission, len(ways))
+            for number in range(1, self.REPORTS + 1):
+                participant.sendall(report("N", number))
+            participant.close()
+            self.assert_equal_reports(live, *follows)
+            for relay in relays:
+                relay.terminate()
+                lost = re.findall(rb"(\d+) lost", ended(relay).written)
+                self.assertEqual((len(lost), lost.count(b"0")), (2, 0))
 
 
 class Gone(Case):

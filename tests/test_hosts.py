@@ -131,7 +131,7 @@ class Machines(Case):
         return path
 
     def environment(self, program):
-        """What split_day.sh is given."""
+        """What split_day.py is given."""
         ssh = f"{self.ssh} -o ServerAliveInterval=1 -o ServerAliveCountMax=2"
         logins = ",".join(host.address for host in self.hosts)
         more = {"TAPEDESK": str(program), "PARALLEL": f"--sshlogin {logins}", "PARALLEL_SSH": ssh, "TMPDIR": str(self.folder / "room"), "PATH": PATH}
@@ -147,15 +147,15 @@ class Machines(Case):
     def test_a_day_over_two_hosts(self):
         """SCALE, "Several machines": the parts run on both hosts, and the report is the one of this machine alone."""
         table = self.table()
-        alone = run([table, PARTS], program=TOOLS / "split_day.sh", env=os.environ | {"TAPEDESK": str(TAPEDESK)})
-        ended = run([table, PARTS], program=TOOLS / "split_day.sh", env=self.environment(self.program(f'exec "{TAPEDESK}" "$@"')), limit=LIMIT)
+        alone = run([table, PARTS], program=TOOLS / "split_day.py", env=os.environ | {"TAPEDESK": str(TAPEDESK)})
+        ended = run([table, PARTS], program=TOOLS / "split_day.py", env=self.environment(self.program(f'exec "{TAPEDESK}" "$@"')), limit=LIMIT)
         self.assertEqual(ended, alone)
         self.assertEqual((alone.status, alone.said), (0, b""))
         self.assertEqual(len(set((self.folder / "where").read_text().split())), len(self.hosts))
 
     def test_a_host_that_is_gone(self):
         """SCALE, "Several machines": a host that is gone in the middle ends the run with a line that names it, and no report."""
-        words = [TOOLS / "split_day.sh", self.table(), str(PARTS)]
+        words = [TOOLS / "split_day.py", self.table(), str(PARTS)]
         running = subprocess.Popen(words, env=self.environment(self.program("sleep 600")), stdout=subprocess.PIPE, stderr=subprocess.PIPE)
         self.addCleanup(running.kill)
         until = time.monotonic() + LIMIT
@@ -166,4 +166,4 @@ class Machines(Case):
         self.hosts[1].cut_off()
         written, said = running.communicate(timeout=LIMIT)
         self.assertEqual((running.returncode, written), (1, b""))
-        self.assertRegex(said.decode(), rf"\Asplit_day\.sh: [^\n]*{self.hosts[1].address}[^\n]*\n\Z")
+        self.assertRegex(said.decode(), rf"\Asplit_day\.py: [^\n]*{self.hosts[1].address}[^\n]*\n\Z")

@@ -96,6 +96,8 @@ class SentPackets(Listeners):
     # Seconds: a little less than a turn of the sender's clock, since a clock may be set back meanwhile.
     TURN = 0.0009
     PAUSES = [0.24, 0.74]
+    # The part of all spans in which a busy machine may keep a subscriber from asking. At the greatest pace half of them are too short.
+    NOT_ASKED = 0.25
     # Seconds for which a subscriber asks: longer than all data takes, and shorter than the day waits for it.
     ASKING = 3
     UNPUBLISHED = bytes([72])
@@ -113,11 +115,11 @@ class SentPackets(Listeners):
         self.assertIn(self.ENTRIES_MOST, counts)
         self.look_at_pace(taken, self.PACE_MOST)
 
-    def look_at_pace(self, taken, pace):
-        """No turn has more packets than this. A span as long as one may meet two of them."""
+    def look_at_pace(self, taken, pace, quicker=0):
+        """No turn has more packets than this, but for such a part of all spans. A span as long as a turn may meet two of them."""
         times = [time for time, _ in taken]
-        for before, after in zip(times, times[2 * pace :]):
-            self.assertGreaterEqual(after - before, self.TURN)
+        spans = [after - before for before, after in zip(times, times[2 * pace :])]
+        self.assertLessEqual(sum(span < self.TURN for span in spans), quicker * len(spans))
 
     def look_at_ends(self, taken, entries):
         """The end comes three times, with the day's length, and a pause before the second and the third."""
@@ -134,7 +136,7 @@ class SentPackets(Listeners):
             participant.close()
             return hear()
 
-    @tried(3)
+    @tried(5)
     def test_each_entry_once_and_three_ends(self):
         """OPERATING: what is sent on lines A and B, and when the ends come. There is no beat while entries are sent, and none after."""
         a, b = self.hear(self.REPORTS)
@@ -154,15 +156,15 @@ class SentPackets(Listeners):
         subscriber = connect(port)
         threading.Thread(target=ask, args=[subscriber], daemon=True).start()
 
-    @tried(3)
+    @tried(5)
     def test_the_pace_of_who_asks(self):
         """OPERATING: while a subscriber asks, the sender sends the least number of packets in each turn but the first ones. A busy
-        machine may keep the subscriber from asking in a turn, so one of three days has to show it."""
+        machine may keep the subscriber from asking in a turn, so a few may have more, and one of five days has to show it."""
         for taken in self.hear(self.REPORTS, 1, self.keep_asking):
             data = [(time, packet) for time, packet in taken if packet[1:2] == b"D"]
             self.look_at_data(data, self.REPORTS)
-            self.look_at_pace(data[: 2 * self.PACE_FIRST], self.PACE_FIRST // 2)
-            self.look_at_pace(data[2 * self.PACE_FIRST :], self.PACE_LEAST)
+            self.look_at_pace(data[: 2 * self.PACE_FIRST], self.PACE_FIRST // 2, self.NOT_ASKED)
+            self.look_at_pace(data[2 * self.PACE_FIRST :], self.PACE_LEAST, self.NOT_ASKED)
 
     def ask_once(self, port, day):
         """A subscriber that asks once, before the first report, and goes."""
@@ -170,7 +172,7 @@ class SentPackets(Listeners):
             subscriber.sendall(struct.pack(">QIH", self.SESSION, 1, 1))
             self.assertEqual(subscriber.recv(1), self.UNPUBLISHED)
 
-    @tried(3)
+    @tried(5)
     def test_the_pace_after_a_request(self):
         """OPERATING: after a request that came before the first packet the first turn has half as many."""
         for taken in self.hear(self.REPORTS, 1, self.ask_once):
@@ -193,7 +195,7 @@ class QuietDays(Listeners):
     ENDS = 3
     LATER_END = 0.99
 
-    @tried(3)
+    @tried(5)
     def test_beats(self):
         """OPERATING: while nothing is sent, beats tell the last number, on both lines; there is none before the first entry."""
         with self.day(0) as (_, participant, _, hear):
@@ -210,7 +212,7 @@ class QuietDays(Listeners):
                 self.assertGreaterEqual(after - before, pause)
                 self.assertEqual(packet, HEADER.pack(2, b"H", self.SESSION, 1, 0))
 
-    @tried(3)
+    @tried(5)
     def test_ends_while_a_subscriber_is_awaited(self):
         """OPERATING: the end is sent each second until all connections have ended, also while one has yet to come."""
         with self.day(1) as (_, participant, retransmission, hear):
@@ -285,34 +287,24 @@ class Peers(Case):
 class ManyRequests(Case):
     SESSION = 7
     REQUESTS_MOST = 65_536
-    # A request for the first entry, and the first bytes of its answers while it is not published and then.
+    # A request for the first entry, and its answer while that is not published.
     REQUEST = struct.pack(">QIH", SESSION, 1, 1)
     UNPUBLISHED = b"\x48"
-    ANSWERED = b"\0"
 
-    def all_answers(self, subscriber):
-        """All that a subscriber is answered that asks as often as one connection answers, until its connection ends."""
-        asking = threading.Thread(target=subscriber.sendall, args=[self.REQUESTS_MOST * self.REQUEST])
-        asking.start()
-        answers = b""
-        while more := subscriber.recv(1 << 16):
-            answers += more
-        asking.join()
-        return answers
-
-    def test_as_many_as_a_connection_answers(self):
-        """OPERATING, "What you see": a connection ends with its last answer, the next one is served, and the day goes on."""
+    def test_more_than_one_serving_answers(self):
+        """OPERATING: a connection is answered however often it asks."""
         line, a, b, retransmission = ports(4)
-        with started(["live", "AB", "N", line, a, b, retransmission, 2, self.SESSION]) as day, connect(line) as participant:
+        count = 2 * self.REQUESTS_MOST + 1
+        with started(["live", "AB", "N", line, a, b, retransmission, 1, self.SESSION]) as day, connect(line) as participant:
             with connect(retransmission) as subscriber:
-                self.assertEqual(self.all_answers(subscriber), self.REQUESTS_MOST * self.UNPUBLISHED)
+                asking = threading.Thread(target=subscriber.sendall, args=[count * self.REQUEST])
+                asking.start()
+                answers = b""
+                while len(answers) < count and (more := subscriber.recv(1 << 16)):
+                    answers += more
+                asking.join()
+                self.assertEqual(answers, count * self.UNPUBLISHED)
             participant.sendall(report("N", 1))
-            with connect(retransmission) as subscriber:
-                first = self.UNPUBLISHED
-                while first == self.UNPUBLISHED:
-                    subscriber.sendall(self.REQUEST)
-                    first = subscriber.recv(1)
-            self.assertEqual(first, self.ANSWERED)
             participant.close()
             end = ended(day)
         self.assertEqual((end.status, end.said), (0, b""))

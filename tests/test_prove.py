@@ -4,7 +4,7 @@ import os
 import tempfile
 from pathlib import Path
 
-from support import ROOT, Case, run
+from support import ROOT, Case, Ended, run
 
 # Seconds in which a run must have ended that waits for no crate of SLOW seconds.
 SOON = 20
@@ -38,15 +38,16 @@ def crates_below(folder): return CRATES
 
 
 class Prove(Case):
-    def proved(self, crates):
+    def proved(self, crates, text=KIT):
         """How proving ended, and what was begun by how many processes: the crates are the program and those below it, each by its seconds, its
         status and what it stands on, lowest first."""
         with tempfile.TemporaryDirectory() as folder:
             kit = Path(folder)
             made = [f"{name} = Crate({name!r}, {seconds}, {status}, [{below}])" for name, seconds, status, below in crates]
             listed = ", ".join(name for name, *_ in crates)
-            (kit / "rtlib.py").write_text("\n".join([f"FOLDER = {folder!r}", KIT, *made, f"CRATES = [{listed}]\n"]), encoding="utf-8")
+            (kit / "rtlib.py").write_text("\n".join([f"FOLDER = {folder!r}", text, *made, f"CRATES = [{listed}]\n"]), encoding="utf-8")
             (kit / "rt").touch(mode=0o755)
+            (kit / "begun").touch()
             ended = run(["tapebox"], program=ROOT / "tools" / "prove.py", env={"PATH": f"{folder}:{os.environ['PATH']}"}, limit=SOON)
             return ended, (kit / "begun").read_text(encoding="utf-8").splitlines()
 
@@ -62,3 +63,12 @@ class Prove(Case):
         self.assertEqual(ended.status, 0, ended.said)
         self.assertEqual(sorted(begun[:2]), ["beside --jobs 2", "lower --jobs 2"])
         self.assertEqual(begun[2:], ["upper --jobs 4", "tapebox --jobs 4"])
+
+    def test_another_kit(self):
+        """`prove.py --help`: a kit whose module lacks what it is driven by proves one crate after the other: a line says what it lacks, and nothing is
+        begun."""
+        for name, lacks in [("fits", "fits"), ("build_rlib", "Crate.build_rlib")]:
+            with self.subTest(lacks):
+                ended, begun = self.proved([("tapebox", 0, 0, "")], KIT.replace(f"def {name}(", "def other("))
+                said = f"run: this kit's rtlib.py has no {lacks}, so one crate is proved after the other\n".encode()
+                self.assertEqual((ended, begun), (Ended(0, b"", said), []))

@@ -44,8 +44,14 @@ class Calls(Sweeps):
 
 
 class Arguments(Case):
-    # A port, a session, a matrix and a limit that are none.
-    BAD = ["live AB N,Q 0 9101 9102 9200 1 7", "live AB N,Q 9000 9101 9102 9200 1 x", "follow AB N,Q 9101 9102 9200 7 3", "follow AB N,Q 9101 9102 9200 7 1 0"]
+    # A port, a port of a list, a session behind lists of ports, a matrix and a limit that are none.
+    BAD = [
+        "live AB N,Q 0 9101 9102 9200 1 7",
+        "live AB N,Q 9000 9101,9111 9102,0 9200 1 7",
+        "live AB N,Q 9000 9101,9111 9102,9112 9200 1 x",
+        "follow AB N,Q 9101 9102 9200 7 3",
+        "follow AB N,Q 9101 9102 9200 7 1 0",
+    ]
 
     @classmethod
     def setUpClass(cls):

@@ -1,18 +1,20 @@
 """What each script says of itself, of words that it does not take, and of files at fault."""
 
 import os
+import shutil
 import tempfile
+import unittest
 
-from support import BENCH, ROOT, SAMPLES, TAPEDESK, TESTS, TOOLS, Case, run
+from support import BENCH, ROOT, SAMPLES, TAPEBOX, TAPEDESK, TESTS, TOOLS, Case, run
 
 MISSING = "no-such-file"
 # What works without words and is not to be run here: it builds, installs, writes a page, measures or runs a day.
-WITHOUT_WORDS = {"run", "set_up", "cases.py", "definitions.py", "lossy_day.sh", "latency.py", "live_load.py", "long_day.py", "measure.py", "tables.py"}
+WITHOUT_WORDS = {"run", "gate", "build", "set_up", "mark_built.py", "cases.py", "definitions.py", "lossy_day.sh", "latency.py", "live_load.py", "long_day.py", "measure.py", "tables.py"}
 READS_INPUT = {"plot_day.py"}
 # Scripts that read a table, by the words after its path.
 READERS = [
     (TOOLS / "split_day.py", [1, "."]),
-    (TOOLS / "split_day.sh", [1]),
+    (TOOLS / "split_day.py", [1]),
     (TOOLS / "send_day.py", [9_000]),
     (TESTS / "lossy_day.sh", []),
 ]
@@ -20,7 +22,7 @@ READERS = [
 
 def scripts():
     """Each script of the repository that people run."""
-    folders = [ROOT, ROOT / ".ci", BENCH, TESTS, TOOLS]
+    folders = [ROOT, ROOT / ".ci", BENCH, TESTS, TOOLS, ROOT / "clib", ROOT / "web"]
     files = [path for folder in folders for path in sorted(folder.iterdir()) if path.is_file()]
     return [path for path in files if path.read_bytes()[:2] == b"#!"]
 
@@ -29,7 +31,7 @@ class Scripts(Case):
     def ran(self, script, *words, given=b""):
         """How a script ended in an empty folder."""
         with tempfile.TemporaryDirectory() as folder:
-            return run(words, given, program=script, cwd=folder, env=os.environ | {"TAPEDESK": str(TAPEDESK)})
+            return run(words, given, program=script, cwd=folder, env=os.environ | {"TAPEBOX": str(TAPEBOX), "TAPEDESK": str(TAPEDESK)})
 
     def assert_names(self, ended, fault):
         """It ended with 1, wrote nothing, and said one line: a script's name, and what is at fault first."""
@@ -70,7 +72,7 @@ class Scripts(Case):
 
     def test_missing_file(self):
         """A file that is not there ends a script with 1, and is named."""
-        for script, more in [*READERS, (TOOLS / "plot_day.py", [])]:
+        for script, more in [*READERS, (TOOLS / "plot_day.py", []), (TOOLS / "from_taq.py", [])]:
             with self.subTest(script.name):
                 self.assert_names(self.ran(script, MISSING, *more), MISSING)
 
@@ -81,6 +83,19 @@ class Scripts(Case):
                 table.write((SAMPLES / "corrections.csv").read_text(encoding="utf-8") + row + "\n")
                 table.flush()
                 for script, more in READERS:
-                    if script.name != "split_day.py" or "fields" in fault:
+                    # Only if tapedesk is run on the parts is a field at fault.
+                    if script.name != "split_day.py" or "fields" in fault or (more == [1] and shutil.which("parallel")):
                         with self.subTest(script.name, row=row):
                             self.assert_names(self.ran(script, table.name, *more), f"{table.name}: {fault}")
+
+    @unittest.skipUnless(shutil.which("parallel"), "no GNU parallel")
+    def test_refused_in_several_parts(self):
+        """SCALE, "What is kept": the messages that the parts refuse are counted over all parts, and the report is printed."""
+        again = "".join(f"report,N,{number},{symbol},,10.00,100,@___\n" for symbol in ("AB", "CD") for number in (5, 5, 5))
+        with tempfile.NamedTemporaryFile("w", suffix=".csv") as table:
+            table.write("kind,participant,number,symbol,target,price,size,condition\n" + again)
+            table.flush()
+            ended = self.ran(TOOLS / "split_day.py", table.name, 2)
+        self.assertEqual((ended.status, ended.said), (0, b"split_day.py: 4 messages were refused\n"))
+        figures = [row.split(b",")[:2] + row.split(b",")[-2:] for row in ended.written.splitlines()[1:]]
+        self.assertEqual(figures, [[symbol, who, b"100", b"1"] for symbol in (b"AB", b"CD") for who in (b"ALL", b"N")])

@@ -5,11 +5,12 @@ import random
 import re
 from collections import Counter
 
+import plain_explain
 import plain_table
 from plain_table import COLUMNS, FIRST_ROW, TableFault
 from support import HEADINGS, SAMPLES, STORED_DAYS, TAPE_COLUMNS, Case, desk, run, table_of
 
-WORDS = ("report", "tape")
+WORDS = ("report", "tape", "explain")
 
 
 def report_in(written):
@@ -36,7 +37,8 @@ def refusal_lines(answers):
 
 class Days(Case):
     def assert_table(self, table, matrix="1"):
-        """A table has the report and the answers that the batch gives its messages, as the plain reader reads them. Returns the rows of its tape."""
+        """A table has the report and the answers that the batch gives its messages, as the plain reader reads them, and its reports became what they
+        are by its tape. Returns the rows of its tape."""
         messages = plain_table.read(table)
         batch = run(["batch", matrix], plain_table.batch(messages)).written
         answers, said = answers_of(batch), refusal_lines(answers_of(batch))
@@ -50,6 +52,9 @@ class Days(Case):
         wanted = [answer + [str(field) for field in plain_table.row_of(text)] for answer, text in zip(answers, messages)]
         self.assertEqual([row[:-6] for row in rows], wanted)
         self.assert_last_figures(rows, ended_report=report_in(batch))
+        explained = desk("explain", matrix, given=table)
+        self.assertEqual((explained.status, explained.said), (0, said))
+        self.assertEqual(list(csv.reader(explained.written.decode().splitlines())), list(plain_explain.explained(ended.written, report_in(batch), matrix)))
         return rows
 
     def assert_last_figures(self, rows, ended_report):

@@ -13,9 +13,9 @@ from dataclasses import replace
 from pathlib import Path
 
 from plain_table import COLUMNS
-from support import BENCH, CRATES, FEED_SPEED, SAMPLES, TAPEDESK, TOOLS, Case, batch_line, batch_of, desk, report, run
+from support import BENCH, FEED_SPEED, SAMPLES, TAPEDESK, TOOLS, Case, Program, batch_line, batch_of, desk, report, run
 
-DECODE_LINES = CRATES / "decode_lines" / "out" / "decode_lines"
+DECODE_LINES = Program("decode_lines")
 # The greatest batch.
 BYTES_MOST = 16_777_216
 
@@ -63,7 +63,7 @@ class Tables(Case):
         self.assertEqual([line for line in ended.written.decode().splitlines() if not line.startswith("symbol,")], wanted)
 
     def test_a_day_by_either_matrix(self):
-        """ROWS, "Matrix Two" and "Not of Matrix One": the table's day by each matrix."""
+        """rows/tape.rows, "Matrix Two has odd lots among the prices and two codes more": the table's day by each matrix."""
         table = SAMPLES / "matrix-two.csv"
         two = ["AB,ALL,101000,2,101000,2,99000,3,101000,2,250,3", "AB,N,99000,3,100000,1,99000,3,99000,3,150,2"]
         self.assert_day(["2"], table, ["1", "2", "3", *two, "AB,Q,101000,2,101000,2,101000,2,101000,2,100,1"])
@@ -195,6 +195,6 @@ class SplitDay(Case):
             for parts in (1, 3, 4):
                 with self.subTest(parts):
                     environment = os.environ | {"TAPEDESK": str(TAPEDESK)}
-                    split = run([table.name, parts], program=TOOLS / "split_day.sh", env=environment)
+                    split = run([table.name, parts], program=TOOLS / "split_day.py", env=environment)
                     self.assertEqual((split.status, split.said), (0, b""))
                     self.assertEqual(self.figures(split.written.decode()), self.figures(whole))

@@ -38,17 +38,20 @@ def say(text):
     print(f"run: {text}", file=sys.stderr, flush=True)
 
 
-def kit_module():
-    """The module beside the command `rt`, or None where it lacks one of the names."""
+def kit_module(names, calls):
+    """The module beside the command `rt`. A LookupError says which of these names it, or a crate of it, lacks."""
     path = Path(os.path.realpath(shutil.which("rt") or "rt")).with_name("rtlib.py")
     if not path.exists():
-        return None
+        raise LookupError("there is no rt here with a module rtlib.py beside it")
     spec = importlib.util.spec_from_file_location("rtlib", path)
     module = importlib.util.module_from_spec(spec)
     sys.dont_write_bytecode = True
     spec.loader.exec_module(module)
-    has_all = all(hasattr(module, name) for name in NAMES) and all(hasattr(module.Crate, name) for name in CALLS)
-    return module if has_all else None
+    lacking = [name for name in names if not hasattr(module, name)]
+    lacking += [f"Crate.{name}" for name in calls if not hasattr(getattr(module, "Crate", None), name)]
+    if lacking:
+        raise LookupError(f"this kit's rtlib.py has no {', '.join(lacking)}")
+    return module
 
 
 def lines_of(kit, crate):
@@ -161,9 +164,10 @@ def main():
     parser = argparse.ArgumentParser(description=__doc__, formatter_class=argparse.RawDescriptionHelpFormatter)
     parser.add_argument("programs", nargs="+", metavar="PROGRAM", help="a program's crate, as tapebox")
     words = parser.parse_args()
-    kit = kit_module()
-    if not kit:
-        say("this kit's rt can't be driven for several crates at a time, so it proves one after the other")
+    try:
+        kit = kit_module(NAMES, CALLS)
+    except LookupError as fault:
+        say(f"{fault}, so one crate is proved after the other")
         return 0
     # What the commands are put in, which end when this ends, is made before there are threads.
     kit.guarded()

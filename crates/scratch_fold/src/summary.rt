@@ -136,8 +136,8 @@ impl Summary {
         }
     }
 
-    /// Counts one report more, whose volume and number of trades have to fit.
-    pub(crate) fn add(&mut self, place: TapeNumber, effect: &Effect)
+    /// Counts one report more, at a place after all those before it; its volume and the number of trades have to fit.
+    pub fn add(&mut self, place: TapeNumber, effect: &Effect)
         requires volume { (step self.old (place, effect.now)).volume < 2 ^ 64 }
         requires trades { self.old.trades + 1 < 2 ^ 32 }
         ensures step { self.new ≡ step self.old (place, effect.now) }
