@@ -1,12 +1,12 @@
 #!/usr/bin/env python3
 """Measures `tapebox live` and `tapebox follow` on this machine: a busy day over 15 participants' lines to followers, one unless told otherwise.
 
-    bench/live_load.py [--messages N] [--lines N] [--seed N] [--lose P] [--late] [--followers N] [--tapebox PROGRAM] [--no-build]
+    bench/live_load.py [--messages N] [--lines N,..] [--turns N] [--seed N] [--lose P] [--late] [--followers N] [--no-build] [--json FILE]
 
 The day is that of `make_day busy`, or of `busy4` and so on for another number of lines, without the lines that no participant's line can
 bring (an odd digit, a letter that is not listed), up to N messages. It runs straight and through tests/lossy_relay.py with P percent lost on each
 line; with --late in place of these through the relay with line B in time, late or dead, each without a loss and with one in a hundred packets of
-a line lost. Prints for each run the seconds from the first byte sent to the end of `follow`, the messages a second, how many entries the answers
+a line lost. `tapebox` is the one of `./run --which`. Prints for each run the seconds from the first byte sent to the end of `follow`, the messages a second, how many entries the answers
 of the retransmission had, and whether both reports are equal; and first how long `tapebox batch` takes over the same messages, and how long
 their packets take over two ports without a tape, by `wire`, at several paces. Each run's seconds are also told as a multiple of the
 batch's, and of the least of `wire` that lost no entry. Which participant comes first differs from run to run, but volumes and numbers of
@@ -27,7 +27,7 @@ import threading
 import time
 from pathlib import Path
 
-from measure import BENCH, DAYS, RELEASE, ROOT, make, run, told
+from common import DAYS, RELEASE, ROOT, Failed, add_words, located, make, measured, run, told
 
 TESTS = ROOT / "tests"
 sys.path[:0] = [str(ROOT / "tools"), str(TESTS)]
@@ -205,7 +205,7 @@ def wire_seconds(day):
     """Runs `wire` over the day at each pace; answers the least seconds of a run that lost no entry."""
     least = None
     for pace in PACES:
-        status, *_ = run(RELEASE / "wire", pace, day, DAYS / "live.wire")
+        status, *_ = run([RELEASE / "wire", *pace], day, DAYS / "live.wire")
         if status:
             sys.exit(f"wire ended with status {status}")
         answer = told(DAYS / "live.wire")
@@ -222,52 +222,62 @@ def figures(report):
     return [(*fields[:2], *fields[-2:]) for fields in (row.split(",") for row in rows)]
 
 
+def line_counts(text):
+    """Numbers of lines with commas between."""
+    counts = [int(word) for word in text.split(",")]
+    if not all(count in LINES for count in counts):
+        raise ValueError(text)
+    return counts
+
+
 def arguments():
     parser = argparse.ArgumentParser(description=__doc__, formatter_class=argparse.RawDescriptionHelpFormatter)
+    add_words(parser)
     parser.add_argument("--messages", type=int, default=200_000, help="how many messages the day has (200000)")
-    parser.add_argument("--lines", type=int, choices=LINES, default=15, help="how many participants there are (15)")
-    parser.add_argument("--seed", type=int, default=1, help="the day's seed, and the losses' (1)")
+    parser.add_argument("--lines", type=line_counts, default=[15], help=f"how many participants there are, of {', '.join(map(str, LINES))} (15)")
+    parser.add_argument("--turns", type=int, default=1, help="how often each day runs (1)")
     parser.add_argument("--followers", type=int, default=1, help="how many followers there are, more than one behind the relay (1)")
     parser.add_argument("--lose", default="10", help="the percentage lost on each line (10)")
     parser.add_argument("--late", action="store_true", help="line B late or dead, in place of the other runs")
-    parser.add_argument("--tapebox", type=Path, default=ROOT / "crates" / "tapebox" / "out" / "tapebox", help="the program")
-    parser.add_argument("--no-build", action="store_true", help="take the maker of days that is there")
-    words = parser.parse_args()
-    words.tapebox = words.tapebox.resolve()
-    return words
+    return parser.parse_args()
 
 
-def main():
-    words = arguments()
-    if not words.no_build:
-        subprocess.run(["cargo", "build", "--release", "--offline", "--quiet"], cwd=BENCH, check=True)
-    DAYS.mkdir(parents=True, exist_ok=True)
-    day, symbols, own = busy_day(words.lines, words.messages, words.seed)
-    messages = sum(map(len, own.values()))
-    print(f"{messages:,} messages of {len(own)} participants in {len(symbols)} symbols")
-    status, _, seconds, _ = run(words.tapebox, ["batch"], day, DAYS / "live.batch")
+def batch_seconds(words, day):
+    """The seconds of `tapebox batch` over the day."""
+    status, _, seconds, _ = run([words.tapebox, "batch"], day, DAYS / "live.batch")
     if status:
-        sys.exit(f"batch ended with status {status}")
-    print(f"batch: {seconds:.3f} s, {messages / seconds:,.0f} messages a second")
-    batch = seconds
-    wired = wire_seconds(day)
+        raise Failed(f"batch ended with status {status}")
+    return seconds
+
+
+def compared(words, day, symbols, own):
+    """A record of each run of a day, beside the batch and `wire`."""
+    messages = sum(map(len, own.values()))
+    batch, wired = batch_seconds(words, day), wire_seconds(day)
+    print(f"{messages:,} messages of {len(own)} participants in {len(symbols)} symbols; batch: {batch:.3f} s, {messages / batch:,.0f} messages a second")
     wanted = figures((DAYS / "live.batch").read_text())
-    right = True
-    runs = LATE if words.late else [("straight", []), (f"{words.lose} % lost on each line", ["--lose", words.lose])]
-    for name, options in runs:
+    for name, options in LATE if words.late else [("straight", []), (f"{words.lose} % lost on each line", ["--lose", words.lose])]:
         seconds, counted, reports = live_run(words, symbols, own, options)
         live, *follows = (report.read_text() for report in reports)
-        equal, agrees = all(live == follow for follow in follows), figures(live) == wanted
-        entries, requests = (" and ".join(f"{getattr(each, what):,}" for each in counted) for what in ("entries", "requests"))
+        if any(live != follow for follow in follows) or figures(live) != wanted:
+            raise Failed(f"{name}: the reports differ, or the volumes and trades are not the batch's")
+        asked = [each.entries for each in counted]
         print(
-            f"{name}: {seconds:.3f} s, {messages / seconds:,.0f} messages a second, {entries} entries retransmitted"
-            f" in {requests} answers; reports {'equal' if equal else 'DIFFER'};"
-            f" volumes and trades {'as' if agrees else 'NOT as'} the batch's;"
-            f" {seconds / batch:.2f} times the batch" + (f", {seconds / wired:.2f} times wire" if wired else "")
+            f"{name}: {seconds:.3f} s, {messages / seconds:,.0f} messages a second, {' and '.join(map('{:,}'.format, asked))} entries retransmitted;"
+            f" {seconds / batch:.2f} times the batch" + (f", {seconds / wired:.2f} times wire" if wired else ""),
+            flush=True,
         )
-        right = right and equal and agrees
-    return 0 if right else 1
+        yield {"lines": len(own), "run": name, "messages": messages, "seconds": seconds, "asked": sum(asked), "batch": batch, "wire": wired}
+
+
+def records(words):
+    """The records of all numbers of lines and turns."""
+    words.tapebox = located("tapebox")["tapebox"]
+    for lines in words.lines:
+        day, symbols, own = busy_day(lines, words.messages, words.seed)
+        for _ in range(words.turns):
+            yield from compared(words, day, symbols, own)
 
 
 if __name__ == "__main__":
-    sys.exit(main())
+    sys.exit(measured(arguments(), records))

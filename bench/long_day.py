@@ -1,10 +1,11 @@
 #!/usr/bin/env python3
-"""Measures a long day: long_day.py [--messages N] [--limit N] [--seed N] [--tapebox PROGRAM]
+"""Measures a long day: long_day.py [--messages N] [--limit N] [--seed N] [--json FILE]
 
 N messages (4,000,000) of 15 participants in 400 symbols go through `tapebox live` to `tapebox follow` over two lines, with room for LIMIT
 entries (16,777,216). They are made as they are sent, so this script never holds them all. Of a hundred messages one is a cancel, one a correction and
 one a reinstatement. Prints the messages a second over the first and the last tenth and over the day, and the peak memory of both programs, in all
-and for each entry; and looks that both reports are equal and count what was sent. Needs Python and Linux.
+and for each entry; and looks that both reports are equal and count what was sent. `tapebox` is the one of
+`./run --which`. Needs Python and Linux.
 
 Statuses: 0 if they are and do; 1 if not, or a program fails; 2 if the words are others.
 """
@@ -20,8 +21,8 @@ import time
 from collections import deque
 from pathlib import Path
 
+from common import Failed, add_words, located, measured
 from live_load import Programs, wait_bound
-from measure import ROOT
 
 from free_ports import free_ports
 from send_day import connect
@@ -133,15 +134,15 @@ def wait_all(programs):
 
 def arguments():
     parser = argparse.ArgumentParser(description=__doc__, formatter_class=argparse.RawDescriptionHelpFormatter)
+    add_words(parser)
     parser.add_argument("--messages", type=int, default=4_000_000)
     parser.add_argument("--limit", type=int, default=16_777_216)
-    parser.add_argument("--seed", type=int, default=1)
-    parser.add_argument("--tapebox", type=Path, default=ROOT / "crates" / "tapebox" / "out" / "tapebox")
     return parser.parse_args()
 
 
-def main():
-    words = arguments()
+def records(words):
+    """The one record of the day."""
+    tapebox = located("tapebox")["tapebox"]
     port = free_ports(len(PARTICIPANTS) + 3)
     a, b, retransmission = range(port + len(PARTICIPANTS), port + len(PARTICIPANTS) + 3)
     names = [",".join(SYMBOLS), ",".join(PARTICIPANTS)]
@@ -149,9 +150,9 @@ def main():
     with contextlib.ExitStack() as ending, tempfile.TemporaryDirectory() as folder:
         reports = [Path(folder) / "live", Path(folder) / "follow"]
         programs = Programs(ending)
-        live = programs.start(reports[0], words.tapebox, "live", *names, port, a, b, retransmission, 1, SESSION, 1, words.limit)
+        live = programs.start(reports[0], tapebox, "live", *names, port, a, b, retransmission, 1, SESSION, 1, words.limit)
         wait_bound(live, "tcp", retransmission)
-        follow = programs.start(reports[1], words.tapebox, "follow", *names, a, b, retransmission, SESSION, 1, words.limit)
+        follow = programs.start(reports[1], tapebox, "follow", *names, a, b, retransmission, SESSION, 1, words.limit)
         wait_bound(follow, "udp", a, b)
         began = time.perf_counter()
         tenths = send_day(participants, connect(list(PARTICIPANTS), port), words.messages)
@@ -159,19 +160,18 @@ def main():
         seconds = time.perf_counter() - began
         written = [report.read_text() for report in reports]
     if live.returncode or follow.returncode:
-        sys.exit(f"live ended with status {live.returncode} and follow with {follow.returncode}")
-    rows = [row.split(",") for row in written[0].splitlines() if ",ALL," in row]
-    trades = sum(int(row[11]) for row in rows)
+        raise Failed(f"live ended with status {live.returncode} and follow with {follow.returncode}")
+    trades = sum(int(row.split(",")[11]) for row in written[0].splitlines() if ",ALL," in row)
     wanted = sum(participant.trades for participant in participants.values())
+    if written[0] != written[1] or trades != wanted:
+        raise Failed(f"the reports differ, or count {trades:,} trades and not {wanted:,}")
     tenth = words.messages / 10
     print(f"{words.messages:,} messages in {seconds:.1f} s, {words.messages / seconds:,.0f} a second")
     print(f"sent in the first tenth {tenth / (tenths[1] - tenths[0]):,.0f} a second, in the last {tenth / (tenths[10] - tenths[9]):,.0f}")
     for name, peak in zip(("live", "follow"), peaks):
         print(f"{name}: {peak / 2**20:,.0f} MB at most, {peak / words.messages:.0f} bytes an entry")
-    equal = written[0] == written[1]
-    print(f"reports {'equal' if equal else 'DIFFER'}; {trades:,} trades, {'as' if trades == wanted else 'NOT as'} sent")
-    sys.exit(0 if equal and trades == wanted else 1)
+    yield {"messages": words.messages, "limit": words.limit, "seconds": seconds, "tenths": tenths, "live_bytes": peaks[0], "follow_bytes": peaks[1]}
 
 
 if __name__ == "__main__":
-    main()
+    sys.exit(measured(arguments(), records))

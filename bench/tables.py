@@ -1,32 +1,32 @@
 #!/usr/bin/env python3
-"""Measures `tapedesk` on tables beside `desk`, a plain program with std alone, whose tape is the one of `indexed`.
+"""Measures `tapedesk` on tables beside programs that write the same.
 
-    bench/tables.py             the report and the readable tape of four days, the last of which has 4,000,000 rows of one symbol
-    bench/tables.py growth      the report of tables with more rows, columns and symbols: whether a row takes longer there
+    bench/tables.py [DAY[:BYTES] ..]         the report and the readable tape, beside `desk` and its `least`, and the explanation by itself
+    bench/tables.py peers [DAY[:BYTES] ..]   the report beside `desk`, `least`, pandas and SQLite, as far as they are there
+    bench/tables.py growth                   the report of tables with more rows, columns and symbols: whether a row takes longer there
 
-Builds the programs, makes the tables by a seed, runs the programs on each in turns, checks that they write the same, and prints the
-processor seconds of each (of its least run and of its middle one), the least wall-clock seconds, the peak memory, the rows a second and
-the bytes of memory a row, and the ratios of tapedesk to desk. Needs cargo, rt and Python alone.
+`desk` is a plain program with std alone, whose tape is that of `indexed`; its `least` keeps no tape and makes the report by one fold at the end. What
+pandas and SQLite run is in bench/peers/. Builds the plain programs, takes `tapedesk` from `./run --which`, makes the tables by a seed, runs the
+programs on each in turns, and checks that they write the same. Prints the processor seconds, the wall-clock seconds and the peak memory in kilobytes, of
+each the least and the middle run.
 
-Statuses: 0 if the programs agree; 1 if they don't; 2 if the words are others.
+Statuses: 0 if the programs agree; 1 if they don't, or one fails; 2 if the words are others.
 """
 
 import argparse
+import os
+import shutil
 import subprocess
 import sys
-from pathlib import Path
 
-from measure import DAYS, RELEASE, ROOT, build, figures_of, make, ratios, row
+from common import BENCH, DAYS, RELEASE, add_words, in_turns, located, make, measured
 
-WORDS = ("report", "tape")
-TABLES = ("one", "busy", "hostile", "one:332000000")
-# A shorter table and a longer one, each a day with so many columns of remarks. What is measured is the time of a row, or of a byte.
-GROWTHS = {
-    "row among more": ("row", ("busy:4194304", 0), ("busy", 0)),
-    "byte of more columns": ("byte", ("busy:1048576", 10), ("busy:1048576", 1_000)),
-    "row of more symbols": ("row", ("busy26", 0), ("wide", 0)),
-}
-SMALLEST = b"participant,number,symbol,price,size,condition\nA,1,A,1,1,@___\n"
+TABLES = ["one", "busy", "hostile", "busy:82800000", "busy:331200000"]
+PEERS_TABLES = ["busy", "busy:82800000"]
+# A table and a longer one, with so many columns of remarks, or with more symbols. A row's time is compared, or a byte's.
+GROWTHS = [("busy:4194304", 0), ("busy", 0), ("busy:1048576", 10), ("busy:1048576", 1_000), ("busy26", 0), ("wide", 0)]
+# The system's own Python has what the system's packages bring.
+OWN_PYTHON = "/usr/bin/python3"
 
 
 def make_table(day, seed, remarks=0):
@@ -49,59 +49,64 @@ def add_remarks(path, count):
     path.write_bytes(head + names + b"\n" + b"".join(line + fields + b"\n" for line in lines))
 
 
-def measure(programs, seed, turns):
-    """Measures both words on each day; false where the programs disagree on one."""
-    equal = True
-    for day in TABLES:
-        table, rows = make_table(day, seed)
-        for word in WORDS:
-            name = f"{word} {day.partition(':')[0]}"
-            figures = figures_of(name, table, [word], programs, turns)
-            if figures is None:
-                equal = False
-                continue
-            for program, own in figures.items():
-                row(name, program, own)
-                print(f"{name:16} {program:18} {rows / own[0]:10,.0f} rows a second {1024 * own[3] / rows:11,.0f} bytes a row, {rows:,} rows")
-            ratios(name, ("tapedesk", figures.pop("tapedesk")), figures)
-        table.unlink()
-    return equal
+def own_commands(word):
+    """What writes the word's text of a table: `tapedesk`, and the plain programs that write the same."""
+    plain = {"report": {"desk": "report", "least": "least"}, "tape": {"desk": "tape"}}.get(word, {})
+    commands = {program: [path, word] for program, path in located("tapedesk").items()}
+    return commands | {name: [RELEASE / "desk", of] for name, of in plain.items()}
 
 
-def measure_growth(programs, seed, turns):
-    """Measures the report on each pair of tables; false where the programs disagree on one."""
-    for what, (unit, *pair) in GROWTHS.items():
-        times = {program: [] for program in programs}
-        for day, remarks in pair:
-            table, rows = make_table(day, seed, remarks)
-            figures = figures_of(day, table, ["report"], programs, turns)
-            if figures is None:
-                return False
-            units = rows if unit == "row" else table.stat().st_size
-            for program, own in figures.items():
-                row(f"{day} #{remarks}", program, own)
-                times[program].append(own[0] / units)
-            table.unlink()
-        for program, (short, long) in times.items():
-            print(f"{program}: a {what} takes {long / short:.2f} times as long")
-    return True
+def peer_commands():
+    """The peers that are here, by the command that writes a report."""
+    commands = {}
+    if os.path.exists(OWN_PYTHON) and not subprocess.run([OWN_PYTHON, "-c", "import pandas"], check=False, capture_output=True).returncode:
+        commands["pandas"] = [OWN_PYTHON, BENCH / "peers" / "report_pandas.py"]
+    sqlite = shutil.which("sqlite3")
+    if sqlite:
+        commands["SQLite"] = [sqlite, ":memory:", f".read '{BENCH / 'peers' / 'report_sqlite.sql'}'"]
+    for name in {"pandas", "SQLite"} - {*commands}:
+        print(f"{name} is not here")
+    return commands
+
+
+def on_table(words, day, commands_of, remarks=0):
+    """The records of the commands by each word over a day's table."""
+    table, rows = make_table(day, words.seed, remarks)
+    size = table.stat().st_size
+    for word, commands in commands_of.items():
+        for record in in_turns(day, table, commands, words.turns):
+            yield record | {"word": word, "rows": rows, "bytes": size, "remarks": remarks}
+    table.unlink()
+
+
+def tables(words):
+    """Each word on each day."""
+    commands_of = {word: own_commands(word) for word in ("report", "tape", "explain")}
+    for day in words.what or TABLES:
+        yield from on_table(words, day, commands_of)
+
+
+def peers(words):
+    """The report by all that write it, on each day."""
+    commands_of = {"report": own_commands("report") | peer_commands()}
+    for day in words.what[1:] or PEERS_TABLES:
+        yield from on_table(words, day, commands_of)
+
+
+def growth(words):
+    """The report of the pairs of tables."""
+    commands_of = {"report": own_commands("report")}
+    for day, remarks in GROWTHS:
+        yield from on_table(words, day, commands_of, remarks)
 
 
 def main():
     parser = argparse.ArgumentParser(description=__doc__, formatter_class=argparse.RawDescriptionHelpFormatter)
-    parser.add_argument("--no-build", action="store_true", help="measure the programs that are there")
-    parser.add_argument("--turns", type=int, default=7, help="how often each program runs on each table (7)")
-    parser.add_argument("--seed", type=int, default=1, help="the days' seed (1)")
-    parser.add_argument("--crates", type=Path, default=ROOT / "crates", help="where the crates are that built tapedesk")
-    parser.add_argument("what", nargs="?", choices=["growth"])
+    add_words(parser)
+    parser.add_argument("--turns", type=int, default=3, help="how often each program runs on each table (3)")
+    parser.add_argument("what", nargs="*", metavar="DAY[:BYTES]", help="the days; or peers, which may have days after it, or growth")
     words = parser.parse_args()
-    if not words.no_build:
-        build(words.crates, "tapedesk", ["report"], SMALLEST)
-    programs = {"desk": RELEASE / "desk", "tapedesk": words.crates / "tapedesk" / "out" / "tapedesk"}
-    DAYS.mkdir(parents=True, exist_ok=True)
-    print(f"{'table':16} {'program':18} {'processor':>12} {'middle run':>12} {'wall clock':>12} {'peak memory':>13}")
-    measured = measure_growth if words.what else measure
-    return 0 if measured(programs, words.seed, words.turns) else 1
+    return measured(words, {"peers": peers, "growth": growth}.get(words.what[0] if words.what else "", tables))
 
 
 if __name__ == "__main__":

@@ -9,7 +9,8 @@ from support import BENCH, ROOT, SAMPLES, TAPEBOX, TAPEDESK, TESTS, TOOLS, Case,
 
 MISSING = "no-such-file"
 # What works without words and is not to be run here: it builds, installs, writes a page, measures or runs a day.
-WITHOUT_WORDS = {"run", "gate", "build", "set_up", "mark_built.py", "cases.py", "definitions.py", "lossy_day.sh", "latency.py", "live_load.py", "long_day.py", "measure.py", "tables.py"}
+WITHOUT_WORDS = {"run", "gate", "build", "set_up", "mark_built.py", "cases.py", "definitions.py", "lossy_day.sh"}
+WITHOUT_WORDS |= {"all.py", "latency.py", "live_load.py", "long_day.py", "measure.py", "tables.py"}
 READS_INPUT = {"plot_day.py"}
 # Scripts that read a table, by the words after its path.
 READERS = [

@@ -7,6 +7,7 @@ import random
 import re
 import shutil
 import subprocess
+import sys
 import tempfile
 import unittest
 from dataclasses import replace
@@ -14,6 +15,10 @@ from pathlib import Path
 
 from plain_table import COLUMNS
 from support import BENCH, FEED_SPEED, SAMPLES, TAPEDESK, TOOLS, Case, Program, batch_line, batch_of, desk, report, run
+
+sys.path.append(str(BENCH))
+
+from tables import peer_commands
 
 DECODE_LINES = Program("decode_lines")
 # The greatest batch.
@@ -86,7 +91,7 @@ class PlainPrograms(Case):
     REFUSALS = {*range(11, 24), *range(33, 40), 43, 44}
 
     def test_days_of_the_greatest_batch(self):
-        """SPEED, "Ratios to plain Rust": both programs write the same of a day with every kind of line and refusal under either matrix, of the greatest
+        """SPEED, "A batch beside plain Rust": both programs write the same of a day with every kind of line and refusal under either matrix, of the greatest
         listing, and of cancels, corrections and reinstatements of one busy symbol."""
         for kind, matrix in [("every", []), ("every", ["2"]), ("wide", ["2"]), ("hostile", ["1"])]:
             with self.subTest(f"{kind} {matrix}"):
@@ -108,8 +113,19 @@ class PlainPrograms(Case):
                     self.assertTrue(wanted.written)
                     self.assert_writes(replace(ended, said=b""), wanted.written)
 
+    def test_reports_by_what_a_desk_would_pick(self):
+        """SPEED, "A report beside what a desk would pick": a plain program without a tape, pandas and SQLite, as far as they are here, write the report of
+        tables with every kind of row, of 400 symbols and of one busy symbol."""
+        for kind in ("every", "busy", "hostile"):
+            table = plain_run("to_table", given=plain_run("make_day", kind, 1, BYTES_MOST // 16).written).written
+            wanted = desk("report", given=table).written
+            self.assertTrue(wanted)
+            for name, (program, *words) in ({"least": [plain()[1] / "desk", "least"]} | peer_commands()).items():
+                with self.subTest(f"{name} {kind}"):
+                    self.assert_writes(run(words, table, program=program), wanted)
+
     def test_a_feed_of_more_entries_than_two_bytes_count(self):
-        """SPEED, "Ratios to plain Rust": both feeds count the same, and their subscribers hold all entries."""
+        """SPEED, "A batch beside plain Rust": both feeds count the same, and their subscribers hold all entries."""
         day = plain_run("make_day", "busy", 1, BYTES_MOST).written
         wanted = counts(plain_run("feed", given=day).written)
         self.assertEqual(wanted, "entries 201331 packets 12584 retransmitted 13408 held 201331")

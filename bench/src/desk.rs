@@ -3,7 +3,7 @@
 use crate::day::{Day, Map};
 use crate::header::Names;
 use crate::hex::{Line, Lines};
-use crate::keep::Tape;
+use crate::keep::{Keep, Reports, Tape};
 use crate::matrix::Matrix;
 use crate::message::{Kind, Message, decode};
 use crate::report;
@@ -16,6 +16,8 @@ use std::io::{self, BufRead, Write};
 pub enum TableWord {
     /// The report of the day.
     Report,
+    /// The same report by one fold at the end, without a tape.
+    Least,
     /// Each row with its answer and its symbol's figures after it.
     Tape,
 }
@@ -37,10 +39,20 @@ pub fn desk(
     let reports = messages
         .iter()
         .filter(|message| matches!(message.kind, Kind::Report(_)));
-    let mut day = Day::new(names_of(&messages), matrix, reports.count(), messages.len());
+    let (reports, entries) = (reports.count(), messages.len());
+    let names = names_of(&messages);
     match word {
-        TableWord::Report => write_report(&mut day, messages, writer)?,
-        TableWord::Tape => write_tape(&mut day, messages, writer)?,
+        TableWord::Report => {
+            write_report::<Tape>(Day::new(names, matrix, reports, entries), messages, writer)?
+        }
+        TableWord::Least => {
+            write_report::<Reports>(Day::new(names, matrix, reports, entries), messages, writer)?
+        }
+        TableWord::Tape => write_tape(
+            &mut Day::new(names, matrix, reports, entries),
+            messages,
+            writer,
+        )?,
     }
     Ok(Ok(()))
 }
@@ -66,8 +78,8 @@ fn names_of(messages: &[Message]) -> Names {
     names
 }
 
-fn write_report(
-    day: &mut Day<Tape>,
+fn write_report<K: Keep>(
+    mut day: Day<K>,
     messages: Vec<Message>,
     mut writer: impl Write,
 ) -> io::Result<()> {
@@ -76,7 +88,7 @@ fn write_report(
         let _ = day.admit(message);
     }
     let mut text = Vec::new();
-    report::write(day, &mut text);
+    report::write(&day, &mut text);
     writer.write_all(&text)
 }
 

@@ -37,6 +37,7 @@ fn written(word: TableWord, table: &str) -> String {
 fn a_table_has_a_report_and_a_tape() {
     for table in [TABLE, &TABLE.replace('\n', "\r\n")] {
         assert_eq!(written(TableWord::Report, table), REPORT);
+        assert_eq!(written(TableWord::Least, table), REPORT);
         assert_eq!(written(TableWord::Tape, table), TAPE);
     }
 }

@@ -1,4 +1,5 @@
-//! `desk report|tape [1|2]`: the report or the readable tape of a table of plain fields, as `tapedesk` writes it.
+//! `desk report|least|tape [1|2]`: the report or the readable tape of a table of plain fields, as `tapedesk` writes it. `least` writes the
+//! report by one fold at the end, without a tape.
 
 use bench::{Matrix, TableWord, desk};
 use std::fs::File;
@@ -12,18 +13,29 @@ const PIECE: usize = 65_536;
 fn main() -> ExitCode {
     let words: Vec<_> = std::env::args().skip(1).collect();
     let words: Vec<_> = words.iter().map(String::as_str).collect();
-    let (word, matrix) = match words[..] {
-        ["report"] | ["report", "1"] => (TableWord::Report, Matrix::One),
-        ["report", "2"] => (TableWord::Report, Matrix::Two),
-        ["tape"] | ["tape", "1"] => (TableWord::Tape, Matrix::One),
-        ["tape", "2"] => (TableWord::Tape, Matrix::Two),
-        _ => return fault(2, "usage: desk report|tape [1|2] < TABLE.csv"),
+    let Some((word, matrix)) = parse(&words) else {
+        return fault(2, "usage: desk report|least|tape [1|2] < TABLE.csv");
     };
     match run(word, matrix) {
         Ok(true) => ExitCode::SUCCESS,
         Ok(false) => fault(2, "desk: bad table"),
         Err(met) => fault(4, &format!("desk: {met}")),
     }
+}
+
+fn parse(words: &[&str]) -> Option<(TableWord, Matrix)> {
+    let word = match *words.first()? {
+        "report" => TableWord::Report,
+        "least" => TableWord::Least,
+        "tape" => TableWord::Tape,
+        _ => return None,
+    };
+    let matrix = match words[1..] {
+        [] | ["1"] => Matrix::One,
+        ["2"] => Matrix::Two,
+        _ => return None,
+    };
+    Some((word, matrix))
 }
 
 fn run(word: TableWord, matrix: Matrix) -> io::Result<bool> {

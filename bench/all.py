@@ -1,0 +1,139 @@
+#!/usr/bin/env python3
+"""Measures everything that docs/SPEED.md shows, in one go, and writes its tables: bench/all.py [--quick] [--only PART,..] [--drafts] | --page
+
+Proves and builds the programs if they are not built from this tree, runs each measuring script, and writes the raw figures to docs/speed.json and the
+tables from them into docs/SPEED.md and docs/speed.svg, with the commit, the kit, the machine and the date. That takes some 20 minutes once the
+programs are built, on a machine with no other work; run it by `chrt -r 10` to keep other work away. --quick takes smaller days and fewer turns, and
+with it or --only the figures and the page go into bench/target/ alone. --drafts takes programs that are not proved, and the page says so. --page
+writes the page again from the figures that are there.
+
+Statuses: 0 if all was measured; 1 if a part failed, and then nothing is written; 2 if the words are others.
+"""
+
+import argparse
+import datetime
+import json
+import os
+import re
+import subprocess
+import sys
+import time
+from pathlib import Path
+
+import speed_page
+from common import BENCH, ROOT, build_plain, located
+
+PAGE = ROOT / "docs" / "SPEED.md"
+FIGURES = ROOT / "docs" / "speed.json"
+TRIED = BENCH / "target"
+PROGRAMS = ["tapebox", "tapedesk", "feed_speed"]
+# Of each part its script, its words, and those with --quick.
+PARTS = {
+    "batch": ("measure.py", "", "--turns 1 one:1000000 busy:1000000 hostile:1000000"),
+    "growth": ("measure.py", "--turns 5 plot", ""),
+    "counts": ("measure.py", "counts", ""),
+    "feed": ("measure.py", "--turns 5 feed", "--turns 1 feed"),
+    "rows": ("measure.py", "--turns 11 rows", "--turns 1 rows"),
+    "lines": ("measure.py", "--turns 3 lines", "--turns 1 lines"),
+    "looks": ("measure.py", "--turns 3 looks", "--turns 1 looks"),
+    "tables": ("tables.py", "", "--turns 1 one:1000000 busy:1000000"),
+    "table_growth": ("tables.py", "growth", ""),
+    "peers": ("tables.py", "peers", "--turns 1 peers busy:1000000"),
+    "live": ("live_load.py", "--lines 1,4,15,26 --turns 3", "--messages 20000"),
+    "late": ("live_load.py", "--late --turns 2", ""),
+    "long": ("long_day.py", "", "--messages 100000"),
+    "latency": ("latency.py", "", "--turns 1 --seconds 0.2 --lines 4 --rates 1000,10000"),
+}
+
+
+def said(*command):
+    """What a command writes, without the line's end; nothing where it fails."""
+    done = subprocess.run(command, cwd=ROOT, capture_output=True, text=True, check=False)
+    return done.stdout.strip() if not done.returncode else ""
+
+
+def machine():
+    """What is measured, where and when."""
+    memory = int(re.search(r"MemTotal: +(\d+)", Path("/proc/meminfo").read_text(encoding="ascii"))[1])
+    model = re.search(r"model name\s*: (.*)", Path("/proc/cpuinfo").read_text(encoding="utf-8"))
+    changed = said("git", "status", "--porcelain", "--", "crates", "crates.txt", "bench")
+    return {
+        "commit": said("git", "rev-parse", "--short=10", "HEAD"),
+        "is_changed": bool(changed),
+        "kit": said("rt", "version"),
+        "date": datetime.datetime.now(datetime.timezone.utc).date().isoformat(),
+        "processors": len(os.sched_getaffinity(0)),
+        "model": model[1] if model else "an unknown model",
+        "gigabytes": round(memory / 2**20),
+        "load": os.getloadavg()[0],
+        "pandas": said("/usr/bin/python3", "-c", "import pandas; print(pandas.__version__)"),
+        "SQLite": said("sqlite3", "--version").split(" ")[0],
+        "drafts": [name for name, path in located(*PROGRAMS).items() if path.suffix == ".draft"],
+    }
+
+
+def measure_part(name, words, target):
+    """The command of a part, how long it took, and its records; or none where it failed."""
+    script, *rest = words
+    command = [sys.executable, "-B", str(BENCH / script), "--no-build", "--json", str(target), *rest]
+    print(f"all: {name}: bench/{script} {' '.join(rest)}", flush=True)
+    began = time.monotonic()
+    if subprocess.run(command, cwd=ROOT, check=False).returncode:
+        print(f"all: {name} FAILED", flush=True)
+        return None
+    seconds = round(time.monotonic() - began, 1)
+    return {"command": " ".join(["bench/" + script, *rest]), "took": seconds, "records": json.loads(target.read_text(encoding="utf-8"))}
+
+
+def measure_all(words):
+    """All parts that are asked for, with the machine; or none where one failed."""
+    figures = {"machine": machine(), "parts": {}}
+    if figures["machine"]["drafts"] and not (words.drafts or words.quick):
+        sys.exit(f"all: not proved: {', '.join(figures['machine']['drafts'])}; --drafts measures them nevertheless")
+    for name in words.only or PARTS:
+        script, full, quick = PARTS[name]
+        rest = quick if words.quick else full
+        if words.quick and not quick:
+            continue
+        figures["parts"][name] = measure_part(name, [script, *rest.split()], TRIED / "part.json")
+    return figures if all(figures["parts"].values()) else None
+
+
+def parts(text):
+    """Names of parts with commas between."""
+    names = text.split(",")
+    if not set(names) <= set(PARTS):
+        raise ValueError(text)
+    return names
+
+
+def arguments():
+    parser = argparse.ArgumentParser(description=__doc__, formatter_class=argparse.RawDescriptionHelpFormatter)
+    parser.add_argument("--quick", action="store_true", help="smaller days and fewer turns, for a try")
+    parser.add_argument("--only", type=parts, metavar="PART,..", help=f"of {', '.join(PARTS)}")
+    parser.add_argument("--drafts", action="store_true", help="takes programs that are not proved")
+    parser.add_argument("--page", action="store_true", help="measures nothing, and writes the page from docs/speed.json")
+    return parser.parse_args()
+
+
+def main():
+    words = arguments()
+    is_tried = words.quick or words.only
+    page, kept = (TRIED / "SPEED.md", TRIED / "speed.json") if is_tried else (PAGE, FIGURES)
+    if words.page:
+        figures = json.loads(kept.read_text(encoding="utf-8"))
+    else:
+        if not (words.drafts or words.quick):
+            subprocess.run([ROOT / "run", "--prove", *PROGRAMS], check=True)
+        build_plain()
+        figures = measure_all(words)
+        if not figures:
+            return 1
+        kept.write_text(json.dumps(figures, indent=1) + "\n", encoding="utf-8")
+    page.write_text(speed_page.written(PAGE.read_text(encoding="utf-8"), figures), encoding="utf-8")
+    print(f"all: written: {kept.relative_to(ROOT)}, {page.relative_to(ROOT)}")
+    return 0
+
+
+if __name__ == "__main__":
+    sys.exit(main())

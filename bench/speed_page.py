@@ -1,0 +1,262 @@
+"""The tables of docs/SPEED.md, from the figures that bench/all.py measured.
+
+The page has each between two marks, `<!-- measured: NAME -->` and `<!-- end -->`. What stands there is written anew, and the rest is left as it is.
+"""
+
+import re
+import statistics
+
+MARKED = re.compile(r"(<!-- measured: (\w+) -->\n).*?(<!-- end -->)", re.DOTALL)
+MEGABYTE = 1_000_000
+
+
+def table(head, rows):
+    """Lines of a table."""
+    return [line(head), "|" + "---|" * len(head), *map(line, rows)]
+
+
+def line(cells):
+    """A line of a table."""
+    return f"| {' | '.join(map(str, cells))} |"
+
+
+def rounded(value, digits=3):
+    """A number with so many digits that count, and commas."""
+    value = float(f"{value:.{digits}g}")
+    return f"{value:,.0f}" if value >= 10 ** (digits - 1) else f"{value:.{digits}g}"
+
+
+def ratio(value):
+    """A ratio with two decimals."""
+    return f"{value:.2f}"
+
+
+def span(values, form=rounded):
+    """The least and the most of some values, once if they are written alike."""
+    least, most = form(min(values)), form(max(values))
+    return least if least == most else f"{least} to {most}"
+
+
+def megabytes(kilobytes):
+    """The peak memory of runs in MB."""
+    return f"{min(kilobytes) * 1024 / MEGABYTE:,.0f} MB"
+
+
+def by(records, *names):
+    """The records by some of their fields."""
+    found = {}
+    for record in records:
+        found.setdefault(tuple(record[name] for name in names), []).append(record)
+    return found
+
+
+def programs_of(records, *names):
+    """Of each of some fields the records by their programs."""
+    return {key: {record["program"]: record for record in own} for key, own in by(records, *names).items()}
+
+
+def of_pair(mine, other):
+    """The ratios of the least and of the middle processor seconds, the peaks of memory, and their ratio."""
+    least = min(mine["seconds"]) / min(other["seconds"])
+    middle = statistics.median(mine["seconds"]) / statistics.median(other["seconds"])
+    memory = min(mine["kilobytes"]) / min(other["kilobytes"])
+    return [ratio(least), ratio(middle), f"{megabytes(mine['kilobytes'])} to {megabytes(other['kilobytes'])}", ratio(memory)]
+
+
+def machine(figures):
+    """The heading: what was measured, where and when."""
+    of = figures["machine"]
+    changed = ", with changes that are not committed" if of["is_changed"] else ""
+    drafts = f" The programs were drafts, which are not proved: {', '.join(of['drafts'])}." if of["drafts"] else " The programs were proved ones."
+    return [
+        f"Measured by `bench/all.py` on {of['date']} at commit `{of['commit']}`{changed}, with `{of['kit']}`, on a machine with {of['processors']} processors"
+        f" ({of['model']}) and {of['gigabytes']} GB of memory. At its start {of['load']:.1f} processors had other work.{drafts}"
+    ]
+
+
+def batch(parts):
+    rows = []
+    for (day,), of in programs_of(parts["batch"], "day").items():
+        speeds = [rounded(of[name]["messages"] / min(of[name]["seconds"])) for name in ("tapebox", "indexed", "least")]
+        rows.append([f"`{day}`", *speeds, *of_pair(of["tapebox"], of["indexed"])])
+    head = ["Day", "`tapebox`, messages a second", "`indexed`", "`least`", "Time to `indexed`, least runs", "Middle runs", "Peak memory", "Ratio"]
+    return table(head, rows)
+
+
+def growth(parts):
+    per_byte = {}
+    for record in parts["growth"]:
+        per_byte.setdefault(record["program"], []).append(min(record["seconds"]) / record["bytes"])
+    times = {program: ratio(own[-1] / own[0]) for program, own in per_byte.items()}
+    return [f"A message of the hostile day at 16 MB takes {times['tapebox']} times as long as one at 2 MB, and with `indexed` {times['indexed']} times."]
+
+
+def counts(parts):
+    names = {"instructions": "instructions", "first_misses": "misses of the first cache", "last_misses": "misses of the last cache"}
+    own = parts["counts"]
+    rows = [[title, *(rounded(record[name] / record["messages"], 4 if name == "instructions" else 3) for record in own)] for name, title in names.items()]
+    return table(["A message", *(f"`{record['day']}`" for record in own)], rows)
+
+
+def feed(parts):
+    of = programs_of(parts["feed"], "day")[("busy",)]
+    mine, other = of["feed_speed"], of["feed"]
+    speed = rounded(mine["entries"] / min(mine["packets_alone"]))
+    head = ["Entries over two lossy lines", "Asked for again", "Entries a second, packets alone", "Time, least runs", "Middle runs", "Peak memory", "Ratio"]
+    return table(head, [[f"{mine['entries']:,.0f}", f"{mine['retransmitted']:,.0f}", speed, *of_pair(mine, other)]])
+
+
+def day_name(day):
+    """A day without its bytes."""
+    return f"`{day.partition(':')[0]}`"
+
+
+def tables(parts):
+    rows = []
+    for (day, count, word), of in programs_of(parts["tables"], "day", "rows", "word").items():
+        mine, other = of["tapedesk"], of.get("desk")
+        speeds = [rounded(count / min(record["seconds"])) if record else "" for record in (mine, other)]
+        pair = of_pair(mine, other)[:3] if other else ["", "", megabytes(mine["kilobytes"])]
+        rows.append([f"{day_name(day)}, {count:,} rows", f"`{word}`", *speeds, *pair, f"{min(mine['kilobytes']) * 1024 / count:,.0f}"])
+    head = ["Table", "Command", "`tapedesk`, rows a second", "`desk`", "Time, least runs", "Middle runs", "Peak memory", "Bytes a row"]
+    return table(head, rows)
+
+
+def least(parts):
+    rows = []
+    for (day, count, word), of in programs_of(parts["tables"], "day", "rows", "word").items():
+        if word == "report":
+            rows.append([f"{day_name(day)}, {count:,} rows", *of_pair(of["tapedesk"], of["least"])])
+    return table(["Table", "Time to `least`, least runs", "Middle runs", "Peak memory", "Ratio"], rows)
+
+
+def table_growth(parts):
+    own = by(parts["table_growth"], "program")[("tapedesk",)]
+    seconds = [min(record["seconds"]) for record in own]
+    rows, bytes_of = [record["rows"] for record in own], [record["bytes"] for record in own]
+    more = [seconds[at + 1] / rows[at + 1] / (seconds[at] / rows[at]) for at in (0, 4)]
+    column = seconds[3] / bytes_of[3] / (seconds[2] / bytes_of[2])
+    return [
+        f"A row of a report takes {ratio(more[0])} times as long in a table of {rows[1]:,} rows as in one of {rows[0]:,}, and {ratio(more[1])} times as long with"
+        f" 4,096 symbols as with 400; a byte {ratio(column)} times as long with 1,000 columns of remarks as with 10."
+    ]
+
+
+def peers(parts):
+    rows = []
+    for (day, count), of in programs_of(parts["peers"], "day", "rows").items():
+        for program, record in of.items():
+            name = "`tapedesk`" if program == "tapedesk" else f"`{program}`" if program in ("desk", "least") else program
+            seconds = min(record["seconds"])
+            to_mine = ratio(seconds / min(of["tapedesk"]["seconds"]))
+            rows.append([f"{day_name(day)}, {count:,} rows", name, f"{seconds:.2f}", rounded(count / seconds), to_mine, megabytes(record["kilobytes"])])
+    return table(["Table", "Program", "Processor seconds", "Rows a second", "To `tapedesk`", "Peak memory"], rows)
+
+
+def versions(figures):
+    of = figures["machine"]
+    return [f"Versions: pandas {of['pandas'] or 'was not there'}, SQLite {of['SQLite'] or 'was not there'}."]
+
+
+def rows_of_workers(parts):
+    own, cores = parts["rows"]
+    one = own["seconds_one_worker"]
+    rows = []
+    for workers, name in ((2, "two"), (4, "four")):
+        times = own[f"seconds_{name}_workers"]
+        middle = statistics.median(time / first for time, first in zip(times, one))
+        loop = cores[f"seconds_{name}_threads"] / cores["seconds_one_thread"] / workers
+        rows.append([workers, ratio(min(times) / min(one)), ratio(middle), ratio(loop)])
+    return table(["Workers", "Least runs", "Middle ratio of a turn", "A loop without memory on as many threads"], rows)
+
+
+def lines(parts):
+    rows, first = [], None
+    for record in parts["lines"]:
+        messages, seconds = record["messages"][0], min(record["seconds_lines"])
+        to_alone = ratio(seconds / min(record["seconds_alone"]))
+        first = first or seconds / messages
+        rows.append([f"`{record['day']}`", f"{record['lines'][0]:.0f}", rounded(messages / seconds), to_alone, ratio(seconds / messages / first)])
+    return table(["Day", "Lines", "Messages a second", "Time to `Tape::admit` alone", "Time of a message to one line's"], rows)
+
+
+def looks(parts):
+    (own,) = parts["looks"]
+    millions = lambda value: f"{value / 1e6:,.0f}"
+    rows = [["4", "two lines and a publisher", f"{span(own['looks_per_second'], millions)} million"]]
+    rows.append(["4", "nothing", f"{span(own['looks_per_second_alone'], millions)} million"])
+    return table(["Readers", "Beside", "Looks a second"], rows)
+
+
+def runs_of(records):
+    """A row for each number of lines and kind of run."""
+    rows = []
+    for (count, name), own in by(records, "lines", "run").items():
+        speeds = span([record["messages"] / record["seconds"] for record in own])
+        asked = span([record["asked"] for record in own], "{:,.0f}".format)
+        to_batch = span([record["seconds"] / record["batch"] for record in own], "{:.1f}".format)
+        wired = [record["seconds"] / record["wire"] for record in own if record["wire"]]
+        rows.append([count, name, speeds, asked, to_batch, span(wired, "{:.1f}".format) if wired else ""])
+    return table(["Lines", "Run", "Messages a second", "Entries asked for again", "To the batch's time", "To `wire`'s"], rows)
+
+
+def live(parts):
+    return runs_of(parts["live"])
+
+
+def late(parts):
+    return runs_of(parts["late"])
+
+
+def long_day(parts):
+    (own,) = parts["long"]
+    tenth, tenths = own["messages"] / 10, own["tenths"]
+    rows = [
+        ["the lines, in the first tenth", rounded(tenth / (tenths[1] - tenths[0])) + " messages a second"],
+        ["the lines, in the last tenth", rounded(tenth / (tenths[10] - tenths[9])) + " messages a second"],
+        ["to the follower's end", rounded(own["messages"] / own["seconds"]) + " messages a second"],
+        ["`live`, peak memory", f"{own['live_bytes'] / own['messages']:,.0f} bytes an entry"],
+        ["`follow`, peak memory", f"{own['follow_bytes'] / own['messages']:,.0f} bytes an entry"],
+    ]
+    return table([f"A day of {own['messages']:,} messages", "Figure"], rows)
+
+
+def latency(parts):
+    rows = []
+    for (count, rate), of in programs_of(parts["latency"], "lines", "rate").items():
+        cells = []
+        for percentile in ("p50", "p99"):
+            middles = [statistics.median(run[percentile] for run in of[program]["runs"]) for program in ("forward", "tapebox")]
+            cells += [f"{middle:,.0f}" for middle in middles] + [ratio(middles[1] / middles[0])]
+        lost = sum(run["lost"] for run in of["tapebox"]["runs"])
+        rows.append([count, f"{rate:,}", *cells, f"{lost:,.0f}"])
+    head = ["Lines", "Messages a second", "`forward`, p50", "`live`, p50", "Ratio", "`forward`, p99", "`live`, p99", "Ratio", "Lost by `live`'s reader"]
+    return table(head, rows)
+
+
+# What stands between the marks, by name; the first two are of the machine.
+WRITERS = {"machine": machine, "versions": versions}
+TABLES = {
+    "batch": (batch, "batch"), "growth": (growth, "growth"), "counts": (counts, "counts"), "feed": (feed, "feed"), "tables": (tables, "tables"),
+    "least": (least, "tables"), "table_growth": (table_growth, "table_growth"), "peers": (peers, "peers"), "rows": (rows_of_workers, "rows"),
+    "lines": (lines, "lines"), "looks": (looks, "looks"), "live": (live, "live"), "late": (late, "late"), "long": (long_day, "long"),
+    "latency": (latency, "latency"),
+}
+
+
+def written(page, figures):
+    """The page with each table that was measured; others stay as they are."""
+    parts = {name: part["records"] for name, part in figures["parts"].items()}
+
+    def anew(mark):
+        name = mark[2]
+        if name in WRITERS:
+            lines_of = WRITERS[name](figures)
+        else:
+            writer, part = TABLES[name]
+            if part not in parts:
+                return mark[0]
+            lines_of = writer(parts)
+        return mark[1] + "\n" + "".join(text + "\n" for text in lines_of) + "\n" + mark[3]
+
+    return MARKED.sub(anew, page)
