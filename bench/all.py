@@ -95,8 +95,17 @@ def measure_all(words):
         rest = quick if words.quick else full
         if words.quick and not quick:
             continue
-        figures["parts"][name] = measure_part(name, [script, *rest.split()], TRIED / "part.json")
+        svg = ["--svg", str(TRIED / "speed.svg")] if name == "growth" and words.is_tried else []
+        figures["parts"][name] = measure_part(name, [script, *rest.split(), *svg], TRIED / "part.json")
     return figures if all(figures["parts"].values()) else None
+
+
+def text_of(figures):
+    """The figures as JSON, with a line for each record."""
+    records = {name: ",\n   ".join(map(json.dumps, part["records"])) for name, part in figures["parts"].items()}
+    heads = {name: json.dumps({"command": part["command"], "took": part["took"]})[:-1] for name, part in figures["parts"].items()}
+    written = ",\n  ".join(f'"{name}": {heads[name]}, "records": [\n   {records[name]}]}}' for name in records)
+    return f'{{"machine": {json.dumps(figures["machine"])},\n "parts": {{\n  {written}}}}}\n'
 
 
 def parts(text):
@@ -113,23 +122,25 @@ def arguments():
     parser.add_argument("--only", type=parts, metavar="PART,..", help=f"of {', '.join(PARTS)}")
     parser.add_argument("--drafts", action="store_true", help="takes programs that are not proved")
     parser.add_argument("--page", action="store_true", help="measures nothing, and writes the page from docs/speed.json")
-    return parser.parse_args()
+    words = parser.parse_args()
+    words.is_tried = words.quick or words.only
+    return words
 
 
 def main():
     words = arguments()
-    is_tried = words.quick or words.only
-    page, kept = (TRIED / "SPEED.md", TRIED / "speed.json") if is_tried else (PAGE, FIGURES)
+    page, kept = (TRIED / "SPEED.md", TRIED / "speed.json") if words.is_tried else (PAGE, FIGURES)
     if words.page:
         figures = json.loads(kept.read_text(encoding="utf-8"))
     else:
         if not (words.drafts or words.quick):
-            subprocess.run([ROOT / "run", "--prove", *PROGRAMS], check=True)
+            if subprocess.run([ROOT / "run", "--prove", *PROGRAMS], check=False).returncode:
+                return 1
         build_plain()
         figures = measure_all(words)
         if not figures:
             return 1
-        kept.write_text(json.dumps(figures, indent=1) + "\n", encoding="utf-8")
+        kept.write_text(text_of(figures), encoding="utf-8")
     page.write_text(speed_page.written(PAGE.read_text(encoding="utf-8"), figures), encoding="utf-8")
     print(f"all: written: {kept.relative_to(ROOT)}, {page.relative_to(ROOT)}")
     return 0

@@ -21,6 +21,7 @@ import re
 import shutil
 import subprocess
 import sys
+from pathlib import Path
 
 import plot
 from common import DAYS, RELEASE, ROOT, Failed, add_words, in_turns, located, make, measured, run, shown, told
@@ -68,8 +69,8 @@ def growth(words):
         for record in in_turns(f"hostile {megabytes} MB", source, commands, words.turns):
             seconds[record["program"]].append(min(record["seconds"]))
             yield record | {"bytes": source.stat().st_size}
-    PLOT.write_text(plot.drawing(seconds), encoding="utf-8")
-    print(f"written: {PLOT.relative_to(ROOT)}")
+    words.svg.write_text(plot.drawing(seconds), encoding="utf-8")
+    print(f"written: {words.svg}")
 
 
 def feed(words):
@@ -136,6 +137,7 @@ def main():
     parser = argparse.ArgumentParser(description=__doc__, formatter_class=argparse.RawDescriptionHelpFormatter)
     add_words(parser)
     parser.add_argument("--turns", type=int, default=7, help="how often each program runs on each day (7)")
+    parser.add_argument("--svg", type=Path, default=PLOT, metavar="FILE", help="where the plot goes (docs/speed.svg)")
     parser.add_argument("days", nargs="*", metavar="DAY[:BYTES]", help=f"the days of the batch; or {', '.join(KINDS)}")
     words = parser.parse_args()
     return measured(words, KINDS.get(words.days[0] if words.days else "", batch))

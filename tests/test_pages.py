@@ -1,13 +1,18 @@
 """The pages: what they quote and name of the code, their links, the form of the promises, the numbers, and the definitions."""
 
 import functools
+import json
 import re
+import sys
 import textwrap
 import unittest
 
-from support import ROOT
+from support import BENCH, ROOT
+
+sys.path.append(str(BENCH))
 
 import definitions
+import speed_page
 
 CRATES = ROOT / "crates"
 PAGES = [ROOT / "README.md", *sorted(ROOT.glob("docs/*.md")), *sorted(ROOT.glob("crates/*/README.md"))]
@@ -178,6 +183,13 @@ class Pages(unittest.TestCase):
         _, marker, written = text_of(definitions.PAGE).partition(definitions.MARKER)
         self.assertEqual(written.splitlines(), definitions.written().splitlines())
         self.assertTrue(marker)
+
+    def test_speeds_are_those_that_were_measured(self):
+        """docs/SPEED.md: what is between its marks is what bench/all.py wrote of the figures in docs/speed.json; run it with --page where this fails."""
+        page, figures = text_of(ROOT / "docs" / "SPEED.md"), json.loads(text_of(ROOT / "docs" / "speed.json"))
+        self.assertEqual(page.splitlines(), speed_page.written(page, figures).splitlines())
+        marked = {mark[2] for mark in speed_page.MARKED.finditer(page)}
+        self.assertEqual(marked, {*speed_page.WRITERS, *speed_page.TABLES})
 
 
 if __name__ == "__main__":
