@@ -1,5 +1,5 @@
 #!/usr/bin/env python3
-"""Measures everything that docs/SPEED.md shows, in one go, and writes its tables: bench/all.py [--quick] [--only PART,..] [--drafts] | --page
+"""Measures everything that docs/SPEED.md shows, in one go, and writes its tables: bench/all.py [--quick] [--only PART,..] [--turns N] [--drafts] | --page
 
 Proves and builds the programs if they are not built from this tree, runs each measuring script, and writes the raw figures to docs/speed.json and the
 tables from them into docs/SPEED.md and docs/speed.svg, with the commit, the kit, the machine and the date. That takes some 20 minutes once the
@@ -44,6 +44,7 @@ PARTS = {
     "long": ("long_day.py", "", "--messages 100000"),
     "latency": ("latency.py", "", "--turns 1 --seconds 0.2 --lines 4 --rates 1000,10000"),
 }
+WITHOUT_TURNS = {"counts", "long"}
 
 
 def said(*command):
@@ -66,6 +67,7 @@ def machine():
         "model": model[1] if model else "an unknown model",
         "gigabytes": round(memory / 2**20),
         "load": os.getloadavg()[0],
+        "is_first": os.sched_getscheduler(0) in (os.SCHED_RR, os.SCHED_FIFO),
         "pandas": said("/usr/bin/python3", "-c", "import pandas; print(pandas.__version__)"),
         "SQLite": said("sqlite3", "--version").split(" ")[0],
         "drafts": [name for name, path in located(*PROGRAMS).items() if path.suffix == ".draft"],
@@ -95,6 +97,8 @@ def measure_all(words):
         rest = quick if words.quick else full
         if words.quick and not quick:
             continue
+        if words.turns and name not in WITHOUT_TURNS:
+            rest += f" --turns {words.turns}"
         svg = ["--svg", str(TRIED / "speed.svg")] if name == "growth" and words.is_tried else []
         figures["parts"][name] = measure_part(name, [script, *rest.split(), *svg], TRIED / "part.json")
     return figures if all(figures["parts"].values()) else None
@@ -120,6 +124,7 @@ def arguments():
     parser = argparse.ArgumentParser(description=__doc__, formatter_class=argparse.RawDescriptionHelpFormatter)
     parser.add_argument("--quick", action="store_true", help="smaller days and fewer turns, for a try")
     parser.add_argument("--only", type=parts, metavar="PART,..", help=f"of {', '.join(PARTS)}")
+    parser.add_argument("--turns", type=int, metavar="N", help="how often each program runs, in place of each part's own number")
     parser.add_argument("--drafts", action="store_true", help="takes programs that are not proved")
     parser.add_argument("--page", action="store_true", help="measures nothing, and writes the page from docs/speed.json")
     words = parser.parse_args()

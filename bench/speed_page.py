@@ -68,9 +68,10 @@ def machine(figures):
     of = figures["machine"]
     changed = ", with changes that are not committed" if of["is_changed"] else ""
     drafts = f" The programs were drafts, which are not proved: {', '.join(of['drafts'])}." if of["drafts"] else " The programs were proved ones."
+    kept = ", which the scheduler's real-time class kept away" if of["is_first"] else ""
     return [
         f"Measured by `bench/all.py` on {of['date']} at commit `{of['commit']}`{changed}, with `{of['kit']}`, on a machine with {of['processors']} processors"
-        f" ({of['model']}) and {of['gigabytes']} GB of memory. At its start {of['load']:.1f} processors had other work.{drafts}"
+        f" ({of['model']}) and {of['gigabytes']} GB of memory. At its start {of['load']:.1f} processors had other work{kept}.{drafts}"
     ]
 
 

@@ -21,7 +21,9 @@ import sys
 
 from common import BENCH, DAYS, RELEASE, add_words, in_turns, located, make, measured
 
-TABLES = ["one", "busy", "hostile", "busy:82800000", "busy:331200000"]
+TABLES = ["one", "busy", "hostile", "busy:82800000"]
+# Its tape and its explanation would take minutes a turn.
+REPORT_TABLE = "busy:331200000"
 PEERS_TABLES = ["busy", "busy:82800000"]
 # A table and a longer one, with so many columns of remarks, or with more symbols. A row's time is compared, or a byte's.
 GROWTHS = [("busy:4194304", 0), ("busy", 0), ("busy:1048576", 10), ("busy:1048576", 1_000), ("busy26", 0), ("wide", 0)]
@@ -84,6 +86,8 @@ def tables(words):
     commands_of = {word: own_commands(word) for word in ("report", "tape", "explain")}
     for day in words.what or TABLES:
         yield from on_table(words, day, commands_of)
+    if not words.what:
+        yield from on_table(words, REPORT_TABLE, {"report": commands_of["report"]})
 
 
 def peers(words):
