@@ -11,7 +11,7 @@ from plain_feed import Packet
 from plain_tape import Entry, Mark, Refused, Summary
 from support import ROOT
 
-sys.path.insert(0, os.fspath(ROOT / "clib"))
+sys.path.insert(0, os.fspath(ROOT / "python"))
 
 import tapebox  # noqa: E402
 

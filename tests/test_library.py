@@ -1,4 +1,4 @@
-"""The static library for other languages: what it exports, its layouts, its examples, and the cases of its Python module."""
+"""The static library for other languages: what it exports, its layouts, its examples, and the cases of its Python package."""
 
 import ctypes
 import os
@@ -15,11 +15,12 @@ from pathlib import Path
 from support import CRATES, ROOT, SAMPLES, TAPEDESK, Case, desk, run
 
 CLIB = ROOT / "clib"
+PYTHON = ROOT / "python"
 ARCHIVE = CRATES / "tapebox_c" / "out" / "libtapebox_c.a"
 HEADER = CLIB / "tapebox.h"
 COMPILER = os.environ.get("CC", "cc")
 TABLES = sorted(SAMPLES.glob("*.csv"))
-# The header's structs by the names that the Python module has for them, and its fields where they have another name.
+# The header's structs by the names that the Python package has for them, and its fields where they have another name.
 STRUCTS = {
     "Mark": "mark",
     "Figures": "figures",
@@ -49,11 +50,11 @@ int main(void) {{
 """
 
 
-def module():
-    """The Python module over the library that was linked here."""
-    if str(CLIB) not in sys.path:
-        sys.path.insert(0, str(CLIB))
-    # Other cases start programs of their own over the library that stands beside the module.
+def package():
+    """The Python package over the library that was linked here."""
+    if str(PYTHON) not in sys.path:
+        sys.path.insert(0, str(PYTHON))
+    # Other cases start programs of their own over the library that stands in clib/.
     with unittest.mock.patch.dict(os.environ, {"TAPEBOX_LIBRARY": str(Linked.library)}):
         import tapebox
 
@@ -116,10 +117,9 @@ class Examples(Linked):
         """clib/examples: so has a tape in Python."""
         for table in TABLES:
             with self.subTest(table.name):
-                given = table.read_bytes()
                 options = {"program": sys.executable, "env": os.environ | {"TAPEBOX_LIBRARY": str(self.library)}}
-                got = run(["-B", CLIB / "examples" / "report.py"], given, **options)
-                self.assertEqual((got.status, got.written), (0, desk("report", given=given).written))
+                got = run(["-B", CLIB / "examples" / "report.py", table], **options)
+                self.assertEqual((got.status, got.written), (0, desk("report", given=table.read_bytes()).written))
 
     def test_examples_under_a_sanitizer(self):
         """clib/tapebox.h: what the examples keep is freed at their end, and nothing outside it is read or written."""
@@ -144,10 +144,11 @@ class Examples(Linked):
 
 class Interface(Linked):
     def test_layouts(self):
-        """clib/tapebox.h, clib/tapebox.py: each struct has the same fields at the same places in both."""
-        structures = {name: getattr(module(), f"_{name}") for name in STRUCTS}
-        everything = {value.__name__ for value in vars(module()).values() if isinstance(value, type) and issubclass(value, ctypes.Structure)}
-        self.assertEqual(everything, {f"_{name}" for name in STRUCTS})
+        """clib/tapebox.h, python/tapebox: each struct has the same fields at the same places in both."""
+        rows = vars(package()._library)
+        structures = {name: rows[name] for name in STRUCTS}
+        everything = {name for name, value in rows.items() if isinstance(value, type) and issubclass(value, ctypes.Structure)}
+        self.assertEqual(everything, set(STRUCTS))
         self.assertEqual(set(re.findall(r"^\} tapebox_(\w+);", HEADER.read_text(encoding="utf-8"), re.M)), set(STRUCTS.values()))
         lines, wanted = "", []
         for name, struct in STRUCTS.items():
@@ -163,23 +164,23 @@ class Interface(Linked):
             self.assertEqual(run([], program=program).written.decode().splitlines(), wanted)
 
     def test_limits(self):
-        """clib/tapebox.h, clib/tapebox.py: both have the same limits and numbers of refusals, and RULES has the names."""
+        """clib/tapebox.h, python/tapebox: both have the same limits and numbers of refusals, and RULES has the names."""
         header = HEADER.read_text(encoding="utf-8")
         for name in ("LONGEST_PACKET", "LONGEST_ANSWER"):
-            self.assertEqual(re.findall(rf"^#define TAPEBOX_{name} (\d+)$", header, re.M), [str(getattr(module(), name))])
+            self.assertEqual(re.findall(rf"^#define TAPEBOX_{name} (\d+)$", header, re.M), [str(getattr(package(), name))])
         names = {int(number): name.title().replace("_", "") for name, number in re.findall(r"^    TAPEBOX_(\w+) = (\d+)", header, re.M)}
-        self.assertEqual(names, {number: name for number, name in module().NAMES.items() if number > 100})
+        self.assertEqual(names, {number: name for number, name in package().NAMES.items() if number > 100})
         rules = (ROOT / "docs" / "RULES.md").read_text(encoding="utf-8")
-        for number, name in module().NAMES.items():
+        for number, name in package().NAMES.items():
             self.assertRegex(rules, rf"\b{number} {name}\b")
 
     def test_calls(self):
-        """clib/tapebox.h, clib/tapebox.py: both have each call that the crate exports, and no other."""
+        """clib/tapebox.h, python/tapebox: both have each call that the crate exports, and no other."""
         exported = set()
         for source in (CRATES / "tapebox_c" / "src").glob("*.rt"):
             exported |= set(re.findall(r'pub extern "C" fn (\w+)', source.read_text(encoding="utf-8")))
         self.assertEqual(set(re.findall(r"\b(tapebox_\w+)\(", HEADER.read_text(encoding="utf-8"))), exported)
-        python = (CLIB / "tapebox.py").read_text(encoding="utf-8")
+        python = (PYTHON / "tapebox" / "_library.py").read_text(encoding="utf-8")
         self.assertEqual({f"tapebox_{name}" for name in re.findall(r'^    "(\w+)": \[', python, re.M)}, exported)
         library = ctypes.CDLL(str(self.library))
         for name in exported:
@@ -194,11 +195,11 @@ class Interface(Linked):
         self.assertEqual((ended.status, ended.said), (0, b""))
 
 
-class Module(Linked):
-    def test_cases_of_the_module(self):
-        """clib/test_tapebox.py: the cases of the Python module."""
+class Package(Linked):
+    def test_cases_of_the_package(self):
+        """python/test_tapebox.py: the cases of the Python package."""
         options = {"program": sys.executable, "env": os.environ | {"TAPEBOX_LIBRARY": str(self.library)}}
-        ended = run(["-B", CLIB / "test_tapebox.py"], **options)
+        ended = run(["-B", PYTHON / "test_tapebox.py"], **options)
         self.assertEqual(ended.status, 0, ended.said.decode())
         self.assertRegex(ended.said, rb"Ran \d\d tests in .*\n\nOK\n")
 

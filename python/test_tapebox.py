@@ -1,4 +1,4 @@
-"""Cases of the library's Python module, after clib/build: python3 -B clib/test_tapebox.py"""
+"""Cases of the Python package, after clib/build: python3 -B python/test_tapebox.py"""
 
 import copy
 import csv
@@ -13,6 +13,7 @@ from decimal import Decimal
 HERE = os.path.dirname(os.path.abspath(__file__))
 sys.path.insert(0, HERE)
 import tapebox
+from tapebox import _library
 from tapebox import Mark, Message, Packet, Refused, Request, Subscriber, Summary, Tape, Totals
 
 SAMPLES = os.path.join(HERE, "..", "samples")
@@ -131,7 +132,7 @@ class Cases(unittest.TestCase):
         self.refused(102, Subscriber.drain, tape)
         self.refused(102, Subscriber.missing, tape)
         self.refused(102, Subscriber.deliver, tape, "A", b"")
-        self.refused(103, lambda: tapebox._checked(tapebox._library.tapebox_open(tape._handle, b"AB", 2, b"N", 1, 1, 9)))
+        self.refused(103, lambda: _library.checked(_library.library.tapebox_open(tape._handle, b"AB", 2, b"N", 1, 1, 9)))
         self.assertRaises(TypeError, copy.copy, tape)
         tape.free()
         tape.free()
@@ -141,7 +142,7 @@ class Cases(unittest.TestCase):
         self.refused(101, tape.summary, "AB")
         self.refused(101, tape.entry, 1)
         subscriber = Subscriber(["AB"], "NQ", 7)
-        subscriber._answer = tapebox._Answer()
+        subscriber._answer = _library.Answer()
         self.refused(101, Tape.admit, subscriber, REPORT)
         self.refused(101, Tape.close, subscriber)
         self.refused(106, subscriber.deliver, "C", b"")
@@ -186,7 +187,7 @@ class Cases(unittest.TestCase):
         self.refused(54, Packet.decode, telling("D", 7, 1))
         self.refused(55, Packet.decode, packet(7, entries[:1]).replace(b"N", b"n"))
         self.refused(56, Packet.decode, packet(7, [entries[0], entries[2]]))
-        self.refused(105, lambda: tapebox._checked(tapebox._library.tapebox_packet_entry(telling("H", 7, 1), 15, 0, tapebox._EntryRow())))
+        self.refused(105, lambda: _library.checked(_library.library.tapebox_packet_entry(telling("H", 7, 1), 15, 0, _library.EntryRow())))
 
     def test_requests(self) -> None:
         tape = morning()
@@ -230,14 +231,14 @@ class Cases(unittest.TestCase):
         answer = tape.answer(asked, session=7)
         packets, _ = tapebox.read_answer(answer)
         room, length = ctypes.create_string_buffer(b"x" * len(answer)), ctypes.c_size_t(5)
-        serve = lambda size: tapebox._library.tapebox_serve(tape._handle, 2, 7, asked, len(asked), room, size, length)
-        give = lambda size: tapebox._library.tapebox_answer_packet(answer, len(answer), 1, room, size, length)
+        serve = lambda size: _library.library.tapebox_serve(tape._handle, 2, 7, asked, len(asked), room, size, length)
+        give = lambda size: _library.library.tapebox_answer_packet(answer, len(answer), 1, room, size, length)
         for call, text in ((serve, answer), (give, packets[1])):
             room.raw, length.value = b"x" * len(room), 5
             self.assertEqual((call(len(text) - 1), room.raw, length.value), (108, b"x" * len(room), 5))
             self.assertEqual((call(len(text)), room.raw, length.value), (0, text + b"x" * (len(room) - len(text)), len(text)))
         place = len(packets)
-        self.assertEqual(tapebox._library.tapebox_answer_packet(answer, len(answer), place, room, len(room), length), 105)
+        self.assertEqual(_library.library.tapebox_answer_packet(answer, len(answer), place, room, len(room), length), 105)
 
     def test_names(self) -> None:
         tape = morning()

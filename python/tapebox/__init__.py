@@ -1,0 +1,44 @@
+"""A proved trade tape, its sender and its subscriber in this process.
+
+    with tapebox.Tape.from_csv("samples/morning.csv") as tape:
+        print(tape.summary("AB").last.price)
+
+The calls are those of the C library (clib/tapebox.h), which is proved; nothing is proved of this package. Where a call is refused it raises
+`Refused`, which has the refusal's number and name (docs/RULES.md). The library is found by $TAPEBOX_LIBRARY, else beside this file, else
+where clib/build leaves it in the repository.
+"""
+
+from ._library import LONGEST_ANSWER, LONGEST_PACKET
+from .feeds import Packet, Request, beat, cells, end, read_answer
+from .held import Held
+from .records import Entry, Mark, Message, Summary, Totals
+from .refusals import NAMES, Refused
+from .subscriber import Subscriber, Taken, ask, open_line
+from .tables import BadTable, RefusedRow
+from .tape import Tape
+
+__all__ = [
+    "LONGEST_ANSWER",
+    "LONGEST_PACKET",
+    "NAMES",
+    "BadTable",
+    "Entry",
+    "Held",
+    "Mark",
+    "Message",
+    "Packet",
+    "Refused",
+    "RefusedRow",
+    "Request",
+    "Subscriber",
+    "Summary",
+    "Taken",
+    "Tape",
+    "Totals",
+    "ask",
+    "beat",
+    "cells",
+    "end",
+    "open_line",
+    "read_answer",
+]
