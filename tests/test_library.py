@@ -1,6 +1,7 @@
 """The static library for other languages: what it exports, its layouts, its examples, and the cases of its Python package."""
 
 import ctypes
+import math
 import os
 import re
 import shlex
@@ -41,6 +42,11 @@ STRUCTS = {
     "Handle": "handle",
 }
 RENAMED = {"from_": "from"}
+# The crate's structs that the package names otherwise than without `Row`.
+OF_THE_CRATE = {"SummaryRow": "Figures", "EntryRow": "EntryRow"}
+# What crosses to C of the crate's types: a handle's two parts lie as its pointer does, and an allocator has no bytes.
+TYPES = {"u8": ctypes.c_uint8, "u32": ctypes.c_uint32, "u64": ctypes.c_uint64, "usize": ctypes.c_size_t, "bool": ctypes.c_bool}
+TYPES |= {"*mut u8": ctypes.c_void_p, "Inside": ctypes.c_void_p}
 PRINTS_LAYOUT = """#include "{header}"
 #include <stdio.h>
 
@@ -61,10 +67,20 @@ def package():
     return tapebox
 
 
-def compiled(folder, source, *flags):
+def kit_library():
+    """The kit's memory calls and allocator, which the static library stands on."""
+    return Path(shutil.which("rt")).resolve().parent.parent / "c" / "liblibc_c.a"
+
+
+def others():
+    """The further compilers of C that are there."""
+    return [name for name in ("gcc", "clang") if shutil.which(name) and name != COMPILER]
+
+
+def compiled(folder, source, *flags, compiler=COMPILER):
     """A program of this C text, or none where it does not compile."""
     (folder / "source.c").write_text(source, encoding="utf-8")
-    words = [*shlex.split(COMPILER), "-std=c11", "-Wall", "-Wextra", "-Werror", "-o", folder / "compiled", folder / "source.c", *flags]
+    words = [*shlex.split(compiler), "-std=c11", "-Wall", "-Wextra", "-Werror", "-o", folder / "compiled", folder / "source.c", *flags]
     done = subprocess.run(words, stdout=subprocess.DEVNULL, stderr=subprocess.DEVNULL, check=False)
     return None if done.returncode else folder / "compiled"
 
@@ -72,6 +88,31 @@ def compiled(folder, source, *flags):
 def fields_of(structure):
     """A structure's fields, as it is defined: name, offset and length in bytes."""
     return [(RENAMED.get(name, name), getattr(structure, name).offset, getattr(structure, name).size) for name, _ in structure._fields_]
+
+
+def length_of(text):
+    """A length of an array in the crate: a number, a constant of the sources, or a sum of products of these."""
+    if re.fullmatch("[0-9_]+", text):
+        return int(text)
+    if not text.isidentifier():
+        return sum(math.prod(map(length_of, term.split(" * "))) for term in text.split(" + "))
+    files = CRATES.glob("*/src/*.rt")
+    [value] = {value for file in files for value in re.findall(rf"\bconst {text}: usize = ([^;]+);", file.read_text(encoding="utf-8"))}
+    return length_of(value)
+
+
+def crate_structures():
+    """The structs of the crate that C sees, laid out by C's rules, each by its fields as they are declared."""
+    structures = {}
+    for file in ("rows", "handle"):
+        text = (CRATES / "tapebox_c" / "src" / f"{file}.rt").read_text(encoding="utf-8")
+        for name, body in re.findall(r"#\[repr\(C\)\]\n(?:#\[derive[^\n]*\n)?pub struct (\w+) \{\n(.*?)\n\}", text, re.DOTALL):
+            fields = []
+            for field, kind in re.findall(r"^    (?:pub )?(\w+): ([^,{]+),$", body, re.MULTILINE):
+                array = re.fullmatch(r"\[u8; (\w+)\]", kind)
+                fields.append((field, ctypes.c_uint8 * length_of(array[1]) if array else TYPES.get(kind) or structures[kind]))
+            structures[name] = type(name, (ctypes.Structure,), {"_fields_": fields})
+    return structures
 
 
 @unittest.skipUnless(shutil.which(shlex.split(COMPILER)[0]), "there is no C compiler")
@@ -88,20 +129,20 @@ class Linked(Case):
         Linked.library = cls.folder / "libtapebox.so"
 
     @staticmethod
-    def link(folder, *flags):
+    def link(folder, *flags, compiler=COMPILER):
         """Links the shared library and the examples, with no warning."""
-        done = run(["link", folder], program=CLIB / "build", env=os.environ | {"CC": COMPILER, "CFLAGS": shlex.join(["-Werror", *flags])})
+        done = run(["link", folder], program=CLIB / "build", env=os.environ | {"CC": compiler, "CFLAGS": shlex.join(["-Werror", *flags])})
         if done.status:
             raise AssertionError(done.said.decode())
 
-    def assert_reports(self, folder):
-        """Each example in this folder prints the report of each sample that the program prints, and says nothing but which rows are refused."""
+    def assert_reports(self, folder, *examples):
+        """These examples print the report of each sample that the program prints, and say nothing but which rows are refused."""
         for table in TABLES:
             given = table.read_bytes()
             wanted, batch = desk("report", given=given), desk("encode", given=given).written
             self.assertEqual(wanted.status, 0)
             refused = sum(map(int, re.findall(rb": (\d+) rows? refused", wanted.said)))
-            for example in ("report", "feed"):
+            for example in examples:
                 with self.subTest(table.name, example=example):
                     got = run([], batch, program=folder / "examples" / example)
                     self.assertEqual((got.status, got.written), (0, wanted.written))
@@ -110,8 +151,33 @@ class Linked(Case):
 
 class Examples(Linked):
     def test_reports_in_c(self):
-        """clib/examples: a tape in C has the report of each sample, and so has a subscriber to which C sends it on two lines that lose packets."""
-        self.assert_reports(self.folder)
+        """clib/examples: a tape in C has the report of each sample, and so has a subscriber to which C sends it on two lines that lose packets, by
+        gcc and by clang, with no warning."""
+        self.assert_reports(self.folder, "report", "feed")
+        for compiler in others():
+            with self.subTest(compiler), tempfile.TemporaryDirectory() as name:
+                self.link(Path(name), compiler=compiler)
+                self.assert_reports(Path(name), "report", "feed")
+
+    def test_reports_in_cpp(self):
+        """clib/examples: so has a tape in C++17."""
+        compilers = [name for name in ("g++", "clang++") if shutil.which(name)]
+        if not compilers:
+            self.skipTest("there is no C++ compiler")
+        for compiler in compilers:
+            with self.subTest(compiler):
+                words = ["-std=c++17", "-O1", "-Wall", "-Wextra", "-Werror", "-o", self.folder / "examples" / "cpp", CLIB / "examples" / "report.cpp"]
+                done = run([*words, ARCHIVE, kit_library()], program=compiler)
+                self.assertEqual((done.status, done.said), (0, b""))
+                self.assert_reports(self.folder, "cpp")
+
+    @unittest.skipUnless(shutil.which("rustc"), "there is no rustc")
+    def test_reports_in_rust(self):
+        """clib/examples: so has a tape in Rust."""
+        words = ["--edition", "2024", "-O", "-D", "warnings", "-o", self.folder / "examples" / "rust", CLIB / "examples" / "report.rs"]
+        done = run([*words, "-L", ARCHIVE.parent, "-C", f"link-arg={kit_library()}"], program="rustc")
+        self.assertEqual((done.status, done.said), (0, b""))
+        self.assert_reports(self.folder, "rust")
 
     def test_reports_in_python(self):
         """clib/examples: so has a tape in Python."""
@@ -124,22 +190,25 @@ class Examples(Linked):
     def test_examples_under_a_sanitizer(self):
         """clib/tapebox.h: what the examples keep is freed at their end, and nothing outside it is read or written."""
         flag = "-fsanitize=address,undefined"
-        with tempfile.TemporaryDirectory() as name:
-            folder = Path(name)
-            if not compiled(folder, "int main(void) { return 0; }\n", flag):
-                self.skipTest("the C compiler has no sanitizers")
-            self.link(folder, flag)
-            self.assert_reports(folder)
-            # What is not freed is seen.
-            lost = (CLIB / "examples" / "report.c").read_text(encoding="utf-8").replace("tapebox_free(&tape);", "tape.inside = NULL;")
-            self.assertNotIn("tapebox_free", lost)
-            (folder / "day.h").write_text((CLIB / "examples" / "day.h").read_text(encoding="utf-8").replace("../tapebox.h", str(HEADER)), encoding="utf-8")
-            kit = Path(shutil.which("rt")).resolve().parent.parent
-            leaks = compiled(folder, lost, flag, ARCHIVE, kit / "c" / "liblibc_c.a")
-            self.assertTrue(leaks)
-            ended = run([], b"AB\nN\n", program=leaks)
-            self.assertNotEqual(ended.status, 0)
-            self.assertIn(b"detected memory leaks", ended.said)
+        for compiler in [COMPILER, *others()]:
+            with self.subTest(compiler), tempfile.TemporaryDirectory() as name:
+                folder = Path(name)
+                if not compiled(folder, "int main(void) { return 0; }\n", flag, compiler=compiler):
+                    self.skipTest(f"{compiler} has no sanitizers")
+                self.link(folder, flag, compiler=compiler)
+                self.assert_reports(folder, "report", "feed")
+                self.assert_leak_is_seen(folder, flag, compiler)
+
+    def assert_leak_is_seen(self, folder, flag, compiler):
+        """What is not freed is seen."""
+        lost = (CLIB / "examples" / "report.c").read_text(encoding="utf-8").replace("tapebox_free(&tape);", "tape.inside = NULL;")
+        self.assertNotIn("tapebox_free", lost)
+        (folder / "day.h").write_text((CLIB / "examples" / "day.h").read_text(encoding="utf-8").replace("../tapebox.h", str(HEADER)), encoding="utf-8")
+        leaks = compiled(folder, lost, flag, ARCHIVE, kit_library(), compiler=compiler)
+        self.assertTrue(leaks)
+        ended = run([], b"AB\nN\n", program=leaks)
+        self.assertNotEqual(ended.status, 0)
+        self.assertIn(b"detected memory leaks", ended.said)
 
 
 class Interface(Linked):
@@ -162,6 +231,16 @@ class Interface(Linked):
             program = compiled(Path(name), PRINTS_LAYOUT.format(header=HEADER, lines=lines))
             self.assertTrue(program)
             self.assertEqual(run([], program=program).written.decode().splitlines(), wanted)
+
+    def test_layouts_of_the_crate(self):
+        """clib/tapebox.h: each struct has the fields, at the places and of the lengths, that the crate's own definition gives it, which is one by C's
+        rules (`repr(C)`)."""
+        rows = vars(package()._library)
+        for name, structure in crate_structures().items():
+            with self.subTest(name):
+                known = rows[OF_THE_CRATE.get(name, name.removesuffix("Row"))]
+                self.assertEqual((ctypes.sizeof(structure), fields_of(structure)), (ctypes.sizeof(known), fields_of(known)))
+        self.assertEqual({OF_THE_CRATE.get(name, name.removesuffix("Row")) for name in crate_structures()}, set(STRUCTS))
 
     def test_limits(self):
         """clib/tapebox.h, python/tapebox: both have the same limits and numbers of refusals, and RULES has the names."""
