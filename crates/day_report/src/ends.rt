@@ -39,13 +39,13 @@ fn push_figures(
     Ok(())
 }
 
-/// The rows of a tape of which only the end is asked: those that `rows` makes of the tape. One pass over its reports makes all figures.
-pub fn end_rows(alloc: Global, tape: &EndTape) -> Result<Vec<Row>, AllocError>
+/// The rows of a tape of which only the end is asked: those that `rows` makes of the tape of this listing. One pass over its reports makes
+/// all figures.
+pub fn end_rows(alloc: Global, tape: &EndTape, listing: &Listing) -> Result<Vec<Row>, AllocError>
     requires kept { IsKept tape.now }
-    ensures rows { IfOk result (λ rows. (t : TapeState) → KeepsEnd t tape.now → rows.items ≡ report_rows t) }
+    ensures rows { IfOk result (λ rows. (t : TapeState) → KeepsEnd t tape.now → t.listing ≡ listing.now → rows.items ≡ report_rows t) }
 {
-    let table = tape.figures(alloc)?;
-    let listing = tape.listing();
+    let table = tape.figures(alloc, listing)?;
     let mut rows = Vec::new(alloc);
     for symbol in listing.symbols() {
         // Each listed symbol has figures at its position; no clause says so of an iterator's items.

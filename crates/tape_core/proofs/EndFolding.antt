@@ -10,7 +10,7 @@ use Rattle.std.proofs.lemmas.List.Elements.{filter_map-append}
 use Rattle.std.proofs.lemmas.List.Quantifiers.{position-Some}
 use Rattle.std.proofs.lemmas.Option.{none-some, same_Some, slice_get-get_or, slice_get-map, slice_get_within, get_or_from_slice_get}
 use Rattle.std.proofs.lemmas.Slice.Eq.{bytes_eq-Decides}
-use Rattle.tape_types.specs.Names.{symbol_eq}
+use Rattle.tape_types.specs.Names.{Names, symbol_eq}
 use Rattle.sale_matrix.specs.Matrix.{is_within}
 use Rattle.sale_matrix.specs.declared.content.Content.{Content}
 use Rattle.corrections.specs.RegisterState.{targets_of}
@@ -259,8 +259,9 @@ sent-at t e keeps k n at sent is =
     (ap (λ l. slice_get l k) keeps.reports ∙ slice_get-map sent_of (messages_of t.entries) k ∙ ap (option_map sent_of) at)
 
 -- the messages so far with the next
-module _ (t : TapeState) (e : EndTape) (keeps : KeepsEnd t e) (k : ℕ) (sent : Option Sent) (old new : List SymbolFigures) where
-  pub table-next : k < length e.reports.items → sent ≡ get_or e.reports.items k sent → CountsMessage e sent old new
+module _ (t : TapeState) (e : EndTape) (listing : Names) (keeps : KeepsEnd t e) (names : t.listing ≡ listing) (k : ℕ) (sent : Option Sent)
+    (old new : List SymbolFigures) where
+  pub table-next : k < length e.reports.items → sent ≡ get_or e.reports.items k sent → CountsMessage e listing sent old new
       → AreTableOf t (take k (messages_of t.entries)) old → AreTableOf t (take (k + 1) (messages_of t.entries)) new
   table-next inside is counts was = by (slice_get (messages_of t.entries) k) refl
     where
@@ -280,7 +281,7 @@ module _ (t : TapeState) (e : EndTape) (keeps : KeepsEnd t e) (k : ℕ) (sent : 
           subst (λ ns. AreTableOf t ns new)
           (sym (take_more (messages_of t.entries) k n (slice_get_within (messages_of t.entries) k n at)
           ∙ ap (λ x. take k (messages_of t.entries) ++ x ∷ []) (get_or_from_slice_get (messages_of t.entries) k n n at)))
-          (counts t (take k (messages_of t.entries)) n keeps itself was)
+          (counts t (take k (messages_of t.entries)) n keeps names itself was)
 
 -- figures of no report are those of no message
 pub table-first : (t : TapeState) (table : List SymbolFigures) → All (AreFigures t.matrix []) table → AreTableOf t [] table

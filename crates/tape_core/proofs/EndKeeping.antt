@@ -2,10 +2,9 @@
 use Rattle.std.proofs.Common.{◌≡◌, ℕ, ◌+◌, ◌<◌, ◌≤◌, ◌==◌, nat_le, Bool, true, false, cond, not, if◌then◌else◌, List, [], ◌∷◌, ◌++◌, length, map, Some, None, Result, Ok}
 use Rattle.std.proofs.Common.{refl, ap, ◌∙◌, sym, subst, arith}
 use Rattle.std.specs.FinMap as map
-use Rattle.std.specs.List.{position}
 use Rattle.std.proofs.lemmas.Bool.Decides.{nat_tests}
 use Rattle.std.proofs.lemmas.List.{map-append, length-map}
-use Rattle.tape_types.specs.Names.{Names, symbol_eq}
+use Rattle.tape_types.specs.Names.{Names}
 use Rattle.tape_types.specs.Ranges.{IsParticipant, TAPE_MOST}
 use Rattle.sale_matrix.specs.declared.matrix.Matrix.{Matrix}
 use Rattle.corrections.specs.RegisterState.{last_number_of, targets_of}
@@ -14,16 +13,15 @@ use Rattle.reports.specs.declared.message.Message.{Message}
 use Rattle.reports.specs.declared.message.Message.TheVariants.{Report, Cancel, Correct, Reinstate}
 use Rattle.reports.specs.Messages.{header_of}
 use Rattle.tape_core.specs.declared.change.Change.{Change}
+use Rattle.tape_core.specs.declared.end_route.EndRoute.{EndRoute}
 use Rattle.tape_core.specs.declared.end_tape.EndTape.{EndTape}
 use Rattle.tape_core.specs.declared.refusal.Refusal.{Refusal}
-use Rattle.tape_core.specs.declared.refusal.Refusal.TheVariants.{Full, UnknownParticipant, Stale, UnknownSymbol, NotInMatrix}
-use Rattle.tape_core.specs.declared.route.Route.{Route}
+use Rattle.tape_core.specs.declared.refusal.Refusal.TheVariants.{Full, Stale, NotInMatrix}
 use Rattle.tape_core.specs.Books.{IsRegister}
 use Rattle.tape_core.specs.Changes.{targets_after}
-use Rattle.tape_core.specs.Ending.{CanNote, IsSameEnd, KeepsEnd, sent_of}
-use Rattle.tape_core.specs.Routes.{IsRoute}
+use Rattle.tape_core.specs.Ending.{CanNote, IsEndRoute, IsSameEnd, KeepsEnd, ListsNames, sent_of}
 use Rattle.tape_core.specs.Standing.{last_number}
-use Rattle.tape_core.specs.Tape.{TapeState, empty_tape, is_in_matrix, lists_participant, lists_symbol, messages_of, numbered_message, refusal, with_message}
+use Rattle.tape_core.specs.Tape.{TapeState, empty_tape, is_in_matrix, lists_participant, messages_of, numbered_message, refusal, with_message}
 use Rattle.tape_core.specs.Targets.{register_change}
 use Rattle.tape_core.specs.Lemmas.LegalNext.{admissible, IsTape-with_message}
 use Rattle.tape_core.proofs.Appending.{made}
@@ -37,13 +35,12 @@ use Rattle.std.specs.Option.{option_map}
 use Rattle.tape_core.specs.Books.{target_of}
 
 -- what is kept of an empty tape
-pub KeepsEnd-empty : (listing : Names) (matrix : Matrix) (e : EndTape) → e.listing ≡ listing → e.matrix ≡ matrix → targets_of e.register ≡ map.empty
+pub KeepsEnd-empty : (listing : Names) (matrix : Matrix) (e : EndTape) → e.matrix ≡ matrix → targets_of e.register ≡ map.empty
     → ((who : ℕ) → last_number_of e.register who ≡ 0) → e.reports.items ≡ [] → KeepsEnd (empty_tape listing TAPE_MOST matrix) e
-KeepsEnd-empty listing matrix e names columns targets numbers none = record {
+KeepsEnd-empty listing matrix e columns targets numbers none = record {
   tape = record { limit = (omega arith, omega arith); within = omega arith; legal = λ k x at. absurd (cc) };
   unclosed = refl;
   limit = refl;
-  listing = sym names;
   matrix = sym columns;
   targets = subst (IsRegister []) (sym targets) IsRegister-empty;
   last_numbers = λ who _. numbers who;
@@ -56,7 +53,6 @@ KeepsEnd-same t old new same keeps = record {
   tape = keeps.tape;
   unclosed = keeps.unclosed;
   limit = keeps.limit;
-  listing = keeps.listing ∙ sym same.listing;
   matrix = keeps.matrix ∙ sym same.matrix;
   targets = subst (λ r. IsRegister (messages_of t.entries) (targets_of r)) (sym same.register) keeps.targets;
   last_numbers = λ who is. ap (λ r. last_number_of r who) same.register ∙ keeps.last_numbers who is;
@@ -99,23 +95,13 @@ module _ (t : TapeState) (e : EndTape) (keeps : KeepsEnd t e) (m : Message) wher
     pub has-room : (length t.entries == t.limit) ≡ false
     has-room = let limit = keeps.limit in let count = count-kept in grind (arith, nat_tests)
 
-    -- a participant that is not listed is refused
-    pub unlisted-refused : lists_participant e.listing sender ≡ false → refusal t m ≡ Some UnknownParticipant
-    unlisted-refused other =
-        past t.closed _ _ keeps.unclosed ∙ past (length t.entries == t.limit) _ _ has-room
-        ∙ hit (not (lists_participant t.listing sender)) _ _ (ap not (ap (λ l. lists_participant l sender) keeps.listing ∙ other))
-
-    module _ (is : IsParticipant sender) (listed : lists_participant e.listing sender ≡ true) where
-      -- it is listed on the tape
-      listed-there : lists_participant t.listing sender ≡ true
-      listed-there = ap (λ l. lists_participant l sender) keeps.listing ∙ listed
-
+    module _ (is : IsParticipant sender) (lists : ListsNames t.listing m) where
       -- a number that is not above the last one is refused
       pub stale-refused : (header_of m).number ≤ last_number_of e.register sender → refusal t m ≡ Some Stale
       stale-refused stale =
           let last = keeps.last_numbers sender is in
           past t.closed _ _ keeps.unclosed ∙ past (length t.entries == t.limit) _ _ has-room
-          ∙ past (not (lists_participant t.listing sender)) _ _ (ap not listed-there)
+          ∙ past (not (lists_participant t.listing sender)) _ _ (ap not lists.participant)
           ∙ hit (nat_le (header_of m).number (last_number (messages_of t.entries) sender)) _ _ (grind (arith, nat_tests))
 
       module _ (newer : last_number_of e.register sender < (header_of m).number) where
@@ -123,40 +109,25 @@ module _ (t : TapeState) (e : EndTape) (keeps : KeepsEnd t e) (m : Message) wher
         pub above-there : nat_le (header_of m).number (last_number (messages_of t.entries) sender) ≡ false
         above-there = let last = keeps.last_numbers sender is in grind (arith, nat_tests)
 
-        -- a symbol that is not listed is refused
-        pub unknown-refused : lists_symbol e.listing (header_of m).symbol ≡ false → refusal t m ≡ Some UnknownSymbol
-        unknown-refused other =
-            past t.closed _ _ keeps.unclosed ∙ past (length t.entries == t.limit) _ _ has-room
-            ∙ past (not (lists_participant t.listing sender)) _ _ (ap not listed-there)
-            ∙ past (nat_le (header_of m).number (last_number (messages_of t.entries) sender)) _ _ above-there
-            ∙ hit (not (lists_symbol t.listing (header_of m).symbol)) _ _ (ap not (ap (λ l. lists_symbol l (header_of m).symbol) keeps.listing ∙ other))
+        -- a condition that is not of the matrix is refused
+        pub foreign-refused : is_in_matrix e.matrix m ≡ false → refusal t m ≡ Some NotInMatrix
+        foreign-refused other = refusal-not_within t m keeps.unclosed has-room lists.participant above-there lists.symbol
+            (ap (λ x. is_in_matrix x m) keeps.matrix ∙ other)
 
-        module _ (known : lists_symbol e.listing (header_of m).symbol ≡ true) where
-          -- the symbol is listed on the tape
-          known-there : lists_symbol t.listing (header_of m).symbol ≡ true
-          known-there = ap (λ l. lists_symbol l (header_of m).symbol) keeps.listing ∙ known
+        -- else what the register has of the target decides
+        pub target-decides : is_in_matrix e.matrix m ≡ true → (index : ℕ) (answer : Result Change Refusal) → answer ≡ register_change e.register m index
+            → refused answer ≡ refusal t m
+        target-decides within index answer is_answer =
+            ap refused is_answer ∙ register_change-faults (messages_of t.entries) e.register index m keeps.targets
+            ∙ sym (refusal-of_target t m keeps.unclosed has-room lists.participant above-there lists.symbol (ap (λ x. is_in_matrix x m) keeps.matrix ∙ within))
 
-          -- a condition that is not of the matrix is refused
-          pub foreign-refused : is_in_matrix e.matrix m ≡ false → refusal t m ≡ Some NotInMatrix
-          foreign-refused other = refusal-not_within t m keeps.unclosed has-room listed-there above-there known-there
-              (ap (λ x. is_in_matrix x m) keeps.matrix ∙ other)
-
-          -- else what the register has of the target decides
-          pub target-decides : is_in_matrix e.matrix m ≡ true → (index : ℕ) (answer : Result Change Refusal) → answer ≡ register_change e.register m index
-              → refused answer ≡ refusal t m
-          target-decides within index answer is_answer =
-              ap refused is_answer ∙ register_change-faults (messages_of t.entries) e.register index m keeps.targets
-              ∙ sym (refusal-of_target t m keeps.unclosed has-room listed-there above-there known-there (ap (λ x. is_in_matrix x m) keeps.matrix ∙ within))
-
-          -- and the message goes there
-          pub routed : (index book number : ℕ) (change : Change) → position (symbol_eq (header_of m).symbol) e.listing.symbols ≡ Some book
-              → number ≡ length e.reports.items + 1 → register_change e.register m index ≡ Ok change
-              → IsRoute t m (record { book = book; number = number; change = change })
-          routed index book number change found next answered = record {
-            book = ap (λ (l : Names). position (symbol_eq (header_of m).symbol) l.symbols) keeps.listing ∙ found;
-            number = next ∙ ap (λ n. n + 1) count-kept;
-            change = (index, register_change-is (messages_of t.entries) e.register index change m keeps.targets answered);
-          }
+        -- and the message goes there
+        pub routed : (index number : ℕ) (change : Change) → number ≡ length e.reports.items + 1 → register_change e.register m index ≡ Ok change
+            → IsEndRoute t m (record { number = number; change = change })
+        routed index number change next answered = record {
+          number = next ∙ ap (λ n. n + 1) count-kept;
+          change = (index, register_change-is (messages_of t.entries) e.register index change m keeps.targets answered);
+        }
 
 -- ## After a message
 
@@ -175,7 +146,7 @@ module _ (t : TapeState) (e : EndTape) (keeps : KeepsEnd t e) where
   register-below m none is = let above = number-above m none in let last = keeps.last_numbers (header_of m).participant is in omega arith
 
   -- the register can take the change
-  pub can-note : (m : Message) → refusal t m ≡ None → (route : Route) → IsRoute t m route → CanNote (targets_of e.register) (header_of m) route.change
+  pub can-note : (m : Message) → refusal t m ≡ None → (route : EndRoute) → IsEndRoute t m route → CanNote (targets_of e.register) (header_of m) route.change
   can-note (Report header content) none route is =
       subst (CanNote (targets_of e.register) header) (made t (Report header content) is.change.0 route.change none is.change.1)
       (keeps.targets header.participant header.number
@@ -194,7 +165,7 @@ module _ (t : TapeState) (e : EndTape) (keeps : KeepsEnd t e) where
       (IsTarget-cancelled before header.symbol (targets_of e.register) header.participant target report.0 report.1 keeps.targets report.2)
 
   -- the register after it is that of the tape with the message
-  register-next : (m : Message) → refusal t m ≡ None → (route : Route) → IsRoute t m route
+  register-next : (m : Message) → refusal t m ≡ None → (route : EndRoute) → IsEndRoute t m route
       → IsRegister (messages_with t m) (targets_after (targets_of e.register) route.number (header_of m) route.change)
   register-next (Report header content) none route is =
       let m = Report header content in
@@ -224,20 +195,19 @@ module _ (t : TapeState) (e : EndTape) (keeps : KeepsEnd t e) where
       (IsLegal-targets t keeps.tape.legal) report.2.named keeps.targets)
 
   -- what is kept with a message more
-  pub KeepsEnd-next : (m : Message) → refusal t m ≡ None → (route : Route) → IsRoute t m route → (e' : EndTape) → e'.listing ≡ e.listing → e'.matrix ≡ e.matrix
+  pub KeepsEnd-next : (m : Message) → refusal t m ≡ None → (route : EndRoute) → IsEndRoute t m route → (e' : EndTape) → e'.matrix ≡ e.matrix
       → targets_of e'.register ≡ targets_after (targets_of e.register) route.number (header_of m) route.change
       → ((other : ℕ) → IsParticipant other
       → last_number_of e'.register other ≡ (if other == (header_of m).participant then (header_of m).number else last_number_of e.register other))
       → e'.reports.items ≡ e.reports.items ++ sent_of (length t.entries + 1, m) ∷ []
       → KeepsEnd (with_message t m) e'
-  KeepsEnd-next m none route is e' listing matrix targets numbers reports =
+  KeepsEnd-next m none route is e' matrix targets numbers reports =
       let same : messages_of (with_message t m).entries ≡ messages_with t m = messages-with t m in
       let who = (header_of m).participant in
       record {
         tape = IsTape-with_message t m keeps.tape none;
         unclosed = keeps.unclosed;
         limit = keeps.limit;
-        listing = keeps.listing ∙ sym listing;
         matrix = keeps.matrix ∙ sym matrix;
         targets = subst (λ ns. IsRegister ns (targets_of e'.register)) (sym same)
             (subst (IsRegister (messages_with t m)) (sym targets) (register-next m none route is));

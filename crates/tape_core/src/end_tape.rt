@@ -1,12 +1,13 @@
 //! A tape of which only the end is asked.
 ghost use Rattle.std.specs.Prelude.{◌≡◌, ℕ, ◌+◌, ◌-◌, ◌<◌, [], length, All, IfOk, OnOk, OnErr};
+ghost use Rattle.tape_types.specs.Names.{Names};
 ghost use Rattle.tape_types.specs.Ranges.{TAPE_MOST};
 ghost use Rattle.tape_core.specs.Tape.{TapeState, empty_tape, is_in_matrix, messages_of};
-ghost use Rattle.tape_core.specs.Ending.{AnswersEnd, AreOfAtMost, AreTableOf, CountsMessage, HasMore, IsKept, IsRouted, IsSameEnd, KeepsEnd, RoutesEnd, sent_of};
+ghost use Rattle.tape_core.specs.Ending.{AnswersEnd, AreOfAtMost, AreTableOf, CountsMessage, HasMore, IsKept, IsKeptFor, IsRouted, IsSameEnd, KeepsEnd, RoutesEnd, sent_of};
 
 use crate::end_figures::empty_table;
+use crate::end_route::EndRoute;
 use crate::notes::note_change;
-use crate::route::Route;
 use crate::tape::matrix_has;
 use crate::{Refusal, SymbolFigures, targets};
 use corrections::{Register, Standing};
@@ -24,11 +25,11 @@ pub struct Sent {
     pub number: MsgNumber,
 }
 
-/// A tape of which only the end is asked: it answers messages as a tape of the same listing and matrix does, with the greatest limit. It
-/// keeps the register that the answers need, and by tape number which report a message is. No summary is kept: they are all made at once.
+/// A tape of which only the end is asked: it answers messages as a tape of the same matrix does, with the greatest limit and any listing
+/// that has the messages' names, which need not be known before the end. It keeps the register that the answers need, and by tape number
+/// which report a message is. No summary is kept: they are all made at once.
 #[derive(Drop)]
 pub struct EndTape {
-    listing: Listing,
     matrix: Matrix,
     register: Register,
     /// By tape number: the report that the message is, or nothing.
@@ -37,20 +38,20 @@ pub struct EndTape {
 
 impl EndTape {
     /// An empty one. It takes no memory.
-    pub fn new(alloc: Global, listing: Listing, matrix: Matrix) -> EndTape
-        ensures { KeepsEnd (empty_tape listing TAPE_MOST matrix) result }
+    pub fn new(alloc: Global, matrix: Matrix) -> EndTape
+        ensures { (listing : Names) → KeepsEnd (empty_tape listing TAPE_MOST matrix) result }
     {
         EndTape {
-            listing,
             matrix,
             register: Register::new(alloc),
             reports: Vec::new(alloc),
         }
     }
 
-    /// Admits a message and gives the number of its entry, or says why not, as a tape's `admit` does. Nothing has changed on a refusal.
+    /// Admits a message and gives the number of its entry, or says why not, as the `admit` of a tape does whose listing has the message's
+    /// names. Nothing has changed on a refusal.
     pub fn admit(&mut self, message: Message) -> Result<TapeNumber, Refusal>
-        requires kept { IsKept self.old }
+        requires kept { IsKeptFor self.old message }
         ensures answers { AnswersEnd self.old message result self.new }
     {
         match self.route(&message) {
@@ -60,7 +61,7 @@ impl EndTape {
     }
 
     /// Where the message goes, or the refusal of the first rule that it breaks.
-    fn route(&self, message: &Message) -> Result<Route, Refusal>
+    fn route(&self, message: &Message) -> Result<EndRoute, Refusal>
         ensures { RoutesEnd self.now message.now result }
     {
         let header = message.header();
@@ -68,21 +69,14 @@ impl EndTape {
         if count >= TAPE_MOST as usize {
             return Err(Refusal::Full);
         }
-        if !self.listing.has(header.participant) {
-            return Err(Refusal::UnknownParticipant);
-        }
         if header.number.value() <= self.register.last_number(header.participant) {
             return Err(Refusal::Stale);
         }
-        let Some(book) = self.listing.position(header.symbol) else {
-            return Err(Refusal::UnknownSymbol);
-        };
         if !matrix_has(self.matrix, message) {
             return Err(Refusal::NotInMatrix);
         }
         match targets::locate(&self.register, message) {
-            Ok(change) => Ok(Route {
-                book,
+            Ok(change) => Ok(EndRoute {
                 number: number_after(count),
                 change,
             }),
@@ -91,7 +85,7 @@ impl EndTape {
     }
 
     /// Appends a message's entry and gives its number. Where memory runs out, nothing has changed.
-    fn append(&mut self, route: Route, message: &Message) -> Result<TapeNumber, AllocError>
+    fn append(&mut self, route: EndRoute, message: &Message) -> Result<TapeNumber, AllocError>
         requires routed { IsRouted self.old message.now route }
         ensures number { IfOk result (λ number. number ≡ route.number) }
         ensures ok { OnOk result (HasMore self.old message.now route self.new) }
@@ -105,34 +99,33 @@ impl EndTape {
         Ok(route.number)
     }
 
-    /// The symbols and participants of the day.
-    pub fn listing(&self) -> &Listing
-        ensures listing { (t : TapeState) → KeepsEnd t self.now → result.now ≡ t.listing }
-    {
-        &self.listing
-    }
-
-    /// What the reports that stand come to, for each symbol in the order of the listing. One pass goes over the reports by rising place.
-    pub fn figures(&self, alloc: Global) -> Result<Vec<SymbolFigures>, AllocError>
+    /// What the reports that stand come to, for each symbol in the order of a listing. One pass goes over the reports by rising place.
+    pub fn figures(
+        &self,
+        alloc: Global,
+        listing: &Listing,
+    ) -> Result<Vec<SymbolFigures>, AllocError>
         requires kept { IsKept self.now }
-        ensures figures { IfOk result (λ table. (t : TapeState) → KeepsEnd t self.now → AreTableOf t (messages_of t.entries) table.items) }
-        ensures count { IfOk result (λ table. length table.items ≡ length self.now.listing.symbols) }
+        ensures figures { IfOk result (λ table. (t : TapeState) → KeepsEnd t self.now → t.listing ≡ listing.now
+            → AreTableOf t (messages_of t.entries) table.items) }
+        ensures count { IfOk result (λ table. length table.items ≡ length listing.now.symbols) }
     {
-        let mut table = empty_table(alloc, self.listing.symbols().as_slice().len())?;
-        self.count_all(&mut table);
+        let mut table = empty_table(alloc, listing.symbols().as_slice().len())?;
+        self.count_all(listing, &mut table);
         Ok(table)
     }
 
     /// Counts what is kept of each message.
-    fn count_all(&self, table: &mut Vec<SymbolFigures>)
+    fn count_all(&self, listing: &Listing, table: &mut Vec<SymbolFigures>)
         requires kept { IsKept self.now }
         requires none { All (AreOfAtMost 0) table.old.items }
-        ensures figures { (t : TapeState) → KeepsEnd t self.now → AreTableOf t [] table.old.items → AreTableOf t (messages_of t.entries) table.new.items }
+        ensures figures { (t : TapeState) → KeepsEnd t self.now → t.listing ≡ listing.now → AreTableOf t [] table.old.items
+            → AreTableOf t (messages_of t.entries) table.new.items }
         ensures count { length table.new.items ≡ length table.old.items }
     {
         let mut near = [0; PARTICIPANTS_MOST];
         for sent in self.reports.as_slice() {
-            self.count(table, &mut near, *sent);
+            self.count(listing, table, &mut near, *sent);
         }
     }
 
@@ -140,6 +133,7 @@ impl EndTape {
     /// one of the participant was found.
     fn count(
         &self,
+        listing: &Listing,
         table: &mut Vec<SymbolFigures>,
         near: &mut [usize; PARTICIPANTS_MOST],
         sent: Option<Sent>,
@@ -147,7 +141,7 @@ impl EndTape {
         requires kept { IsKept self.now }
         requires few { All (AreOfAtMost (TAPE_MOST - 1)) table.old.items }
         ensures few { (most : ℕ) → All (AreOfAtMost most) table.old.items → All (AreOfAtMost (most + 1)) table.new.items }
-        ensures figures { CountsMessage self.now sent table.old.items table.new.items }
+        ensures figures { CountsMessage self.now listing.now sent table.old.items table.new.items }
         ensures count { length table.new.items ≡ length table.old.items }
     {
         let Some(sent) = sent else {
@@ -161,7 +155,7 @@ impl EndTape {
         if target.standing == Standing::Cancelled {
             return;
         }
-        let Some(at) = self.listing.position(target.symbol) else {
+        let Some(at) = listing.position(target.symbol) else {
             return;
         };
         if at >= table.len() {

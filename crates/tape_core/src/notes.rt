@@ -5,7 +5,7 @@ ghost use Rattle.tape_core.specs.Changes.{targets_after};
 ghost use Rattle.tape_core.specs.Ending.{CanNote};
 
 use crate::change::Change;
-use crate::route::Route;
+use crate::end_route::EndRoute;
 use corrections::Register;
 use reports::Header;
 use std::alloc::AllocError;
@@ -13,7 +13,7 @@ use std::alloc::AllocError;
 /// Makes a route's change in the register. Where memory runs out, it is unchanged; a report alone takes any.
 pub fn note_change(
     register: &mut Register,
-    route: &Route,
+    route: &EndRoute,
     header: &Header,
 ) -> Result<(), AllocError>
     requires { CanNote (targets_of register.old) header.now route.now.change }

@@ -11,22 +11,21 @@ use Rattle.day_report.proofs.ends.end_rows.Goals as goal
 
 pub loop-symbol-preserved : goal.loop-symbol-preserved
 loop-symbol-preserved c = record {
-  rows = λ t keeps.
+  rows = λ t keeps names.
       let symbol = c.in-Some.symbol.now in
       let table = c.in_ok-table.table.items in
       let at = c.in-Some-position.at in
-      let listing : c.listing-listing.result.now ≡ t.listing = c.listing-listing.ensures.listing t keeps in
       let found : position (symbol_eq symbol) t.listing.symbols ≡ Some at =
-      ap (λ (l : Names). position (symbol_eq symbol) l.symbols) (sym listing) ∙ sym c.position.ensures.position ∙ c.in-Some-position.is in
+      ap (λ (l : Names). position (symbol_eq symbol) l.symbols) names ∙ sym c.position.ensures.position ∙ c.in-Some-position.is in
       let inside : at < length table = omega (arith, c.if-at-len.false, c.len.ensures) in
       let old : SymbolFigures = c.index.result.now in
       let value : old ≡ get_or table at old = search rules in
       let held : slice_get table at ≡ Some old = slice_get-get_or table at old inside ∙ ap Some (sym value) in
       let figures : AreFiguresOf t (messages_of t.entries) symbol old =
-      subst (λ o. IfSome o (AreFiguresOf t (messages_of t.entries) symbol)) held (c.in_ok-table.ensures.figures t keeps symbol at found) in
+      subst (λ o. IfSome o (AreFiguresOf t (messages_of t.entries) symbol)) held (c.in_ok-table.ensures.figures t keeps names symbol at found) in
       let step : iter_rest c.loop-symbol.symbol-iterator ≡ symbol ∷ iter_rest c.next.new.self = search rules in
-      ap (λ l. l ++ flat_map (symbol_rows t) (iter_rest c.next.new.self)) (c.in_ok-push_figures.ensures t (sym listing) figures)
+      ap (λ l. l ++ flat_map (symbol_rows t) (iter_rest c.next.new.self)) (c.in_ok-push_figures.ensures t names figures)
       ∙ append_assoc c.loop-symbol.rows.items (symbol_rows t symbol) (flat_map (symbol_rows t) (iter_rest c.next.new.self))
       ∙ ap (λ l. c.loop-symbol.rows.items ++ l) (sym (ap (flat_map (symbol_rows t)) step))
-      ∙ c.loop-symbol.invariant.rows t keeps;
+      ∙ c.loop-symbol.invariant.rows t keeps names;
 }

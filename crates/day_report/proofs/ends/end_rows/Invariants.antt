@@ -9,5 +9,5 @@ use Rattle.day_report.proofs.ends.end_rows.Given as goal
 -- the rows so far, and those that are left, are all rows of the tape
 abbrev pub invariant-loop-symbol : goal.invariant-loop-symbol
 invariant-loop-symbol l = record {
-  rows : (t : TapeState) → KeepsEnd t l.fn.tape → l.rows.items ++ flat_map (symbol_rows t) (iter_rest l.symbol-iterator) ≡ report_rows t;
+  rows : (t : TapeState) → KeepsEnd t l.fn.tape → t.listing ≡ l.fn.listing → l.rows.items ++ flat_map (symbol_rows t) (iter_rest l.symbol-iterator) ≡ report_rows t;
 }

@@ -17,7 +17,7 @@ pub returns-clause-ok : goal.returns-clause-ok
 returns-clause-ok c = λ t keeps none is.
     let head = c.header-header.ensures.header in
     let made = c.in_ok-note_change.ensures in
-    KeepsEnd-next t _ keeps c.args.message.now none c.args.route is _ refl refl
+    KeepsEnd-next t _ keeps c.args.message.now none c.args.route is _ refl
     (ap targets_of_rows c.advance.ensures.rows ∙ made.targets
     ∙ ap (λ h. targets_after (targets_of c.args.self.now.register) c.args.route.number h c.args.route.change) head)
     (λ other of. c.advance.ensures.last_numbers other of

@@ -19,11 +19,11 @@ use Rattle.tape_core.proofs.list.Reinstatements.{latest-there}
 use Rattle.tape_core.proofs.end_tape.EndTape.count.Goals as goal
 
 pub returns-in_default-clause-figures : goal.returns-in_default-clause-figures
-returns-in_default-clause-figures c = λ t first n keeps is was.
+returns-in_default-clause-figures c = λ t first n keeps listing is was.
     table-skip t first n c.args.table.now.items (λ symbol. standing-kind (messages_of t.entries) symbol n (sent-none n (sym c.in_default.is ∙ is.0))) was
 
 pub returns-then-eq-clause-figures : goal.returns-then-eq-clause-figures
-returns-then-eq-clause-figures c = λ t first n keeps is was.
+returns-then-eq-clause-figures c = λ t first n keeps listing is was.
     let found : c.in-Some-held_near.target ≡ target_of (messages_of t.entries) n =
     target-is t _ keeps n c.in-Some.sent c.args.sent c.in-Some.is is c.in-Some-held_near.target c.in-Some-held_near.ensures.held in
     let cancelled : c.in-Some-held_near.target.standing ≡ Cancelled = search rules in
@@ -32,14 +32,14 @@ returns-then-eq-clause-figures c = λ t first n keeps is was.
     ((stands-as (is_cancelled (messages_of t.entries) n.0)).0 (sym (ap (λ (x : Target). x.standing) found) ∙ cancelled))) was
 
 pub returns-in_default-position-clause-figures : goal.returns-in_default-position-clause-figures
-returns-in_default-position-clause-figures c = λ t first n keeps is was.
+returns-in_default-position-clause-figures c = λ t first n keeps listing is was.
     let found : c.in-Some-held_near.target ≡ target_of (messages_of t.entries) n =
     target-is t _ keeps n c.in-Some.sent c.args.sent c.in-Some.is is c.in-Some-held_near.target c.in-Some-held_near.ensures.held in
-    let none : position (symbol_eq c.in-Some-held_near.target.symbol) c.args.self.now.listing.symbols ≡ None =
+    let none : position (symbol_eq c.in-Some-held_near.target.symbol) c.args.listing.now.symbols ≡ None =
     sym c.position.ensures.position ∙ c.in_default-position.is in
     table-unlisted t first n c.args.table.now.items
     (λ index listed. absurd (none-some index (sym none
-    ∙ (λ i. position (symbol_eq (found i).symbol) (sym keeps.listing i).symbols) ∙ listed))) was
+    ∙ (λ i. position (symbol_eq (found i).symbol) (sym listing i).symbols) ∙ listed))) was
 
 pub cells-cells-requires : goal.cells-cells-requires
 cells-cells-requires c = record {
@@ -47,18 +47,18 @@ cells-cells-requires c = record {
 }
 
 pub returns-then-at-len-clause-figures : goal.returns-then-at-len-clause-figures
-returns-then-at-len-clause-figures c = λ t first n keeps is was.
+returns-then-at-len-clause-figures c = λ t first n keeps listing is was.
     let table = c.args.table.now.items in
     let found : c.in-Some-held_near.target ≡ target_of (messages_of t.entries) n =
     target-is t _ keeps n c.in-Some.sent c.args.sent c.in-Some.is is c.in-Some-held_near.target c.in-Some-held_near.ensures.held in
-    let at : position (symbol_eq c.in-Some-held_near.target.symbol) c.args.self.now.listing.symbols ≡ Some c.in-Some-position.at =
+    let at : position (symbol_eq c.in-Some-held_near.target.symbol) c.args.listing.now.symbols ≡ Some c.in-Some-position.at =
     sym c.position.ensures.position ∙ c.in-Some-position.is in
     let none : slice_get table c.in-Some-position.at ≡ None =
     slice_get_past table c.in-Some-position.at (omega (arith, c.if-at-len.true, c.len.ensures)) in
     table-unlisted t first n table
     (λ index listed.
     let same : c.in-Some-position.at ≡ index = same_Some _ _ (sym at
-    ∙ (λ i. position (symbol_eq (found i).symbol) (sym keeps.listing i).symbols) ∙ listed) in
+    ∙ (λ i. position (symbol_eq (found i).symbol) (sym listing i).symbols) ∙ listed) in
     ap (slice_get table) (sym same) ∙ none) was
 
 pub returns-clause-few : goal.returns-clause-few
@@ -73,7 +73,7 @@ returns-clause-few c = λ most was.
     (λ k d within. AreOfAtMost-up most (most + 1) (get_or table k d) (omega arith) (was k d within))
 
 pub returns-clause-figures : goal.returns-clause-figures
-returns-clause-figures c = λ t first n keeps is was.
+returns-clause-figures c = λ t first n keeps listing is was.
     let tape = messages_of t.entries in
     let s = c.in-Some.sent in
     let target = c.in-Some-held_near.target in
@@ -83,7 +83,7 @@ returns-clause-figures c = λ t first n keeps is was.
     let stands : is_cancelled tape n.0 ≡ false =
     (stands-as (is_cancelled tape n.0)).1 (λ gone. let cancelled : target.standing ≡ Cancelled = ap (λ (x : Target). x.standing) found ∙ gone in absurd (search rules)) in
     let now : standing_content tape n.0 ≡ Some (latest_content tape n.0) = latest-there tape s.who s.number n named in
-    let at : position (symbol_eq target.symbol) c.args.self.now.listing.symbols ≡ Some c.in-Some-position.at =
+    let at : position (symbol_eq target.symbol) c.args.listing.now.symbols ≡ Some c.in-Some-position.at =
     sym c.position.ensures.position ∙ c.in-Some-position.is in
     let table = c.args.table.now.items in
     let old : SymbolFigures = c.index_mut.result.now in
@@ -94,7 +94,7 @@ returns-clause-figures c = λ t first n keeps is was.
     let same : ◌≡◌ {A = StandingReport} (record { place = target.place; who = s.who; content = target.content }) r =
     (λ i. record { place = (found i).place; who = kind.1 i; content = (found i).content }) in
     table-count t first n table c.in-Some-position.at old c.count.new.self
-    ((λ i. position (symbol_eq (sym found i).symbol) (keeps.listing i).symbols) ∙ at) held r
+    ((λ i. position (symbol_eq (sym found i).symbol) (listing i).symbols) ∙ at) held r
     (λ symbol is. standing-here tape symbol n (latest_content tape n.0) kind.0 ((bytes_eq-Decides (header_of n.1).symbol symbol).1 is) stands now)
     (λ reports before. subst (λ x. AreFigures t.matrix (reports ++ x ∷ []) c.count.new.self) same
     (c.count.ensures.figures t.matrix reports (c.cells-cells.ensures.cells ∙ ap (λ m. cells_of m target.content.condition) (sym keeps.matrix)) before))

@@ -20,16 +20,16 @@ pub loop-sent-preserved : goal.loop-sent-preserved
 loop-sent-preserved c = record {
   few = c.count.ensures.few c.loop-sent.sent-index c.loop-sent.invariant.few;
   count = c.count.ensures.count ∙ c.loop-sent.invariant.count;
-  table = λ t keeps first.
-      table-next t c.args.self.now keeps c.loop-sent.sent-index c.sent-item.result c.loop-sent.table.items c.count.new.table.items
+  table = λ t keeps listing first.
+      table-next t c.args.self.now c.args.listing.now keeps listing c.loop-sent.sent-index c.sent-item.result c.loop-sent.table.items c.count.new.table.items
       (omega (arith, ap length c.as_slice-sent-items.ensures.value, c.loop-sent-test.true))
       (c.sent-item.is ∙ ap (λ l. get_or l c.loop-sent.sent-index c.sent-item.result) c.as_slice-sent-items.ensures.value)
-      c.count.ensures.figures (c.loop-sent.invariant.table t keeps first);
+      c.count.ensures.figures (c.loop-sent.invariant.table t keeps listing first);
 }
 
 pub returns-clause-figures : goal.returns-clause-figures
-returns-clause-figures c = λ t keeps first.
+returns-clause-figures c = λ t keeps listing first.
     subst (λ ns. AreTableOf t ns c.loop-sent.table.items)
     (take_all c.loop-sent.sent-index (messages_of t.entries)
     (omega (arith, ap length keeps.reports, length-map (messages_of t.entries) sent_of, ap length c.as_slice-sent-items.ensures.value, c.loop-sent-test.false)))
-    (c.loop-sent.invariant.table t keeps first)
+    (c.loop-sent.invariant.table t keeps listing first)

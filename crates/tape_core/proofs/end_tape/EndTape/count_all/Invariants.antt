@@ -9,5 +9,5 @@ abbrev pub invariant-loop-sent : goal.invariant-loop-sent
 invariant-loop-sent l = record {
   few : All (AreOfAtMost l.sent-index) l.table.items;
   count : length l.table.items ≡ length l.fn.table.items;
-  table : (t : TapeState) → KeepsEnd t l.fn.self → AreTableOf t [] l.fn.table.items → AreTableOf t (take l.sent-index (messages_of t.entries)) l.table.items;
+  table : (t : TapeState) → KeepsEnd t l.fn.self → t.listing ≡ l.fn.listing → AreTableOf t [] l.fn.table.items → AreTableOf t (take l.sent-index (messages_of t.entries)) l.table.items;
 }

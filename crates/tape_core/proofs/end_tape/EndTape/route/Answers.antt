@@ -1,45 +1,38 @@
-use Rattle.std.proofs.Common.{◌≡◌, ◌<◌, length, true, Some, sym, ap, subst, ◌∙◌, arith, rules}
-use Rattle.std.specs.List.{position}
-use Rattle.tape_types.specs.Names.{symbol_eq}
+use Rattle.std.proofs.Common.{◌≡◌, ◌<◌, length, true, sym, ap, subst, ◌∙◌, arith, rules}
 use Rattle.tape_types.specs.Ranges.{IsParticipant, TAPE_MOST}
 use Rattle.corrections.specs.RegisterState.{last_number_of}
 use Rattle.reports.specs.Messages.{header_of}
-use Rattle.tape_core.specs.Tape.{lists_symbol, lists_participant, is_in_matrix}
+use Rattle.tape_core.specs.Tape.{is_in_matrix}
 use Rattle.tape_core.proofs.NamedTargets.{refused}
 use Rattle.tape_core.proofs.EndKeeping.{routed, target-decides}
 use Rattle.tape_core.proofs.end_tape.EndTape.route.Goals as goal
 
 pub returns-in-Ok : goal.returns-in-Ok
-returns-in-Ok c = λ t keeps.
+returns-in-Ok c = λ t keeps lists.
     let e = c.args.self.now in
     let m = c.args.message.now in
     let head = c.header-header.ensures.header in
     let fits : length e.reports.items < TAPE_MOST = omega (arith, c.len-count.ensures, c.if-count.false) in
     let is : IsParticipant (header_of m).participant = subst (λ h. IsParticipant h.participant) head (omega arith, omega arith) in
-    let listed : lists_participant e.listing (header_of m).participant ≡ true = search rules in
     let newer : last_number_of e.register (header_of m).participant < (header_of m).number =
     subst (λ h. last_number_of e.register h.participant < h.number) head
     (omega (arith, c.value.ensures.value, c.last_number.ensures.value, c.if-value-last_number.false)) in
-    let known : lists_symbol e.listing (header_of m).symbol ≡ true = search rules in
     let within : is_in_matrix e.matrix m ≡ true = search rules in
-    let decided = target-decides t e keeps m fits is listed newer known within c.locate.ensures.0 c.locate.result c.locate.ensures.1 in
-    let found : position (symbol_eq (header_of m).symbol) e.listing.symbols ≡ Some c.in-Some.book = search rules in (
+    let decided = target-decides t e keeps m fits is lists newer within c.locate.ensures.0 c.locate.result c.locate.ensures.1 in (
       sym decided ∙ ap refused c.in-Ok.is,
-      routed t e keeps m fits is listed newer known c.locate.ensures.0 c.in-Some.book c.number_after.result c.in-Ok.change found
+      routed t e keeps m fits is lists newer c.locate.ensures.0 c.number_after.result c.in-Ok.change
           (omega (arith, c.number_after.ensures, c.len-count.ensures)) (sym c.locate.ensures.1 ∙ c.in-Ok.is),
     )
 
 pub returns-in-Err : goal.returns-in-Err
-returns-in-Err c = λ t keeps.
+returns-in-Err c = λ t keeps lists.
     let e = c.args.self.now in
     let m = c.args.message.now in
     let head = c.header-header.ensures.header in
     let fits : length e.reports.items < TAPE_MOST = omega (arith, c.len-count.ensures, c.if-count.false) in
     let is : IsParticipant (header_of m).participant = subst (λ h. IsParticipant h.participant) head (omega arith, omega arith) in
-    let listed : lists_participant e.listing (header_of m).participant ≡ true = search rules in
     let newer : last_number_of e.register (header_of m).participant < (header_of m).number =
     subst (λ h. last_number_of e.register h.participant < h.number) head
     (omega (arith, c.value.ensures.value, c.last_number.ensures.value, c.if-value-last_number.false)) in
-    let known : lists_symbol e.listing (header_of m).symbol ≡ true = search rules in
     let within : is_in_matrix e.matrix m ≡ true = search rules in
-    sym (target-decides t e keeps m fits is listed newer known within c.locate.ensures.0 c.locate.result c.locate.ensures.1) ∙ ap refused c.in-Err.is
+    sym (target-decides t e keeps m fits is lists newer within c.locate.ensures.0 c.locate.result c.locate.ensures.1) ∙ ap refused c.in-Err.is
