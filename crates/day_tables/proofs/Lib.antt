@@ -3,6 +3,7 @@ pub mod CutLemmas
 pub mod NumeralLemmas
 pub mod PriceSpelling
 pub mod RoundTrip
+pub mod RowLemmas
 pub mod SpelledValues
 pub mod SpellingLemmas
 pub mod TableLemmas

@@ -139,16 +139,22 @@ is_header_fault-none remaining old all input had = ([], all input [] had, refl)
 
 -- ## A whole table
 
+-- the messages of a whole table under a header row with these columns
+pub is_table-under : (columns : Columns) (input : List ℕ) (names : List (List ℕ)) → header_columns names ≡ Ok columns → (messages : List Message)
+    → IsWholeUnder columns input names (Ok messages) → IsTable input messages
+unfolding table_messages
+is_table-under columns input names named messages under =
+    let (rows, all, is) = under in
+    (names ∷ rows, all, rw named is)
+
 -- the messages of a whole table
 pub is_table : {R : Type 0} (remaining : R → Option (List ℕ)) (r : Reader R) (columns : Columns) (input : List ℕ) (messages : List Message)
     → HasColumns remaining r input columns
     → ((input : List ℕ) (names : List (List ℕ)) → HasRead remaining r input (names ∷ []) → IsWholeUnder columns input names (Ok messages))
     → IsTable input messages
-unfolding table_messages
 is_table remaining r columns input messages had under =
     let (names, read, named) = had in
-    let (rows, all, is) = under input names read in
-    (names ∷ rows, all, rw named is)
+    is_table-under columns input names named messages (under input names read)
 
 -- a fault of its header row
 pub is_table_fault-header : (input : List ℕ) (fault : TableFault) → IsHeaderFault input fault → IsTableFault input fault
@@ -158,32 +164,37 @@ is_table_fault-header input (Row n f) is = absurd is
 is_table_fault-header input ReadFault is = tt
 is_table_fault-header input OutOfMemory is = tt
 
+-- a fault under a header row with these columns
+pub is_table_fault-under : (columns : Columns) (input : List ℕ) (names : List (List ℕ)) → header_columns names ≡ Ok columns → (fault : TableFault)
+    → IsFaultUnder columns input names fault → IsTableFault input fault
+unfolding table_messages
+is_table_fault-under columns input names named = by_fault
+  where
+    whole : (fault : TableFault) → IsWholeUnder columns input names (Err fault) → IsWholeFault input fault
+    whole fault below =
+        let (rows, all, is) = below in
+        (names ∷ rows, all, rw named is)
+
+    told : (fault : TableFault) → IsRecordFaultUnder columns input names fault → IsRecordFault input fault
+    told fault below =
+        let (rows, first, is) = below in
+        (names ∷ rows, first, rw named is)
+
+    by_fault : (fault : TableFault) → IsFaultUnder columns input names fault → IsTableFault input fault
+    by_fault (Header f) below = absurd below
+    by_fault NoRow below = whole NoRow below
+    by_fault (Row n f) below = told (Row n f) below
+    by_fault ReadFault below = tt
+    by_fault OutOfMemory below = tt
+
 -- a fault of a record
 pub is_table_fault : {R : Type 0} (remaining : R → Option (List ℕ)) (r : Reader R) (columns : Columns) (input : List ℕ) (fault : TableFault)
     → HasColumns remaining r input columns
     → ((input : List ℕ) (names : List (List ℕ)) → HasRead remaining r input (names ∷ []) → IsFaultUnder columns input names fault)
     → IsTableFault input fault
-unfolding table_messages
 is_table_fault remaining r columns input fault had under =
     let (names, read, named) = had in
-    by_fault names named fault (under input names read)
-  where
-    whole : (names : List (List ℕ)) → header_columns names ≡ Ok columns → (fault : TableFault) → IsWholeUnder columns input names (Err fault) → IsWholeFault input fault
-    whole names named fault below =
-        let (rows, all, is) = below in
-        (names ∷ rows, all, rw named is)
-
-    told : (names : List (List ℕ)) → header_columns names ≡ Ok columns → (fault : TableFault) → IsRecordFaultUnder columns input names fault → IsRecordFault input fault
-    told names named fault below =
-        let (rows, first, is) = below in
-        (names ∷ rows, first, rw named is)
-
-    by_fault : (names : List (List ℕ)) → header_columns names ≡ Ok columns → (fault : TableFault) → IsFaultUnder columns input names fault → IsTableFault input fault
-    by_fault names named (Header f) below = absurd below
-    by_fault names named NoRow below = whole names named NoRow below
-    by_fault names named (Row n f) below = told names named (Row n f) below
-    by_fault names named ReadFault below = tt
-    by_fault names named OutOfMemory below = tt
+    is_table_fault-under columns input names named fault (under input names read)
 
 -- the messages, where the bytes of the reader are known
 pub is_table-known : {R A : Type 0} (remaining : R → Option (List ℕ)) (start r : Reader R) (columns : Columns) (items : A → List Message)

@@ -11,6 +11,7 @@ pub mod RowTexts
 pub mod Rows
 pub mod Spellings
 pub mod TableReading
+pub mod TableRows
 pub mod TableTexts
 pub mod Tables
 pub mod Texts

@@ -16,6 +16,7 @@ mod spelling;
 mod table;
 mod table_fault;
 mod table_row;
+mod table_rows;
 mod table_text;
 mod table_write_fault;
 mod writing;
@@ -34,6 +35,7 @@ pub use spelling::{
 pub use table::{FIRST_ROW, read_table};
 pub use table_fault::TableFault;
 pub use table_row::TableRow;
+pub use table_rows::{TablePiece, TableRows};
 pub use table_text::{table_round_trip, write_table};
 pub use table_write_fault::TableWriteFault;
 pub use writing::{push_content, push_number, push_price, push_row, row_round_trip, write_row};

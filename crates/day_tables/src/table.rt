@@ -16,7 +16,7 @@ use std::io::Read;
 pub const FIRST_ROW: u64 = 2;
 
 /// A reader of records, of which the first is read as any other, and each may have its own number of fields.
-fn records_in<R: Read>(alloc: Global, reader: R) -> Reader<R>
+pub(crate) fn records_in<R: Read>(alloc: Global, reader: R) -> Reader<R>
     ensures plain { IsPlain result }
     ensures start { IfSome (R.remaining reader) (λ input. HasRead R.remaining result input []) }
 {
@@ -27,7 +27,10 @@ fn records_in<R: Read>(alloc: Global, reader: R) -> Reader<R>
 }
 
 /// Reads the next record: whether there was one.
-fn next_record<R: Read>(reader: &mut Reader<R>, fields: &mut ByteRecord) -> Result<bool, TableFault>
+pub(crate) fn next_record<R: Read>(
+    reader: &mut Reader<R>,
+    fields: &mut ByteRecord,
+) -> Result<bool, TableFault>
     requires plain { IsPlain reader.old }
     ensures plain { OnOk result (IsPlain reader.new) }
     ensures more { IfOk result (λ found. found ≡ true → (input : List ℕ) (records : List (List (List ℕ)))
@@ -61,7 +64,11 @@ fn fields_message(columns: &Columns, fields: &ByteRecord) -> Result<Message, Row
 
 /// The message of the row of this number.
 #[tactic(auto, unfolding(crate::specs::Tables::record_message))]
-fn read_record(columns: &Columns, number: u64, fields: &ByteRecord) -> Result<Message, TableFault>
+pub(crate) fn read_record(
+    columns: &Columns,
+    number: u64,
+    fields: &ByteRecord,
+) -> Result<Message, TableFault>
     ensures { result ≡ record_message columns.now number (fields_of fields.now) }
 {
     match fields_message(columns, fields) {
@@ -103,7 +110,7 @@ fn messages_under<R: Read>(
 }
 
 /// The columns that the header row names.
-fn read_columns<R: Read>(
+pub(crate) fn read_columns<R: Read>(
     reader: &mut Reader<R>,
     fields: &mut ByteRecord,
 ) -> Result<Columns, TableFault>
