@@ -14,7 +14,6 @@ use Rattle.table_days.specs.Days.{AnswersMore, HasAnswered}
 use Rattle.table_days.specs.Refusals.{AreRefusals}
 use Rattle.day_tables.specs.Tables.{FIRST_ROW}
 use Rattle.table_days.specs.declared.day.Day.{Day}
-use Rattle.table_days.specs.declared.refusals.Refusals.{Refusals}
 
 -- the names of one message more
 pub insert_all-more : {A : Type 0} (eq : A → A → Bool) (name : Message → A) (messages : List Message) (i : ℕ) (m : Message) → i < length messages

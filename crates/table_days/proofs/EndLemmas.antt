@@ -1,5 +1,5 @@
 -- What a table's text and what it refused come to, whatever is known of the reader.
-use Rattle.std.proofs.Common.{◌≡◌, ◌≢◌, ◌⊎◌, ◌∙◌, ℕ, List, Option, Result, Some, None, Ok, Err, IfSome, IfOk, IfErr, OnOk, OnErr, ap, inl, inr, refl, subst, sym}
+use Rattle.std.proofs.Common.{◌≡◌, ◌≢◌, ◌∙◌, ℕ, List, Option, Result, Some, None, Ok, Err, IfSome, IfOk, IfErr, OnOk, OnErr, ap, subst, sym}
 use Rattle.std.specs.Io.KnownBytes.{Appends}
 use Rattle.sale_matrix.specs.declared.matrix.Matrix.{Matrix}
 use Rattle.reports.specs.declared.message.Message.{Message}
@@ -9,10 +9,10 @@ use Rattle.day_tables.specs.Tables.{IsTable}
 use Rattle.table_days.specs.Answers.{answers}
 use Rattle.table_days.specs.Days.{first_tape}
 use Rattle.table_days.specs.Refusals.{AreRefusals, refused_for}
-use Rattle.table_days.specs.TableEnds.{IsMessagesEnd, WritesTable, WritesTablePart}
+use Rattle.table_days.specs.TableEnds.{IsMessagesEnd, IsTableEnd, WritesTable, WritesTablePart}
 use Rattle.table_days.specs.declared.refusals.Refusals.{Refusals}
 use Rattle.table_days.specs.declared.table_end.TableEnd.{TableEnd}
-use Rattle.table_days.specs.declared.table_end.TableEnd.TheVariants.{OutOfMemory, WriteFault}
+use Rattle.table_days.specs.declared.table_end.TableEnd.TheVariants.{Listing, OutOfMemory, Table, WriteFault}
 
 -- what holds anyway holds of a success
 pub any_ok : {A E : Type 0} (r : Result A E) (P : Type 0) → P → OnOk r P
@@ -66,3 +66,16 @@ pub table_part : (text : Matrix → List Message → List ℕ) (matrix : Matrix)
 table_part text matrix None messages seen old new same table written = tt
 table_part text matrix (Some input) messages seen old new same table written =
     record { messages = seen; table = subst (IsTable input) (sym same) table; written = written }
+
+-- why its messages have no text is why the table has none
+pub messages_end : (known : Option (List ℕ)) (messages : List Message) (r : Result Refusals TableEnd) → IfSome known (λ input. IsTable input messages)
+    → IfErr r (IsMessagesEnd messages) → IfSome known (λ input. IfErr r (IsTableEnd input))
+messages_end None messages r table is = tt
+messages_end (Some input) messages (Ok refusals) table is = tt
+messages_end (Some input) messages (Err end) table is = by end is
+  where
+    by : (end : TableEnd) → IsMessagesEnd messages end → IsTableEnd input end
+    by (Table fault) is = absurd is
+    by (Listing fault) is = (messages, table, is)
+    by OutOfMemory is = tt
+    by WriteFault is = tt

@@ -1,5 +1,6 @@
 pub mod AccountLemmas
 pub mod DayLemmas
+pub mod DayReadingLemmas
 pub mod EndDayLemmas
 pub mod EndLemmas
 pub mod EntryLemmas

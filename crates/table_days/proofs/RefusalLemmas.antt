@@ -1,6 +1,6 @@
 -- What is refused of one answer more.
 use Rattle.std.proofs.Common.{◌≡◌, ◌≢◌, ◌<◌, ◌≤◌, ◌+◌, ◌-◌, ◌^◌, ◌==◌, ◌∷◌, ◌++◌, ◌∙◌, [], ℕ, List, Bool, true, false, cond, Option, Result, Some, None, Ok, Err, IfSome}
-use Rattle.std.proofs.Common.{ap, arith, get_or, inl, inr, length, refl, replicate, subst, sym, zero-add}
+use Rattle.std.proofs.Common.{ap, arith, inl, inr, length, refl, replicate, subst, sym, zero-add}
 use Rattle.std.proofs.lemmas.Bool.{cases_Bool, eq-eqb}
 use Rattle.std.proofs.lemmas.List.{get_or-replicate, get_or-set_other, get_or-set_same}
 use Rattle.std.proofs.lemmas.List.Sums.{count_by-le-length, sum_by_from, sum_by_push}
@@ -12,7 +12,7 @@ use Rattle.tape_core.specs.declared.refusal.Refusal.{Refusal}
 use Rattle.tape_core.specs.declared.refusal.Refusal.TheVariants.{Closed, Full, WrongLine, UnknownParticipant, Stale, UnknownSymbol, NoSuchReport, OtherSymbol}
 use Rattle.tape_core.specs.declared.refusal.Refusal.TheVariants.{Cancelled, OutOfMemory, WrongNumber, Standing, NotInMatrix}
 use Rattle.day_tables.specs.Tables.{FIRST_ROW}
-use Rattle.table_days.specs.Refusals.{AreRefusals, is_refusal, one_more, refused_for, refused_rows}
+use Rattle.table_days.specs.Refusals.{AreRefusals, is_refusal, one_more, refused_rows}
 use Rattle.table_days.specs.declared.refusals.Refusals.{Refusals}
 use Rattle.table_days.specs.declared.refusals.Refused.{Refused}
 

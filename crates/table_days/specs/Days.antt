@@ -1,6 +1,5 @@
 -- The day of a table: its names, its tape and its report.
-use Rattle.std.specs.Prelude.{◌≡◌, ◌+◌, ◌++◌, ◌⊎◌, ℕ, Bool, List, [], length, map, fold, nat_eq, Option, unwrap_or}
-use Rattle.std.specs.Io.KnownBytes.{Appends}
+use Rattle.std.specs.Prelude.{◌≡◌, ◌+◌, ◌++◌, ◌⊎◌, ℕ, Bool, List, [], length, map, fold, nat_eq, unwrap_or}
 use Rattle.std.specs.List.{list_all}
 use Rattle.indexmap.specs.IndexSet.{insert_all}
 use Rattle.tape_types.specs.Names.{Names, names_fault, symbol_eq}
@@ -16,9 +15,7 @@ use Rattle.day_report.specs.Rows.{report_rows}
 use Rattle.table_days.specs.Answers.{answers, tape_after}
 use Rattle.table_days.specs.Refusals.{AreRefusals}
 use Rattle.day_tables.specs.Tables.{FIRST_ROW}
-use Rattle.tape_core.specs.Ending.{KeepsEnd}
 use Rattle.table_days.specs.declared.day.Day.{Day}
-use Rattle.table_days.specs.declared.end_day.EndDay.{EndDay}
 
 -- the symbol of a message
 abbrev pub symbol_of : Message → List ℕ
@@ -67,14 +64,3 @@ pub record HasAnswered (t : TapeState) (messages : List Message) (day : Day) : T
 abbrev pub AnswersMore : Day → Day → List Message → Type 0
 AnswersMore old new messages =
     (t : TapeState) (before : List Message) → HasAnswered t before old → HasAnswered t (before ++ messages) new
-
--- a day of which only the end is asked began with this tape, and has answered these messages
-pub record HasEnded (t : TapeState) (messages : List Message) (day : EndDay) : Type 0 where
-  pub tape : KeepsEnd (fold tape_after t messages) day.tape
-  pub refusals : AreRefusals (answers t messages) day.refusals
-  pub row : day.row ≡ length messages + FIRST_ROW
-
--- it answered these messages more
-abbrev pub EndsMore : EndDay → EndDay → List Message → Type 0
-EndsMore old new messages =
-    (t : TapeState) (before : List Message) → HasEnded t before old → HasEnded t (before ++ messages) new

@@ -1,6 +1,7 @@
 pub mod Accounts
 pub mod Answers
 pub mod Days
+pub mod EndDays
 pub mod EndTexts
 pub mod Explained
 pub mod ExplainedLaws

@@ -1,14 +1,13 @@
 -- What was written of a table, and why it was not.
-use Rattle.std.specs.Prelude.{◌≡◌, ◌⊎◌, ℕ, List, Option}
+use Rattle.std.specs.Prelude.{ℕ, List, Option}
 use Rattle.std.specs.Io.KnownBytes.{Appends}
 use Rattle.sale_matrix.specs.declared.matrix.Matrix.{Matrix}
 use Rattle.reports.specs.declared.message.Message.{Message}
 use Rattle.row_reads.specs.Writing.{WritesPrefix}
 use Rattle.day_tables.specs.Tables.{IsTable, IsTableFault}
 use Rattle.table_days.specs.Answers.{answers}
-use Rattle.table_days.specs.Days.{IsListingFault, day_text, first_tape}
+use Rattle.table_days.specs.Days.{IsListingFault, first_tape}
 use Rattle.table_days.specs.Refusals.{AreRefusals}
-use Rattle.table_days.specs.TapeRows.{tape_text}
 use Rattle.table_days.specs.declared.refusals.Refusals.{Refusals}
 use Rattle.table_days.specs.declared.table_end.TableEnd.{TableEnd}
 use Rattle.table_days.specs.declared.table_end.TableEnd.TheVariants.{Table, Listing, OutOfMemory, WriteFault}

@@ -1,26 +1,26 @@
 //! A table's day of which only the end is asked, while its rows are answered.
-ghost use Rattle.std.specs.Prelude.{◌≡◌, ◌≢◌, ◌+◌, ◌<◌, ◌^◌, ◌∷◌, [], IfErr, IfOk, OnOk, length};
-ghost use Rattle.tape_core.specs.Ending.{IsKept, KeepsEnd};
+ghost use Rattle.std.specs.Prelude.{◌≡◌, ◌∷◌, [], IfOk, OnOk};
+ghost use Rattle.tape_core.specs.Ending.{IsKeptFor, KeepsEnd, ListsNames};
 ghost use Rattle.tape_core.specs.Tape.{TapeState};
 ghost use Rattle.table_days.specs.Answers.{answer, tape_after};
-ghost use Rattle.table_days.specs.Days.{first_tape};
-ghost use Rattle.table_days.specs.TableEnds.{IsMessagesEnd};
-ghost use Rattle.table_days.specs.declared.table_end.TableEnd.TheVariants.{WriteFault};
 
 use crate::answering::is_out_of_memory;
-use crate::naming::listing_of;
-use crate::{Answer, Refusals, TableEnd};
+use crate::day_names::DayNames;
+use crate::{Answer, Refusals};
 use day_tables::FIRST_ROW;
 use reports::Message;
 use sale_matrix::Matrix;
 use std::alloc::{AllocError, Global};
 use tape_core::EndTape;
 
-/// A table's day of which only the end is asked, while its rows are answered, and what it has refused.
+/// A table's day of which only the end is asked, while its rows are answered: what is kept of its tape, the names in the rows, and what the
+/// tape has refused.
 #[derive(Drop)]
 pub struct EndDay {
     /// What is kept of the tape.
     pub tape: EndTape,
+    /// The names in the rows so far.
+    pub names: DayNames,
     /// What it refused of the rows so far.
     pub refusals: Refusals,
     /// The number of the next row.
@@ -29,9 +29,9 @@ pub struct EndDay {
 
 /// Answers a message: it is admitted, or refused, and then the tape is as it was.
 fn answer(tape: &mut EndTape, message: Message) -> Result<Answer, AllocError>
-    requires kept { IsKept tape.old }
-    ensures tape { OnOk result ((t : TapeState) → KeepsEnd t tape.old → KeepsEnd (tape_after t message) tape.new) }
-    ensures answer { IfOk result (λ answered. (t : TapeState) → KeepsEnd t tape.old → answered ≡ answer t message) }
+    requires kept { IsKeptFor tape.old message }
+    ensures tape { OnOk result ((t : TapeState) → KeepsEnd t tape.old → ListsNames t.listing message → KeepsEnd (tape_after t message) tape.new) }
+    ensures answer { IfOk result (λ answered. (t : TapeState) → KeepsEnd t tape.old → ListsNames t.listing message → answered ≡ answer t message) }
 {
     match tape.admit(message) {
         Ok(number) => Ok(Ok(number)),
@@ -45,42 +45,39 @@ fn answer(tape: &mut EndTape, message: Message) -> Result<Answer, AllocError>
 }
 
 impl EndDay {
-    ghost use Rattle.table_days.specs.Days.{EndsMore, HasEnded};
+    ghost use Rattle.table_days.specs.EndDays.{EndsMore, HasEnded, IsEnding};
 
-    /// A day whose tape lists the names in messages, and has answered no row.
-    pub fn of_names(alloc: Global, matrix: Matrix, messages: &[Message]) -> Result<EndDay, TableEnd>
-        ensures day { IfOk result (HasEnded (first_tape matrix messages.now) []) }
-        ensures end { IfErr result (λ end. (end ≢ WriteFault) × IsMessagesEnd messages.now end) }
+    /// A day that has answered no row.
+    pub fn new(alloc: Global, matrix: Matrix) -> EndDay
+        ensures day { HasEnded matrix [] result }
     {
-        match listing_of(alloc, messages) {
-            Ok(listing) => Ok(EndDay {
-                tape: EndTape::new(alloc, listing, matrix),
-                refusals: Refusals::none(),
-                row: FIRST_ROW,
-            }),
-            Err(fault) => Err(TableEnd::Listing(fault)),
+        EndDay {
+            tape: EndTape::new(alloc, matrix),
+            names: DayNames::new(alloc),
+            refusals: Refusals::none(),
+            row: FIRST_ROW,
         }
     }
 
     /// Answers the next row's message.
     fn answer(&mut self, message: Message) -> Result<(), AllocError>
-        requires few { self.old.row + 1 < 2 ^ 64 }
-        requires kept { IsKept self.old.tape }
-        ensures row { OnOk result (self.new.row ≡ self.old.row + 1) }
-        ensures kept { OnOk result (IsKept self.new.tape) }
+        requires ending { IsEnding self.old }
         ensures more { OnOk result (EndsMore self.old self.new (message ∷ [])) }
     {
+        self.names.add(&message)?;
         let answered = answer(&mut self.tape, message)?;
         self.refusals.count(&answered, self.row);
-        self.row += 1;
+        match self.row.checked_add(1) {
+            Some(row) => self.row = row,
+            None => return Err(AllocError),
+        }
         Ok(())
     }
 
     /// Answers the messages of the next rows, in order.
     pub fn answer_all(&mut self, messages: &[Message]) -> Result<(), AllocError>
-        requires few { self.old.row + length messages.now < 2 ^ 64 }
-        requires kept { IsKept self.old.tape }
-        ensures { OnOk result (EndsMore self.old self.new messages.now) }
+        requires ending { IsEnding self.old }
+        ensures more { OnOk result (EndsMore self.old self.new messages.now) }
     {
         for message in messages {
             self.answer(*message)?;

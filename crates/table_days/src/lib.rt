@@ -4,6 +4,8 @@
 mod account;
 mod answering;
 mod day;
+mod day_names;
+mod day_reading;
 mod end_day;
 mod entry_rows;
 mod explain;

@@ -1,10 +1,14 @@
-use Rattle.std.proofs.Common.{refl}
-use Rattle.table_days.proofs.EndDayLemmas.{EndsMore-answer, IsKept-after}
+use Rattle.std.proofs.Common.{◌≡◌, ◌+◌, rules}
+use Rattle.table_days.proofs.EndDayLemmas.{EndsMore-answer, IsKeptFor-next}
 use Rattle.table_days.proofs.end_day.EndDay.answer.Goals as goal
 
-pub returns-clause-more : goal.returns-clause-more
-returns-clause-more c =
-    EndsMore-answer c.args.self.now _ c.args.message c.in_ok-answered.answered c.in_ok-answered.ensures.answer c.in_ok-answered.ensures.tape refl c.count.ensures
+pub answer-requires : goal.answer-requires
+answer-requires c = record { kept = IsKeptFor-next c.args.self.now c.args.message c.requires.ending }
 
-pub returns-clause-kept : goal.returns-clause-kept
-returns-clause-kept c = IsKept-after c.args.self.now.tape _ c.args.message c.in_ok-answered.ensures.tape c.requires.kept
+pub returns : goal.returns
+returns c =
+    let row : c.in-Some.row ≡ c.args.self.now.row + 1 = search rules in
+    record {
+      more = EndsMore-answer c.args.self.now _ c.args.message c.in_ok-answered.answered c.in_ok-add.ensures c.in_ok-answered.ensures.answer
+          c.in_ok-answered.ensures.tape row c.count.ensures;
+    }
