@@ -1,8 +1,8 @@
 use Rattle.std.proofs.Common.{◌≡◌, ◌++◌}
 use Rattle.std.specs.List.{flat_map}
 use Rattle.std.specs.Slice.Iter.{iter_rest}
-use Rattle.tape_core.specs.Ending.{AreFiguresOf, KeepsEnd}
-use Rattle.tape_core.specs.Tape.{TapeState, messages_of}
+use Rattle.tape_core.specs.Ending.{KeepsEnd}
+use Rattle.tape_core.specs.Tape.{TapeState}
 use Rattle.day_report.specs.Rows.{report_rows, symbol_rows}
 use Rattle.day_report.proofs.ends.end_rows.Given as goal
 

@@ -1,4 +1,4 @@
-use Rattle.std.proofs.Common.{◌≡◌, ◌∷◌, ◌++◌, [], ◌<◌, length, slice_index_or, Some, None, sym, ap, ◌∙◌, arith, rules, append_assoc}
+use Rattle.std.proofs.Common.{◌≡◌, ◌∷◌, ◌++◌, ◌<◌, length, slice_index_or, None, sym, ap, ◌∙◌, arith, rules, append_assoc}
 use Rattle.std.specs.List.{cons_option, filter_map}
 use Rattle.std.specs.Slice.Iter.{iter_rest}
 use Rattle.scratch_fold.specs.declared.summary.Summary.{Summary}
