@@ -1,5 +1,5 @@
 -- What arguments name.
-use Rattle.std.specs.Prelude.{◌≡◌, ◌≤◌, ◌<◌, ◌∷◌, [], ◌⊎◌, ℕ, List, codes, length, true}
+use Rattle.std.specs.Prelude.{◌≡◌, ◌≤◌, ◌<◌, ◌^◌, ◌∷◌, [], ◌⊎◌, ℕ, List, codes, length, true}
 use Rattle.std.specs.Char.{is_ascii_digit}
 use Rattle.std.specs.List.{list_all}
 use Rattle.std.specs.Str.Parse.{digits_value}
@@ -20,6 +20,7 @@ pub record IsNumber (word : List ℕ) (number : ℕ) : Type 0 where
 pub record IsPort (word : List ℕ) (port : ℕ) : Type 0 where
   pub number : IsNumber word port
   pub some : 1 ≤ port
+  pub most : port < 2 ^ 16
 
 -- each text is the port at its place
 abbrev pub NamePorts : List (List ℕ) → List ℕ → Type 0

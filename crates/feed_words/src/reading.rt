@@ -1,5 +1,5 @@
 //! Arguments, one after another.
-ghost use Rattle.std.specs.Prelude.{◌≡◌, ◌∷◌, ◌++◌, [], ℕ, IfErr, IfOk, IfSome, IsOk, Ok, OnOk, position};
+ghost use Rattle.std.specs.Prelude.{◌≡◌, ◌<◌, ◌^◌, ◌∷◌, ◌++◌, ◌↔◌, [], ℕ, IfErr, IfOk, IfSome, IsErr, IsOk, List, Ok, OnOk, Some, position};
 ghost use Rattle.std.specs.Char.{is_ascii_digit};
 ghost use Rattle.std.specs.Iterator.{YieldsFirstRef, item_count};
 ghost use Rattle.std.specs.List.{list_all};
@@ -9,7 +9,7 @@ ghost use Rattle.feed_words.specs.Limits.{LIMIT_LEFT_OUT};
 ghost use Rattle.feed_words.specs.Listings.{COMMA};
 ghost use Rattle.feed_words.specs.Values.{ArePorts, IsLimitOrLeftOut, IsMatrixOrOne, IsNumber, IsPort, ListPorts, ListSomePorts};
 ghost use Rattle.feed_words.specs.Words.{IsFirst, words_left};
-ghost use Rattle.feed_words.specs.declared.fault.WordsFault.TheVariants.{BadArguments};
+ghost use Rattle.feed_words.specs.declared.fault.WordsFault.TheVariants.{BadArguments, OutOfMemory};
 
 use crate::WordsFault;
 use crate::names::SEPARATOR;
@@ -57,9 +57,17 @@ fn are_digits(word: &[u8]) -> bool
 }
 
 /// A number in decimal digits alone, with no sign. Leading zeros are accepted.
-#[tactic(auto, using(crate::proofs::DigitLemmas::number_read))]
+#[tactic(
+    auto,
+    using(
+        crate::proofs::DigitLemmas::number_read,
+        crate::proofs::DigitLemmas::digits_text,
+        crate::proofs::DigitLemmas::each_read
+    )
+)]
 fn decimal(word: &[u8]) -> Option<u64>
-    ensures { IfSome result (λ number. IsNumber word.now number) }
+    ensures number { IfSome result (λ number. IsNumber word.now number) }
+    ensures each { (number : ℕ) → IsNumber word.now number → number < 2 ^ 64 → result ≡ Some number }
 {
     if !are_digits(word) {
         return None;
@@ -70,6 +78,7 @@ fn decimal(word: &[u8]) -> Option<u64>
 /// A port in decimal digits, 1 to 65,535.
 fn port_of(word: &[u8]) -> Result<u16, WordsFault>
     ensures port { IfOk result (λ port. IsPort word.now port) }
+    ensures each { (port : ℕ) → IsPort word.now port → result ≡ Ok port }
     ensures bad { IfErr result (λ fault. fault ≡ BadArguments) }
 {
     let number = decimal(word).ok_or(WordsFault::BadArguments)?;
@@ -81,7 +90,8 @@ fn port_of(word: &[u8]) -> Result<u16, WordsFault>
 
 /// Takes one port more.
 fn push_port(ports: &mut Vec<u16>, word: &[u8]) -> Result<(), WordsFault>
-    ensures { OnOk result ((port : ℕ) × IsPort word.now port × (ports.new.items ≡ ports.old.items ++ port ∷ [])) }
+    ensures port { OnOk result ((port : ℕ) × IsPort word.now port × (ports.new.items ≡ ports.old.items ++ port ∷ [])) }
+    ensures memory { (port : ℕ) → IsPort word.now port → IfErr result (λ fault. fault ≡ OutOfMemory) }
 {
     let port = port_of(word)?;
     match ports.push(port) {
@@ -99,7 +109,7 @@ fn end_of_port(text: &[u8]) -> Option<usize>
 
 /// Judges a text as ports with single commas between them. It takes no memory.
 fn judge_ports(text: &[u8]) -> Result<(), WordsFault>
-    ensures ports { IsOk result → ListSomePorts text.now }
+    ensures ports { IsOk result ↔ ListSomePorts text.now }
     ensures bad { IfErr result (λ fault. fault ≡ BadArguments) }
 {
     let mut rest = text;
@@ -129,6 +139,7 @@ impl<'a> Words<'a> {
     /// The next argument.
     fn word(&mut self) -> Result<&'a [u8], WordsFault>
         ensures word { IfOk result (λ word. words_left self.old ≡ word.now ∷ words_left self.new) }
+        ensures none { IsErr result → words_left self.old ≡ [] }
         ensures bad { IfErr result (λ fault. fault ≡ BadArguments) }
     {
         self.next().ok_or(WordsFault::BadArguments)
@@ -137,6 +148,7 @@ impl<'a> Words<'a> {
     /// The next argument as a number up to 18,446,744,073,709,551,615.
     pub fn number(&mut self) -> Result<u64, WordsFault>
         ensures number { IfOk result (λ number. IsFirst IsNumber (words_left self.old) (words_left self.new) number) }
+        ensures each { (left : List (List ℕ)) (number : ℕ) → IsFirst IsNumber (words_left self.old) left number → number < 2 ^ 64 → result ≡ Ok number }
         ensures bad { IfErr result (λ fault. fault ≡ BadArguments) }
     {
         decimal(self.word()?).ok_or(WordsFault::BadArguments)
@@ -145,6 +157,7 @@ impl<'a> Words<'a> {
     /// The next argument as a number up to 65,535.
     pub fn short(&mut self) -> Result<u16, WordsFault>
         ensures number { IfOk result (λ number. IsFirst IsNumber (words_left self.old) (words_left self.new) number) }
+        ensures each { (left : List (List ℕ)) (number : ℕ) → IsFirst IsNumber (words_left self.old) left number → number < 2 ^ 16 → result ≡ Ok number }
         ensures bad { IfErr result (λ fault. fault ≡ BadArguments) }
     {
         u16::try_from(self.number()?).map_err(|_| WordsFault::BadArguments)
@@ -153,6 +166,7 @@ impl<'a> Words<'a> {
     /// The next argument as a port, 1 to 65,535.
     pub fn port(&mut self) -> Result<u16, WordsFault>
         ensures port { IfOk result (λ port. IsFirst IsPort (words_left self.old) (words_left self.new) port) }
+        ensures each { (left : List (List ℕ)) (port : ℕ) → IsFirst IsPort (words_left self.old) left port → result ≡ Ok port }
         ensures bad { IfErr result (λ fault. fault ≡ BadArguments) }
     {
         match self.short()? {
@@ -164,6 +178,7 @@ impl<'a> Words<'a> {
     /// The next argument as a text of ports with single commas between them, one at least, which `ports_of` makes of it. It takes no memory.
     pub fn port_list(&mut self) -> Result<&'a [u8], WordsFault>
         ensures ports { IfOk result (λ text. (words_left self.old ≡ text.now ∷ words_left self.new) × ListSomePorts text.now) }
+        ensures each { (text : List ℕ) (left : List (List ℕ)) → words_left self.old ≡ text ∷ left → ListSomePorts text → IsOk result }
         ensures bad { IfErr result (λ fault. fault ≡ BadArguments) }
     {
         let text = self.word()?;

@@ -2,10 +2,11 @@ use Rattle.std.proofs.Common.{◌≤◌, ℕ, List, length}
 use Rattle.feed_words.specs.Values.{ListPorts, ListSomePorts}
 use Rattle.feed_words.proofs.reading.judge_ports.Given as goal
 
--- if what is left lists ports, the text does
+-- what is left lists ports exactly if the text does
 abbrev pub invariant-loop-end : goal.invariant-loop-end
 invariant-loop-end l = record {
   short : length l.rest ≤ length l.fn.text;
+  judged : ListSomePorts l.fn.text → ListSomePorts l.rest;
   listed : (more : List ℕ) → ListPorts l.rest more → ListSomePorts l.fn.text;
 }
 

@@ -13,7 +13,7 @@ overflow_add-rest c =
 pub loop-end-preserved : goal.loop-end-preserved
 loop-end-preserved c =
     let rest = c.loop-end.rest.now in
-    let pushed = c.in_ok-push_port.ensures in
+    let pushed = c.in_ok-push_port.ensures.port in
     record {
       short = rw (rest-slice rest c.in-Some.end) (omega (arith, length-drop (c.in-Some.end + 1) rest));
       listed = λ more. rw (rest-slice rest c.in-Some.end, pushed.2, append_assoc) (λ listed.
@@ -23,5 +23,5 @@ loop-end-preserved c =
 -- the last port
 pub returns : goal.returns
 returns c =
-    let pushed = c.in_ok-push_port-2.ensures in
+    let pushed = c.in_ok-push_port-2.ensures.port in
     rw pushed.2 (c.loop-end.invariant.listed (pushed.0 ∷ []) (ports-last c.loop-end.rest.now pushed.0 c.in_default.ensures pushed.1))
