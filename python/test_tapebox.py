@@ -1,13 +1,15 @@
 """Cases of the Python package, after clib/build: python3 -B python/test_tapebox.py"""
 
 import copy
-import csv
 import ctypes
+import decimal
 import os
 import random
 import struct
 import sys
+import tempfile
 import unittest
+import unittest.mock
 from decimal import Decimal
 
 HERE = os.path.dirname(os.path.abspath(__file__))
@@ -15,6 +17,7 @@ sys.path.insert(0, HERE)
 import tapebox
 from tapebox import _library
 from tapebox import Mark, Message, Packet, Refused, Request, Subscriber, Summary, Tape, Totals
+from tapebox.tables import COLUMNS
 
 SAMPLES = os.path.join(HERE, "..", "samples")
 REPORT = bytes.fromhex("0026524e0000000100000000000000004142202020202020" "00000000000186a00000006440205a20")
@@ -48,17 +51,7 @@ def answered(packets: list) -> bytes:
 
 
 def morning() -> Tape:
-    with open(os.path.join(SAMPLES, "morning.csv"), newline="") as file:
-        rows = list(csv.DictReader(file))
-    tape = Tape(dict.fromkeys(row["symbol"] for row in rows), dict.fromkeys(row["participant"] for row in rows))
-    kinds = {"report": "R", "cancel": "X", "correct": "C", "reinstate": "S"}
-    for row in rows:
-        try:
-            tape.admit(Message(kinds[row["kind"]], row["participant"], int(row["number"]), row["symbol"], int(row["target"] or 0),
-                               row["price"] or None, int(row["size"] or 0), row["condition"]).encode())
-        except Refused:
-            pass
-    return tape
+    return Tape.from_csv(os.path.join(SAMPLES, "morning.csv"))
 
 
 class Cases(unittest.TestCase):
@@ -88,6 +81,46 @@ class Cases(unittest.TestCase):
             tape.close()
             self.refused(31, tape.report, "N", 9, "AB", "10.20", 500, "@___")
             self.assertEqual(tape.entry(5).after, whole)
+
+    def test_tables(self) -> None:
+        head = "participant,number,symbol,target,price,size,condition,#desk\n"
+        rows = "N,1,AB,,10.00,100,@___,x\n"
+        with tempfile.TemporaryDirectory() as name:
+            path = os.path.join(name, "table.csv")
+            for text, row, column in (
+                ("", 2, None), (head, 2, None), (head.replace("size", "shares"), 1, "shares"), (head.replace("size", "price"), 1, "price"),
+                (head.replace("size,", ""), 1, "size"), (head + rows.replace("10.00", "10.00001"), 2, "price"), (head + rows.replace("N", "n"), 2, "participant"),
+                (head + rows + rows.replace(",,", ",1,"), 3, "target"), (head + rows.replace(",100", ""), 2, None),
+                (head + rows.replace("@___", "@  _"), 2, "condition"), (head + rows.replace("1,AB", "+1,AB"), 2, "number"),
+                (head + rows.replace("10.00", ""), 2, "price"), (head + rows.replace("AB", "ab"), 2, "symbol"),
+            ):
+                with open(path, "w", encoding="utf-8") as file:
+                    file.write(text)
+                with self.subTest(text), self.assertRaises(tapebox.BadTable) as told:
+                    Tape.from_csv(path)
+                self.assertEqual((told.exception.row, told.exception.column), (row, column))
+            with open(path, "w", encoding="utf-8") as file:
+                file.write("\ufeff" + head + "\n" + rows + rows)
+            with Tape.from_csv(path) as tape:
+                self.assertEqual((len(tape), [(row.row, row.refusal.code) for row in tape.refused]), (1, [(3, 35)]))
+
+    def test_frames(self) -> None:
+        frame = unittest.mock.Mock()
+        with unittest.mock.patch.dict(sys.modules, {"pandas": frame}):
+            made = morning().to_frame()
+        self.assertIs(made, frame.DataFrame.from_records.return_value)
+        [rows], named = frame.DataFrame.from_records.call_args
+        self.assertEqual(named, {"columns": list(COLUMNS)})
+        self.assertEqual(rows[6][:7] + rows[6][10:], (7, "cancel", "N", 4, 0, "AB", 2, *map(Decimal, ("10.00", "10.10", "10.00", "10.10")), 300, 2))
+        with unittest.mock.patch.dict(sys.modules, {"pandas": None}):
+            self.assertRaises(ImportError, morning().to_frame)
+
+    def test_prices_are_exact(self) -> None:
+        with decimal.localcontext(decimal.Context(prec=3)):
+            message = Message("R", "N", 1, "AB", 0, Decimal("12345678.9012"), 100, "@___")
+            self.assertEqual(Message.decode(message.encode()), message)
+            for price in ("NaN", "Infinity", "1.00001", "-1"):
+                self.refused(19, Message("R", "N", 1, "AB", 0, Decimal(price), 100, "@___").encode)
 
     def test_vectors(self) -> None:
         report = Message("R", "N", 1, "AB", 0, Decimal(10), 100, "@_Z_")

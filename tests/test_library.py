@@ -129,9 +129,9 @@ class Linked(Case):
         Linked.library = cls.folder / "libtapebox.so"
 
     @staticmethod
-    def link(folder, *flags, compiler=COMPILER):
+    def link(folder, compiler=COMPILER):
         """Links the shared library and the examples, with no warning."""
-        done = run(["link", folder], program=CLIB / "build", env=os.environ | {"CC": compiler, "CFLAGS": shlex.join(["-Werror", *flags])})
+        done = run(["link", folder], program=CLIB / "build", env=os.environ | {"CC": compiler, "CFLAGS": "-Werror"})
         if done.status:
             raise AssertionError(done.said.decode())
 
@@ -195,7 +195,13 @@ class Examples(Linked):
                 folder = Path(name)
                 if not compiled(folder, "int main(void) { return 0; }\n", flag, compiler=compiler):
                     self.skipTest(f"{compiler} has no sanitizers")
-                self.link(folder, flag, compiler=compiler)
+                # The shared library is not linked so: clang leaves the sanitizer's own calls undefined in one.
+                (folder / "examples").mkdir()
+                program, *words = shlex.split(compiler)
+                for example in ("report", "feed"):
+                    more = ["-std=c11", "-O2", "-Wall", "-Wextra", "-Werror", flag, "-o", folder / "examples" / example]
+                    done = run([*words, *more, CLIB / "examples" / f"{example}.c", ARCHIVE, kit_library()], program=program)
+                    self.assertEqual((done.status, done.said), (0, b""))
                 self.assert_reports(folder, "report", "feed")
                 self.assert_leak_is_seen(folder, flag, compiler)
 
@@ -281,6 +287,31 @@ class Package(Linked):
         ended = run(["-B", PYTHON / "test_tapebox.py"], **options)
         self.assertEqual(ended.status, 0, ended.said.decode())
         self.assertRegex(ended.said, rb"Ran \d\d tests in .*\n\nOK\n")
+
+
+    def test_the_wheel(self):
+        """python/README.md: the wheel holds the library, which needs the C library alone, and its files are those of its record; where it is
+        installed, and nothing else of the repository is, what the page shows is written."""
+        with tempfile.TemporaryDirectory() as name:
+            environment = os.environ | {"TAPEBOX_LIBRARY": str(self.library), "PYTHONPATH": ""}
+            words = ["-m", "pip", "install", "--no-index", "--no-deps", "--no-compile", "--quiet", "--disable-pip-version-check", "--target", name, PYTHON]
+            if run(["-m", "pip", "--version"], program=sys.executable).status:
+                self.skipTest("there is no pip")
+            ended = run(words, program=sys.executable, env=environment)
+            self.assertEqual(ended.status, 0, ended.said.decode())
+            self.assertTrue(Path(name, "tapebox", "py.typed").exists())
+            self.assertEqual(Path(name, "tapebox", "libtapebox.so").read_bytes(), self.library.read_bytes())
+            [tags] = Path(name).glob("*.dist-info/WHEEL")
+            self.assertRegex(tags.read_text(encoding="utf-8"), r"(?m)^Tag: py3-none-manylinux_2_\d+_\w+$")
+            page = (PYTHON / "README.md").read_text(encoding="utf-8")
+            shown = re.findall(r"```python\n(.*?)```\n\n((?:    [^\n]*\n)+)", page, re.DOTALL)
+            self.assertEqual(len(shown), 2)
+            for code, written in shown:
+                # The page's second day has the first one's import.
+                code = code if code.startswith("import") else f"import tapebox\n{code}"
+                options = {"program": sys.executable, "cwd": ROOT, "env": environment | {"PYTHONPATH": name, "TAPEBOX_LIBRARY": ""}}
+                with self.subTest(code):
+                    self.assert_writes(run(["-B", "-c", code], **options), re.sub("(?m)^    ", "", written).encode())
 
 
 class Builds(Case):

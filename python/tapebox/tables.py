@@ -89,7 +89,10 @@ def checked_names(names: list[str]) -> list[str]:
 
 def messages_of(records: Iterator[list[str]]) -> Iterator[tuple[Message, bytes]]:
     """The messages of a table's records, each with its bytes."""
-    names = checked_names(next(records, []))
+    head = next(records, None)
+    if head is None:
+        return
+    names = checked_names(head)
     for row, record in enumerate(records, FIRST_ROW):
         if len(record) != len(names):
             raise BadTable(row, None, f"{len(record)} fields, and the header row has {len(names)}")
