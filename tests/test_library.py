@@ -289,6 +289,15 @@ class Package(Linked):
         self.assertRegex(ended.said, rb"Ran \d\d tests in .*\n\nOK\n")
 
 
+    def test_a_frame(self):
+        """python/README.md: `to_frame` has the entries as a frame of pandas."""
+        pythons = [name for name in (sys.executable, "/usr/bin/python3") if not run(["-c", "import pandas, typing; typing.Self"], program=name).status]
+        if not pythons:
+            self.skipTest("there is no pandas")
+        code = "import tapebox; print(tapebox.Tape.from_csv('samples/morning.csv').to_frame().groupby('kind')['tape'].count().to_dict())"
+        options = {"program": pythons[0], "cwd": ROOT, "env": os.environ | {"TAPEBOX_LIBRARY": str(self.library), "PYTHONPATH": str(PYTHON)}}
+        self.assert_writes(run(["-B", "-c", code], **options), b"{'cancel': 8, 'correct': 5, 'reinstate': 2, 'report': 21}\n")
+
     def test_the_wheel(self):
         """python/README.md: the wheel holds the library, which needs the C library alone, and its files are those of its record; where it is
         installed, and nothing else of the repository is, what the page shows is written."""
