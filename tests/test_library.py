@@ -288,7 +288,6 @@ class Package(Linked):
         self.assertEqual(ended.status, 0, ended.said.decode())
         self.assertRegex(ended.said, rb"Ran \d\d tests in .*\n\nOK\n")
 
-
     def test_a_frame(self):
         """python/README.md: `to_frame` has the entries as a frame of pandas."""
         pythons = [name for name in (sys.executable, "/usr/bin/python3") if not run(["-c", "import pandas, typing; typing.Self"], program=name).status]
