@@ -25,6 +25,8 @@ POSITIONS = ["@CNR", "_FO56479", "_LZTU", "_ABDSXY1HIVWPGMQ23"]
 FIRST_ROW = 2
 SHOWN = 40
 MARK = b"\xef\xbb\xbf"
+# Separators that other tables have, in words.
+SEPARATORS = {";": "a semicolon", "\t": "a tab", "|": "a vertical bar"}
 
 csv.field_size_limit(1 << 30)
 
@@ -38,9 +40,16 @@ def shown(text):
     return "".join(sign if " " <= sign <= "~" and sign not in '"\\' else f"\\x{ord(sign):02x}" for sign in text[:SHOWN])
 
 
+def wrong_code(text):
+    """Which of a condition's four codes is wrong, and its position."""
+    wrong = [(code, at) for at, (code, known) in enumerate(zip(text, POSITIONS), 1) if code not in known] if len(text) == len(POSITIONS) else []
+    return "".join(f': "{shown(code)}" is no code of position {at}' for code, at in wrong[:1])
+
+
 def bad(row, column):
     """The fault of a field that is none of its column's values."""
-    return TableFault(f'{column} "{shown(row[column])}" is not {RULES[column]}')
+    detail = wrong_code(row[column]) if column == "condition" else ""
+    return TableFault(f'{column} "{shown(row[column])}" is not {RULES[column]}{detail}')
 
 
 def checked(row, column, pattern):
@@ -100,13 +109,19 @@ def message(row):
     return len(body).to_bytes(2, "big") + body
 
 
+def separator_in(name):
+    """The separator that stands in a name in place of commas."""
+    found = [SEPARATORS[sign] for sign in name[:SHOWN] if sign in SEPARATORS]
+    return "".join(f"; names have commas between them, and here stands {words}" for words in found[:1])
+
+
 def check_names(names):
     """Ends at the first fault of a header row."""
     for at, name in enumerate(names):
         if name.startswith("#"):
             continue
         if name not in COLUMNS:
-            raise TableFault(f'header row: column "{shown(name)}" is unknown')
+            raise TableFault(f'header row: column "{shown(name)}" is unknown{separator_in(name)}')
         if name in names[:at]:
             raise TableFault(f"header row: column {name} stands twice")
     for name in COLUMNS:
@@ -121,9 +136,30 @@ def message_of(names, fields):
     return message(dict(zip(names, fields)))
 
 
+def records_of(text):
+    """The records of a table's text, which is given as bytes. A blank line is none."""
+    return [fields for fields in csv.reader(io.StringIO(text.removeprefix(MARK).decode("latin-1"), newline="")) if fields]
+
+
+def faults(text):
+    """Every fault of a table's text."""
+    records = records_of(text)
+    try:
+        check_names(records[0] if records else COLUMNS)
+    except TableFault as fault:
+        return [str(fault)]
+    found = [] if records[1:] else ["the table has no row"]
+    for number, fields in enumerate(records[1:], FIRST_ROW):
+        try:
+            message_of(records[0], fields)
+        except TableFault as fault:
+            found.append(f"row {number}: {fault}")
+    return found
+
+
 def read(text):
     """The bytes of each message of a table, whose text is given as bytes."""
-    records = [fields for fields in csv.reader(io.StringIO(text.removeprefix(MARK).decode("latin-1"), newline="")) if fields]
+    records = records_of(text)
     if records:
         check_names(records[0])
     if len(records) < FIRST_ROW:

@@ -1,3 +1,4 @@
+pub mod CheckLemmas
 pub mod ColumnLemmas
 pub mod CutLemmas
 pub mod NumeralLemmas

@@ -1,5 +1,5 @@
 -- What a fault of a table is printed as.
-use Rattle.std.specs.Prelude.{ℕ, List, ◌++◌, codes, decimal}
+use Rattle.std.specs.Prelude.{ℕ, List, [], ◌++◌, codes, decimal}
 use Rattle.day_tables.specs.ColumnNames.{column_name, column_rule}
 use Rattle.day_tables.specs.declared.column_fault.ColumnFault.{ColumnFault}
 use Rattle.day_tables.specs.declared.column_fault.ColumnFault.TheVariants.{Unknown, Repeated, Missing}
@@ -9,18 +9,32 @@ use Rattle.day_tables.specs.declared.table_fault.TableFault.{TableFault}
 use Rattle.day_tables.specs.declared.table_fault.TableFault.TheVariants.{Header, NoRow, Row, ReadFault, OutOfMemory}
 use Rattle.day_tables.specs.declared.table_write_fault.TableWriteFault.{TableWriteFault}
 use Rattle.day_tables.specs.declared.table_write_fault.TableWriteFault.TheVariants as write
-use Rattle.day_tables.specs.FaultTexts.{shown}
+use Rattle.day_tables.specs.FaultTexts.{bad_code_text, separator_text, shown}
+use Rattle.day_tables.specs.declared.column.Column.{Column}
+use Rattle.day_tables.specs.declared.column.Column.TheVariants as column
 
 -- what a fault of a header row is printed as
 abbrev pub column_fault_text : ColumnFault → List ℕ
-column_fault_text (Unknown name) = codes "column \"" ++ (shown name ++ codes "\" is unknown")
+column_fault_text (Unknown name) = codes "column \"" ++ (shown name ++ (codes "\" is unknown" ++ separator_text name))
 column_fault_text (Repeated column) = codes "column " ++ (column_name column ++ codes " stands twice")
 column_fault_text (Missing column) = codes "column " ++ (column_name column ++ codes " is missing")
+
+-- of a condition the code that is wrong, and its position; of another column nothing more
+abbrev pub detail_text : Column → List ℕ → List ℕ
+detail_text column.Condition text = bad_code_text text
+detail_text column.Kind text = []
+detail_text column.Participant text = []
+detail_text column.Number text = []
+detail_text column.Moment text = []
+detail_text column.Symbol text = []
+detail_text column.Target text = []
+detail_text column.Price text = []
+detail_text column.Size text = []
 
 -- what a fault of a row is printed as
 abbrev pub row_fault_text : RowFault → List ℕ
 row_fault_text (Fields found wanted) = decimal found ++ (codes " fields, and the header row has " ++ decimal wanted)
-row_fault_text (Bad column text) = column_name column ++ (codes " \"" ++ (shown text ++ (codes "\" is not " ++ column_rule column)))
+row_fault_text (Bad column text) = column_name column ++ (codes " \"" ++ (shown text ++ (codes "\" is not " ++ (column_rule column ++ detail_text column text))))
 row_fault_text (Unused column text) = column_name column ++ (codes " \"" ++ (shown text ++ codes "\" has to be empty in a row of this kind"))
 
 -- what a fault of a table is printed as

@@ -1,10 +1,12 @@
 pub mod ColumnNames
+pub mod Checks
 pub mod Columns
 pub mod CutTexts
 pub mod FaultLines
 pub mod FaultTexts
 pub mod Kinds
 pub mod Laws
+pub mod Lemmas
 pub mod LineWriting
 pub mod Numbers
 pub mod RowTexts

@@ -2,6 +2,7 @@
 ghost use Rattle.std.specs.Prelude.{Some};
 ghost use Rattle.day_tables.specs.FaultLines.{column_fault_text};
 
+use crate::separator::FoundSeparator;
 use crate::{Column, FaultText};
 use std::fmt;
 use thiserror::Error;
@@ -22,7 +23,10 @@ impl fmt::Display for ColumnFault {
 
     fn fmt<W: fmt::Write>(&self, f: &mut fmt::Formatter<W>) -> fmt::Result {
         match self {
-            ColumnFault::Unknown(name) => write!(f, "column \"{name}\" is unknown"),
+            ColumnFault::Unknown(name) => {
+                let found = FoundSeparator(*name);
+                write!(f, "column \"{name}\" is unknown{found}")
+            }
             ColumnFault::Repeated(column) => write!(f, "column {column} stands twice"),
             ColumnFault::Missing(column) => write!(f, "column {column} is missing"),
         }

@@ -5,7 +5,7 @@ ghost use Rattle.day_tables.specs.Texts.{code_of, condition_of};
 use sale_matrix::Condition;
 
 /// A code as a condition has it, with a space for the blank that a table writes as `_`.
-fn code_of(byte: u8) -> u8
+pub fn code_of(byte: u8) -> u8
     ensures { result ≡ code_of byte }
 {
     if byte == b'_' { b' ' } else { byte }

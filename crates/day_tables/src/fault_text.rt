@@ -76,7 +76,7 @@ fn hex_digit(digit: u8) -> u8
 
 /// A byte as it is printed.
 #[derive(Clone, Copy)]
-struct ShownByte(u8);
+pub struct ShownByte(pub u8);
 
 impl fmt::Display for ShownByte {
     ghost output = { λ b. Some (shown_byte b.0) };

@@ -1,17 +1,21 @@
 //! Tables of trade messages: a row read as a message, a message written as its row, and a whole table read.
 #![tactic(auto)]
 
+mod check_laws;
 mod column;
 mod column_fault;
 mod columns;
 mod condition;
 mod fault_text;
 mod kind;
+mod line_reader;
 mod named;
 mod number;
 mod price;
 mod reading;
 mod row_fault;
+mod row_reader;
+mod separator;
 mod spelling;
 mod table;
 mod table_fault;
@@ -20,7 +24,9 @@ mod table_rows;
 mod table_text;
 mod table_write_fault;
 mod writing;
+mod wrong_code;
 
+pub use check_laws::{first_fault, no_fault};
 pub use column::Column;
 pub use column_fault::ColumnFault;
 pub use columns::Columns;
@@ -28,6 +34,7 @@ pub use fault_text::{FAULT_TEXT_MOST, FaultText};
 pub use kind::Kind;
 pub use reading::read_row;
 pub use row_fault::RowFault;
+pub use row_reader::RowReader;
 pub use spelling::{
     condition_is_spelled, kind_is_spelled, moment_is_spelled, number_is_spelled,
     participant_is_spelled, price_is_spelled, symbol_is_spelled,

@@ -2,6 +2,7 @@
 ghost use Rattle.std.specs.Prelude.{Some};
 ghost use Rattle.day_tables.specs.FaultLines.{row_fault_text};
 
+use crate::wrong_code::Detail;
 use crate::{Column, FaultText};
 use std::fmt;
 use thiserror::Error;
@@ -32,7 +33,8 @@ impl fmt::Display for RowFault {
             }
             RowFault::Bad(column, text) => {
                 let rule = column.rule();
-                write!(f, "{column} \"{text}\" is not {rule}")
+                let detail = Detail(*column, *text);
+                write!(f, "{column} \"{text}\" is not {rule}{detail}")
             }
             RowFault::Unused(column, text) => {
                 write!(

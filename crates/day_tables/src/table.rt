@@ -50,7 +50,7 @@ pub(crate) fn next_record<R: Read>(
 
 /// The message of a record.
 #[tactic(auto, unfolding(crate::specs::Tables::fields_message))]
-fn fields_message(columns: &Columns, fields: &ByteRecord) -> Result<Message, RowFault>
+pub fn fields_message(columns: &Columns, fields: &ByteRecord) -> Result<Message, RowFault>
     ensures { result ≡ fields_message columns.now (fields_of fields.now) }
 {
     if fields.len() != columns.width() {
