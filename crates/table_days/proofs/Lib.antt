@@ -1,4 +1,7 @@
 pub mod AccountLemmas
+pub mod CheckLemmas
+pub mod CheckTextLemmas
+pub mod CountLemmas
 pub mod DayLemmas
 pub mod DayReadingLemmas
 pub mod EndDayLemmas
@@ -8,5 +11,7 @@ pub mod ExplainLemmas
 pub mod FigureLemmas
 pub mod ListingLemmas
 pub mod RefusalLemmas
+pub mod SeenLemmas
 pub mod SumLemmas
 pub mod TapeLemmas
+pub mod ToldLemmas

@@ -71,11 +71,11 @@ count_by-none p i (y ∷ xs) none = elim (cases_Bool (p y)) [
 ]
 
 -- an element more is counted where it passes
-count_by-passes : {X : Type 0} (p : X → Bool) (xs : List X) (x : X) → p x ≡ true → count_by p (xs ++ x ∷ []) ≡ count_by p xs + 1
+pub count_by-passes : {X : Type 0} (p : X → Bool) (xs : List X) (x : X) → p x ≡ true → count_by p (xs ++ x ∷ []) ≡ count_by p xs + 1
 count_by-passes p xs x passes = sum_by_push (λ x. cond (p x) 1 0) xs x ∙ rw passes refl
 
 -- and not where it fails
-count_by-fails : {X : Type 0} (p : X → Bool) (xs : List X) (x : X) → p x ≡ false → count_by p (xs ++ x ∷ []) ≡ count_by p xs
+pub count_by-fails : {X : Type 0} (p : X → Bool) (xs : List X) (x : X) → p x ≡ false → count_by p (xs ++ x ∷ []) ≡ count_by p xs
 count_by-fails p xs x fails = sum_by_push (λ x. cond (p x) 1 0) xs x ∙ rw fails (omega arith)
 
 -- ## Rows

@@ -1,5 +1,6 @@
 pub mod Accounts
 pub mod Answers
+pub mod Checks
 pub mod Days
 pub mod EndDays
 pub mod EndTexts

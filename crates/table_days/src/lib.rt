@@ -3,6 +3,7 @@
 
 mod account;
 mod answering;
+mod check;
 mod day;
 mod day_names;
 mod day_reading;
@@ -10,15 +11,21 @@ mod end_day;
 mod entry_rows;
 mod explain;
 mod explained;
+mod fault_counts;
+mod fault_kind;
 mod lines;
 mod naming;
 mod refusals;
 mod report;
+mod seen_names;
+mod table_check;
 mod table_end;
 mod tape;
 mod tape_row;
+mod told_fault;
 
 pub use answering::{Answer, TableTape};
+pub use check::check_over;
 pub use entry_rows::{EntryRows, rows_of_entries, write_head};
 pub use explain::{explain_over, rows_add_up, rows_of_figures, rows_of_reports};
 pub use lines::{into_text, lines_in, put_line};

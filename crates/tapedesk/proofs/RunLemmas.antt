@@ -1,12 +1,13 @@
 -- What a run came to.
-use Rattle.std.proofs.Common.{◌≡◌, ◌≢◌, ◌⊎◌, ℕ, List, Option, Result, Some, None, Ok, Err, IfSome, IfOk, IfErr, OnErr, inl, inr}
+use Rattle.std.proofs.Common.{◌≡◌, ◌≢◌, ◌⊎◌, ℕ, Bool, List, Option, Result, Some, None, Ok, Err, IfSome, IfOk, IfErr, OnErr, inl, inr}
 use Rattle.sale_matrix.specs.declared.matrix.Matrix.{Matrix}
 use Rattle.reports.specs.declared.message.Message.{Message}
+use Rattle.table_days.specs.Checks.{IsCheckEnd, WritesCheck}
 use Rattle.table_days.specs.TableEnds.{IsTableEnd, WritesTable}
 use Rattle.table_days.specs.declared.refusals.Refusals.{Refusals}
 use Rattle.table_days.specs.declared.table_end.TableEnd.{TableEnd}
 use Rattle.table_days.specs.declared.table_end.TableEnd.TheVariants.{OutOfMemory, WriteFault}
-use Rattle.tapedesk.specs.Program.{Comes}
+use Rattle.tapedesk.specs.Program.{Comes, ComesToCheck}
 
 -- what a run came to, by what it wrote and how it ended
 pub comes_of : (text : Matrix → List Message → List ℕ) (matrix : Matrix) (input old new : Option (List ℕ)) (run : Result Refusals TableEnd)
@@ -49,3 +50,16 @@ pub part_decoded : {X End : Type 0} (fault full : End) (run : Result X End) (inp
     → (run ≡ Err fault) ⊎ (run ≡ Err full) → IfSome input (λ bytes. K ⊎ Q bytes)
 part_decoded fault full run input K Q at_fault at_full (inl e) = part_known input K Q (at_fault e)
 part_decoded fault full run input K Q at_fault at_full (inr e) = at_full e
+
+-- what a check came to, by what it wrote and how it ended
+pub check_comes : (input old new : Option (List ℕ)) (run : Result Bool TableEnd)
+    → IfSome input (λ bytes. IfOk run (λ faultless. WritesCheck bytes faultless old new)) → IfErr run IsCheckEnd
+    → IfSome input (λ bytes. ComesToCheck bytes run old new)
+check_comes None old new run written ends = tt
+check_comes (Some bytes) old new (Ok faultless) written ends = written
+check_comes (Some bytes) old new (Err end) written ends = ends
+
+-- an end that is no failed write
+pub silent_check : (run : Result Bool TableEnd) (P : Type 0) → (run ≢ Err WriteFault → OnErr run P)
+    → (end : TableEnd) → run ≡ Err end → end ≢ WriteFault → P
+silent_check run P silent end is written = at_error run end P is (silent (λ e. written (cc (is, e))))

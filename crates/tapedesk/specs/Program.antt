@@ -1,11 +1,12 @@
 -- What the program does for its arguments.
-use Rattle.std.specs.Prelude.{◌≡◌, ◌≢◌, ◌⊎◌, ℕ, List, [], Option, Some, None, IfSome, Result, Ok, Err, codes}
+use Rattle.std.specs.Prelude.{◌≡◌, ◌≢◌, ◌⊎◌, ℕ, Bool, true, false, List, [], Option, Some, None, IfSome, Result, Ok, Err, IsOk, codes}
 use Rattle.std.specs.Io.KnownBytes.{Appends}
 use Rattle.day_tables.specs.TableTexts.{table_text}
 use Rattle.day_tables.specs.Tables.{IsTable}
 use Rattle.sale_matrix.specs.declared.matrix.Matrix.{Matrix}
 use Rattle.reports.specs.declared.message.Message.{Message}
 use Rattle.row_reads.specs.Writing.{WritesPrefix}
+use Rattle.table_days.specs.Checks.{IsCheckEnd, WritesCheck, WritesCheckPart}
 use Rattle.table_days.specs.Days.{day_text}
 use Rattle.table_days.specs.EndTexts.{end_status}
 use Rattle.table_days.specs.Explained.{explain_text}
@@ -22,7 +23,7 @@ use Rattle.tapedesk.specs.HelpTexts.{help_text, word_help_text}
 use Rattle.tapedesk.specs.RefusalLines.{refusal_lines}
 use Rattle.tapedesk.specs.TextRuns.{RunsText, end_line, table_ends, text_ends}
 use Rattle.tapedesk.specs.declared.command.Command.{Command}
-use Rattle.tapedesk.specs.declared.command.Command.TheVariants.{Report, Tape, Explain, Encode, Decode, Line, Help, HelpOn}
+use Rattle.tapedesk.specs.declared.command.Command.TheVariants.{Report, Tape, Explain, Check, Encode, Decode, Line, Help, HelpOn}
 
 -- ## What is said
 
@@ -39,6 +40,21 @@ run_status (Err end) = end_status end
 abbrev pub run_text : Result Refusals TableEnd → List ℕ
 run_text (Ok refusals) = refusal_lines refusals
 run_text (Err end) = end_line end
+
+-- the status of a table that was checked: 0 where it has no fault
+abbrev pub checked_status : Bool → ℕ
+checked_status true = 0
+checked_status false = 2
+
+-- the status of a check
+abbrev pub check_status : Result Bool TableEnd → ℕ
+check_status (Ok faultless) = checked_status faultless
+check_status (Err end) = end_status end
+
+-- what is said of a check: nothing, or why its faults are not all told
+abbrev pub check_line : Result Bool TableEnd → List ℕ
+check_line (Ok faultless) = []
+check_line (Err end) = end_line end
 
 -- ## Runs
 
@@ -59,6 +75,22 @@ pub record RunsTable {W E : Type 0} (text : Matrix → List Message → List ℕ
   pub quiet : run_text run ≡ [] → errors_new ≡ errors_old
   pub said : WritesPrefix (run_text run) said_old said_new
 
+-- what a check did for a table: what is told of it was written, or it ended for a reason
+abbrev pub ComesToCheck : List ℕ → Result Bool TableEnd → Option (List ℕ) → Option (List ℕ) → Type 0
+ComesToCheck input (Ok faultless) old new = WritesCheck input faultless old new
+ComesToCheck input (Err end) old new = IsCheckEnd end
+
+-- the faults of a table were asked for: the status and what is said are those of what the check came to, and nothing else was written
+pub record RunsCheck {W E : Type 0} (input old new : Option (List ℕ)) (status : ℕ)
+    (writer_old writer_new : W) (errors_old errors_new : E) (said_old said_new : Option (List ℕ)) : Type 0 where
+  pub run : Result Bool TableEnd
+  pub status_is : status ≡ check_status run
+  pub comes : IfSome input (λ bytes. ComesToCheck bytes run old new)
+  pub part : run ≡ Err WriteFault → IfSome input (λ bytes. WritesCheckPart bytes old new)
+  pub silent : (end : TableEnd) → run ≡ Err end → end ≢ WriteFault → writer_new ≡ writer_old
+  pub quiet : IsOk run → errors_new ≡ errors_old
+  pub said : WritesPrefix (check_line run) said_old said_new
+
 -- a help text was written, or a write failed
 abbrev pub Helps : {E : Type 0} → List ℕ → ℕ → Option (List ℕ) → Option (List ℕ) → E → E → Option (List ℕ) → Option (List ℕ) → Type 0
 Helps text status old new errors_old errors_new said_old said_new =
@@ -78,6 +110,8 @@ AnswersCommand (Some (Tape matrix)) status input reader_old reader_new writer_ol
     RunsTable tape_text matrix input old new status writer_old writer_new errors_old errors_new said_old said_new
 AnswersCommand (Some (Explain matrix)) status input reader_old reader_new writer_old writer_new old new errors_old errors_new said_old said_new =
     RunsTable explain_text matrix input old new status writer_old writer_new errors_old errors_new said_old said_new
+AnswersCommand (Some Check) status input reader_old reader_new writer_old writer_new old new errors_old errors_new said_old said_new =
+    RunsCheck input old new status writer_old writer_new errors_old errors_new said_old said_new
 AnswersCommand (Some Encode) status input reader_old reader_new writer_old writer_new old new errors_old errors_new said_old said_new =
     RunsText table_ends IsTable encoded_text IsTableEnd input old new status writer_old writer_new errors_old errors_new said_old said_new
 AnswersCommand (Some Decode) status input reader_old reader_new writer_old writer_new old new errors_old errors_new said_old said_new =

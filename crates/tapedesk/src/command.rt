@@ -15,6 +15,8 @@ pub enum Word {
     Tape,
     /// What became of the reports of a table, and what each sets.
     Explain,
+    /// Every fault of a table.
+    Check,
     /// The text of a batch of a table.
     Encode,
     /// The table of a batch's text.
@@ -34,6 +36,8 @@ pub enum Command {
     Tape(Matrix),
     /// What became of the reports of a table and what each sets, by a matrix.
     Explain(Matrix),
+    /// Every fault of a table.
+    Check,
     /// The text of a batch of a table.
     Encode,
     /// The table of a batch's text.
@@ -50,10 +54,11 @@ pub enum Command {
 pub const BAD_ARGUMENTS: u8 = 2;
 
 /// Every word, in the order in which help lists them.
-const ALL_WORDS: [Word; 7] = [
+const ALL_WORDS: [Word; 8] = [
     Word::Report,
     Word::Tape,
     Word::Explain,
+    Word::Check,
     Word::Encode,
     Word::Decode,
     Word::Line,
@@ -78,6 +83,7 @@ impl Word {
             Word::Report => b"report\0",
             Word::Tape => b"tape\0",
             Word::Explain => b"explain\0",
+            Word::Check => b"check\0",
             Word::Encode => b"encode\0",
             Word::Decode => b"decode\0",
             Word::Line => b"line\0",
@@ -158,9 +164,10 @@ fn asked(word: Word, words: &[u8]) -> Option<Command>
         Word::Report => Some(Command::Report(matrix_of(words)?)),
         Word::Tape => Some(Command::Tape(matrix_of(words)?)),
         Word::Explain => Some(Command::Explain(matrix_of(words)?)),
+        Word::Check if words.is_empty() => Some(Command::Check),
         Word::Encode if words.is_empty() => Some(Command::Encode),
         Word::Decode if words.is_empty() => Some(Command::Decode),
-        Word::Encode | Word::Decode | Word::Follow => None,
+        Word::Check | Word::Encode | Word::Decode | Word::Follow => None,
         Word::Line => Some(Command::Line(participant_of(words)?)),
     }
 }

@@ -15,6 +15,8 @@ tapedesk tape [1|2] < TABLE.csv\n\
 Writes each row with its tape number or its refusal, and its symbol's figures after it, by Matrix One or 2.\n\
 tapedesk explain [1|2] < TABLE.csv\n\
 Writes what became of each report that the tape admits and which figures it sets, by Matrix One or 2.\n\
+tapedesk check < TABLE.csv\n\
+Writes every fault of the table: the first hundred each on a line, then how many more there are of each kind.\n\
 tapedesk encode < TABLE.csv\n\
 Writes the messages as the text of a batch: the symbols, the participants, and each message's letter and bytes.\n\
 tapedesk decode < DAY.txt\n\
@@ -38,6 +40,9 @@ pub fn word_help_text(word: Word) -> &'static [u8]
         }
         Word::Explain => {
             b"tapedesk explain [1|2] < TABLE.csv\nWrites what became of each report that the tape admits and which figures it sets, by Matrix One or 2.\n"
+        }
+        Word::Check => {
+            b"tapedesk check < TABLE.csv\nWrites every fault of the table: the first hundred each on a line, then how many more there are of each kind.\n"
         }
         Word::Encode => {
             b"tapedesk encode < TABLE.csv\nWrites the messages as the text of a batch: the symbols, the participants, and each message's letter and bytes.\n"

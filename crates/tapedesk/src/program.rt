@@ -12,17 +12,17 @@ ghost use Rattle.table_texts.specs.EncodedTexts.{encoded_text};
 ghost use Rattle.table_texts.specs.Ends.{IsReadingEnd};
 ghost use Rattle.table_texts.specs.OwnBytes.{line_bytes};
 ghost use Rattle.tapedesk.specs.Commands.{command_of};
-ghost use Rattle.tapedesk.specs.Program.{AnswersCommand, Helps, OnlySays, RunsTable};
+ghost use Rattle.tapedesk.specs.Program.{AnswersCommand, Helps, OnlySays, RunsCheck, RunsTable};
 ghost use Rattle.tapedesk.specs.TextRuns.{RunsText, end_line, table_ends, text_ends};
 
 use crate::command::{BAD_ARGUMENTS, Command, read_command};
 use crate::help::{help_text, word_help_text};
-use crate::saying::{end_decoded, end_run, end_text, say, say_end};
+use crate::saying::{end_check, end_decoded, end_run, end_text, say, say_end};
 use row_reads::write_text;
 use sale_matrix::Matrix;
 use std::alloc::{AllocError, Global};
 use std::io::{Read, Write};
-use table_days::{TableEnd, explain_over, report_over, tape_over};
+use table_days::{TableEnd, check_over, explain_over, report_over, tape_over};
 use table_texts::{decode_over, encode_over, line_over};
 use tape_types::Participant;
 
@@ -69,6 +69,20 @@ fn run_explain<R: Read, W: Write, E: Write>(
 {
     let run = explain_over(alloc, matrix, reader, writer);
     end_run(alloc, errors, run)
+}
+
+/// Writes every fault of a table, says why they are not all told, and gives the status.
+fn run_check<R: Read, W: Write, E: Write>(
+    alloc: Global,
+    reader: &mut R,
+    writer: &mut W,
+    errors: &mut E,
+) -> u8
+    ensures { RunsCheck (R.remaining reader.old) (W.contents writer.old) (W.contents writer.new) result
+        writer.old writer.new errors.old errors.new (E.contents errors.old) (E.contents errors.new) }
+{
+    let run = check_over(alloc, reader, writer);
+    end_check(alloc, errors, run)
 }
 
 /// Writes the text of a batch of a table, says why it is not whole, and gives the status.
@@ -139,6 +153,7 @@ fn run_command<R: Read, W: Write, E: Write>(
         Command::Report(matrix) => run_report(alloc, matrix, reader, writer, errors),
         Command::Tape(matrix) => run_tape(alloc, matrix, reader, writer, errors),
         Command::Explain(matrix) => run_explain(alloc, matrix, reader, writer, errors),
+        Command::Check => run_check(alloc, reader, writer, errors),
         Command::Encode => run_encode(alloc, reader, writer, errors),
         Command::Decode => run_decode(alloc, reader, writer, errors),
         Command::Line(participant) => run_line(alloc, participant, reader, writer, errors),
@@ -151,10 +166,10 @@ fn run_command<R: Read, W: Write, E: Write>(
 /// returns its status.
 ///
 /// `report` reads a table from `reader` and writes the day's report to `writer`, `tape` its readable tape, `explain` what became of its
-/// reports, `encode` the text of a batch, and `line` the bytes of one participant's messages; `decode` reads the text of a batch and
+/// reports, `check` every fault of the table, `encode` the text of a batch, and `line` the bytes of one participant's messages; `decode` reads the text of a batch and
 /// writes its table. `--help`, alone or after a word, writes what they do. Any other arguments are bad ones, those of a running day too,
 /// which are for `follow`. `errors` has a line for each reason for which the first three refused rows, and one for what goes wrong. The
-/// status is 0 where all is done, 2 for a bad table, a bad text or bad arguments, 3 for a read fault, 4 for a write fault and 5 where
+/// status is 0 where all is done, 2 for a bad table, also one that is checked, a bad text or bad arguments, 3 for a read fault, 4 for a write fault and 5 where
 /// memory ran out.
 pub fn program<R: Read, W: Write, E: Write>(
     alloc: Global,

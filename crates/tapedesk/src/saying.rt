@@ -4,7 +4,7 @@ ghost use Rattle.day_tables.specs.declared.table_fault.TableFault.TheVariants.{O
 ghost use Rattle.row_reads.specs.Writing.{WritesPrefix};
 ghost use Rattle.table_days.specs.EndTexts.{end_status};
 ghost use Rattle.table_texts.specs.declared.text_end.TextEnd.TheVariants.{OutOfMemory as TextOutOfMemory};
-ghost use Rattle.tapedesk.specs.Program.{run_status, run_text};
+ghost use Rattle.tapedesk.specs.Program.{check_line, check_status, checked_status, run_status, run_text};
 ghost use Rattle.tapedesk.specs.RefusalLines.{refusal_lines};
 ghost use Rattle.tapedesk.specs.TextRuns.{end_line, table_ends, text_end_line, text_ends, text_line, text_status};
 ghost use Rattle.table_days.specs.declared.table_end.TableEnd.TheVariants.{Listing, Table};
@@ -104,6 +104,25 @@ pub fn end_run<E: Write>(alloc: Global, errors: &mut E, run: Result<Refusals, Ta
             say_refusals(alloc, errors, &refusals);
             0
         }
+        Err(end) => say_end(alloc, errors, &end),
+    }
+}
+
+/// The status of a table that was checked.
+fn checked_status(faultless: bool) -> u8
+    ensures { result ≡ checked_status faultless }
+{
+    if faultless { 0 } else { 2 }
+}
+
+/// Says why the faults of a table are not all told, or nothing where they are. It gives the status, which is 2 where there are any.
+pub fn end_check<E: Write>(alloc: Global, errors: &mut E, run: Result<bool, TableEnd>) -> u8
+    ensures status { result ≡ check_status run }
+    ensures quiet { IsOk run → errors.new ≡ errors.old }
+    ensures said { WritesPrefix (check_line run) (E.contents errors.old) (E.contents errors.new) }
+{
+    match run {
+        Ok(faultless) => checked_status(faultless),
         Err(end) => say_end(alloc, errors, &end),
     }
 }

@@ -1,0 +1,198 @@
+//! A table in, every fault of it out.
+ghost use Rattle.std.specs.Prelude.{◌≡◌, ◌≢◌, ◌==◌, ◌&&◌, ◌++◌, [], Err, IfErr, IfOk, IfSome, OnErr, OnOk, is_some, not};
+ghost use Rattle.std.specs.Io.KnownBytes.{Keeps};
+ghost use Rattle.std.specs.List.{flat_map};
+ghost use Rattle.std.specs.Option.{option_map_or};
+ghost use Rattle.table_days.specs.Checks.{IsCheckEnd, WritesCheck, WritesCheckPart, all_kinds, check_text, faults_text, fine_text, fine_words, more_text, names_text};
+ghost use Rattle.table_days.specs.declared.table_end.TableEnd.TheVariants.{WriteFault as TableWriteFault};
+
+use crate::TableEnd;
+use crate::fault_counts::FaultCounts;
+use crate::fault_kind::{FAULT_KINDS, FaultKind};
+use crate::table_check::TableCheck;
+use crate::tape::write_part;
+use day_tables::Column;
+use std::alloc::{AllocError, Global};
+use std::io::{Read, Write};
+use tape_types::ListingFault;
+
+/// Every kind of faults, in the order in which they are told.
+const ALL_KINDS: [FaultKind; FAULT_KINDS] = [
+    FaultKind::BadField(Column::Kind),
+    FaultKind::BadField(Column::Participant),
+    FaultKind::BadField(Column::Number),
+    FaultKind::BadField(Column::Moment),
+    FaultKind::BadField(Column::Symbol),
+    FaultKind::BadField(Column::Target),
+    FaultKind::BadField(Column::Price),
+    FaultKind::BadField(Column::Size),
+    FaultKind::BadField(Column::Condition),
+    FaultKind::UnusedField(Column::Kind),
+    FaultKind::UnusedField(Column::Participant),
+    FaultKind::UnusedField(Column::Number),
+    FaultKind::UnusedField(Column::Moment),
+    FaultKind::UnusedField(Column::Symbol),
+    FaultKind::UnusedField(Column::Target),
+    FaultKind::UnusedField(Column::Price),
+    FaultKind::UnusedField(Column::Size),
+    FaultKind::UnusedField(Column::Condition),
+    FaultKind::OtherFields,
+];
+
+/// Adds the line of the faults of a kind, or nothing where there are none.
+fn push_kind(
+    alloc: Global,
+    text: &mut Vec<u8>,
+    counts: &FaultCounts,
+    kind: FaultKind,
+) -> Result<(), AllocError>
+    ensures { OnOk result (text.new.items ≡ text.old.items ++ more_text counts.now kind) }
+{
+    let count = counts.of(kind);
+    if count == 0 {
+        return Ok(());
+    }
+    let line = format!(in alloc; "{count} more: {kind}\n")?;
+    text.extend_from_slice(line.as_bytes())
+}
+
+/// Adds the lines of faults of these kinds, one after another.
+fn push_kinds(
+    alloc: Global,
+    text: &mut Vec<u8>,
+    counts: &FaultCounts,
+    kinds: &[FaultKind],
+) -> Result<(), AllocError>
+    ensures { OnOk result (text.new.items ≡ text.old.items ++ flat_map (more_text counts.now) kinds.now) }
+{
+    for kind in kinds {
+        push_kind(alloc, text, counts, *kind)?;
+    }
+    Ok(())
+}
+
+/// What is told of names that make no listing.
+fn names_text(fault: ListingFault) -> &'static [u8]
+    ensures { result.now ≡ names_text fault }
+{
+    match fault {
+        ListingFault::Empty => b"the table has no row\n",
+        ListingFault::TooMany => b"the table has more than 4096 symbols\n",
+        ListingFault::Repeated => b"a name stands twice in the listing\n",
+        ListingFault::OutOfMemory => b"out of memory\n",
+    }
+}
+
+/// What is told of names, if anything is wrong with them.
+fn names_line(wrong: Option<ListingFault>) -> &'static [u8]
+    ensures { result.now ≡ option_map_or names_text wrong [] }
+{
+    match wrong {
+        Some(fault) => names_text(fault),
+        None => b"",
+    }
+}
+
+/// One row, or several, without a fault.
+fn fine_words(rows: u64) -> &'static str
+    ensures { result.now ≡ fine_words rows }
+{
+    if rows == 1 {
+        " row, no fault\n"
+    } else {
+        " rows, no fault\n"
+    }
+}
+
+/// What is told of a table without a fault.
+fn fine_text(alloc: Global, rows: u64) -> Result<Vec<u8>, AllocError>
+    ensures { IfOk result (λ text. text.items ≡ fine_text rows) }
+{
+    let mut text = Vec::new(alloc);
+    let words = fine_words(rows);
+    let line = format!(in alloc; "{rows}{words}")?;
+    text.extend_from_slice(line.as_bytes())?;
+    Ok(text)
+}
+
+/// What is told of faults.
+fn faults_text(
+    alloc: Global,
+    check: &TableCheck,
+    names: Option<ListingFault>,
+) -> Result<Vec<u8>, AllocError>
+    ensures { IfOk result (λ text. text.items ≡ faults_text check.now.lines.items check.now.more names) }
+{
+    let mut text = Vec::new(alloc);
+    text.extend_from_slice(&check.lines)?;
+    push_kinds(alloc, &mut text, &check.more, &ALL_KINDS)?;
+    text.extend_from_slice(names_line(names))?;
+    Ok(text)
+}
+
+/// Whether nothing is told of a check but that there is no fault.
+fn is_fine(check: &TableCheck, names: Option<ListingFault>) -> bool
+    ensures { result ≡ (check.now.told == 0) && not (is_some names) }
+{
+    check.told == 0 && names.is_none()
+}
+
+/// What is told of a check.
+fn check_text(
+    alloc: Global,
+    check: &TableCheck,
+    names: Option<ListingFault>,
+) -> Result<Vec<u8>, AllocError>
+    ensures { IfOk result (λ text. text.items ≡ check_text check.now names) }
+{
+    if is_fine(check, names) {
+        fine_text(alloc, check.rows)
+    } else {
+        faults_text(alloc, check, names)
+    }
+}
+
+/// Flushes what was written.
+fn flush<W: Write>(writer: &mut W) -> Result<(), TableEnd>
+    ensures kept { Keeps (W.contents writer.old) (W.contents writer.new) }
+    ensures end { IfErr result (λ end. end ≡ TableWriteFault) }
+{
+    match writer.flush() {
+        Ok(()) => Ok(()),
+        Err(_) => Err(TableEnd::WriteFault),
+    }
+}
+
+/// Reads a table to its end and writes every fault of it: a line for each of the first `FAULTS_TOLD` rows that are no messages, then
+/// how many more there are of each kind, and then whether its names are too many. It gives whether there is no fault, of which a line
+/// tells with the number of rows. A fault of the header row is the only one, since no row can be read under it. What was written is
+/// flushed at the end.
+///
+/// Where nothing is told the end says why: a failed read, memory that ran out, or a write that failed. Nothing is written but at
+/// `WriteFault`.
+pub fn check_over<R: Read + Drop, W: Write>(
+    alloc: Global,
+    reader: R,
+    writer: &mut W,
+) -> Result<bool, TableEnd>
+    ensures written { IfSome (R.remaining reader) (λ input. IfOk result (λ faultless. WritesCheck input faultless (W.contents writer.old) (W.contents writer.new))) }
+    ensures end { IfErr result IsCheckEnd }
+    ensures silent { result ≢ Err TableWriteFault → OnErr result (writer.new ≡ writer.old) }
+    ensures prefix { result ≡ Err TableWriteFault → IfSome (R.remaining reader) (λ input. WritesCheckPart input (W.contents writer.old) (W.contents writer.new)) }
+{
+    let check = match TableCheck::of_table(alloc, reader) {
+        Ok(check) => check,
+        Err(fault) => return Err(TableEnd::Table(fault)),
+    };
+    let Ok(names) = check.names.wrong(alloc) else {
+        return Err(TableEnd::OutOfMemory);
+    };
+    let Ok(text) = check_text(alloc, &check, names) else {
+        return Err(TableEnd::OutOfMemory);
+    };
+    write_part(writer, &text)?;
+    match flush(writer) {
+        Ok(()) => Ok(is_fine(&check, names)),
+        Err(end) => Err(end),
+    }
+}
