@@ -5,6 +5,8 @@ import io
 import re
 
 COLUMNS = ["kind", "participant", "number", "moment", "symbol", "target", "price", "size", "condition"]
+# The columns that a readable tape has besides.
+ANSWER, FIGURES = ["tape", "refused"], ["open", "high", "low", "last", "volume", "trades"]
 OPTIONAL = {"kind", "moment", "target"}
 WORDS = {"R": "report", "X": "cancel", "C": "correct", "S": "reinstate"}
 LETTERS = {word: letter for letter, word in WORDS.items()} | {letter: letter for letter in WORDS}
@@ -118,7 +120,7 @@ def separator_in(name):
 def check_names(names):
     """Ends at the first fault of a header row."""
     for at, name in enumerate(names):
-        if name.startswith("#"):
+        if name.startswith("#") or name in ANSWER + FIGURES:
             continue
         if name not in COLUMNS:
             raise TableFault(f'header row: column "{shown(name)}" is unknown{separator_in(name)}')

@@ -28,7 +28,7 @@ HOST = "127.0.0.1"
 # Seconds until a program must have ended, unless a case says otherwise.
 LIMIT = 60
 HEADINGS = "symbol,who,open,open_at,high,high_at,low,low_at,last,last_at,volume,trades"
-TAPE_COLUMNS = ["tape", "refused", *plain_table.COLUMNS, "open", "high", "low", "last", "volume", "trades"]
+TAPE_COLUMNS = [*plain_table.ANSWER, *plain_table.COLUMNS, *plain_table.FIGURES]
 
 sys.dont_write_bytecode = True
 sys.path.insert(0, str(TOOLS))

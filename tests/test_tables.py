@@ -208,6 +208,9 @@ class Faults(Case):
                 self.assert_refused(table_of([others, rest]))
             self.assert_refused(table_of([[*COLUMNS, column], [*row, row[at]]]))
             self.assert_refused(table_of([[column.upper(), *others], row]))
+        for name in [*plain_table.ANSWER, *plain_table.FIGURES]:
+            self.assert_refused(table_of([[name.upper(), *COLUMNS], ["", *row]]))
+            self.assert_refused(table_of([[name, *COLUMNS[1:-1]], row]))
         for table in [b"", b"\n\r\n", table_of([COLUMNS]), table_of([["#only", "remarks"], [1, 2]]), table_of([["x" * 60, *COLUMNS], ["", *row]])]:
             self.assert_refused(table)
 
@@ -264,6 +267,17 @@ class Forms(Case):
         """FORMATS, "A table": the columns in another order, with remarks among them, each of which may have one name."""
         head, *rows = [b",".join(line.split(b",")[::-1]) for line in self.TABLE.splitlines()]
         self.assert_same(b"#,%s,#\n" % head + b"".join(b'"a ""b"", c",%s,\xff\n' % row for row in rows))
+
+    def test_a_recorded_tape(self):
+        """FORMATS, "A readable tape": the tape of a table, with its columns in any order and some of its own left out, is that table again."""
+        for table in [self.TABLE, SeededDay(4).table()]:
+            tape = desk("tape", given=table).written
+            rows = list(csv.reader(tape.decode().splitlines()))
+            turned = table_of([row[::-1] for row in rows])
+            others = table_of([[*row[2:14], row[0], row[0]] for row in rows])
+            for again in (tape, turned, others):
+                for words in [*([word] for word in WORDS), ["encode"], ["line", "Q"]]:
+                    self.assertEqual(desk(*words, given=again), desk(*words, given=table))
 
     def test_columns_left_out(self):
         """FORMATS, "A table": a table of reports without `kind`, `moment` and `target`."""

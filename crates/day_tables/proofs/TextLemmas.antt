@@ -15,6 +15,7 @@ use Rattle.day_tables.specs.Columns.{fault_from, header_columns, name_fault, pla
 use Rattle.day_tables.specs.Laws.{TableRoundTrip}
 use Rattle.day_tables.specs.Tables.{fields_message, record_message, records_messages, rows_messages, table_messages, with_record}
 use Rattle.day_tables.specs.TableTexts.{column_names, message_fields, message_lines, table_text}
+use Rattle.day_tables.specs.TapeColumns.{is_tape_column}
 use Rattle.day_tables.specs.Writing.{row_of}
 use Rattle.day_tables.specs.declared.columns.Columns.{Columns}
 use Rattle.day_tables.proofs.RoundTrip.{row_round_trip}
@@ -97,7 +98,7 @@ in_order = record {
 
 -- the names are those of the columns
 names-columns : header_columns column_names ≡ Ok in_order
-unfolding header_columns fault_from name_fault column_named place_of in_order
+unfolding header_columns fault_from name_fault column_named place_of in_order is_tape_column
 names-columns = refl
 
 -- a message's fields read back

@@ -1,5 +1,5 @@
 -- The columns of a table: by which names, and where, a header row has them.
-use Rattle.std.specs.Prelude.{ℕ, ◌+◌, ◌==◌, Bool, false, nat_lt, List, [], ◌∷◌, length, take, codes, Option, Some, None, Result, Ok, Err, ok_or, unwrap_or, if◌then◌else◌}
+use Rattle.std.specs.Prelude.{ℕ, ◌+◌, ◌==◌, ◌||◌, Bool, false, nat_lt, List, [], ◌∷◌, length, take, codes, Option, Some, None, Result, Ok, Err, ok_or, unwrap_or, if◌then◌else◌}
 use Rattle.std.specs.List.{position_from}
 use Rattle.std.specs.Option.{option_or}
 use Rattle.std.specs.Str.{bytes_eq}
@@ -8,6 +8,7 @@ use Rattle.reports.specs.Fields.{◌>>=◌}
 use Rattle.day_tables.specs.ColumnNames.{column_name, column_named}
 use Rattle.day_tables.specs.FaultTexts.{FAULT_TEXT_MOST}
 use Rattle.day_tables.specs.Rows.{RowText}
+use Rattle.day_tables.specs.TapeColumns.{is_tape_column}
 use Rattle.day_tables.specs.declared.column.Column.{Column}
 use Rattle.day_tables.specs.declared.column.Column.TheVariants as column
 use Rattle.day_tables.specs.declared.column_fault.ColumnFault.{ColumnFault}
@@ -18,6 +19,10 @@ use Rattle.day_tables.specs.declared.columns.Columns.{Columns}
 abbrev pub is_remark : List ℕ → Bool
 is_remark [] = false
 is_remark (first ∷ rest) = first == 35
+
+-- whether a column is passed over: a remark's, or a readable tape's own
+abbrev pub is_passed_over : List ℕ → Bool
+is_passed_over name = is_remark name || is_tape_column name
 
 -- the first place of a name in a header row
 unfoldable pub place_of : List (List ℕ) → List ℕ → Option ℕ
@@ -35,7 +40,7 @@ named_fault names place name (Some column) = if is_before place (place_of names 
 
 -- what is wrong with the name at a place of a header row, if anything
 unfoldable pub name_fault : List (List ℕ) → ℕ → List ℕ → Option ColumnFault
-name_fault names place name = if is_remark name then None else named_fault names place name (column_named name)
+name_fault names place name = if is_passed_over name then None else named_fault names place name (column_named name)
 
 -- the first fault from a place of a header row on
 unfoldable pub fault_from : List (List ℕ) → ℕ → List (List ℕ) → Option ColumnFault

@@ -16,5 +16,6 @@ pub mod TableReading
 pub mod TableRows
 pub mod TableTexts
 pub mod Tables
+pub mod TapeColumns
 pub mod Texts
 pub mod Writing

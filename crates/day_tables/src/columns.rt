@@ -2,9 +2,10 @@
 ghost use Rattle.std.specs.Prelude.{◌≡◌};
 ghost use Rattle.csv.specs.Records.{fields_of};
 ghost use Rattle.day_tables.specs.ColumnNames.{column_name};
-ghost use Rattle.day_tables.specs.Columns.{header_columns, header_fault, is_before, is_remark, name_fault, place_of, required, row_text_of, text_at, text_or};
+ghost use Rattle.day_tables.specs.Columns.{header_columns, header_fault, is_before, is_passed_over, is_remark, name_fault, place_of, required, row_text_of, text_at, text_or};
 ghost use Rattle.day_tables.specs.RowTexts.{text_of_row};
 
+use crate::tape_column::is_tape_column;
 use crate::{Column, ColumnFault, FaultText, TableRow};
 use csv::ByteRecord;
 
@@ -23,7 +24,7 @@ pub struct Columns {
     width: usize,
 }
 
-/// Whether a column of this name is a remark, which is read over.
+/// Whether a column of this name is a remark.
 fn is_remark(name: &[u8]) -> bool
     ensures { result ≡ is_remark name.now }
 {
@@ -31,6 +32,13 @@ fn is_remark(name: &[u8]) -> bool
         [first, ..] => *first == b'#',
         [] => false,
     }
+}
+
+/// Whether a column of this name is passed over: a remark, or a readable tape's own.
+fn is_passed_over(name: &[u8]) -> bool
+    ensures { result ≡ is_passed_over name.now }
+{
+    is_remark(name) || is_tape_column(name)
 }
 
 /// The first place of a name in a header row.
@@ -63,7 +71,7 @@ fn stands_before(names: &ByteRecord, place: usize, name: &[u8]) -> bool
 fn name_fault(names: &ByteRecord, place: usize, name: &[u8]) -> Option<ColumnFault>
     ensures { result ≡ name_fault (fields_of names.now) place name.now }
 {
-    if is_remark(name) {
+    if is_passed_over(name) {
         return None;
     }
     let Some(column) = Column::of_name(name) else {
@@ -106,7 +114,8 @@ fn required(names: &ByteRecord, column: Column) -> Result<usize, ColumnFault>
 
 impl Columns {
     /// The columns of a header row: each name once, in any order, and only `kind`, `moment` and `target` left out. A name that
-    /// begins with `#` is a remark's, which is read over; several may have one name.
+    /// begins with `#` is a remark's. It is passed over, and so are the names of a readable tape's own columns; such a name may
+    /// stand there several times.
     ///
     /// Refused with the first name from the left that is no column's (`Unknown`) or stands there twice (`Repeated`), and else with
     /// the first column of the required ones that is missing (`Missing`).
@@ -137,7 +146,7 @@ impl Columns {
         })
     }
 
-    /// How many fields a row of the table has, with those of remarks.
+    /// How many fields a row of the table has, with those that are passed over.
     pub fn width(&self) -> usize
         ensures width { result ≡ self.now.width }
     {

@@ -23,6 +23,7 @@ mod table_row;
 mod table_rows;
 mod table_text;
 mod table_write_fault;
+mod tape_column;
 mod writing;
 mod wrong_code;
 

@@ -1,5 +1,5 @@
 -- The readable tape: a row for each message, with its symbol's figures after it.
-use Rattle.std.specs.Prelude.{ℕ, List, [], ◌∷◌, ◌++◌, Option, Some, None, Result, Ok, Err, codes, decimal}
+use Rattle.std.specs.Prelude.{ℕ, List, [], ◌∷◌, ◌++◌, Option, Some, None, Result, Ok, Err, decimal}
 use Rattle.std.specs.List.{flat_map}
 use Rattle.csv.specs.Writing.{default_writer, row_text}
 use Rattle.sale_matrix.specs.declared.matrix.Matrix.{Matrix}
@@ -12,6 +12,8 @@ use Rattle.tape_core.specs.Standing.{symbol_summary}
 use Rattle.tape_core.specs.Tape.{TapeState, messages_of}
 use Rattle.tape_core.specs.declared.entry.Entry.{Entry}
 use Rattle.tape_core.specs.declared.refusal.Refusal.{Refusal}
+use Rattle.day_tables.specs.TableTexts.{column_names as table_names}
+use Rattle.day_tables.specs.TapeColumns.{answer_names, figure_names}
 use Rattle.day_tables.specs.Writing.{price_text, row_fields, row_of}
 use Rattle.table_days.specs.Answers.{answer, tape_after}
 use Rattle.table_days.specs.Days.{first_tape}
@@ -49,13 +51,9 @@ entry_rows matrix before (e ∷ es) =
 
 -- ## Fields
 
--- the names of the columns
+-- the names of the columns: those of the answer, of the message and of the figures
 abbrev pub column_names : List (List ℕ)
-column_names =
-    codes "tape" ∷ codes "refused" ∷
-    codes "kind" ∷ codes "participant" ∷ codes "number" ∷ codes "moment" ∷ codes "symbol" ∷
-    codes "target" ∷ codes "price" ∷ codes "size" ∷ codes "condition" ∷
-    codes "open" ∷ codes "high" ∷ codes "low" ∷ codes "last" ∷ codes "volume" ∷ codes "trades" ∷ []
+column_names = answer_names ++ (table_names ++ figure_names)
 
 -- a refusal by number and name
 abbrev pub refusal_text : Refusal → List ℕ

@@ -33,4 +33,4 @@ pub use naming::listing_of;
 pub use refusals::{Refusals, Refused};
 pub use report::report_over;
 pub use table_end::TableEnd;
-pub use tape::tape_over;
+pub use tape::{tape_over, write_tape};

@@ -116,8 +116,12 @@ fn write_rows<W: Write>(
     write_part(writer, &text)
 }
 
-/// Writes the readable tape of messages, and gives what it refused.
-fn write_tape<W: Write>(
+/// Answers messages in order by a tape of the names in them, in the order in which they first appear, and writes the readable tape as
+/// `tape_over` does. It gives what the tape refused.
+///
+/// Where the tape is not written whole the end says why. At a `WriteFault` a part of it from the front was written, and at
+/// `OutOfMemory` such a part or nothing; at every other end nothing was.
+pub fn write_tape<W: Write>(
     alloc: Global,
     matrix: Matrix,
     messages: &[Message],
