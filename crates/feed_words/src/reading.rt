@@ -57,14 +57,7 @@ fn are_digits(word: &[u8]) -> bool
 }
 
 /// A number in decimal digits alone, with no sign. Leading zeros are accepted.
-#[tactic(
-    auto,
-    using(
-        crate::proofs::DigitLemmas::number_read,
-        crate::proofs::DigitLemmas::digits_text,
-        crate::proofs::DigitLemmas::each_read
-    )
-)]
+#[tactic(auto, using(crate::proofs::DigitLemmas::number_read, crate::proofs::DigitLemmas::digits_text, crate::proofs::DigitLemmas::each_read))]
 fn decimal(word: &[u8]) -> Option<u64>
     ensures number { IfSome result (λ number. IsNumber word.now number) }
     ensures each { (number : ℕ) → IsNumber word.now number → number < 2 ^ 64 → result ≡ Some number }

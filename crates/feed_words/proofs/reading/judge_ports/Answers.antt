@@ -14,8 +14,8 @@ pub returns-in_err-port_of-clause-ports : goal.returns-in_err-port_of-clause-por
 returns-in_err-port_of-clause-ports c = (
   search rules,
   λ all.
-    let first = (ports-split c.loop-end.rest.now c.in-Some.end c.in-Some.ensures (c.loop-end.invariant.judged all)).0 in
-    absurd (cc (c.in_err-port_of.ensures.each first.0 first.1)),
+      let first = (ports-split c.loop-end.rest.now c.in-Some.end c.in-Some.ensures (c.loop-end.invariant.judged all)).0 in
+      absurd (cc (c.in_err-port_of.ensures.each first.0 first.1)),
 )
 
 -- the port that was judged stands before those of what is left
@@ -36,8 +36,8 @@ pub returns-in_err-port_of-2-clause-ports : goal.returns-in_err-port_of-2-clause
 returns-in_err-port_of-2-clause-ports c = (
   search rules,
   λ all.
-    let last = ports-one c.loop-end.rest.now c.in_default.ensures (c.loop-end.invariant.judged all) in
-    absurd (cc (c.in_err-port_of-2.ensures.each last.0 last.1)),
+      let last = ports-one c.loop-end.rest.now c.in_default.ensures (c.loop-end.invariant.judged all) in
+      absurd (cc (c.in_err-port_of-2.ensures.each last.0 last.1)),
 )
 
 -- the last port
