@@ -1,5 +1,7 @@
 -- What is told of a table's check.
-use Rattle.std.proofs.Common.{◌≡◌, ◌==◌, ◌&&◌, ◌∷◌, ◌∙◌, [], ℕ, List, Bool, Option, Some, None, IfSome, ap, is_some, length, not, refl, sym, take}
+use Rattle.std.proofs.Common.{◌≡◌, ◌==◌, ◌&&◌, ◌∷◌, ◌∙◌, [], ℕ, List, Bool, Option, Some, None, IfSome, ap, arith, inl, inr, is_some, length, not, refl, sym, take}
+use Rattle.std.proofs.lemmas.Bool.{cases_Bool, eqb-true}
+use Rattle.std.proofs.lemmas.List.{length-take}
 use Rattle.std.specs.Io.KnownBytes.{Appends}
 use Rattle.row_reads.specs.Writing.{WritesPrefix}
 use Rattle.tape_types.specs.Names.{is_nil}
@@ -15,7 +17,13 @@ use Rattle.table_days.proofs.ToldLemmas.{told-count}
 -- nothing is told exactly where there is no fault
 none-told : (faults : List TableFault) (count : ℕ) (lines : List ℕ) (more : FaultCounts) → AreTold faults count lines more → (count == 0) ≡ is_nil faults
 none-told [] count lines more had = ap (λ (n : ℕ). n == 0) (had.counted ∙ told-count [] had.told had.first)
-none-told (f ∷ faults) count lines more had = ap (λ (n : ℕ). n == 0) (had.counted ∙ told-count (f ∷ faults) had.told had.first)
+none-told (f ∷ faults) count lines more had =
+    let size = length-take FAULTS_TOLD (f ∷ faults) in
+    let told = told-count (f ∷ faults) had.told had.first in
+    elim (cases_Bool (count == 0)) [
+      | inl none ↦ absurd (omega (arith, eqb-true count 0 none, had.counted, told, size))
+      | inr some ↦ some
+    ]
 
 -- whether a table has no fault
 faultless-is : (records : List (List (List ℕ))) (check : TableCheck) (found : Option ListingFault) → IsCheckOf records check

@@ -16,8 +16,8 @@ returns-in-Ok-flush-clause-written g c =
     (c.deref.ensures.value ∙ c.in-Ok-check_text.ensures) c.is_fine.ensures
     (Appends-kept (g.W.Write.contents c.args.writer.now) (g.W.Write.contents c.write_part.new.writer) _ text c.in_ok-write_part.ensures.written c.flush.ensures.kept)
 
-pub returns-in-Err-flush-clause-prefix : goal.returns-in-Err-flush-clause-prefix
-returns-in-Err-flush-clause-prefix g c = λ fault.
+pub returns-clause-prefix : goal.returns-clause-prefix
+returns-clause-prefix g c = λ fault.
     let text = c.deref.result.now in
     let old = g.W.Write.contents c.args.writer.now in
     let mid = g.W.Write.contents c.write_part.new.writer in

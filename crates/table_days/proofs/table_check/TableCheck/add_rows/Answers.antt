@@ -1,5 +1,7 @@
-use Rattle.std.proofs.Common.{◌≡◌, ◌∷◌, ◌++◌, [], arith, inl, length-append, rules, true}
+use Rattle.std.proofs.Common.{◌≡◌, ◌∷◌, ◌++◌, [], arith, inl, length-append, rules, subst, sym, true}
 use Rattle.std.specs.Result.{is_ok}
+use Rattle.day_tables.specs.declared.columns.Columns.{Columns}
+use Rattle.table_days.specs.Checks.{HasNoted}
 use Rattle.table_days.proofs.ToldLemmas.{on-ok}
 use Rattle.table_days.proofs.table_check.TableCheck.add_rows.Goals as goal
 
@@ -22,6 +24,7 @@ loop-number-preserved g c =
             read ++ next.fields ∷ [],
             next.more input read has,
             omega (arith, count, length-append read (next.fields ∷ [])),
-            rw next.columns (notes c.loop-number.rows.columns read next.fields count next.is noted),
+            subst (λ (k : Columns). HasNoted k (read ++ next.fields ∷ []) c.add_row.new.self) (sym next.columns)
+                (notes c.loop-number.rows.columns read next.fields count next.is noted),
           );
     }
