@@ -1,8 +1,7 @@
 -- A table's rows, noted one after another.
-use Rattle.std.proofs.Common.{◌≡◌, ◌≢◌, ◌⊎◌, ◌<◌, ◌+◌, ◌^◌, ◌∷◌, ◌++◌, ◌∙◌, [], ℕ, List, Option, Some, None, IfSome, Result, Ok, Err, ap, append-nil, arith, inl, inr, length, refl, subst, sym}
+use Rattle.std.proofs.Common.{◌≡◌, ◌≢◌, ◌⊎◌, ◌<◌, ◌+◌, ◌^◌, ◌∷◌, ◌++◌, ◌∙◌, [], ℕ, List, Option, Some, None, IfSome, Result, Ok, Err, ap, append-nil, arith, inl, inr, length, refl, sym}
 use Rattle.reports.specs.declared.message.Message.{Message}
 use Rattle.day_tables.specs.Checks.{fault_of as row_fault, HasRows, IsOfText, IsOnlyFault, IsOpenFault, known_messages, message_of as row_message, row_faults, row_messages, table_faults}
-use Rattle.day_tables.specs.Columns.{header_columns}
 use Rattle.day_tables.specs.Lemmas.RowFaults.{row_faults-append, row_faults-few, row_messages-append}
 use Rattle.day_tables.specs.Tables.{FIRST_ROW, fields_message}
 use Rattle.day_tables.specs.declared.columns.Columns.{Columns}
@@ -10,10 +9,8 @@ use Rattle.day_tables.specs.declared.row_reader.RowReader.{RowReader}
 use Rattle.day_tables.specs.declared.row_fault.RowFault.{RowFault}
 use Rattle.day_tables.specs.declared.table_fault.TableFault.{TableFault}
 use Rattle.day_tables.specs.declared.table_fault.TableFault.TheVariants.{Header, NoRow, Row, ReadFault, OutOfMemory}
-use Rattle.table_days.specs.Checks.{AreTold, HasNoted, HasSeen, IsCheckOf, IsCheckOfText, NotesAll, NotesEnd, NotesNone, NotesRow}
-use Rattle.table_days.specs.declared.fault_counts.FaultCounts.{FaultCounts}
+use Rattle.table_days.specs.Checks.{AreTold, HasSeen, IsCheckOf, IsCheckOfText, NotesAll, NotesEnd, NotesNone, NotesRow}
 use Rattle.table_days.specs.declared.table_check.TableCheck.{TableCheck}
-use Rattle.table_days.specs.declared.told_fault.ToldFault.{ToldFault}
 
 -- a check that has read nothing has noted no row
 pub notes-none : (check : TableCheck) → AreTold [] check.told check.lines.items check.more → HasSeen [] check.names → NotesNone check

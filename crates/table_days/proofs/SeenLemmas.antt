@@ -1,5 +1,5 @@
 -- The names of messages that come one after another, as far as a listing takes them.
-use Rattle.std.proofs.Common.{◌≡◌, ◌≢◌, ◌≤◌, ◌<◌, ◌+◌, ◌∷◌, ◌++◌, ◌∙◌, [], ℕ, List, Bool, Option, Some, None, true, false, ap, arith, cond, inl, inr, length, length-append, map, nat_eq, nat_lt, not, refl, subst, sym, unwrap_or}
+use Rattle.std.proofs.Common.{◌≡◌, ◌≢◌, ◌≤◌, ◌<◌, ◌∷◌, ◌++◌, ◌∙◌, [], ℕ, List, Bool, Option, Some, None, true, false, ap, arith, inl, inr, length, length-append, map, nat_eq, refl, subst, sym, unwrap_or}
 use Rattle.std.proofs.lemmas.Bool.{lt-ltb}
 use Rattle.std.proofs.lemmas.List.{map-append}
 use Rattle.std.proofs.lemmas.List.Sums.{fold_push}
@@ -8,7 +8,7 @@ use Rattle.indexmap.specs.IndexSet.{insert_all, insert_key}
 use Rattle.reports.specs.Messages.{header_of}
 use Rattle.reports.specs.declared.message.Header.{Header}
 use Rattle.reports.specs.declared.message.Message.{Message}
-use Rattle.tape_types.specs.Names.{is_nil, names_fault, symbol_eq}
+use Rattle.tape_types.specs.Names.{names_fault, symbol_eq}
 use Rattle.tape_types.specs.Ranges.{SYMBOLS_MOST}
 use Rattle.tape_types.specs.declared.listing_fault.ListingFault.{ListingFault}
 use Rattle.tape_types.specs.declared.listing_fault.ListingFault.TheVariants.{TooMany, OutOfMemory}

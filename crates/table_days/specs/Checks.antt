@@ -1,5 +1,5 @@
 -- What is told of every fault of a table.
-use Rattle.std.specs.Prelude.{◌≡◌, ◌⊎◌, ◌<◌, ◌+◌, ◌==◌, ◌&&◌, ◌++◌, ◌∷◌, ℕ, Bool, false, List, [], Option, Some, None, Result, Ok}
+use Rattle.std.specs.Prelude.{◌≡◌, ◌⊎◌, ◌<◌, ◌+◌, ◌==◌, ◌&&◌, ◌++◌, ◌∷◌, ℕ, Bool, false, List, [], Option, None, Result, Ok}
 use Rattle.std.specs.Prelude.{codes, decimal, drop, is_some, length, map, not, take, if◌then◌else◌}
 use Rattle.std.specs.Io.KnownBytes.{Appends}
 use Rattle.std.specs.List.{count_by, flat_map, slice_index_or}
@@ -31,7 +31,7 @@ use Rattle.table_days.specs.declared.seen_names.SeenNames.{SeenNames}
 use Rattle.table_days.specs.declared.table_check.TableCheck.{TableCheck}
 use Rattle.table_days.specs.declared.told_fault.ToldFault.{ToldFault}
 use Rattle.table_days.specs.declared.table_end.TableEnd.{TableEnd}
-use Rattle.table_days.specs.declared.table_end.TableEnd.TheVariants.{Table, Listing, OutOfMemory as EndOutOfMemory, WriteFault}
+use Rattle.table_days.specs.declared.table_end.TableEnd.TheVariants.{Table, OutOfMemory as EndOutOfMemory, WriteFault}
 
 -- ## Kinds
 

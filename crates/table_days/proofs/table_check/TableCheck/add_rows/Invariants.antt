@@ -1,4 +1,4 @@
-use Rattle.std.proofs.Common.{◌≡◌, ◌+◌, ◌++◌, [], ℕ, List, length}
+use Rattle.std.proofs.Common.{◌≡◌, ◌+◌, [], ℕ, List, length}
 use Rattle.day_tables.specs.Checks.{HasRows, ReadsRows}
 use Rattle.day_tables.specs.Tables.{FIRST_ROW}
 use Rattle.table_days.specs.Checks.{HasNoted}
