@@ -127,6 +127,36 @@ class RowsOfTheLibrary(Rows):
                 self.assertGreater(script.count(f" -> {refusal}\n"), 100)
 
 
+class RowsOfReports(Case):
+    """Over reports of tables, whose tape keeps the day's end alone."""
+
+    # The steps that a table has, or its report tells of.
+    STEP = re.compile(r"(?:tape|summary|last|[A-Z] \d[\d.]*) ")
+    # What is refused by no table's own tape, which lists the names in the table and is neither closed nor full: the makings of a tape, Closed,
+    # Full, UnknownParticipant, UnknownSymbol.
+    OTHER = re.compile(r"(?:-> \d|\b3[1246]) [A-Z]")
+    LEAST = 15
+
+    def told(self, text):
+        """The steps of a text that a table has, or its report tells of. A message that is refused otherwise changes nothing."""
+        return [line for line in text.splitlines() if self.STEP.match(line) and not self.OTHER.search(line)]
+
+    def test_rows_of_a_tape(self):
+        """rows/README.md: the rows of a tape are played over reports too, as far as these tell."""
+        told = [self.told(text) for _, _, text in rows()]
+        played = [steps for steps in told if any(step.startswith(("summary", "last")) for step in steps)]
+        self.assertGreaterEqual(len(played), self.LEAST)
+        self.assert_as_wanted(played)
+
+    def test_changes_in_every_order(self):
+        """rows/README.md, "Generated rows": so are these, in which six reports are changed in every order."""
+        self.assert_as_wanted([self.told(plain_orders.script(seed=7, changes=100))])
+
+    def assert_as_wanted(self, played):
+        ended = play("--over", "report_feed", "-", given="".join(f"{step}\n" for steps in played for step in ["row A tape", *steps]))
+        self.assertEqual(ended.status, 0, ended.written.decode())
+
+
 class Page(Case):
     def test_each_row_is_named_once(self):
         """ROWS, "The suite": it names the rows of each file in their order, and no two rows have one name."""
