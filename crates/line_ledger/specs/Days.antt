@@ -9,10 +9,11 @@ use Rattle.tape_core.specs.Tape.{TapeState, IsTape, messages_of}
 pub record Terms : Type 0 where
   pub listing : Names
   pub matrix : Matrix
+  pub limit : ℕ
 
 -- the terms that a tape keeps to
 abbrev pub terms_of : TapeState → Terms
-terms_of t = record { listing = t.listing; matrix = t.matrix }
+terms_of t = record { listing = t.listing; matrix = t.matrix; limit = t.limit }
 
 -- an open legal tape of these terms
 pub record IsDay (terms : Terms) (t : TapeState) : Type 0 where
@@ -20,6 +21,7 @@ pub record IsDay (terms : Terms) (t : TapeState) : Type 0 where
   pub unclosed : t.closed ≡ false
   pub listed : t.listing ≡ terms.listing
   pub by_matrix : t.matrix ≡ terms.matrix
+  pub limited : t.limit ≡ terms.limit
 
 -- whether the tape's count, sizes and last number of a participant are these
 abbrev pub has_figures : TapeState → ℕ → ℕ → ℕ → ℕ → Bool

@@ -21,7 +21,7 @@ pub trait DayName: Ledger {
 }
 
 impl DayName for Brand {
-    ghost terms = { record { listing = record { symbols = []; participants = [] }; matrix = One } };
+    ghost terms = { record { listing = record { symbols = []; participants = [] }; matrix = One; limit = 0 } };
 }
 
 /// An ended day: its closed tape, its cells, and what its end saw in the first of them.

@@ -18,7 +18,7 @@ use Rattle.subscriber.specs.Drains.{DrainsAll, DrainsNext, DrainStops}
 use Rattle.subscriber.specs.declared.drain_fault.DrainFault.{DrainFault}
 use Rattle.subscriber.specs.Subscribers.{SubscriberState, own_entry, with_entry, subscriber_after, subscriber_after_entry}
 use Rattle.subscriber.specs.Lemmas.Legal.{IsLegal-empty}
-use Rattle.live_feed.specs.Followers.{KeepsNames}
+use Rattle.live_feed.specs.Followers.{KeepsTerms}
 use Rattle.live_feed.specs.Sinks.{GivesMore, GivesPart, GivesSome, HasAll, HasPart, RowsGrow, figures_of, rows_after, rows_of}
 
 -- an entry more is a row more, after the others
@@ -53,9 +53,9 @@ rows_of-next row e old new drains =
     subst (λ (s : SubscriberState). rows_of row s.tape ≡ rows_of row old.tape ++ row e (figures_of s.tape.matrix s.tape.entries e)) (sym drains.3) named
 
 -- and it keeps the names
-pub kept_at_next : (next : Option Entry) (old new : SubscriberState) → DrainsNext next old new → KeepsNames old.tape new.tape
-kept_at_next None old new drains = subst (λ (s : SubscriberState). KeepsNames old.tape s.tape) (sym drains.2) (refl, refl)
-kept_at_next (Some e) old new drains = subst (λ (s : SubscriberState). KeepsNames old.tape s.tape) (sym drains.3) (refl, refl)
+pub kept_at_next : (next : Option Entry) (old new : SubscriberState) → DrainsNext next old new → KeepsTerms old.tape new.tape
+kept_at_next None old new drains = subst (λ (s : SubscriberState). KeepsTerms old.tape s.tape) (sym drains.2) (refl, refl, refl)
+kept_at_next (Some e) old new drains = subst (λ (s : SubscriberState). KeepsTerms old.tape s.tape) (sym drains.3) (refl, refl, refl)
 
 -- a step of a drain adds a row or nothing
 grown_by_entry : (row : Entry → Summary → List ℕ) (next : Option Entry) (s : SubscriberState)
@@ -254,12 +254,12 @@ appends_of_all text None has all = tt
 appends_of_all text (Some xs) has all = subst (λ (o : Option (List ℕ)). Appends (Some xs) o text) (sym all) refl
 
 -- where no run begins, a sink has nothing of the empty tape
-pub part_of_nothing : (row : Entry → Summary → List ℕ) (listing : Names) (matrix : Matrix) (had : Option (List ℕ))
-    → GivesPart row listing matrix had had
-part_of_nothing row listing matrix had =
+pub part_of_nothing : (row : Entry → Summary → List ℕ) (listing : Names) (matrix : Matrix) (limit : ℕ) (had : Option (List ℕ))
+    → GivesPart row listing matrix limit had had
+part_of_nothing row listing matrix limit had =
     let t = empty_tape listing 1 matrix in (
       t,
-      record { legal = IsLegal-empty listing 1 matrix; listed = refl; by_matrix = refl },
+      record { legal = IsLegal-empty listing 1 matrix; listed = refl; by_matrix = refl; within = omega (arith) },
       part_all row t had had (all_none had had refl),
     )
 

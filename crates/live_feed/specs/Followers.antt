@@ -1,7 +1,16 @@
 -- What a follower keeps of its tape.
-use Rattle.std.specs.Prelude.{◌≡◌}
+use Rattle.std.specs.Prelude.{◌≡◌, length, Option, Result, IfSome, IsSomeAnd, OnOk}
+use Rattle.subscriber.specs.Subscribers.{SubscriberState}
 use Rattle.tape_core.specs.Tape.{TapeState}
 
--- a tape has the names and the matrix that it had before
-abbrev pub KeepsNames : TapeState → TapeState → Type 0
-KeepsNames t t' = (t'.listing ≡ t.listing) × (t'.matrix ≡ t.matrix)
+-- a tape has the names, the matrix and the limit that it had before
+abbrev pub KeepsTerms : TapeState → TapeState → Type 0
+KeepsTerms t t' = (t'.listing ≡ t.listing) × (t'.matrix ≡ t.matrix) × (t'.limit ≡ t.limit)
+
+-- the end is known, and all is held
+abbrev pub HasAllOf : SubscriberState → Type 0
+HasAllOf s = IsSomeAnd s.window.ended (λ count. length s.tape.entries ≡ count)
+
+-- a run that is over without a fault has all
+abbrev pub EndsWhole : {E : Type 0} → Option (Result Unit E) → SubscriberState → Type 0
+EndsWhole over s = IfSome over (λ ended. OnOk ended (HasAllOf s))

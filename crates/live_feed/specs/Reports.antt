@@ -1,5 +1,5 @@
 -- The report of a day as it is written.
-use Rattle.std.specs.Prelude.{◌≡◌, ℕ, List, Option, None}
+use Rattle.std.specs.Prelude.{◌≡◌, ◌≤◌, ℕ, List, length, Option, None}
 use Rattle.std.specs.Io.KnownBytes.{Appends}
 use Rattle.tape_types.specs.Names.{Names, names_fault}
 use Rattle.sale_matrix.specs.declared.matrix.Matrix.{Matrix}
@@ -15,7 +15,8 @@ IsListing listing = names_fault listing.symbols listing.participants ≡ None
 abbrev pub WritesOneReport : Option (List ℕ) → Option (List ℕ) → Type 0
 WritesOneReport old new = (t : TapeState) × IsListing t.listing × IsLegal t × Appends old new (report_text (report_rows t))
 
--- the whole report of some legal tape of the listing and the matrix was appended, and nothing else
-abbrev pub WritesItsReport : Names → Matrix → Option (List ℕ) → Option (List ℕ) → Type 0
-WritesItsReport listing matrix old new =
-    (t : TapeState) × IsListing t.listing × IsLegal t × (t.listing ≡ listing) × (t.matrix ≡ matrix) × Appends old new (report_text (report_rows t))
+-- the whole report of some legal tape of the listing and the matrix, of no more entries than the limit, was appended, and nothing else
+abbrev pub WritesItsReport : Names → Matrix → ℕ → Option (List ℕ) → Option (List ℕ) → Type 0
+WritesItsReport listing matrix limit old new =
+    (t : TapeState) × IsListing t.listing × IsLegal t × (t.listing ≡ listing) × (t.matrix ≡ matrix) × (length t.entries ≤ limit)
+    × Appends old new (report_text (report_rows t))

@@ -50,21 +50,22 @@ HasAll text had has = IfSome had (λ xs. has ≡ Some (xs ++ text))
 abbrev pub HasPart : List ℕ → Option (List ℕ) → Option (List ℕ) → Type 0
 HasPart text had has = IfSome had (λ xs. IsSomeAnd has (λ ys. (length xs ≤ length ys) × (ys ≡ take (length ys) (xs ++ text))))
 
--- a legal tape of the listing and the matrix
-pub record IsTapeOf (listing : Names) (matrix : Matrix) (t : TapeState) : Type 0 where
+-- a legal tape of the listing and the matrix, of no more entries than the limit
+pub record IsTapeOf (listing : Names) (matrix : Matrix) (limit : ℕ) (t : TapeState) : Type 0 where
   pub legal : IsLegal t
   pub listed : t.listing ≡ listing
   pub by_matrix : t.matrix ≡ matrix
+  pub within : length t.entries ≤ limit
 
--- a sink was given all entries of some legal tape of the listing and the matrix, and nothing else
-abbrev pub GivesTape : (Entry → Summary → List ℕ) → Names → Matrix → Option (List ℕ) → Option (List ℕ) → Type 0
-GivesTape row listing matrix old new = (t : TapeState) × IsTapeOf listing matrix t × Appends old new (rows_of row t)
+-- a sink was given all entries of some such tape, and nothing else
+abbrev pub GivesTape : (Entry → Summary → List ℕ) → Names → Matrix → ℕ → Option (List ℕ) → Option (List ℕ) → Type 0
+GivesTape row listing matrix limit old new = (t : TapeState) × IsTapeOf listing matrix limit t × Appends old new (rows_of row t)
 
 -- a sink has the rows of some such tape, up to some byte of them, and nothing else
-abbrev pub GivesPart : (Entry → Summary → List ℕ) → Names → Matrix → Option (List ℕ) → Option (List ℕ) → Type 0
-GivesPart row listing matrix old new = (t : TapeState) × IsTapeOf listing matrix t × HasPart (rows_of row t) old new
+abbrev pub GivesPart : (Entry → Summary → List ℕ) → Names → Matrix → ℕ → Option (List ℕ) → Option (List ℕ) → Type 0
+GivesPart row listing matrix limit old new = (t : TapeState) × IsTapeOf listing matrix limit t × HasPart (rows_of row t) old new
 
 -- a sink was given all entries of some such tape, and the whole report of the same tape was appended
-abbrev pub GivesItsReport : (Entry → Summary → List ℕ) → Names → Matrix → Option (List ℕ) → Option (List ℕ) → Option (List ℕ) → Option (List ℕ) → Type 0
-GivesItsReport row listing matrix given_old given_new old new =
-    (t : TapeState) × IsTapeOf listing matrix t × Appends given_old given_new (rows_of row t) × Appends old new (report_text (report_rows t))
+abbrev pub GivesItsReport : (Entry → Summary → List ℕ) → Names → Matrix → ℕ → Option (List ℕ) → Option (List ℕ) → Option (List ℕ) → Option (List ℕ) → Type 0
+GivesItsReport row listing matrix limit given_old given_new old new =
+    (t : TapeState) × IsTapeOf listing matrix limit t × Appends given_old given_new (rows_of row t) × Appends old new (report_text (report_rows t))

@@ -4,6 +4,7 @@ ghost use Rattle.std.specs.Io.KnownBytes.{Appends};
 ghost use Rattle.day_report.specs.ReportText.{report_text};
 ghost use Rattle.day_report.specs.Rows.{report_rows};
 ghost use Rattle.live_feed.specs.Faults.{fault_status};
+ghost use Rattle.live_feed.specs.Followers.{HasAllOf};
 ghost use Rattle.live_feed.specs.Reports.{IsListing, WritesItsReport, WritesOneReport};
 ghost use Rattle.live_feed.specs.Sinks.{GivesItsReport, GivesPart, GivesTape, IsTapeOf, rows_of};
 ghost use Rattle.live_feed.specs.declared.fault.Fault.TheVariants.{Write as WriteFault};
@@ -67,6 +68,7 @@ fn start<'a, R: Net<Listener = TcpListener, Stream = TcpStream>>(
 ) -> Result<Started<'a>, Fault>
     ensures listed { IfOk result (λ started. started.subscriber.tape.listing ≡ listing) }
     ensures by_matrix { IfOk result (λ started. started.subscriber.tape.matrix ≡ matrix) }
+    ensures limited { IfOk result (λ started. started.subscriber.tape.limit ≡ limit) }
     ensures nothing { IfOk result (λ started. started.subscriber.tape.entries ≡ []) }
 {
     let requester = Requester::new(rt, alloc, sockets.retransmission)?;
@@ -104,10 +106,12 @@ fn follow<
 ) -> (Result<Subscriber, Fault>, S)
     requires listing { listing ≡ N.listing }
     requires matrix { matrix ≡ N.matrix }
+    requires limit { limit ≡ N.limit }
     requires before { S.contents sink ≡ N.before }
-    ensures tape { IfOk result.0 (λ subscriber. IsTapeOf listing matrix subscriber.tape) }
+    ensures tape { IfOk result.0 (λ subscriber. IsTapeOf listing matrix limit subscriber.tape) }
+    ensures whole { IfOk result.0 HasAllOf }
     ensures given { IfOk result.0 (λ subscriber. Appends (S.contents sink) (S.contents result.1) (rows_of S.text subscriber.tape)) }
-    ensures part { GivesPart S.text listing matrix (S.contents sink) (S.contents result.1) }
+    ensures part { GivesPart S.text listing matrix limit (S.contents sink) (S.contents result.1) }
 {
     let started = match start(rt, alloc, listing, limit, matrix, session, sockets) {
         Ok(started) => started,
@@ -186,9 +190,9 @@ pub fn follow_over<
     writer: &mut W,
 ) -> (u8, S)
     ensures report { result.0 ≡ 0 → WritesOneReport (W.contents writer.old) (W.contents writer.new) }
-    ensures listed { result.0 ≡ 0 → WritesItsReport listing matrix (W.contents writer.old) (W.contents writer.new) }
-    ensures given { result.0 ≡ 0 → GivesItsReport S.text listing matrix (S.contents sink) (S.contents result.1) (W.contents writer.old) (W.contents writer.new) }
-    ensures part { GivesPart S.text listing matrix (S.contents sink) (S.contents result.1) }
+    ensures listed { result.0 ≡ 0 → WritesItsReport listing matrix limit (W.contents writer.old) (W.contents writer.new) }
+    ensures given { result.0 ≡ 0 → GivesItsReport S.text listing matrix limit (S.contents sink) (S.contents result.1) (W.contents writer.old) (W.contents writer.new) }
+    ensures part { GivesPart S.text listing matrix limit (S.contents sink) (S.contents result.1) }
     ensures unwritten { result.0 ≢ 0 → result.0 ≢ 4 → writer.new ≡ writer.old }
     ensures status { (result.0 ≡ 0) ⊎ ((3 ≤ result.0) × (result.0 ≤ 7)) }
 {
@@ -231,8 +235,8 @@ pub fn follow_tape_over<
     sockets: FollowSockets,
     sink: S,
 ) -> (u8, S)
-    ensures given { result.0 ≡ 0 → GivesTape S.text listing matrix (S.contents sink) (S.contents result.1) }
-    ensures part { GivesPart S.text listing matrix (S.contents sink) (S.contents result.1) }
+    ensures given { result.0 ≡ 0 → GivesTape S.text listing matrix limit (S.contents sink) (S.contents result.1) }
+    ensures part { GivesPart S.text listing matrix limit (S.contents sink) (S.contents result.1) }
     ensures status { (result.0 ≡ 0) ⊎ ((3 ≤ result.0) × (result.0 ≤ 7)) }
 {
     let (held, sink) = follow::<Brand, S, R>(

@@ -49,6 +49,7 @@ fn end_day<D: DayName>(shared: SharedTape<D>, seats: Vec<LineSeat<D>>) -> Result
     ensures legal { IfOk result (λ day. IsLegal day.tape) }
     ensures listed { IfOk result (λ day. day.tape.listing ≡ D.terms.listing) }
     ensures by_matrix { IfOk result (λ day. day.tape.matrix ≡ D.terms.matrix) }
+    ensures within { IfOk result (λ day. length day.tape.entries ≤ D.terms.limit) }
     ensures cells { IfOk result (λ day. day.names ≡ shared) }
     ensures fault { IfErr result (λ fault. fault ≡ Disagrees) }
 {
@@ -101,6 +102,7 @@ fn finish_day<D: DayName>(shared: SharedTape<D>, joined: Joined<D>) -> Result<Da
     ensures legal { IfOk result (λ day. IsLegal day.tape) }
     ensures listed { IfOk result (λ day. day.tape.listing ≡ D.terms.listing) }
     ensures by_matrix { IfOk result (λ day. day.tape.matrix ≡ D.terms.matrix) }
+    ensures within { IfOk result (λ day. length day.tape.entries ≤ D.terms.limit) }
     ensures number { IfOk result (λ day. length day.tape.entries ≡ joined.sent.number) }
     ensures sent { IfOk result (λ day. shown joined.sent.tokens.items ≡ day.tape.entries) }
 {
@@ -138,6 +140,7 @@ fn run_named<D: DayName + Send + Sync, R: Threads + Wait + Clock + Sync, L: Loss
     ensures legal { IfOk result (λ day. IsLegal day.tape) }
     ensures listed { IfOk result (λ day. day.tape.listing ≡ D.terms.listing) }
     ensures by_matrix { IfOk result (λ day. day.tape.matrix ≡ D.terms.matrix) }
+    ensures within { IfOk result (λ day. length day.tape.entries ≤ D.terms.limit) }
 {
     let Ok(lines) = Vec::with_capacity(feed.alloc, readers.len()) else {
         drop(prepared);
@@ -174,6 +177,7 @@ fn run_day<R: Threads + Wait + Clock + Sync, L: Loss + Sync>(
     ensures legal { IfOk result (λ day. IsLegal day.tape) }
     ensures listed { IfOk result (λ day. day.tape.listing ≡ prepared.tape.listing) }
     ensures by_matrix { IfOk result (λ day. day.tape.matrix ≡ prepared.tape.matrix) }
+    ensures within { IfOk result (λ day. length day.tape.entries ≤ prepared.tape.limit) }
 {
     run_named::<Brand, R, L>(rt, feed, prepared, readers, text)
 }
@@ -205,6 +209,7 @@ fn hold_day<R: Threads + Wait + Clock + Sync, L: Loss + Sync>(
     ensures legal { IfOk result (λ day. IsLegal day.tape) }
     ensures listed { IfOk result (λ day. day.tape.listing ≡ listing) }
     ensures by_matrix { IfOk result (λ day. day.tape.matrix ≡ matrix) }
+    ensures within { IfOk result (λ day. length day.tape.entries ≤ limit) }
 {
     if lines.len() != listing.participants().as_slice().len() {
         return Err(Fault::Read);
@@ -232,7 +237,7 @@ fn live<R: Threads + Wait + Clock + Sync, L: Loss + Sync, W: Write>(
     writer: &mut W,
 ) -> Result<(), Fault>
     ensures report { OnOk result (WritesOneReport (W.contents writer.old) (W.contents writer.new)) }
-    ensures listed { OnOk result (WritesItsReport listing matrix (W.contents writer.old) (W.contents writer.new)) }
+    ensures listed { OnOk result (WritesItsReport listing matrix limit (W.contents writer.old) (W.contents writer.new)) }
     ensures unwritten { IfErr result (λ fault. fault ≢ WriteFault → writer.new ≡ writer.old) }
 {
     let day = hold_day(rt, feed, listing, limit, matrix, lines)?;
@@ -270,7 +275,7 @@ pub fn live_over<R: Threads + Wait + Clock + Sync, L: Loss + Sync, W: Write>(
     writer: &mut W,
 ) -> u8
     ensures report { result ≡ 0 → WritesOneReport (W.contents writer.old) (W.contents writer.new) }
-    ensures listed { result ≡ 0 → WritesItsReport listing matrix (W.contents writer.old) (W.contents writer.new) }
+    ensures listed { result ≡ 0 → WritesItsReport listing matrix limit (W.contents writer.old) (W.contents writer.new) }
     ensures unwritten { result ≢ 0 → result ≢ 4 → writer.new ≡ writer.old }
     ensures status { (result ≡ 0) ⊎ ((3 ≤ result) × (result ≤ 7)) }
 {

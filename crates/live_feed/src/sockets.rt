@@ -1,4 +1,5 @@
 //! The sockets that a caller opens.
+ghost use Rattle.live_feed.specs.Addresses.{IsHere};
 
 use std::net::{Ipv4Addr, SocketAddr, TcpListener, UdpSocket};
 
@@ -28,7 +29,9 @@ pub struct FollowSockets {
     pub retransmission: u16,
 }
 
-/// The address of a port of this machine, on 127.0.0.1.
-pub fn here(port: u16) -> SocketAddr {
+/// The address of a port of this machine, on 127.0.0.1, which no other machine reaches.
+pub fn here(port: u16) -> SocketAddr
+    ensures { IsHere result port }
+{
     SocketAddr::from((Ipv4Addr::LOCALHOST, port))
 }

@@ -20,12 +20,12 @@ module _ {W E : Type 0} (status : ℕ) (writer_old writer_new : W) (old new : Op
 
   -- the day that is made
   pub runs_live : (words : List ℕ) (day : LiveWords) → AskLive words day
-      → RunsFeed (WritesItsReport day.listing day.matrix) status writer_old writer_new old new errors_old errors_new said_old said_new
+      → RunsFeed (WritesItsReport day.listing day.matrix day.limit) status writer_old writer_new old new errors_old errors_new said_old said_new
       → RunsFeed (WritesLiveReport words) status writer_old writer_new old new errors_old errors_new said_old said_new
-  runs_live words day asked run = runs_too (WritesItsReport day.listing day.matrix) (WritesLiveReport words) (λ report. (day, asked, report)) run
+  runs_live words day asked run = runs_too (WritesItsReport day.listing day.matrix day.limit) (WritesLiveReport words) (λ report. (day, asked, report)) run
 
   -- the day that is followed
   pub runs_follow : (words : List ℕ) (day : FollowWords) → AskFollow words day
-      → RunsFeed (WritesItsReport day.listing day.matrix) status writer_old writer_new old new errors_old errors_new said_old said_new
+      → RunsFeed (WritesItsReport day.listing day.matrix day.limit) status writer_old writer_new old new errors_old errors_new said_old said_new
       → RunsFeed (WritesFollowReport words) status writer_old writer_new old new errors_old errors_new said_old said_new
-  runs_follow words day asked run = runs_too (WritesItsReport day.listing day.matrix) (WritesFollowReport words) (λ report. (day, asked, report)) run
+  runs_follow words day asked run = runs_too (WritesItsReport day.listing day.matrix day.limit) (WritesFollowReport words) (λ report. (day, asked, report)) run

@@ -108,7 +108,7 @@ fn live_status<T, W>(rt: &T, alloc: Global, words: LiveWords, writer: &mut W) ->
 where
     T: Threads + Wait + Clock + Net<Listener = TcpListener, Stream = TcpStream> + Sync,
     W: Write,
-    ensures report { result ≡ 0 → WritesItsReport words.listing words.matrix (W.contents writer.old) (W.contents writer.new) }
+    ensures report { result ≡ 0 → WritesItsReport words.listing words.matrix words.limit (W.contents writer.old) (W.contents writer.new) }
     ensures unwritten { result ≢ 0 → result ≢ 4 → writer.new ≡ writer.old }
     ensures known { IsFeedStatus result }
 {
@@ -141,7 +141,7 @@ where
     T: Threads + Wait + Clock + Net<Listener = TcpListener, Stream = TcpStream> + Sync,
     W: Write,
     E: Write,
-    ensures { RunsFeed (WritesItsReport words.listing words.matrix) result writer.old writer.new (W.contents writer.old) (W.contents writer.new) errors.old errors.new
+    ensures { RunsFeed (WritesItsReport words.listing words.matrix words.limit) result writer.old writer.new (W.contents writer.old) (W.contents writer.new) errors.old errors.new
         (E.contents errors.old) (E.contents errors.new) }
 {
     let status = live_status(rt, alloc, words, writer);
@@ -153,7 +153,7 @@ fn follow_status<T, W>(rt: &T, alloc: Global, words: FollowWords, writer: &mut W
 where
     T: Threads + Wait + Net<Listener = TcpListener, Stream = TcpStream> + Sync,
     W: Write,
-    ensures report { result ≡ 0 → WritesItsReport words.listing words.matrix (W.contents writer.old) (W.contents writer.new) }
+    ensures report { result ≡ 0 → WritesItsReport words.listing words.matrix words.limit (W.contents writer.old) (W.contents writer.new) }
     ensures unwritten { result ≢ 0 → result ≢ 4 → writer.new ≡ writer.old }
     ensures known { IsFeedStatus result }
 {
@@ -187,7 +187,7 @@ where
     T: Threads + Wait + Net<Listener = TcpListener, Stream = TcpStream> + Sync,
     W: Write,
     E: Write,
-    ensures { RunsFeed (WritesItsReport words.listing words.matrix) result writer.old writer.new (W.contents writer.old) (W.contents writer.new) errors.old errors.new
+    ensures { RunsFeed (WritesItsReport words.listing words.matrix words.limit) result writer.old writer.new (W.contents writer.old) (W.contents writer.new) errors.old errors.new
         (E.contents errors.old) (E.contents errors.new) }
 {
     let status = follow_status(rt, alloc, words, writer);

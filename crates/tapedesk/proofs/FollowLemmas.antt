@@ -48,18 +48,18 @@ part_prefix text (Some xs) (Some ys) part =
 -- ## Tapes
 
 -- a part of the line of the names is a part of a tape
-pub head_part : (listing : Names) (matrix : Matrix) (old new : Option (List ℕ)) → WritesPrefix head_line old new → WritesPartOf listing matrix old new
-head_part listing matrix old new prefix =
+pub head_part : (listing : Names) (matrix : Matrix) (limit : ℕ) (old new : Option (List ℕ)) → WritesPrefix head_line old new → WritesPartOf listing matrix limit old new
+head_part listing matrix limit old new prefix =
     let t = empty_tape listing 1 matrix in (
       t,
-      record { legal = nothing_legal listing matrix; listed = refl; by_matrix = refl },
+      record { legal = nothing_legal listing matrix; listed = refl; by_matrix = refl; within = omega (arith) },
       WritesPrefix-longer head_line (rows_text (entry_rows matrix [] [])) old new prefix,
     )
 
 -- the line of the names and all rows are the whole tape, also once the writer is flushed
-pub tape_whole : (listing : Names) (matrix : Matrix) (old mid has new : Option (List ℕ)) → Appends old mid head_line
-    → GivesTape entry_line listing matrix mid has → Keeps has new → WritesTapeOf listing matrix old new
-tape_whole listing matrix old mid has new head given kept =
+pub tape_whole : (listing : Names) (matrix : Matrix) (limit : ℕ) (old mid has new : Option (List ℕ)) → Appends old mid head_line
+    → GivesTape entry_line listing matrix limit mid has → Keeps has new → WritesTapeOf listing matrix limit old new
+tape_whole listing matrix limit old mid has new head given kept =
     let t = given.0 in
     let rows : List ℕ = rows_after entry_line t.matrix [] t.entries in
     let all : Appends old has (head_line ++ rows) = WritesUpTo-all (head_line ++ rows) old has
@@ -70,9 +70,9 @@ tape_whole listing matrix old mid has new head given kept =
     )
 
 -- the line of the names and a part of the rows are a part of the tape, also once the writer is flushed
-pub tape_part : (listing : Names) (matrix : Matrix) (old mid has new : Option (List ℕ)) → Appends old mid head_line
-    → GivesPart entry_line listing matrix mid has → Keeps has new → WritesPartOf listing matrix old new
-tape_part listing matrix old mid has new head given kept =
+pub tape_part : (listing : Names) (matrix : Matrix) (limit : ℕ) (old mid has new : Option (List ℕ)) → Appends old mid head_line
+    → GivesPart entry_line listing matrix limit mid has → Keeps has new → WritesPartOf listing matrix limit old new
+tape_part listing matrix limit old mid has new head given kept =
     let t = given.0 in
     let rows : List ℕ = rows_after entry_line t.matrix [] t.entries in
     let some : WritesPrefix (head_line ++ rows) old has = WritesPrefix-then head_line rows old mid has head (part_prefix rows mid has given.2) in (
@@ -83,12 +83,12 @@ tape_part listing matrix old mid has new head given kept =
 
 -- the tape of the day that arguments name
 pub named_tape : (words : List ℕ) (day : FollowWords) (old new : Option (List ℕ)) → NameFollow (words_of words) day
-    → WritesTapeOf day.listing day.matrix old new → WritesNamedTape words old new
+    → WritesTapeOf day.listing day.matrix day.limit old new → WritesNamedTape words old new
 named_tape words day old new named whole = (day, named, whole)
 
 -- a part of it
 pub named_part : {W : Type 0} (words : List ℕ) (day : FollowWords) (old new : Option (List ℕ)) (first last : W) → NameFollow (words_of words) day
-    → (last ≡ first) ⊎ WritesPartOf day.listing day.matrix old new → (last ≡ first) ⊎ WritesPartOfNamed words old new
+    → (last ≡ first) ⊎ WritesPartOf day.listing day.matrix day.limit old new → (last ≡ first) ⊎ WritesPartOfNamed words old new
 named_part words day old new first last named (inl same) = inl same
 named_part words day old new first last named (inr part) = inr (day, named, part)
 

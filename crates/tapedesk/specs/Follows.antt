@@ -25,21 +25,21 @@ entry_line e figures = row_line (entry_row e figures)
 abbrev pub followed_text : TapeState → List ℕ
 followed_text t = entries_text t.matrix t.entries
 
--- the rows of all entries of some legal tape of the listing and the matrix were written, and nothing else
-abbrev pub WritesTapeOf : Names → Matrix → Option (List ℕ) → Option (List ℕ) → Type 0
-WritesTapeOf listing matrix old new = (t : TapeState) × IsTapeOf listing matrix t × Appends old new (followed_text t)
+-- the rows of all entries of some legal tape of the listing and the matrix, of no more entries than the limit, were written, and nothing else
+abbrev pub WritesTapeOf : Names → Matrix → ℕ → Option (List ℕ) → Option (List ℕ) → Type 0
+WritesTapeOf listing matrix limit old new = (t : TapeState) × IsTapeOf listing matrix limit t × Appends old new (followed_text t)
 
 -- a part of such a text was written, from its front
-abbrev pub WritesPartOf : Names → Matrix → Option (List ℕ) → Option (List ℕ) → Type 0
-WritesPartOf listing matrix old new = (t : TapeState) × IsTapeOf listing matrix t × WritesPrefix (followed_text t) old new
+abbrev pub WritesPartOf : Names → Matrix → ℕ → Option (List ℕ) → Option (List ℕ) → Type 0
+WritesPartOf listing matrix limit old new = (t : TapeState) × IsTapeOf listing matrix limit t × WritesPrefix (followed_text t) old new
 
 -- the rows of all entries of some legal tape were written, of the listing and the matrix that arguments name, and nothing else
 abbrev pub WritesNamedTape : List ℕ → Option (List ℕ) → Option (List ℕ) → Type 0
-WritesNamedTape words old new = (day : FollowWords) × NameFollow (words_of words) day × WritesTapeOf day.listing day.matrix old new
+WritesNamedTape words old new = (day : FollowWords) × NameFollow (words_of words) day × WritesTapeOf day.listing day.matrix day.limit old new
 
 -- a part of such a text was written, from its front
 abbrev pub WritesPartOfNamed : List ℕ → Option (List ℕ) → Option (List ℕ) → Type 0
-WritesPartOfNamed words old new = (day : FollowWords) × NameFollow (words_of words) day × WritesPartOf day.listing day.matrix old new
+WritesPartOfNamed words old new = (day : FollowWords) × NameFollow (words_of words) day × WritesPartOf day.listing day.matrix day.limit old new
 
 -- what is said of a status
 abbrev pub follow_status_text : ℕ → List ℕ

@@ -98,8 +98,8 @@ fn follow_day<T, W>(rt: &T, alloc: Global, words: FollowWords, writer: W) -> (u8
 where
     T: Threads + Wait + Net<Listener = TcpListener, Stream = TcpStream> + Sync,
     W: Write + Send + Drop,
-    ensures whole { result.0 ≡ 0 → WritesTapeOf words.listing words.matrix (W.contents writer) (W.contents result.1) }
-    ensures part { (result.1 ≡ writer) ⊎ WritesPartOf words.listing words.matrix (W.contents writer) (W.contents result.1) }
+    ensures whole { result.0 ≡ 0 → WritesTapeOf words.listing words.matrix words.limit (W.contents writer) (W.contents result.1) }
+    ensures part { (result.1 ≡ writer) ⊎ WritesPartOf words.listing words.matrix words.limit (W.contents writer) (W.contents result.1) }
     ensures status { IsRunStatus result.0 }
 {
     let Ok(sockets) = open_sockets(rt, &words) else {

@@ -5,6 +5,7 @@ ghost use Rattle.std.proofs.Props.{props};
 ghost use Rattle.tape_frames.specs.Headers.{header_number_of};
 ghost use Rattle.tape_frames.specs.Spelling.{Spells};
 ghost use Rattle.tape_frames.specs.declared.packet.Packet.{Packet};
+ghost use Rattle.live_feed.specs.Followers.{EndsWhole, HasAllOf};
 ghost use Rattle.live_feed.specs.LinePositions.{IsBehind, once_noted};
 ghost use Rattle.live_feed.specs.Sinks.{GivesPart, HasAll, HasPart, IsTapeOf, rows_of};
 ghost use Rattle.live_feed.specs.declared.follow.silence.TheConstants.{SILENT_MOST};
@@ -73,6 +74,8 @@ pub(crate) struct Follower<N: HeldName, S: EntrySink> {
     name: PhantomData<N>,
     ghost listed: { subscriber.tape.listing ≡ N.listing },
     ghost by_matrix: { subscriber.tape.matrix ≡ N.matrix },
+    ghost limited: { subscriber.tape.limit ≡ N.limit },
+    ghost whole: { EndsWhole over subscriber } by { Prim.hlevel props },
     ghost given: { lacks ≡ None → HasAll (rows_of S.text subscriber.tape) N.before (S.contents sink) } by { Prim.hlevel props },
     ghost part: { HasPart (rows_of S.text subscriber.tape) N.before (S.contents sink) } by { Prim.hlevel props },
 }
@@ -85,7 +88,8 @@ pub(crate) fn subscribe(
     matrix: Matrix,
     session: u64,
 ) -> Result<Subscriber, Fault>
-    ensures { IfOk result (λ subscriber. (subscriber.tape.listing ≡ listing) × (subscriber.tape.matrix ≡ matrix) × (subscriber.tape.entries ≡ [])) }
+    ensures { IfOk result (λ subscriber. (subscriber.tape.listing ≡ listing) × (subscriber.tape.matrix ≡ matrix) × (subscriber.tape.limit ≡ limit)
+        × (subscriber.tape.entries ≡ [])) }
 {
     match Subscriber::new(alloc, listing, limit, session, matrix) {
         Ok(subscriber) => Ok(subscriber),
@@ -147,6 +151,7 @@ impl<N: HeldName, S: EntrySink> Follower<N, S> {
     ) -> Follower<N, S>
         requires listing { subscriber.tape.listing ≡ N.listing }
         requires matrix { subscriber.tape.matrix ≡ N.matrix }
+        requires limit { subscriber.tape.limit ≡ N.limit }
         requires nothing { subscriber.tape.entries ≡ [] }
         requires before { S.contents sink ≡ N.before }
     {
@@ -177,7 +182,10 @@ impl<N: HeldName, S: EntrySink> Follower<N, S> {
 
     /// Takes what came by a line, and replays what is ready. Bytes that are no packet of the day are dropped, and so are, before
     /// they are decoded, those of a packet that brings what is held.
-    fn take(&mut self, line: Line, bytes: &[u8]) -> Result<(), Fault> {
+    fn take(&mut self, line: Line, bytes: &[u8]) -> Result<(), Fault>
+        requires going { self.old.over ≡ None }
+        ensures going { self.new.over ≡ None }
+    {
         if self.subscriber.holds_all_of(bytes) {
             self.note(line, bytes);
             return Ok(());
@@ -190,7 +198,10 @@ impl<N: HeldName, S: EntrySink> Follower<N, S> {
 
     /// Replays what is ready and gives it to the sink, unless that failed before.
     #[tactic(auto, using(crate::proofs::Rows::all_more, crate::proofs::Rows::part_all, crate::proofs::Rows::part_some))]
-    fn replay(&mut self) -> Result<(), Fault> {
+    fn replay(&mut self) -> Result<(), Fault>
+        requires going { self.old.over ≡ None }
+        ensures going { self.new.over ≡ None }
+    {
         if let Some(fault) = self.lacks {
             return Err(fault);
         }
@@ -205,7 +216,11 @@ impl<N: HeldName, S: EntrySink> Follower<N, S> {
 
     /// Takes packets that were asked for. The first number that was asked for has to be held then, by these or by what a line
     /// brought meanwhile, so that each request makes progress.
-    fn take_all(&mut self, request: &Request, packets: &[Vec<u8>]) -> Result<(), Fault> {
+    fn take_all(&mut self, request: &Request, packets: &[Vec<u8>]) -> Result<(), Fault>
+        requires going { self.old.over ≡ None }
+        ensures going { self.new.over ≡ None }
+        ensures progress { OnOk result (request.now.from ≤ length self.new.subscriber.tape.entries) }
+    {
         for packet in packets {
             self.take(Line::R, packet)?;
         }
@@ -217,7 +232,11 @@ impl<N: HeldName, S: EntrySink> Follower<N, S> {
 
     /// Gives the first subscriber up for a new one where it holds enough, and the sink lets it.
     #[tactic(auto, using(crate::proofs::Rows::all_kept, crate::proofs::Rows::all_of_nothing, crate::proofs::Rows::part_all))]
-    fn restart(&mut self) -> Result<(), Fault> {
+    fn restart(&mut self) -> Result<(), Fault>
+        requires going { self.old.over ≡ None }
+        ensures going { self.new.over ≡ None }
+        ensures unasked { ¬ (IsSomeAnd self.old.restart_after (λ most. most ≤ length self.old.subscriber.tape.entries)) → self.new ≡ self.old }
+    {
         if !is_given_up(self.restart_after, self.subscriber.held().len()) {
             return Ok(());
         }
@@ -246,7 +265,7 @@ impl<N: HeldName, S: EntrySink> Follower<N, S> {
 
     /// Whether the end is known and all is held.
     fn has_all(&self) -> bool
-        ensures { IsTrue result ↔ IsSomeAnd self.now.subscriber.window.ended (λ count. length self.now.subscriber.tape.entries ≡ count) }
+        ensures { IsTrue result ↔ HasAllOf self.now.subscriber }
     {
         match self.subscriber.ended() {
             Some(count) => self.subscriber.held().len() == count as usize,
@@ -256,9 +275,8 @@ impl<N: HeldName, S: EntrySink> Follower<N, S> {
 
     /// Ends a run that is not over where what came was a fault, or where all is held. Whether to restart is looked at before that.
     fn settle(&mut self, taken: Result<(), Fault>)
+        requires going { self.old.over ≡ None }
         ensures fault { IfErr taken (λ fault. self.new.over ≡ Some (Err fault)) }
-        ensures whole { IfSome self.new.over (λ ended. OnOk ended
-            (IsSomeAnd self.new.subscriber.window.ended (λ count. length self.new.subscriber.tape.entries ≡ count))) }
     {
         let settled = match taken {
             Ok(()) => self.restart(),
@@ -395,9 +413,10 @@ impl<N: HeldName, S: EntrySink> Follower<N, S> {
 
     /// The subscriber of a run that is over, or the fault that ended it, and the sink.
     pub(crate) fn into_held(self) -> (Result<Subscriber, Fault>, S)
-        ensures tape { IfOk result.0 (λ subscriber. IsTapeOf N.listing N.matrix subscriber.tape) }
+        ensures tape { IfOk result.0 (λ subscriber. IsTapeOf N.listing N.matrix N.limit subscriber.tape) }
+        ensures whole { IfOk result.0 HasAllOf }
         ensures given { IfOk result.0 (λ subscriber. Appends N.before (S.contents result.1) (rows_of S.text subscriber.tape)) }
-        ensures part { GivesPart S.text N.listing N.matrix N.before (S.contents result.1) }
+        ensures part { GivesPart S.text N.listing N.matrix N.limit N.before (S.contents result.1) }
     {
         // For the proof alone: by the clauses of this call what is held is a legal tape, whatever came.
         let _ = self.subscriber.held();

@@ -6,13 +6,15 @@ ghost use Rattle.sale_matrix.specs.declared.matrix.Matrix.TheVariants.{One};
 
 use std::marker::Brand;
 
-/// The listing and the matrix of the tape that a follower is to hold, and the bytes of its sink before that, behind its lock too. A
-/// function over it is called with `Brand`, once for each follower.
+/// The listing, the matrix and the limit of the tape that a follower is to hold, and the bytes of its sink before that, behind its lock
+/// too. A function over it is called with `Brand`, once for each follower.
 pub(crate) trait HeldName {
     /// The symbols and participants.
     ghost listing: { Names };
     /// The sale condition matrix.
     ghost matrix: { Matrix };
+    /// The most entries of the tape.
+    ghost limit: { ℕ };
     /// What the sink has before it is given anything.
     ghost before: { Option (List ℕ) };
 }
@@ -21,6 +23,8 @@ impl HeldName for Brand {
     ghost listing = { record { symbols = []; participants = [] } };
 
     ghost matrix = { One };
+
+    ghost limit = { 0 };
 
     ghost before = { None };
 }

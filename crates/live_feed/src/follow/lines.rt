@@ -11,6 +11,9 @@ use tape_frames::LONGEST_PACKET;
 /// Room for a datagram: more than the longest packet has, so that none longer is taken for one.
 pub(crate) const ROOM: usize = LONGEST_PACKET + 1;
 
+// A datagram that fills the room is no packet, so none is cut to one.
+const _: () = prove!(ROOM > LONGEST_PACKET);
+
 /// A line of the follower.
 #[derive(Drop)]
 pub(crate) struct FollowedLine<'a> {

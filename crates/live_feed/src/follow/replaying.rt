@@ -2,7 +2,7 @@
 ghost use Rattle.std.specs.Prelude.{◌≡◌, ◌≢◌, ℕ, List, Option, [], OnErr, OnOk};
 ghost use Rattle.std.specs.Io.KnownBytes.{Appends, Keeps};
 ghost use Rattle.row_reads.specs.Writing.{WritesPrefix};
-ghost use Rattle.live_feed.specs.Followers.{KeepsNames};
+ghost use Rattle.live_feed.specs.Followers.{KeepsTerms};
 ghost use Rattle.live_feed.specs.Sinks.{GivesMore, GivesSome, HasAll, RowsGrow, figures_of, rows_of};
 ghost use Rattle.live_feed.specs.declared.fault.Fault.TheVariants.{Disagrees, Memory};
 ghost use Rattle.subscriber.specs.declared.drain_fault.Stop.TheVariants.{Refused};
@@ -26,7 +26,7 @@ fn fault_of_drain(fault: DrainFault) -> Fault
 
 /// Has the subscriber replay what is ready.
 fn replay_all(subscriber: &mut Subscriber) -> Result<(), Fault>
-    ensures names { KeepsNames subscriber.old.tape subscriber.new.tape }
+    ensures names { KeepsTerms subscriber.old.tape subscriber.new.tape }
     ensures grown { RowsGrow subscriber.old.tape subscriber.new.tape }
 {
     match subscriber.drain() {
@@ -55,7 +55,7 @@ fn give<S: EntrySink>(subscriber: &Subscriber, entry: &Entry, sink: &mut S) -> R
 /// Has the subscriber replay the next entry, where one is ready, and gives it to a sink. Whether there was one.
 #[tactic(auto, using(crate::proofs::Rows::kept_at_next, crate::proofs::Rows::more_idle, crate::proofs::Rows::more_next, crate::proofs::Rows::some_next, crate::proofs::Rows::some_none))]
 fn replay_next<S: EntrySink>(subscriber: &mut Subscriber, sink: &mut S) -> Result<bool, Fault>
-    ensures names { KeepsNames subscriber.old.tape subscriber.new.tape }
+    ensures names { KeepsTerms subscriber.old.tape subscriber.new.tape }
     ensures given { OnOk result (GivesMore S.text subscriber.old.tape subscriber.new.tape (S.contents sink.old) (S.contents sink.new)) }
     ensures part { OnErr result (GivesSome S.text subscriber.old.tape subscriber.new.tape (S.contents sink.old) (S.contents sink.new)) }
 {
@@ -72,7 +72,7 @@ fn replay_next<S: EntrySink>(subscriber: &mut Subscriber, sink: &mut S) -> Resul
 
 /// Has the subscriber replay what is ready, and gives each entry to a sink.
 fn replay_each<S: EntrySink>(subscriber: &mut Subscriber, sink: &mut S) -> Result<(), Fault>
-    ensures names { KeepsNames subscriber.old.tape subscriber.new.tape }
+    ensures names { KeepsTerms subscriber.old.tape subscriber.new.tape }
     ensures given { OnOk result (GivesMore S.text subscriber.old.tape subscriber.new.tape (S.contents sink.old) (S.contents sink.new)) }
     ensures part { OnErr result (GivesSome S.text subscriber.old.tape subscriber.new.tape (S.contents sink.old) (S.contents sink.new)) }
 {
@@ -101,7 +101,7 @@ fn flush<S: EntrySink>(sink: &mut S) -> Result<(), Fault>
 /// told then that there is nothing more for now. One that takes nothing costs nothing: all that is ready is replayed at once.
 #[tactic(auto, using(crate::proofs::Rows::more_kept, crate::proofs::Rows::more_unknown, crate::proofs::Rows::some_none, crate::proofs::Rows::some_of_more, crate::proofs::Rows::some_kept))]
 pub(crate) fn replay<S: EntrySink>(subscriber: &mut Subscriber, sink: &mut S) -> Result<(), Fault>
-    ensures names { KeepsNames subscriber.old.tape subscriber.new.tape }
+    ensures names { KeepsTerms subscriber.old.tape subscriber.new.tape }
     ensures given { OnOk result (GivesMore S.text subscriber.old.tape subscriber.new.tape (S.contents sink.old) (S.contents sink.new)) }
     ensures part { OnErr result (GivesSome S.text subscriber.old.tape subscriber.new.tape (S.contents sink.old) (S.contents sink.new)) }
 {

@@ -22,6 +22,7 @@ pub(crate) fn prepare_day(
 ) -> Result<Prepared, Fault>
     ensures listed { IfOk result (λ prepared. prepared.tape.listing ≡ listing) }
     ensures by_matrix { IfOk result (λ prepared. prepared.tape.matrix ≡ matrix) }
+    ensures limited { IfOk result (λ prepared. prepared.tape.limit ≡ limit) }
 {
     let tape: Tape<IndexStore> = match Tape::new(alloc, listing, limit, matrix) {
         Ok(tape) => tape,

@@ -22,5 +22,5 @@ returns-clause-report g c is =
 pub returns-clause-listed : goal.returns-clause-listed
 returns-clause-listed g c is =
     let report = c.report-written.ensures in
-    let held = of_held _ c.in-Ok.subscriber (λ (s : SubscriberState). IsTapeOf c.args.listing c.args.matrix s.tape) c.in-Ok.is c.follow-held.ensures.tape in
-    (c.in-Ok.subscriber.tape, report.names, report.legal, held.listed, held.by_matrix, at_done _ _ _ report.written c.status_of.ensures.range is)
+    let held = of_held _ c.in-Ok.subscriber (λ (s : SubscriberState). IsTapeOf c.args.listing c.args.matrix c.args.limit s.tape) c.in-Ok.is c.follow-held.ensures.tape in
+    (c.in-Ok.subscriber.tape, report.names, report.legal, held.listed, held.by_matrix, held.within, at_done _ _ _ report.written c.status_of.ensures.range is)

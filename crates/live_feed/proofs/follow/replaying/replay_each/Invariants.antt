@@ -1,10 +1,10 @@
-use Rattle.live_feed.specs.Followers.{KeepsNames}
+use Rattle.live_feed.specs.Followers.{KeepsTerms}
 use Rattle.live_feed.specs.Sinks.{GivesMore}
 use Rattle.live_feed.proofs.follow.replaying.replay_each.Given as goal
 
 -- the sink was given what was replayed so far
 abbrev pub invariant-loop : goal.invariant-loop
 invariant-loop g l = record {
-  names : KeepsNames l.fn.subscriber.tape l.subscriber.tape;
+  names : KeepsTerms l.fn.subscriber.tape l.subscriber.tape;
   given : GivesMore g.S.EntrySink.text l.fn.subscriber.tape l.subscriber.tape (g.S.EntrySink.contents l.fn.sink) (g.S.EntrySink.contents l.sink);
 }
