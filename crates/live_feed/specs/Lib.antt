@@ -1,3 +1,4 @@
+pub mod Addresses
 pub mod Accepting
 pub mod Budgets
 pub mod Faults
