@@ -9,6 +9,6 @@ use Rattle.std.specs.declared.net.socket_addr.SocketAddr.{SocketAddr}
 -- the address is that of a port on 127.0.0.1, which no other machine reaches
 pub record IsHere (address : SocketAddr) (port : ℕ) : Type 0 where
   pub ip : Ipv4Addr
-  pub address : socket_ip address ≡ V4 ip
+  pub has_ip : socket_ip address ≡ V4 ip
   pub octets : ipv4_octets ip ≡ 127 ∷ 0 ∷ 0 ∷ 1 ∷ []
-  pub port : socket_port address ≡ port
+  pub has_port : socket_port address ≡ port
