@@ -135,12 +135,19 @@ fn effect_of(n: u32) -> Option<Effect>
     effect(letter(n), rule(n), 100_000 + u64::from(n * n % 97))
 }
 
+/// How many of the 508 effects were put well, how many of each third taken well, and how many are left.
+fn counts_of_508(alloc: Global) -> [u32; 3] {
+    let mut both = Both::empty(alloc);
+    [
+        both.put_the_508(),
+        both.take_each_third(),
+        both.indexed.summary().trades,
+    ]
+}
+
 #[test]
 fn both_stores_agree_while_508_effects_come_and_each_third_goes(rt: HostRuntime) {
-    let mut both = Both::empty(rt.alloc());
-    assert_eq!(rt; both.put_the_508(), 508);
-    assert_eq!(rt; both.take_each_third(), 169);
-    assert_eq!(rt; both.indexed.summary().trades, 339);
+    assert_eq!(rt; counts_of_508(rt.alloc()), [508, 169, 339]);
 }
 
 impl Dice {
@@ -173,10 +180,15 @@ impl Dice {
     }
 }
 
+/// Whether ten thousand changes went well, more than two thousand effects stood after them, and the stores were emptied.
+fn go_well_over_ten_thousand(alloc: Global) -> bool {
+    let mut both = Both::empty(alloc);
+    both.follow_dice(10_000, 3_000) == 10_000
+        && both.plain.summary().trades > 2_000
+        && both.empty_to(3_000)
+}
+
 #[test]
 fn both_stores_agree_over_ten_thousand_changes_whose_blocks_split_and_empty(rt: HostRuntime) {
-    let mut both = Both::empty(rt.alloc());
-    assert_eq!(rt; both.follow_dice(10_000, 3_000), 10_000);
-    assert!(rt; both.plain.summary().trades > 2_000);
-    assert!(rt; both.empty_to(3_000));
+    assert!(rt; go_well_over_ten_thousand(rt.alloc()));
 }
