@@ -1,5 +1,5 @@
 -- What a follower keeps of its tape.
-use Rattle.std.specs.Prelude.{◌≡◌, length, Option, Result, IfSome, IsSomeAnd, OnOk}
+use Rattle.std.specs.Prelude.{◌≡◌, length, IsSomeAnd}
 use Rattle.subscriber.specs.Subscribers.{SubscriberState}
 use Rattle.tape_core.specs.Tape.{TapeState}
 
@@ -10,7 +10,3 @@ KeepsTerms t t' = (t'.listing ≡ t.listing) × (t'.matrix ≡ t.matrix) × (t'.
 -- the end is known, and all is held
 abbrev pub HasAllOf : SubscriberState → Type 0
 HasAllOf s = IsSomeAnd s.window.ended (λ count. length s.tape.entries ≡ count)
-
--- a run that is over without a fault has all
-abbrev pub EndsWhole : {E : Type 0} → Option (Result Unit E) → SubscriberState → Type 0
-EndsWhole over s = IfSome over (λ ended. OnOk ended (HasAllOf s))

@@ -4,7 +4,6 @@ ghost use Rattle.std.specs.Io.KnownBytes.{Appends};
 ghost use Rattle.day_report.specs.ReportText.{report_text};
 ghost use Rattle.day_report.specs.Rows.{report_rows};
 ghost use Rattle.live_feed.specs.Faults.{fault_status};
-ghost use Rattle.live_feed.specs.Followers.{HasAllOf};
 ghost use Rattle.live_feed.specs.Reports.{IsListing, WritesItsReport, WritesOneReport};
 ghost use Rattle.live_feed.specs.Sinks.{GivesItsReport, GivesPart, GivesTape, IsTapeOf, rows_of};
 ghost use Rattle.live_feed.specs.declared.fault.Fault.TheVariants.{Write as WriteFault};
@@ -109,7 +108,6 @@ fn follow<
     requires limit { limit ≡ N.limit }
     requires before { S.contents sink ≡ N.before }
     ensures tape { IfOk result.0 (λ subscriber. IsTapeOf listing matrix limit subscriber.tape) }
-    ensures whole { IfOk result.0 HasAllOf }
     ensures given { IfOk result.0 (λ subscriber. Appends (S.contents sink) (S.contents result.1) (rows_of S.text subscriber.tape)) }
     ensures part { GivesPart S.text listing matrix limit (S.contents sink) (S.contents result.1) }
 {

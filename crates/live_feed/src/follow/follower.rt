@@ -5,7 +5,7 @@ ghost use Rattle.std.proofs.Props.{props};
 ghost use Rattle.tape_frames.specs.Headers.{header_number_of};
 ghost use Rattle.tape_frames.specs.Spelling.{Spells};
 ghost use Rattle.tape_frames.specs.declared.packet.Packet.{Packet};
-ghost use Rattle.live_feed.specs.Followers.{EndsWhole, HasAllOf};
+ghost use Rattle.live_feed.specs.Followers.{HasAllOf};
 ghost use Rattle.live_feed.specs.LinePositions.{IsBehind, once_noted};
 ghost use Rattle.live_feed.specs.Sinks.{GivesPart, HasAll, HasPart, IsTapeOf, rows_of};
 ghost use Rattle.live_feed.specs.declared.follow.silence.TheConstants.{SILENT_MOST};
@@ -75,7 +75,6 @@ pub(crate) struct Follower<N: HeldName, S: EntrySink> {
     ghost listed: { subscriber.tape.listing ≡ N.listing },
     ghost by_matrix: { subscriber.tape.matrix ≡ N.matrix },
     ghost limited: { subscriber.tape.limit ≡ N.limit },
-    ghost whole: { EndsWhole over subscriber } by { Prim.hlevel props },
     ghost given: { lacks ≡ None → HasAll (rows_of S.text subscriber.tape) N.before (S.contents sink) } by { Prim.hlevel props },
     ghost part: { HasPart (rows_of S.text subscriber.tape) N.before (S.contents sink) } by { Prim.hlevel props },
 }
@@ -182,10 +181,7 @@ impl<N: HeldName, S: EntrySink> Follower<N, S> {
 
     /// Takes what came by a line, and replays what is ready. Bytes that are no packet of the day are dropped, and so are, before
     /// they are decoded, those of a packet that brings what is held.
-    fn take(&mut self, line: Line, bytes: &[u8]) -> Result<(), Fault>
-        requires going { self.old.over ≡ None }
-        ensures going { self.new.over ≡ None }
-    {
+    fn take(&mut self, line: Line, bytes: &[u8]) -> Result<(), Fault> {
         if self.subscriber.holds_all_of(bytes) {
             self.note(line, bytes);
             return Ok(());
@@ -198,10 +194,7 @@ impl<N: HeldName, S: EntrySink> Follower<N, S> {
 
     /// Replays what is ready and gives it to the sink, unless that failed before.
     #[tactic(auto, using(crate::proofs::Rows::all_more, crate::proofs::Rows::part_all, crate::proofs::Rows::part_some))]
-    fn replay(&mut self) -> Result<(), Fault>
-        requires going { self.old.over ≡ None }
-        ensures going { self.new.over ≡ None }
-    {
+    fn replay(&mut self) -> Result<(), Fault> {
         if let Some(fault) = self.lacks {
             return Err(fault);
         }
@@ -217,8 +210,6 @@ impl<N: HeldName, S: EntrySink> Follower<N, S> {
     /// Takes packets that were asked for. The first number that was asked for has to be held then, by these or by what a line
     /// brought meanwhile, so that each request makes progress.
     fn take_all(&mut self, request: &Request, packets: &[Vec<u8>]) -> Result<(), Fault>
-        requires going { self.old.over ≡ None }
-        ensures going { self.new.over ≡ None }
         ensures progress { OnOk result (request.now.from ≤ length self.new.subscriber.tape.entries) }
     {
         for packet in packets {
@@ -232,11 +223,7 @@ impl<N: HeldName, S: EntrySink> Follower<N, S> {
 
     /// Gives the first subscriber up for a new one where it holds enough, and the sink lets it.
     #[tactic(auto, using(crate::proofs::Rows::all_kept, crate::proofs::Rows::all_of_nothing, crate::proofs::Rows::part_all))]
-    fn restart(&mut self) -> Result<(), Fault>
-        requires going { self.old.over ≡ None }
-        ensures going { self.new.over ≡ None }
-        ensures unasked { ¬ (IsSomeAnd self.old.restart_after (λ most. most ≤ length self.old.subscriber.tape.entries)) → self.new ≡ self.old }
-    {
+    fn restart(&mut self) -> Result<(), Fault> {
         if !is_given_up(self.restart_after, self.subscriber.held().len()) {
             return Ok(());
         }
@@ -275,8 +262,8 @@ impl<N: HeldName, S: EntrySink> Follower<N, S> {
 
     /// Ends a run that is not over where what came was a fault, or where all is held. Whether to restart is looked at before that.
     fn settle(&mut self, taken: Result<(), Fault>)
-        requires going { self.old.over ≡ None }
         ensures fault { IfErr taken (λ fault. self.new.over ≡ Some (Err fault)) }
+        ensures whole { IfSome self.new.over (λ ended. OnOk ended (HasAllOf self.new.subscriber)) }
     {
         let settled = match taken {
             Ok(()) => self.restart(),
@@ -414,7 +401,6 @@ impl<N: HeldName, S: EntrySink> Follower<N, S> {
     /// The subscriber of a run that is over, or the fault that ended it, and the sink.
     pub(crate) fn into_held(self) -> (Result<Subscriber, Fault>, S)
         ensures tape { IfOk result.0 (λ subscriber. IsTapeOf N.listing N.matrix N.limit subscriber.tape) }
-        ensures whole { IfOk result.0 HasAllOf }
         ensures given { IfOk result.0 (λ subscriber. Appends N.before (S.contents result.1) (rows_of S.text subscriber.tape)) }
         ensures part { GivesPart S.text N.listing N.matrix N.limit N.before (S.contents result.1) }
     {
