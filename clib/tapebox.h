@@ -130,6 +130,11 @@ typedef struct tapebox_reply {
     uint32_t refusal;
 } tapebox_reply;
 
+/* How many messages were answered of many, and how many bytes they have. */
+typedef struct tapebox_many {
+    size_t answered, taken;
+} tapebox_many;
+
 /* What a participant has sent: the shares of its reports, how many messages of every kind, and its greatest number. */
 typedef struct tapebox_totals_row {
     uint64_t shares;
@@ -153,6 +158,12 @@ uint32_t tapebox_open(tapebox_handle *handle, const uint8_t *symbols, size_t sym
 
 /* Admits the message that all the bytes are. Refused: 101, 11 to 21 and 23 (its bytes), 31 to 40, 43 and 44 (the tape). */
 uint32_t tapebox_admit(tapebox_handle *handle, const uint8_t *message, size_t len, tapebox_answer *answer);
+
+/* Admits the messages that stand one after another in the bytes, in their order, and writes a number for each at the front of `numbers`, which has
+ * room for `numbers_len`: 0 where it was admitted, else that of its refusal (31 to 40, 43, 44). Those that are admitted have the next tape
+ * numbers in their order. Refused: 101. Stops: 108 where there is no room for another number, and 11 to 21 at bytes that begin with no message;
+ * the messages before are answered, and `row` says how many these are and how many bytes they have. */
+uint32_t tapebox_admit_many(tapebox_handle *handle, const uint8_t *messages, size_t len, uint32_t *numbers, size_t numbers_len, tapebox_many *row);
 
 /* Closes a tape: it admits nothing more. Refused: 101. */
 uint32_t tapebox_close(tapebox_handle *handle);

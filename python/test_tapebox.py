@@ -82,6 +82,31 @@ class Cases(unittest.TestCase):
             self.refused(31, tape.report, "N", 9, "AB", "10.20", 500, "@___")
             self.assertEqual(tape.entry(5).after, whole)
 
+    def test_many(self) -> None:
+        entries = [Message.decode(e.message).encode() for e in morning()]
+        again = [entries[0], *entries, entries[0]]
+        with Tape(["AB", "CD", "EF"], "NQP") as tape:
+            self.assertEqual(list(tape.admit_many(b"".join(again))), [0, 35, *[0] * (len(entries) - 1), 35])
+            self.assertEqual([entry.message for entry in tape], entries)
+            self.assertEqual(len(tape.admit_many(b"")), 0)
+            with self.assertRaises(Refused) as refusal:
+                tape.admit_many(entries[0] + entries[1] + b"\0\1?" + entries[2])
+            self.assertEqual((refusal.exception.code, refusal.exception.taken), (13, len(entries[0]) + len(entries[1])))
+            self.refused(12, tape.admit_many, entries[0][:-1])
+            self.assertEqual(list(tape), list(morning()))
+            tape.close()
+            self.assertEqual(list(tape.admit_many(entries[0])), [31])
+        self.refused(101, tape.admit_many, b"".join(again))
+        self.refused(101, Tape.admit_many, Subscriber(["AB"], "NQ", 7), entries[0])
+
+    def test_many_with_little_room(self) -> None:
+        tape, text = Tape(["AB"], "NQ"), REPORT + CANCEL + REINSTATEMENT
+        numbers, row = (ctypes.c_uint32 * 3)(7, 7, 7), _library.Many()
+        call = lambda room: _library.library.tapebox_admit_many(tape._handle, text, len(text), numbers, room, row)
+        self.assertEqual((call(2), list(numbers), row.answered, row.taken, len(tape)), (108, [0, 0, 7], 2, len(REPORT + CANCEL), 2))
+        self.assertEqual((call(0), row.answered, row.taken), (108, 0, 0))
+        self.assertEqual((call(3), list(numbers), row.answered, row.taken), (0, [35, 35, 0], 3, len(text)))
+
     def test_tables(self) -> None:
         head = "participant,number,symbol,target,price,size,condition,#desk\n"
         rows = "N,1,AB,,10.00,100,@___,x\n"

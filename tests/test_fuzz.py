@@ -40,7 +40,8 @@ def inputs_of_samples():
         messages = plain_table.read(table.read_bytes())
         symbols, participants, *_ = plain_table.batch(messages).splitlines()
         steps = [b"\1", call("open", 1, symbols, participants, 200), call("subscribe", 1, symbols, participants, 200, 7, other=True)]
-        steps += [call("admit", 0, message) for message in messages]
+        half = len(messages) // 2
+        steps += [call("admit", 0, message) for message in messages[:half]] + [call("admit_many", 200, b"".join(messages[half:]))]
         steps += [call(name, 1) for name in ("entry", "totals", "symbol", "participant", "count")]
         steps += [call("summary", 0, b"AB"), call("summary_of", ord("N"), b"AB")]
         for version in (1, 2):

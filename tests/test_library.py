@@ -36,6 +36,7 @@ STRUCTS = {
     "PacketFields": "packet_fields",
     "RequestFields": "request_fields",
     "Reply": "reply",
+    "Many": "many",
     "Totals": "totals_row",
     "Name": "name",
     "Cells": "cells_row",

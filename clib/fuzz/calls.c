@@ -16,7 +16,7 @@
  * handle. */
 enum {
     OPEN, SUBSCRIBE, FREE, ADMIT, CLOSE, SUMMARY, SUMMARY_OF, COUNT, ENTRY, TOTALS, SYMBOL, PARTICIPANT, CUT, SERVE, DELIVER, DRAIN, MISSING,
-    NEWS_OF, ENCODE, DECODE, BEAT, END, READ_PACKET, PACKET_ENTRY, READ_REQUEST, READ_ANSWER, ANSWER_PACKET, CELLS, CALLS,
+    NEWS_OF, ENCODE, DECODE, BEAT, END, READ_PACKET, PACKET_ENTRY, READ_REQUEST, READ_ANSWER, ANSWER_PACKET, CELLS, ADMIT_MANY, CALLS,
     SEND_ALL = CALLS, SEND_CHANGED, TRADE, STEPS
 };
 
@@ -25,7 +25,7 @@ enum { PLACES = 4, ROOM = 1 << 14, NUMBERS_END = 110, SESSION = 7 };
 static const char *const NAMES[CALLS] = {
     "open", "subscribe", "free", "admit", "close", "summary", "summary_of", "count", "entry", "totals",
     "symbol", "participant", "cut", "serve", "deliver", "drain", "missing", "news_of", "encode", "decode",
-    "beat", "end", "read_packet", "packet_entry", "read_request", "read_answer", "answer_packet", "cells",
+    "beat", "end", "read_packet", "packet_entry", "read_request", "read_answer", "answer_packet", "cells", "admit_many",
 };
 static uint64_t made[CALLS];
 
@@ -210,6 +210,17 @@ static void call_on_handle(int call, tapebox_handle *handle, input *in) {
         if (!code && answer->number != count + 1) fail("admit", "it tells another number");
         break;
     }
+    case ADMIT_MANY: {
+        size_t most = value & 255;
+        uint32_t *numbers = room(1, most * sizeof *numbers);
+        tapebox_many *many = room(2, sizeof *many);
+        if (answered(call, tapebox_admit_many(handle, given.at, given.len, numbers, most, many)) == TAPEBOX_NO_TAPE) break;
+        check_length(call, many->answered, most);
+        check_length(call, many->taken, given.len);
+        for (size_t at = 0; at < many->answered; at++) count += numbers[at] == 0;
+        if (tapebox_count(handle) != count) fail("admit_many", "the tape has another count");
+        break;
+    }
     case SUMMARY: answered(call, tapebox_summary(handle, given.at, given.len, room(1, sizeof(tapebox_figures)))); break;
     case SUMMARY_OF: answered(call, tapebox_summary_of(handle, given.at, given.len, (uint8_t)value, room(1, sizeof(tapebox_figures)))); break;
     case SERVE:
@@ -249,6 +260,7 @@ static void step(tapebox_handle *handles, input *in) {
     case SUMMARY:
     case SUMMARY_OF:
     case SERVE:
+    case ADMIT_MANY:
     case DELIVER: call_on_handle(call % STEPS, handle, in); break;
     case ENCODE:
     case DECODE:

@@ -69,6 +69,10 @@ class Reply(c.Structure):
     _fields_ = [("packets", c.c_size_t), ("taken", c.c_size_t), ("refusal", c.c_uint32)]
 
 
+class Many(c.Structure):
+    _fields_ = [("answered", c.c_size_t), ("taken", c.c_size_t)]
+
+
 class Totals(c.Structure):
     _fields_ = [("shares", c.c_uint64), ("messages", c.c_uint32), ("last", c.c_uint32)]
 
@@ -87,7 +91,7 @@ class Handle(c.Structure):
 
 # The layouts of tapebox.h. A library of another layout would write past a row.
 for _type, _size in ((Mark, 16), (Handle, 16), (Figures, 80), (Answer, 88), (EntryRow, 136), (Fields, 48), (Message, 48), (Taken, 16),
-                     (Request, 20), (News, 28), (Packet, 1828), (PacketFields, 24), (RequestFields, 16), (Reply, 24), (Totals, 16),
+                     (Request, 20), (News, 28), (Packet, 1828), (PacketFields, 24), (RequestFields, 16), (Reply, 24), (Many, 16), (Totals, 16),
                      (Name, 8), (Cells, 5)):
     assert c.sizeof(_type) == _size, _type
 assert PACKED.size == c.sizeof(Fields)
@@ -110,6 +114,7 @@ _handle, _text = c.POINTER(Handle), [c.c_char_p, c.c_size_t]
 for _name, _arguments in {
     "open": [_handle, *_text, *_text, c.c_uint32, c.c_uint32],
     "admit": [_handle, *_text, c.POINTER(Answer)],
+    "admit_many": [_handle, *_text, c.POINTER(c.c_uint32), c.c_size_t, c.POINTER(Many)],
     "close": [_handle],
     "summary": [_handle, *_text, c.POINTER(Figures)],
     "summary_of": [_handle, *_text, c.c_uint8, c.POINTER(Figures)],

@@ -20,8 +20,8 @@ class Refused(Exception):
     """A call was refused.
 
     `code` is the refusal's number and `name` its name. `drained` is what a drain put on the tape before it stopped, `conflict` the number
-    of the entry of which another is known (62), `taken` how many bytes were read of an answer, and `refusal` the number by which a request
-    was refused (77).
+    of the entry of which another is known (62), `taken` how many bytes were read of an answer or of many messages, and `refusal` the
+    number by which a request was refused (77).
     """
 
     def __init__(self, code: int, *, drained: int = 0, conflict: int = 0, taken: int = 0, refusal: int = 0) -> None:

@@ -1,7 +1,8 @@
 """A tape of a day."""
 
+import ctypes
 import os
-from collections.abc import Iterable
+from collections.abc import Iterable, Sequence
 from decimal import Decimal
 
 from . import _library
@@ -14,6 +15,8 @@ from .tables import RefusedRow, read_table
 # The most entries of a tape, unless another limit is given, and of any tape.
 LIMIT = 1_048_576
 LIMIT_MOST = 16_777_216
+# How many bytes the shortest message has: a cancel or a reinstatement.
+SHORTEST_MESSAGE = 28
 
 
 class Tape(Held):
@@ -49,6 +52,17 @@ class Tape(Held):
         if code:
             raise Refused(code)
         return self._answer.number
+
+    def admit_many(self, messages: bytes) -> Sequence[int]:
+        """Admits the messages that stand one after another in the bytes, and gives for each 0 where it was admitted, else the number of its refusal,
+        as a view of numbers. Those that are admitted have the next tape numbers in their order. At bytes that begin with no message, and where
+        a part of a message is left, `Refused` has 11 to 21, and `taken`, how many bytes were answered before."""
+        room = len(messages) // SHORTEST_MESSAGE
+        numbers, row = (ctypes.c_uint32 * room)(), _library.Many()
+        code = library.tapebox_admit_many(self._handle, messages, len(messages), numbers, room, row)
+        if code:
+            raise Refused(code, taken=row.taken)
+        return memoryview(numbers).cast("B").cast("I")[: row.answered]
 
     @property
     def carried(self) -> Summary | None:

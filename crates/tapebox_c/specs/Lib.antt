@@ -7,6 +7,7 @@ pub mod Feeds
 pub mod Filling
 pub mod Inside
 pub mod Listed
+pub mod Many
 pub mod Matrices
 pub mod Opening
 pub mod Packets

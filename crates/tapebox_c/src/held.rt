@@ -6,10 +6,12 @@ ghost use Rattle.tape_core.specs.Tape.{summary_at, participant_summary_at};
 ghost use Rattle.tapebox_c.specs.Calls.{Admits, entry_numbered, letter_named, own_tape, whole_message, Closes};
 ghost use Rattle.tapebox_c.specs.Feeds.{DeliversTo, DrainsTo, Misses, held_news};
 ghost use Rattle.tapebox_c.specs.Listed.{totals_of};
+ghost use Rattle.tapebox_c.specs.Many.{HeldAdmits};
 ghost use Rattle.tapebox_c.specs.Sending.{packet_between};
 
 use crate::fault::Fault;
-use crate::rows::NewsRow;
+use crate::many::admit_each;
+use crate::rows::{ManyRow, NewsRow};
 use arbitration::{Line, Taken};
 use reports::{Message, decode};
 use retransmit::{Ended, serve};
@@ -53,6 +55,16 @@ impl Held {
             Ok(entry) => Ok(entry),
             Err(refusal) => Err(Fault::Refused(refusal)),
         }
+    }
+
+    /// Admits the messages of bytes, one after another, if it is a tape.
+    pub(crate) fn admit_many(&mut self, bytes: &[u8], numbers: &mut [u32]) -> Option<(ManyRow, u32)>
+        ensures { HeldAdmits self.old bytes.now numbers.old numbers.new result self.new }
+    {
+        let Held::Tape(tape) = self else {
+            return None;
+        };
+        Some(admit_each(tape, bytes, numbers))
     }
 
     /// Closes the tape.

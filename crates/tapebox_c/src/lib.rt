@@ -9,6 +9,7 @@ mod held;
 mod inside;
 mod listed;
 mod loose;
+mod many;
 mod matrices;
 mod opening;
 mod packets;
@@ -24,10 +25,11 @@ pub use handle::Handle;
 pub use held::Held;
 pub use inside::Inside;
 pub use listed::{tapebox_participant, tapebox_symbol, tapebox_totals};
+pub use many::tapebox_admit_many;
 pub use matrices::tapebox_cells;
 pub use packets::{tapebox_packet_entry, tapebox_read_packet};
 pub use rows::{
-    AnswerRow, CellsRow, EntryRow, FieldsRow, MarkRow, MessageRow, NameRow, NewsRow,
+    AnswerRow, CellsRow, EntryRow, FieldsRow, ManyRow, MarkRow, MessageRow, NameRow, NewsRow,
     PacketFieldsRow, PacketRow, ReplyRow, RequestFieldsRow, RequestRow, SummaryRow, TakenRow,
     TotalsRow,
 };

@@ -191,6 +191,16 @@ pub struct ReplyRow {
     pub refusal: u32,
 }
 
+/// How far messages were admitted.
+#[repr(C)]
+#[derive(Clone, Copy)]
+pub struct ManyRow {
+    /// How many messages were answered.
+    pub answered: usize,
+    /// How many bytes they have.
+    pub taken: usize,
+}
+
 /// What a participant has sent.
 #[repr(C)]
 #[derive(Clone, Copy)]
