@@ -50,6 +50,9 @@ class FollowedTape(Case):
             rest = ended(follow)
             self.assertEqual((rest.status, rest.said), (0, b""))
             self.assertEqual(b"".join(lines) + rest.written, tape)
+            for count in range(1, len(ROWS) + 1):
+                recorded = desk("verify", given=b"".join(lines[: count + 1]))
+                self.assertEqual(recorded, Ended(0, b"%d entr%s, 0 refusals, all as recorded\n" % (count, b"y" if count == 1 else b"ies"), b""))
             self.assertEqual(ended(live).status, 0)
 
         self.day(case)

@@ -1,4 +1,5 @@
 pub mod FollowLemmas
 pub mod LineLemmas
 pub mod RunLemmas
+pub mod VerifyLemmas
 pub mod WordLemmas

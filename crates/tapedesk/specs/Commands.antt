@@ -8,7 +8,7 @@ use Rattle.sale_matrix.specs.declared.matrix.Matrix.TheVariants.{One, Two}
 use Rattle.day_tables.specs.Numbers.{within}
 use Rattle.tape_types.specs.Ranges.{FIRST_PARTICIPANT, LAST_PARTICIPANT}
 use Rattle.tapedesk.specs.declared.command.Command.{Command}
-use Rattle.tapedesk.specs.declared.command.Command.TheVariants.{Report, Tape, Explain, Check, Encode, Decode, Line, Help, HelpOn}
+use Rattle.tapedesk.specs.declared.command.Command.TheVariants.{Report, Tape, Explain, Check, Verify, Encode, Decode, Line, Help, HelpOn}
 use Rattle.tapedesk.specs.declared.command.Word.{Word}
 use Rattle.tapedesk.specs.declared.command.Word.TheVariants as word
 
@@ -18,6 +18,7 @@ ended_name word.Report = codes "report\0"
 ended_name word.Tape = codes "tape\0"
 ended_name word.Explain = codes "explain\0"
 ended_name word.Check = codes "check\0"
+ended_name word.Verify = codes "verify\0"
 ended_name word.Encode = codes "encode\0"
 ended_name word.Decode = codes "decode\0"
 ended_name word.Line = codes "line\0"
@@ -25,7 +26,7 @@ ended_name word.Follow = codes "follow\0"
 
 -- every word, in the order in which help lists them
 abbrev pub all_words : List Word
-all_words = word.Report ∷ word.Tape ∷ word.Explain ∷ word.Check ∷ word.Encode ∷ word.Decode ∷ word.Line ∷ word.Follow ∷ []
+all_words = word.Report ∷ word.Tape ∷ word.Explain ∷ word.Check ∷ word.Verify ∷ word.Encode ∷ word.Decode ∷ word.Line ∷ word.Follow ∷ []
 
 -- whether arguments begin with a word
 abbrev pub begins : List ℕ → Word → Bool
@@ -75,6 +76,7 @@ asked word.Report words = option_map Report (matrix_of words)
 asked word.Tape words = option_map Tape (matrix_of words)
 asked word.Explain words = option_map Explain (matrix_of words)
 asked word.Check words = if bytes_eq words [] then Some Check else None
+asked word.Verify words = option_map Verify (matrix_of words)
 asked word.Encode words = if bytes_eq words [] then Some Encode else None
 asked word.Decode words = if bytes_eq words [] then Some Decode else None
 asked word.Line words = option_map Line (participant_of words)

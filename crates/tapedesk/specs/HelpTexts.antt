@@ -3,7 +3,7 @@ use Rattle.std.specs.Prelude.{◌++◌, ℕ, List, codes}
 use Rattle.std.specs.List.{flat_map}
 use Rattle.tapedesk.specs.Commands.{all_words}
 use Rattle.tapedesk.specs.declared.command.Word.{Word}
-use Rattle.tapedesk.specs.declared.command.Word.TheVariants.{Report, Tape, Explain, Check, Encode, Decode, Line, Follow}
+use Rattle.tapedesk.specs.declared.command.Word.TheVariants.{Report, Tape, Explain, Check, Verify, Encode, Decode, Line, Follow}
 
 -- what a word does: a line of its use, and a line of what it does
 abbrev pub word_help_text : Word → List ℕ
@@ -19,6 +19,9 @@ word_help_text Explain =
 word_help_text Check =
     codes "tapedesk check < TABLE.csv\n"
     ++ codes "Writes every fault of the table: the first hundred each on a line, then how many more there are of each kind.\n"
+word_help_text Verify =
+    codes "tapedesk verify [1|2] < TAPE.csv\n"
+    ++ codes "Replays a recorded tape by Matrix One or 2, and says that all stands as recorded, or which line and column first differs.\n"
 word_help_text Encode =
     codes "tapedesk encode < TABLE.csv\n"
     ++ codes "Writes the messages as the text of a batch: the symbols, the participants, and each message's letter and bytes.\n"

@@ -4,3 +4,5 @@ pub mod HelpTexts
 pub mod Program
 pub mod RefusalLines
 pub mod TextRuns
+pub mod VerdictLines
+pub mod VerifyRuns

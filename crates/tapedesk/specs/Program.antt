@@ -22,8 +22,9 @@ use Rattle.table_texts.specs.OwnBytes.{line_bytes}
 use Rattle.tapedesk.specs.HelpTexts.{help_text, word_help_text}
 use Rattle.tapedesk.specs.RefusalLines.{refusal_lines}
 use Rattle.tapedesk.specs.TextRuns.{RunsText, end_line, table_ends, text_ends}
+use Rattle.tapedesk.specs.VerifyRuns.{RunsVerify}
 use Rattle.tapedesk.specs.declared.command.Command.{Command}
-use Rattle.tapedesk.specs.declared.command.Command.TheVariants.{Report, Tape, Explain, Check, Encode, Decode, Line, Help, HelpOn}
+use Rattle.tapedesk.specs.declared.command.Command.TheVariants.{Report, Tape, Explain, Check, Verify, Encode, Decode, Line, Help, HelpOn}
 
 -- ## What is said
 
@@ -112,6 +113,8 @@ AnswersCommand (Some (Explain matrix)) status input reader_old reader_new writer
     RunsTable explain_text matrix input old new status writer_old writer_new errors_old errors_new said_old said_new
 AnswersCommand (Some Check) status input reader_old reader_new writer_old writer_new old new errors_old errors_new said_old said_new =
     RunsCheck input old new status writer_old writer_new errors_old errors_new said_old said_new
+AnswersCommand (Some (Verify matrix)) status input reader_old reader_new writer_old writer_new old new errors_old errors_new said_old said_new =
+    RunsVerify matrix input old new status writer_old writer_new errors_old errors_new said_old said_new
 AnswersCommand (Some Encode) status input reader_old reader_new writer_old writer_new old new errors_old errors_new said_old said_new =
     RunsText table_ends IsTable encoded_text IsTableEnd input old new status writer_old writer_new errors_old errors_new said_old said_new
 AnswersCommand (Some Decode) status input reader_old reader_new writer_old writer_new old new errors_old errors_new said_old said_new =

@@ -17,6 +17,8 @@ pub enum Word {
     Explain,
     /// Every fault of a table.
     Check,
+    /// Whether a recorded tape stands as it is written.
+    Verify,
     /// The text of a batch of a table.
     Encode,
     /// The table of a batch's text.
@@ -38,6 +40,8 @@ pub enum Command {
     Explain(Matrix),
     /// Every fault of a table.
     Check,
+    /// Whether a recorded tape stands as it is written, by a matrix.
+    Verify(Matrix),
     /// The text of a batch of a table.
     Encode,
     /// The table of a batch's text.
@@ -54,11 +58,12 @@ pub enum Command {
 pub const BAD_ARGUMENTS: u8 = 2;
 
 /// Every word, in the order in which help lists them.
-const ALL_WORDS: [Word; 8] = [
+const ALL_WORDS: [Word; 9] = [
     Word::Report,
     Word::Tape,
     Word::Explain,
     Word::Check,
+    Word::Verify,
     Word::Encode,
     Word::Decode,
     Word::Line,
@@ -84,6 +89,7 @@ impl Word {
             Word::Tape => b"tape\0",
             Word::Explain => b"explain\0",
             Word::Check => b"check\0",
+            Word::Verify => b"verify\0",
             Word::Encode => b"encode\0",
             Word::Decode => b"decode\0",
             Word::Line => b"line\0",
@@ -165,6 +171,7 @@ fn asked(word: Word, words: &[u8]) -> Option<Command>
         Word::Tape => Some(Command::Tape(matrix_of(words)?)),
         Word::Explain => Some(Command::Explain(matrix_of(words)?)),
         Word::Check if words.is_empty() => Some(Command::Check),
+        Word::Verify => Some(Command::Verify(matrix_of(words)?)),
         Word::Encode if words.is_empty() => Some(Command::Encode),
         Word::Decode if words.is_empty() => Some(Command::Decode),
         Word::Check | Word::Encode | Word::Decode | Word::Follow => None,

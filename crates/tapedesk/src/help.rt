@@ -17,6 +17,8 @@ tapedesk explain [1|2] < TABLE.csv\n\
 Writes what became of each report that the tape admits and which figures it sets, by Matrix One or 2.\n\
 tapedesk check < TABLE.csv\n\
 Writes every fault of the table: the first hundred each on a line, then how many more there are of each kind.\n\
+tapedesk verify [1|2] < TAPE.csv\n\
+Replays a recorded tape by Matrix One or 2, and says that all stands as recorded, or which line and column first differs.\n\
 tapedesk encode < TABLE.csv\n\
 Writes the messages as the text of a batch: the symbols, the participants, and each message's letter and bytes.\n\
 tapedesk decode < DAY.txt\n\
@@ -43,6 +45,9 @@ pub fn word_help_text(word: Word) -> &'static [u8]
         }
         Word::Check => {
             b"tapedesk check < TABLE.csv\nWrites every fault of the table: the first hundred each on a line, then how many more there are of each kind.\n"
+        }
+        Word::Verify => {
+            b"tapedesk verify [1|2] < TAPE.csv\nReplays a recorded tape by Matrix One or 2, and says that all stands as recorded, or which line and column first differs.\n"
         }
         Word::Encode => {
             b"tapedesk encode < TABLE.csv\nWrites the messages as the text of a batch: the symbols, the participants, and each message's letter and bytes.\n"

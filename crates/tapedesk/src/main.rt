@@ -11,6 +11,7 @@ mod refusal_lines;
 mod saying;
 #[cfg(test)]
 mod tests;
+mod verdict_lines;
 
 use command::{asks_for_rows, followed_words};
 use feed_words::words;

@@ -13,11 +13,14 @@ ghost use Rattle.table_texts.specs.Ends.{IsReadingEnd};
 ghost use Rattle.table_texts.specs.OwnBytes.{line_bytes};
 ghost use Rattle.tapedesk.specs.Commands.{command_of};
 ghost use Rattle.tapedesk.specs.Program.{AnswersCommand, Helps, OnlySays, RunsCheck, RunsTable};
+ghost use Rattle.tapedesk.specs.VerifyRuns.{RunsVerify};
 ghost use Rattle.tapedesk.specs.TextRuns.{RunsText, end_line, table_ends, text_ends};
 
 use crate::command::{BAD_ARGUMENTS, Command, read_command};
 use crate::help::{help_text, word_help_text};
 use crate::saying::{end_check, end_decoded, end_run, end_text, say, say_end};
+use crate::verdict_lines::write_verdict;
+use recorded_tapes::verify_over;
 use row_reads::write_text;
 use sale_matrix::Matrix;
 use std::alloc::{AllocError, Global};
@@ -83,6 +86,23 @@ fn run_check<R: Read, W: Write, E: Write>(
 {
     let run = check_over(alloc, reader, writer);
     end_check(alloc, errors, run)
+}
+
+/// Writes what a recorded tape is found to be, or says why nothing is found, and gives the status.
+fn run_verify<R: Read, W: Write, E: Write>(
+    alloc: Global,
+    matrix: Matrix,
+    reader: &mut R,
+    writer: &mut W,
+    errors: &mut E,
+) -> u8
+    ensures { RunsVerify matrix (R.remaining reader.old) (W.contents writer.old) (W.contents writer.new) result
+        writer.old writer.new errors.old errors.new (E.contents errors.old) (E.contents errors.new) }
+{
+    match verify_over(alloc, matrix, reader) {
+        Ok(verdict) => write_verdict(alloc, &verdict, writer, errors),
+        Err(end) => say_end(alloc, errors, &end),
+    }
 }
 
 /// Writes the text of a batch of a table, says why it is not whole, and gives the status.
@@ -154,6 +174,7 @@ fn run_command<R: Read, W: Write, E: Write>(
         Command::Tape(matrix) => run_tape(alloc, matrix, reader, writer, errors),
         Command::Explain(matrix) => run_explain(alloc, matrix, reader, writer, errors),
         Command::Check => run_check(alloc, reader, writer, errors),
+        Command::Verify(matrix) => run_verify(alloc, matrix, reader, writer, errors),
         Command::Encode => run_encode(alloc, reader, writer, errors),
         Command::Decode => run_decode(alloc, reader, writer, errors),
         Command::Line(participant) => run_line(alloc, participant, reader, writer, errors),
@@ -166,10 +187,11 @@ fn run_command<R: Read, W: Write, E: Write>(
 /// returns its status.
 ///
 /// `report` reads a table from `reader` and writes the day's report to `writer`, `tape` its readable tape, `explain` what became of its
-/// reports, `check` every fault of the table, `encode` the text of a batch, and `line` the bytes of one participant's messages; `decode` reads the text of a batch and
-/// writes its table. `--help`, alone or after a word, writes what they do. Any other arguments are bad ones, those of a running day too,
-/// which are for `follow`. `errors` has a line for each reason for which the first three refused rows, and one for what goes wrong. The
-/// status is 0 where all is done, 2 for a bad table, also one that is checked, a bad text or bad arguments, 3 for a read fault, 4 for a write fault and 5 where
+/// reports, `check` every fault of the table, `verify` whether a recorded tape stands as it is written, `encode` the text of a batch, and `line` the
+/// bytes of one participant's messages; `decode` reads the text of a batch and writes its table. `--help`, alone or after a word, writes what
+/// they do. Any other arguments are bad ones, those of a running day too, which are for `follow`. `errors` has a line for each reason for
+/// which the first three refused rows, and one for what goes wrong. The status is 0 where all is done, 1 where a tape is not as recorded, 2
+/// for a bad table, also one that is checked, a bad text or bad arguments, 3 for a read fault, 4 for a write fault and 5 where
 /// memory ran out.
 pub fn program<R: Read, W: Write, E: Write>(
     alloc: Global,

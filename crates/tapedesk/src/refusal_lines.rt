@@ -9,7 +9,7 @@ use table_days::Refusals;
 use tape_core::Refusal;
 
 /// Every refusal, by rising number.
-const ALL_REASONS: [Refusal; 13] = [
+pub const ALL_REASONS: [Refusal; 13] = [
     Refusal::Closed,
     Refusal::Full,
     Refusal::WrongLine,

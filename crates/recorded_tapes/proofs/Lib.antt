@@ -1,0 +1,4 @@
+pub mod LineLemmas
+pub mod RoundTrip
+pub mod Sameness
+pub mod TextLemmas

@@ -1,0 +1,107 @@
+//! A recorded tape in, and whether it stands as it is written.
+ghost use Rattle.std.specs.Prelude.{◌≡◌, ◌⊎◌, List, IfErr, IfOk, IfSome};
+ghost use Rattle.sale_matrix.specs.declared.matrix.Matrix.{Matrix};
+ghost use Rattle.reports.specs.declared.message.Message.{Message};
+ghost use Rattle.day_tables.specs.Tables.{IsTable};
+ghost use Rattle.day_tables.specs.declared.table_fault.TableFault.TheVariants.{ReadFault};
+ghost use Rattle.table_days.specs.TapeRows.{tape_text};
+ghost use Rattle.recorded_tapes.specs.Beside.{beside_text};
+ghost use Rattle.recorded_tapes.specs.Verdicts.{AreRows, IsReplay, IsVerdict, IsVerifyEnd};
+ghost use Rattle.table_days.specs.TableEnds.{IsTableEnd};
+ghost use Rattle.table_days.specs.declared.table_end.TableEnd.TheVariants.{OutOfMemory, Table};
+
+use crate::beside::Beside;
+use crate::lines::split_lines;
+use crate::place::TextPlace;
+use crate::{Difference, Rows, Verdict};
+use day_tables::{TableFault, read_table};
+use sale_matrix::Matrix;
+use std::alloc::Global;
+use std::io::{ErrorKind, Read};
+use table_days::{TableEnd, write_tape};
+
+/// All that a reader has left.
+fn read_all<R: Read>(alloc: Global, reader: &mut R) -> Result<Vec<u8>, TableEnd>
+    ensures text { IfSome (R.remaining reader.old) (λ input. IfOk result (λ text. text.items ≡ input)) }
+    ensures end { IfErr result (λ end. (end ≡ Table ReadFault) ⊎ (end ≡ OutOfMemory)) }
+{
+    let mut text = Vec::new(alloc);
+    match reader.read_to_end(&mut text) {
+        Ok(_) => Ok(text),
+        Err(error) => match error.kind() {
+            ErrorKind::OutOfMemory => Err(TableEnd::OutOfMemory),
+            _ => Err(TableEnd::Table(TableFault::ReadFault)),
+        },
+    }
+}
+
+/// Whether lines are the text that was written beside them, or the first place where they differ from it.
+fn compare(alloc: Global, beside: &Beside, rows: Rows) -> Result<Result<Rows, Difference>, TableEnd>
+    ensures replay { IfOk result (λ replay. (matrix : Matrix) (messages : List Message) → IsTable beside.now.recorded.now messages
+        → beside_text beside.now ≡ tape_text matrix messages → AreRows matrix messages rows → IsReplay matrix beside.now.recorded.now replay) }
+    ensures end { IfErr result (λ end. end ≡ OutOfMemory) }
+{
+    if beside.left() == beside.behind.as_slice() {
+        return Ok(Ok(rows));
+    }
+    match Difference::behind(alloc, beside.recorded, beside.same, &beside.behind) {
+        Ok(difference) => Ok(Err(difference)),
+        Err(_) => Err(TableEnd::OutOfMemory),
+    }
+}
+
+/// Answers the messages of lines anew, and compares the readable tape of them with the lines.
+fn replay(alloc: Global, matrix: Matrix, lines: &[u8]) -> Result<Result<Rows, Difference>, TableEnd>
+    ensures replay { IfOk result (IsReplay matrix lines.now) }
+    ensures end { IfErr result (IsTableEnd lines.now) }
+{
+    let messages = match read_table(alloc, lines) {
+        Ok(messages) => messages,
+        Err(fault) => return Err(TableEnd::Table(fault)),
+    };
+    let mut beside = Beside::new(alloc, lines);
+    match write_tape(alloc, matrix, &messages, &mut beside) {
+        Ok(refusals) => {
+            let count = messages.len() as u64;
+            compare(alloc, &beside, Rows { count, refusals })
+        }
+        // What is written beside lines takes memory from the first difference on, and fails where there is none.
+        Err(TableEnd::WriteFault) => Err(TableEnd::OutOfMemory),
+        Err(end) => Err(end),
+    }
+}
+
+/// What a text is found to be.
+fn verdict_on(alloc: Global, matrix: Matrix, text: &[u8]) -> Result<Verdict, TableEnd>
+    ensures verdict { IfOk result (IsVerdict matrix text.now) }
+    ensures end { IfErr result (IsVerifyEnd text.now) }
+{
+    let (lines, cut) = split_lines(text);
+    match replay(alloc, matrix, lines) {
+        Ok(Err(difference)) => Ok(Verdict::Differs(difference)),
+        Ok(Ok(rows)) if cut.is_empty() => Ok(Verdict::Recorded(rows)),
+        Ok(Ok(rows)) => Ok(Verdict::CutOff(rows, TextPlace::behind(lines).line)),
+        Err(end) => Err(end),
+    }
+}
+
+/// Reads a recorded tape whole, answers its messages anew as `tape_over` does, and compares each number, refusal and figure with its
+/// own: whether the text is the one that `tape_over` writes of its messages, byte for byte, or the first place that differs. A last
+/// line that has no end is left out, and named where all lines before it stand as written.
+///
+/// The text is held beside its messages and the tape. Where nothing is found the end says why, of the lines that have an end: they are
+/// no table, or have too many names; or a read failed, or memory ran out.
+pub fn verify_over<R: Read + Drop>(
+    alloc: Global,
+    matrix: Matrix,
+    mut reader: R,
+) -> Result<Verdict, TableEnd>
+    ensures verdict { IfSome (R.remaining reader) (λ input. IfOk result (IsVerdict matrix input)) }
+    ensures end { IfSome (R.remaining reader) (λ input. IfErr result (IsVerifyEnd input)) }
+{
+    let text = match read_all(alloc, &mut reader) {
+        Ok(text) => text,
+        Err(end) => return Err(end),
+    };
+    verdict_on(alloc, matrix, &text)
+}
