@@ -15,7 +15,7 @@ lines-at text lines cut i inside here after lines_is cut_is = record {
   split = sym (take-append-drop (i + 1) text) ∙ rw (lines_is, cut_is) refl;
   ended = inr (take i text, lines_is ∙ take_more text i 0 inside ∙ ap (λ (byte : ℕ). take i text ++ byte ∷ []) here);
   unended = rw cut_is (All-from_get_or (λ byte. byte ≢ 10) (drop (i + 1) text) 0 (λ k within.
-      subst (λ (byte : ℕ). byte ≢ 10) (sym (get_or-drop text (i + 1) k 0)) (after (i + 1 + k) (omega arith) (omega (arith, length-drop (i + 1) text, within)))));
+      subst (λ (byte : ℕ). byte ≢ 10) (sym (get_or-drop (i + 1) text k 0)) (after (i + 1 + k) (omega arith) (omega (arith, length-drop (i + 1) text, within)))));
 }
 
 -- without a line feed

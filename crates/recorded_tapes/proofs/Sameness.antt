@@ -33,7 +33,13 @@ records-same config s text [] (row ∷ rows) first second =
   where
     never : (p : Read) → Some p ≡ None → ⊥
     never p e = cc
-records-same config s text (row ∷ rows) [] first second = sym (records-same config s text [] (row ∷ rows) second first)
+records-same config s text (row ∷ rows) [] first second =
+    let (s2, rest, (p, there, is, more), none) = first in
+    let (s3, behind, (at, left), end) = second in
+    absurd (never p (sym there ∙ rw (at, left) end))
+  where
+    never : (p : Read) → Some p ≡ None → ⊥
+    never p e = cc
 records-same config s text (row ∷ rows) (next ∷ others) first second =
     let (s2, rest, (p, there, is, more), none) = first in
     let (s3, behind, (q, here, same, further), end) = second in
@@ -123,7 +129,7 @@ tapes_are_recorded back matrix m ms verdict all found = by_verdict verdict found
         let (lines, cut, are, some, replay, number) = found in
         absurd (some (lines-whole matrix m ms lines cut are).0)
     by_verdict (Differs difference) found =
-        let (lines, cut, are, messages, table, differs) = found in
+        let (lines, cut, are, (messages, table, differs)) = found in
         let whole : text ≡ lines = (lines-whole matrix m ms lines cut are).1 in
         let same : messages ≡ m ∷ ms = messages-same lines messages (m ∷ ms) table (rw whole at (back matrix m ms all)) in
         absurd (difference-apart lines (tape_text matrix messages) difference differs (sym whole ∙ ap (tape_text matrix) (sym same)))

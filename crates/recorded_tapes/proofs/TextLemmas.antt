@@ -1,5 +1,5 @@
 -- Texts that are the same up to a place.
-use Rattle.std.proofs.Common.{◌≡◌, ◌≢◌, ◌≤◌, ◌+◌, ◌++◌, ◌∙◌, ◌∷◌, [], ℕ, zero, suc, List, refl, sym, ap, arith, append-nil, append_assoc, drop, length, length-append, length-take-le, min, take}
+use Rattle.std.proofs.Common.{◌≡◌, ◌≢◌, ◌≤◌, ◌+◌, ◌==◌, ◌++◌, ◌∙◌, ◌∷◌, [], ℕ, true, zero, suc, List, refl, sym, ap, arith, append-nil, append_assoc, drop, length, length-append, length-take-le, min, take}
 use Rattle.std.proofs.lemmas.List.{take-append-drop, take_all, take_at}
 use Rattle.recorded_tapes.specs.Differences.{AreApart, IsDifference, field_over}
 use Rattle.recorded_tapes.specs.Places.{place_behind}
@@ -72,3 +72,12 @@ is-difference recorded behind left front rest right same more d within is inside
       field = stands;
       right_field = wanted;
     }
+
+-- a recorded text is the written one where what is left of it is what was written behind
+pub same-text : (recorded behind text : List ℕ) (same : ℕ) → drop same recorded ≡ behind → take same recorded ++ behind ≡ text → recorded ≡ text
+same-text recorded behind text same is written = sym (take-append-drop same recorded) ∙ ap (λ (l : List ℕ). take same recorded ++ l) is ∙ written
+
+-- a text of no bytes
+pub no_bytes : (text : List ℕ) → (length text == 0) ≡ true → text ≡ []
+no_bytes [] test = refl
+no_bytes (byte ∷ text) test = let none : length (byte ∷ text) ≡ 0 = grind (arith, test) in absurd (omega (arith, none))

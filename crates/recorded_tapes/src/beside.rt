@@ -44,7 +44,7 @@ impl Write for Beside<'_> {
     ghost contents = { λ beside. Some (take beside.same beside.recorded.now ++ beside.behind.items) };
 
     fn write(&mut self, buf: &[u8]) -> io::Result<usize> {
-        if self.behind.is_empty() && self.left().starts_with(buf) {
+        if self.behind.as_slice().is_empty() && self.left().starts_with(buf) {
             self.same += buf.len();
         } else {
             self.behind.extend_from_slice(buf)?;

@@ -61,12 +61,13 @@ fn replay(alloc: Global, matrix: Matrix, lines: &[u8]) -> Result<Result<Rows, Di
     };
     let mut beside = Beside::new(alloc, lines);
     match write_tape(alloc, matrix, &messages, &mut beside) {
-        Ok(refusals) => {
+        // What a writer holds is all that its contract says. That these are still its lines takes a look at them.
+        Ok(refusals) if beside.recorded == lines => {
             let count = messages.len() as u64;
             compare(alloc, &beside, Rows { count, refusals })
         }
-        // What is written beside lines takes memory from the first difference on, and fails where there is none.
-        Err(TableEnd::WriteFault) => Err(TableEnd::OutOfMemory),
+        // It fails only where there is no memory for what is written from the first difference on.
+        Ok(_) | Err(TableEnd::WriteFault) => Err(TableEnd::OutOfMemory),
         Err(end) => Err(end),
     }
 }

@@ -7,4 +7,4 @@ returns-in-Some c =
     lines-at c.args.text.now _ _ c.in-Some.place (search rules) (search rules) (search rules) c.front.ensures c.rest.ensures
 
 pub returns-in-None : goal.returns-in-None
-returns-in-None c = lines-none c.args.text.now _ (search rules) c.front.ensures
+returns-in-None c = lines-none c.args.text.now _ (search rules) c.front-in-None.ensures
