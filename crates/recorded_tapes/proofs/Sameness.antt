@@ -1,5 +1,5 @@
 -- A text is a table of one list of messages at most.
-use Rattle.std.proofs.Common.{◌≡◌, ◌≢◌, ◌+◌, ◌-◌, ◌++◌, ◌∙◌, ◌∷◌, [], ℕ, List, All, Ok, Some, None, refl, sym, ap, append_assoc, append-nil, arith, get_or, length, length-append, if◌then◌else◌}
+use Rattle.std.proofs.Common.{◌≡◌, ◌≢◌, ◌+◌, ◌-◌, ◌++◌, ◌∙◌, ◌∷◌, [], ℕ, List, All, Ok, Some, None, refl, sym, ap, append_assoc, append-nil, arith, get_or, length, length-append, subst, if◌then◌else◌}
 use Rattle.std.proofs.lemmas.List.{append_cancel_left, get_or-append_right, get_or_push, length_push}
 use Rattle.std.proofs.lemmas.List.Elements.{All-get_or}
 use Rattle.csv.specs.Machine.{Read, next_record}
@@ -45,7 +45,10 @@ records-same config s text (row ∷ rows) (next ∷ others) first second =
     let (s3, behind, (q, here, same, further), end) = second in
     let one : p ≡ q = cc (there, here) in
     let heads : row ≡ next = cc (is, same, one) in
-    let tails : rows ≡ others = records-same config q.1 q.2 rows others (rw one at (s2, rest, more, none)) (s3, behind, further, end) in
+    let behind_one : AreRecords config p.1 p.2 rows = (s2, rest, more, none) in
+    let behind_other : AreRecords config q.1 q.2 others = (s3, behind, further, end) in
+    let tails : rows ≡ others =
+    records-same config q.1 q.2 rows others (subst (λ (r : Read). AreRecords config r.1 r.2 rows) one behind_one) behind_other in
     cc (heads, tails)
 
 -- and so the messages of one table
