@@ -49,9 +49,13 @@ difference_line d =
 abbrev pub recorded_line : Rows → List ℕ
 recorded_line rows = rows_line rows ++ codes "all as recorded\n"
 
+-- the line that is cut off
+abbrev pub cut_text : ℕ → List ℕ
+cut_text line = codes "all as recorded before line " ++ decimal line ++ codes ", which is cut off\n"
+
 -- a tape that stands as recorded before this line, which is cut off
 abbrev pub cut_line : Rows → ℕ → List ℕ
-cut_line rows line = rows_line rows ++ codes "all as recorded before line " ++ decimal line ++ codes ", which is cut off\n"
+cut_line rows line = rows_line rows ++ cut_text line
 
 -- what a recorded tape is found to be
 abbrev pub verdict_line : Verdict → List ℕ
