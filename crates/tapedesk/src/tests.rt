@@ -57,6 +57,18 @@ cancel,Q,2,0,AB,1,,,\n";
 const BYTES_OF_N: &[u8] =
     b"\0\x26RN\0\0\0\x01\0\0\0\0\0\0\0\0AB      \0\0\0\0\0\x01\x86\xa0\0\0\0\x64@   ";
 
+/// A table of which two rows are no message.
+const FAULTY: &[u8] = b"\
+participant,number,symbol,price,size,condition\n\
+N,1,AB,10,1,@___\n\
+N,0,AB,10,1,@___\n\
+N,2,AB,10.00001,1,@___\n";
+
+/// What is told of it.
+const FAULTS: &[u8] = b"\
+row 3: number \"0\" is not 1 to 4294967295\n\
+row 4: price \"10.00001\" is not 0.0001 to 99999999.9999 with at most four decimals\n";
+
 /// What is said of its refused row.
 const REFUSED: &[u8] = b"tapedesk: 1 row refused: 35 Stale, first at row 4\n";
 
@@ -176,6 +188,20 @@ fn a_table_is_encoded_and_decoded(rt: HostRuntime) {
 }
 
 #[test]
+fn the_faults_of_a_table_are_told(rt: HostRuntime) {
+    assert_answers(
+        &rt,
+        rt.alloc(),
+        b"check\0",
+        &mut { TABLE },
+        0,
+        b"4 rows, no fault\n",
+        b"",
+    );
+    assert_answers(&rt, rt.alloc(), b"check\0", &mut { FAULTY }, 2, FAULTS, b"");
+}
+
+#[test]
 fn a_participants_line_has_its_messages_alone(rt: HostRuntime) {
     for (words, bytes) in [
         (b"line\0N\0".as_slice(), BYTES_OF_N),
@@ -191,6 +217,7 @@ fn help_is_told_of_all_words_and_of_each(rt: HostRuntime) {
         (b"--help\0".as_slice(), help_text()),
         (b"tape\0--help\0", word_help_text(Word::Tape)),
         (b"explain\0--help\0", word_help_text(Word::Explain)),
+        (b"check\0--help\0", word_help_text(Word::Check)),
         (b"decode\0--help\0", word_help_text(Word::Decode)),
         (b"line\0--help\0", word_help_text(Word::Line)),
         (b"follow\0--help\0", word_help_text(Word::Follow)),
@@ -243,6 +270,7 @@ fn bad_arguments_are_told(rt: HostRuntime) {
         b"report\x003\0",
         b"tape\x001\x002\0",
         b"explain\x003\0",
+        b"check\x001\0",
         b"reports\0",
         b"encode\x001\0",
         b"line\0",
@@ -269,6 +297,7 @@ fn a_read_that_fails_writes_nothing(rt: HostRuntime) {
         (b"report\0".as_slice(), TABLE),
         (b"tape\0", TABLE),
         (b"explain\0", TABLE),
+        (b"check\0", TABLE),
         (b"encode\0", TABLE),
         (b"decode\0", ENCODED),
         (b"line\0N\0", TABLE),
@@ -292,6 +321,7 @@ fn a_write_and_a_flush_that_fail_are_told(rt: HostRuntime) {
         (b"report\0".as_slice(), TABLE, REPORT),
         (b"tape\0", TABLE, TAPE),
         (b"explain\0", TABLE, EXPLAINED),
+        (b"check\0", FAULTY, FAULTS),
         (b"encode\0", TABLE, ENCODED),
         (b"decode\0", ENCODED, DECODED),
         (b"line\0N\0", TABLE, BYTES_OF_N),
