@@ -1,21 +1,30 @@
 -- The rows of the messages that a tape admits, and the last change of each of its reports.
-use Rattle.std.proofs.Common.{◌≡◌, ◌≢◌, ◌<◌, ◌≤◌, ◌+◌, ◌-◌, ◌==◌, ◌∷◌, ◌++◌, ◌∙◌, [], ℕ, suc, Bool, true, false, cond, drop, nat_le, not, List, Option, Result, Some, None, Ok, Err, if◌then◌else◌}
-use Rattle.std.proofs.Common.{ap, append-nil, append_assoc, arith, eq-eqb, filter, fold, get_or, is_some, length, length-append, map, refl, set, slice_get, subst, sym, take, true≢false, unwrap_or}
-use Rattle.std.specs.List.{filter_map, flat_map, last_or}
+use Rattle.std.proofs.Common.{◌≡◌, ◌≢◌, ◌⊎◌, ◌<◌, ◌≤◌, ◌+◌, ◌*◌, ◌-◌, ◌==◌, ◌∷◌, ◌++◌, ◌∙◌, [], ℕ, suc, Bool, true, false, cond, drop, nat_le, not, List, Option, Result, Some, None, Ok, Err, if◌then◌else◌}
+use Rattle.std.proofs.Common.{ap, append-nil, append_assoc, arith, eq-eqb, filter, fold, get_or, inl, inr, is_some, length, length-append, map, refl, set, slice_get, subst, sym, take, true≢false, unwrap_or}
+use Rattle.std.specs.List.{filter_map, flat_map, last_or, position}
 use Rattle.std.specs.Option.{option_map}
-use Rattle.std.proofs.lemmas.Bool.{not-false}
-use Rattle.std.proofs.lemmas.List.{drop_all, length-map, length-take-le, map-append, map_more, take_all, take_more}
+use Rattle.std.proofs.Math.Seq.{get_or-append_seam}
+use Rattle.std.proofs.lemmas.Bool.{cases_lt, not-false}
+use Rattle.std.proofs.lemmas.List.{drop_all, get_or_append_left, length-map, length-take-le, map-append, map_more, take_all, take_more}
 use Rattle.std.proofs.lemmas.List.Elements.{filter-append}
+use Rattle.std.proofs.lemmas.List.Quantifiers.{position-Some}
+use Rattle.std.proofs.lemmas.Nat.{div-mul-add, mod-mul-add}
+use Rattle.std.proofs.lemmas.Option.{slice_get-get_or}
+use Rattle.std.proofs.lemmas.Slice.Eq.{bytes_eq-Decides}
+use Rattle.tape_types.specs.Names.{symbol_eq}
+use Rattle.tape_types.specs.Ranges.{FIRST_PARTICIPANT, PARTICIPANTS_MOST}
 use Rattle.sale_matrix.specs.declared.matrix.Matrix.{Matrix}
 use Rattle.reports.specs.Messages.{header_of}
 use Rattle.reports.specs.declared.message.Message.{Message}
 use Rattle.tape_core.specs.Lemmas.LegalNext.{none_first}
-use Rattle.tape_core.specs.Standing.{NumberedMessage, last_number}
-use Rattle.tape_core.specs.Tape.{IsLegal, TapeState, lists_participant, lists_symbol, messages_of, next_entry, numbered_message, refusal}
+use Rattle.scratch_fold.specs.Fold.{empty_summary}
+use Rattle.scratch_fold.specs.declared.summary.Summary.{Summary}
+use Rattle.tape_core.specs.Standing.{NumberedMessage, last_number, participant_summary}
+use Rattle.tape_core.specs.Tape.{IsLegal, TapeState, lists_participant, lists_symbol, messages_of, next_entry, numbered_message, participant_summary_at_index, refusal}
 use Rattle.tape_core.specs.declared.entry.Entry.{Entry}
 use Rattle.tape_core.specs.declared.refusal.Refusal.{Refusal}
 use Rattle.tape_core.specs.declared.refusal.Refusal.TheVariants.{Closed, Full, Stale, UnknownParticipant, UnknownSymbol}
-use Rattle.table_days.specs.Accounts.{AreChanges}
+use Rattle.table_days.specs.Accounts.{AreChanges, AreOwn, own_at}
 use Rattle.table_days.specs.Answers.{answer, answer_by, answers, tape_after, tape_by}
 use Rattle.table_days.specs.Days.{first_tape, tape_of}
 use Rattle.table_days.specs.Explained.{admitted_rows, is_change_at, last_change_in, rows_of}
@@ -169,3 +178,35 @@ legal-lists t k e legal at =
     let above = none_first (nat_le (header_of m).number (last_number tape who)) Stale _ listed.1 in
     let known = none_first (not (lists_symbol t.listing (header_of m).symbol)) UnknownSymbol _ above.1 in
     (not-false (lists_symbol t.listing (header_of m).symbol) known.0, not-false (lists_participant t.listing who) listed.0)
+
+-- ## The participants' own summaries
+
+-- with one more, each is that of its place
+pub own-more : (t : TapeState) (old new : List Summary) (x : Summary) → new ≡ old ++ x ∷ [] → x ≡ own_at t (length old)
+    → ((place : ℕ) (other : Summary) → place < length old → get_or old place other ≡ own_at t place)
+    → (place : ℕ) (other : Summary) → place < length new → get_or new place other ≡ own_at t place
+own-more t old new x pushed is had place other within = ap (λ (l : List Summary). get_or l place other) pushed ∙ by (cases_lt place (length old))
+  where
+    by : (place < length old) ⊎ (length old ≤ place) → get_or (old ++ x ∷ []) place other ≡ own_at t place
+    by (inl inside) = get_or_append_left old (x ∷ []) other place inside ∙ had place other inside
+    by (inr past) =
+        let last : place ≡ length old = omega (arith, within, ap length pushed, length-append old (x ∷ []), past) in
+        ap (λ (n : ℕ). get_or (old ++ x ∷ []) n other) last ∙ get_or-append_seam old x [] other ∙ is ∙ ap (own_at t) (sym last)
+
+-- the one at the place of a symbol and a participant is theirs
+pub own-found : (t : TapeState) (own : List Summary) (symbol : List ℕ) (who at row : ℕ) (found : Summary) → AreOwn t own
+    → position (symbol_eq symbol) t.listing.symbols ≡ Some at → lists_participant t.listing who ≡ true → row + FIRST_PARTICIPANT ≡ who
+    → row < PARTICIPANTS_MOST → found ≡ get_or own (at * PARTICIPANTS_MOST + row) found
+    → found ≡ participant_summary t.matrix (messages_of t.entries) symbol who
+own-found t own symbol who at row found are listed known letter few read =
+    let symbols : List (List ℕ) = t.listing.symbols in
+    let among : at < length symbols = (position-Some (symbol_eq symbol) symbols at [] listed).0 in
+    let within : at * 26 + row < length own = omega (arith, among, few, are.count) in
+    let of_symbol : slice_get symbols at ≡ Some symbol =
+    slice_get-get_or symbols at symbol among
+    ∙ ap Some (sym ((bytes_eq-Decides symbol (get_or symbols at symbol)).0 (position-Some (symbol_eq symbol) symbols at symbol listed).1)) in
+    let is : FIRST_PARTICIPANT + row ≡ who = omega (arith, letter) in
+    read ∙ are.each (at * 26 + row) found within
+    ∙ (λ i. unwrap_or (participant_summary_at_index t (div-mul-add at 26 row few i) (FIRST_PARTICIPANT + mod-mul-add at 26 row few i)) empty_summary)
+    ∙ ap (λ (n : ℕ). unwrap_or (participant_summary_at_index t at n) empty_summary) is
+    ∙ (λ i. unwrap_or (if known i then option_map (λ s. participant_summary t.matrix (messages_of t.entries) s who) (of_symbol i) else None) empty_summary)

@@ -1,13 +1,14 @@
 //! What the rows that tell of a day's reports are made from.
-ghost use Rattle.std.specs.Prelude.{◌≡◌, ◌≢◌, ◌+◌, ◌<◌, ◌^◌, ◌++◌, ◌∷◌, ℕ, [], IfErr, IfOk, OnOk, length, slice_index, if◌then◌else◌, true};
+ghost use Rattle.std.specs.Prelude.{◌≡◌, ◌≢◌, ◌+◌, ◌/◌, ◌%◌, ◌<◌, ◌^◌, ◌++◌, ◌∷◌, ℕ, [], IfErr, IfOk, None, OnOk, length, slice_index, if◌then◌else◌, true};
 ghost use Rattle.day_tables.specs.Tables.{FIRST_ROW};
 ghost use Rattle.reports.specs.Messages.{header_of};
 ghost use Rattle.tape_core.specs.Standing.{participant_summary};
-ghost use Rattle.tape_core.specs.Tape.{lists_participant, lists_symbol, messages_of, numbered_message};
+ghost use Rattle.tape_core.specs.Tape.{lists_participant, lists_symbol, messages_of, numbered_message, participant_summary_at_index};
+ghost use Rattle.tape_types.specs.Ranges.{FIRST_PARTICIPANT, PARTICIPANTS_MOST};
 ghost use Rattle.table_days.specs.Answers.{answers};
 ghost use Rattle.table_days.specs.Days.{AnswersMore, HasAnswered, first_tape, symbol_of};
 ghost use Rattle.table_days.specs.Explained.{admitted_rows, explained_at, is_change_at, rows_of};
-ghost use Rattle.table_days.specs.Accounts.{AreChanges, IsAccount};
+ghost use Rattle.table_days.specs.Accounts.{AreChanges, AreOwn, IsAccount};
 ghost use Rattle.table_days.specs.TableEnds.{IsMessagesEnd};
 ghost use Rattle.table_days.specs.declared.table_end.TableEnd.TheVariants.{WriteFault};
 
@@ -17,9 +18,10 @@ use crate::tape_row::figures_of;
 use crate::{Answer, TableEnd, TableTape};
 use reports::Message;
 use sale_matrix::{Matrix, cells};
-use scratch_fold::Summary;
+use scratch_fold::{Mark, Summary};
 use std::alloc::{AllocError, Global};
 use tape_core::Entry;
+use tape_types::{PARTICIPANTS_MOST, Participant};
 
 /// A day that has answered its messages, and what is told of its reports besides.
 #[derive(Drop)]
@@ -30,6 +32,8 @@ pub struct Account {
     pub rows: Vec<u64>,
     /// The tape number of the last message that changed the report at each index of the entries, 0 for none.
     pub changes: Vec<u32>,
+    /// The participants' own summaries, symbol by symbol in the order of the listing, and for each letter by letter.
+    pub own: Vec<Summary>,
 }
 
 /// Notes the number of a row if its message is admitted.
@@ -87,18 +91,45 @@ fn changes_of(alloc: Global, tape: &TableTape) -> Result<Vec<u32>, AllocError>
     Ok(changes)
 }
 
-/// A participant's own figures in a message's symbol, both of which the tape lists.
-fn own_figures_of(tape: &TableTape, message: &Message) -> Summary
-    requires symbol { lists_symbol tape.now.listing (symbol_of message.now) ≡ true }
-    requires participant { lists_participant tape.now.listing (header_of message.now).participant ≡ true }
-    ensures { result
-        ≡ participant_summary tape.now.matrix (messages_of tape.now.entries) (symbol_of message.now) (header_of message.now).participant }
+/// How many participants' own summaries stand next to one another for each symbol: one for each letter.
+const LETTERS: usize = PARTICIPANTS_MOST;
+
+/// The participant of a letter by its index, from `A`.
+fn participant_at(letter: usize) -> Participant
+    requires { letter < PARTICIPANTS_MOST }
+    ensures { result ≡ FIRST_PARTICIPANT + letter }
 {
-    let header = message.header();
-    match tape.summary_of(header.symbol, header.participant) {
-        Some(figures) => figures,
-        None => unreachable!(),
+    Participant::try_new(b'A' + letter as u8).unwrap()
+}
+
+/// A participant's own summary of a symbol, by their place among all: symbol by symbol, and for each letter by letter. `None` where the
+/// tape does not list both.
+fn own_at(tape: &TableTape, place: usize) -> Option<Summary>
+    ensures { result ≡ participant_summary_at_index tape.now (place / PARTICIPANTS_MOST) (FIRST_PARTICIPANT + place % PARTICIPANTS_MOST) }
+{
+    tape.summary_of_at(place / LETTERS, participant_at(place % LETTERS))
+}
+
+/// No mark.
+fn no_mark() -> Option<Mark>
+    ensures { result ≡ None }
+{
+    None
+}
+
+/// The participants' own summaries of all symbols, so that none is looked for again for each report.
+fn own_summaries(alloc: Global, tape: &TableTape) -> Result<Vec<Summary>, AllocError>
+    ensures { IfOk result (λ own. AreOwn tape.now own.items) }
+{
+    let count = tape.listing().symbols().as_slice().len() * LETTERS;
+    // For the proof alone: the check knows the types of a function's own values, and those that they are over.
+    let _ = no_mark();
+    let mut own = Vec::new(alloc);
+    for place in 0..count {
+        let summary = own_at(tape, place).unwrap_or(Summary::empty());
+        own.push(summary)?;
     }
+    Ok(own)
 }
 
 impl Account {
@@ -121,8 +152,16 @@ impl Account {
         let Ok(rows) = admitted_rows(alloc, &mut day, messages) else {
             return Err(TableEnd::OutOfMemory);
         };
-        match changes_of(alloc, &day.tape) {
-            Ok(changes) => Ok(Account { day, rows, changes }),
+        let Ok(changes) = changes_of(alloc, &day.tape) else {
+            return Err(TableEnd::OutOfMemory);
+        };
+        match own_summaries(alloc, &day.tape) {
+            Ok(own) => Ok(Account {
+                day,
+                rows,
+                changes,
+                own,
+            }),
             Err(_) => Err(TableEnd::OutOfMemory),
         }
     }
@@ -143,7 +182,22 @@ impl Account {
             changed: self.changes[index],
             cells: cells(tape.matrix(), &report.content.condition),
             figures: figures_of(tape, message),
-            own: own_figures_of(tape, message),
+            own: self.own_figures_of(message),
         })
+    }
+
+    /// A participant's own figures in a message's symbol, both of which the tape lists.
+    fn own_figures_of(&self, message: &Message) -> Summary
+        requires account { IsAccount self.now }
+        requires symbol { lists_symbol self.now.day.tape.listing (symbol_of message.now) ≡ true }
+        requires participant { lists_participant self.now.day.tape.listing (header_of message.now).participant ≡ true }
+        ensures { result ≡ participant_summary self.now.day.tape.matrix (messages_of self.now.day.tape.entries)
+            (symbol_of message.now) (header_of message.now).participant }
+    {
+        let header = message.header();
+        match self.day.tape.listing().position(header.symbol) {
+            Some(at) => self.own[at * LETTERS + header.participant.row_index()],
+            None => unreachable!(),
+        }
     }
 }

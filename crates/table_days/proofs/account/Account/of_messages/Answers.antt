@@ -7,12 +7,12 @@ use Rattle.table_days.specs.Explained.{admitted_rows, rows_of}
 use Rattle.table_days.proofs.AccountLemmas.{length-rows_of}
 use Rattle.table_days.proofs.account.Account.of_messages.Goals as goal
 
-pub returns-in-Ok-changes_of-clause-day : goal.returns-in-Ok-changes_of-clause-day
-returns-in-Ok-changes_of-clause-day c =
+pub returns-in-Ok-own_summaries-clause-day : goal.returns-in-Ok-own_summaries-clause-day
+returns-in-Ok-own_summaries-clause-day c =
     c.in-Ok-admitted_rows.ensures.more (first_tape c.args.matrix c.args.messages.now) [] c.in-Ok.ensures.day
 
-pub returns-in-Ok-changes_of-clause-account : goal.returns-in-Ok-changes_of-clause-account
-returns-in-Ok-changes_of-clause-account c =
+pub returns-in-Ok-own_summaries-clause-account : goal.returns-in-Ok-own_summaries-clause-account
+returns-in-Ok-own_summaries-clause-account c =
     let matrix = c.args.matrix in
     let messages = c.args.messages.now in
     let answered = c.in-Ok-admitted_rows.ensures.more (first_tape matrix messages) [] c.in-Ok.ensures.day in
@@ -23,4 +23,5 @@ returns-in-Ok-changes_of-clause-account c =
     record {
       rows = ap length noted ∙ length-rows_of matrix messages ∙ ap (λ (t : TapeState). length t.entries) (sym answered.tape);
       changes = c.in-Ok-changes_of.ensures;
+      own = c.in-Ok-own_summaries.ensures;
     }
