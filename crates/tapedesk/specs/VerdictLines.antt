@@ -49,7 +49,7 @@ difference_line d =
 abbrev pub recorded_line : Rows → List ℕ
 recorded_line rows = rows_line rows ++ codes "all as recorded\n"
 
--- the line that is cut off
+-- which line is cut off
 abbrev pub cut_text : ℕ → List ℕ
 cut_text line = codes "all as recorded before line " ++ decimal line ++ codes ", which is cut off\n"
 

@@ -1,5 +1,5 @@
 //! The line of what a recorded tape is found to be.
-ghost use Rattle.std.specs.Prelude.{◌≡◌, ◌⊎◌, ◌<◌, ◌^◌, ◌++◌, [], Err, IfOk, Ok, OnOk, decimal, get_or, length};
+ghost use Rattle.std.specs.Prelude.{◌≡◌, ◌⊎◌, ◌<◌, ◌^◌, ◌++◌, [], Err, IfOk, Ok, OnOk, decimal, get_or, length, string_bytes};
 ghost use Rattle.table_days.specs.TapeRows.{column_names};
 ghost use Rattle.tapedesk.specs.VerdictLines.{counted, cut_line, cut_text, difference_line, recorded_line, refused_count, refused_for_any, rows_line, verdict_line, verdict_status};
 ghost use Rattle.tapedesk.specs.VerifyRuns.{TellsVerdict};
@@ -123,13 +123,11 @@ fn recorded_line(alloc: Global, rows: &Rows) -> Result<Vec<u8>, AllocError>
     Ok(text)
 }
 
-/// Adds the line that is cut off.
-fn push_cut(text: &mut Vec<u8>, line: u64) -> Result<(), AllocError>
-    ensures { OnOk result (text.new.items ≡ text.old.items ++ cut_text line) }
+/// Which line is cut off.
+fn cut_text(alloc: Global, line: u64) -> Result<String, AllocError>
+    ensures { IfOk result (λ text. string_bytes text ≡ cut_text line) }
 {
-    text.extend_from_slice(b"all as recorded before line ")?;
-    push_number(text, u128::from(line))?;
-    text.extend_from_slice(b", which is cut off\n")
+    format!(in alloc; "all as recorded before line {line}, which is cut off\n")
 }
 
 /// The line of a tape that stands as recorded before this line, which is cut off.
@@ -138,7 +136,8 @@ fn cut_line(alloc: Global, rows: &Rows, line: u64) -> Result<Vec<u8>, AllocError
 {
     let mut text = Vec::new(alloc);
     push_rows(&mut text, rows)?;
-    push_cut(&mut text, line)?;
+    let end = cut_text(alloc, line)?;
+    text.extend_from_slice(end.as_bytes())?;
     Ok(text)
 }
 
