@@ -3,7 +3,7 @@
 
 Proves and builds the programs if they are not built from this tree, runs each measuring script, and writes the raw figures to docs/speed.json and the
 tables from them into docs/SPEED.md and docs/speed.svg, with the commit, the kit, the machine and the date. That takes some 20 minutes once the
-programs are built, on a machine with no other work; run it by `chrt -r 10` to keep other work away. --quick takes smaller days and fewer turns, and
+programs are built, on a machine with no other work; run it by `chrt -r 10` to keep other work away. --quick takes smaller days, one turn and no figure of growth, and
 with it or --only the figures and the page go into bench/target/ alone. --drafts takes programs that are not proved, and the page says so. --page
 writes the page again from the figures that are there.
 
@@ -122,7 +122,7 @@ def parts(text):
 
 def arguments():
     parser = argparse.ArgumentParser(description=__doc__, formatter_class=argparse.RawDescriptionHelpFormatter)
-    parser.add_argument("--quick", action="store_true", help="smaller days and fewer turns, for a try")
+    parser.add_argument("--quick", action="store_true", help="smaller days, one turn, drafts if there are no proved programs, and not every part, for a try")
     parser.add_argument("--only", type=parts, metavar="PART,..", help=f"of {', '.join(PARTS)}")
     parser.add_argument("--turns", type=int, metavar="N", help="how often each program runs, in place of each part's own number")
     parser.add_argument("--drafts", action="store_true", help="takes programs that are not proved")

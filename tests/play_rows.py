@@ -495,7 +495,7 @@ def answer(stage, step):
         told = stage.take(words)
     except Refused as refusal:
         return str(refusal)
-    except (NoStep, ValueError, OverflowError, struct.error, plain_table.TableFault) as fault:
+    except (NoStep, AttributeError, ValueError, OverflowError, struct.error, plain_table.TableFault) as fault:
         return f"no answer: {fault}"
     return "no answer: a word is too many" if words.words else told
 
