@@ -1,5 +1,5 @@
 -- A day that answers lines one after another.
-use Rattle.std.proofs.Common.{◌≡◌, ◌≢◌, ◌↔◌, ◌∷◌, ◌++◌, ◌∙◌, [], ℕ, ◌+◌, List, Option, Some, None, IfSome, length, Bool, true, false, Result, Err, IsOk, IsTrue}
+use Rattle.std.proofs.Common.{◌≡◌, ◌≢◌, ◌↔◌, ◌∷◌, ◌++◌, ◌∙◌, [], ℕ, ◌+◌, List, Option, Some, None, IfSome, length, Bool, true, false, Result, Ok, Err, IsOk, IsTrue, OnOk}
 use Rattle.std.proofs.Common.{refl, sym, ap, append_assoc, append-nil}
 use Rattle.std.specs.Io.KnownBytes.{Consumes, Keeps}
 use Rattle.tape_core.specs.Tape.{TapeState}
@@ -81,6 +81,11 @@ AnswersTaken-front old now bytes left front taken taken_now more whole lost coun
   answered = more;
   took = TakesLines-whole bytes left front taken taken_now whole lost counted;
 }
+
+-- a fact that holds at any result
+pub OnOk-always : {A E P : Type 0} (r : Result A E) → P → OnOk r P
+OnOk-always (Ok x) p = p
+OnOk-always (Err e) p = tt
 
 -- nothing was answered, and nothing taken
 pub AnswersTaken-none : (day : Day) (bytes left : Option (List ℕ)) (taken : ℕ) → Keeps bytes left → AnswersTaken day day bytes left taken taken

@@ -1,12 +1,13 @@
 //! A day: its tape, and the answers that it holds until its input has been read whole.
-ghost use Rattle.std.specs.Prelude.{◌≡◌, ◌≢◌, ◌≤◌, ◌↔◌, [], ◌∷◌, false, Err, IsOk, IsTrue, IfErr, IfSome, OnOk, OnErr};
+ghost use Rattle.std.specs.Prelude.{◌≡◌, ◌≢◌, ◌≤◌, ◌↔◌, [], ◌∷◌, false, Err, Ok, IsOk, IsTrue, IfErr, IfSome, OnOk, OnErr};
+ghost use Rattle.std.specs.IoError.{error_kind};
 ghost use Rattle.tape_core.specs.declared.refusal.Refusal.TheVariants.{OutOfMemory};
 ghost use Rattle.batch.specs.Batch.{line_answer, tape_after_line};
 ghost use Rattle.batch.specs.Reading.{EndsReading, Fits};
 ghost use Rattle.batch.specs.Day.{AnswersMore, AnswersTaken};
 ghost use Rattle.batch.specs.Lines.{lines_of};
 ghost use Rattle.batch.specs.declared.batch_refusal.BatchRefusal.TheVariants.{Refused};
-ghost use Rattle.batch.specs.declared.read_end.ReadEnd.TheVariants.{OutOfMemory as ReadOutOfMemory};
+ghost use Rattle.batch.specs.declared.read_end.ReadEnd.TheVariants.{OutOfMemory as ReadOutOfMemory, ReadFault};
 
 use crate::BatchRefusal;
 use crate::day_tape::DayTape;
@@ -15,7 +16,7 @@ use crate::lines::{Lines, whole_lines};
 use crate::message_line::read_message;
 use crate::read_end::ReadEnd;
 use std::alloc::{AllocError, Global};
-use std::io::{BufRead, ErrorKind};
+use std::io::{BufRead, Error, ErrorKind};
 use tape_core::Refusal;
 use tape_types::TapeNumber;
 
@@ -48,6 +49,18 @@ fn is_out_of_memory(answer: &Answer) -> bool
     ensures { IsTrue result ↔ (answer.now ≡ Err (Refused OutOfMemory)) }
 {
     matches!(answer, Err(BatchRefusal::Refused(Refusal::OutOfMemory)))
+}
+
+/// What a piece comes to that was not read: nothing where the read was interrupted, since whatever reads next reads again.
+fn unread_piece(error: &Error) -> Result<(), ReadEnd>
+    ensures interrupted { error_kind error.now ≡ ErrorKind.Interrupted → result ≡ Ok tt }
+    ensures memory { error_kind error.now ≡ ErrorKind.OutOfMemory → result ≡ Err ReadOutOfMemory }
+    ensures fault { error_kind error.now ≢ ErrorKind.Interrupted → error_kind error.now ≢ ErrorKind.OutOfMemory → result ≡ Err ReadFault }
+{
+    match error.kind() {
+        ErrorKind::Interrupted => Ok(()),
+        _ => Err(failed_read(error)),
+    }
 }
 
 /// A day: its tape, and the answers that it holds until its input has been read whole.
@@ -115,9 +128,7 @@ impl Day {
         }
         let piece = match input.left.fill_buf() {
             Ok(piece) => piece,
-            // Whatever reads next reads again.
-            Err(error) if error.kind() == ErrorKind::Interrupted => return Ok(()),
-            Err(error) => return Err(failed_read(&error)),
+            Err(error) => return unread_piece(&error),
         };
         let whole = whole_lines(piece);
         let answered = self.answer_lines(Lines::new(&piece[..whole]));

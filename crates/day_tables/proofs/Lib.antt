@@ -2,6 +2,7 @@ pub mod CheckLemmas
 pub mod ColumnLemmas
 pub mod CutLemmas
 pub mod NumeralLemmas
+pub mod PlaceLemmas
 pub mod PriceSpelling
 pub mod RoundTrip
 pub mod RowLemmas

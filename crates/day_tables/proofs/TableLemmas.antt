@@ -1,9 +1,11 @@
 -- What a reader of a table's records has read.
-use Rattle.std.proofs.Common.{◌≡◌, ◌∷◌, ◌++◌, [], ℕ, List, Option, Some, None, true, false, refl, sym, arith, IfSome, IfOk, IfErr, ◌+◌, ◌∙◌, ◌⊎◌, Ok, Err, length, inl, inr, Result, ◌==◌}
+use Rattle.std.proofs.Common.{◌≡◌, ◌∷◌, ◌++◌, [], ℕ, List, Option, Some, None, true, false, refl, sym, arith, true≢false, IfSome, IfOk, IfErr, ◌+◌, ◌∙◌, ◌⊎◌, Ok, Err, length, inl, inr, Result, ◌==◌}
 use Rattle.std.specs.Option.{option_map}
 use Rattle.std.proofs.lemmas.Bool.{eqb-true}
 use Rattle.std.proofs.lemmas.List.Sums.{fold_push}
-use Rattle.csv.specs.Reading.{Reached, ReadRecord, default_config, reader_config, reader_state, source_of, strip_bom}
+use Rattle.csv.specs.Reading.{ExplainsRead, Reached, ReadRecord, default_config, is_flexible, reader_config, reader_state, source_of, stops_reader, strip_bom}
+use Rattle.csv.specs.declared.error.ErrorKind.{ErrorKind}
+use Rattle.csv.specs.declared.error.ErrorKind.TheVariants as kind
 use Rattle.csv.specs.declared.parser.State.TheVariants as st
 use Rattle.csv.specs.declared.reader.Reader.{Reader}
 use Rattle.csv.proofs.ReadFacts.{rows-end, rows-more}
@@ -38,6 +40,16 @@ pub has_read-all : {R : Type 0} (remaining : R → Option (List ℕ)) (old new :
     → AreTableRecords input records
 has_read-all remaining old new fields config read input records had =
     (reader_state old, had.rest, had.reached, rows-end remaining old new fields default_config had.rest config had.source read)
+
+-- a read of bytes that failed at a reader of any lengths has stopped it
+pub stops-flexible : {R : Type 0} (remaining : R → Option (List ℕ)) (old new : Reader R) (why : ErrorKind) → is_flexible old ≡ true
+    → ExplainsRead remaining old new false why → stops_reader why ≡ true
+stops-flexible remaining old new (kind.Io e) flexible explained = refl
+stops-flexible remaining old new kind.OutOfMemory flexible explained = refl
+stops-flexible remaining old new (kind.UnequalLengths pos expected len) flexible explained = absurd (true≢false (sym flexible ∙ explained.0))
+stops-flexible remaining old new (kind.Utf8 pos err) flexible explained = absurd (true≢false (sym explained.0))
+stops-flexible remaining old new (kind.Serialize text) flexible explained = absurd explained
+stops-flexible remaining old new (kind.Deserialize pos err) flexible explained = absurd explained
 
 -- ## The rows below a header row
 

@@ -1,7 +1,9 @@
--- What is written reads back.
-use Rattle.std.specs.Prelude.{◌≡◌, List, ◌∷◌, All, Ok}
+-- What is written reads back, and which column a name means.
+use Rattle.std.specs.Prelude.{◌≡◌, ◌≢◌, ◌<◌, ◌↔◌, ℕ, List, ◌∷◌, All, Some, None, Ok}
+use Rattle.csv.specs.Records.{field_at}
 use Rattle.reports.specs.Spelling.{IsMessage}
 use Rattle.reports.specs.declared.message.Message.{Message}
+use Rattle.day_tables.specs.Columns.{place_of}
 use Rattle.day_tables.specs.Rows.{row_message}
 use Rattle.day_tables.specs.Tables.{IsTable}
 use Rattle.day_tables.specs.TableTexts.{table_text}
@@ -14,3 +16,13 @@ RowRoundTrip = (m : Message) → IsMessage m → row_message (row_of m) ≡ Ok m
 -- the text of a table of one message or more reads back as those messages
 abbrev pub TableRoundTrip : Type 0
 TableRoundTrip = (m : Message) (ms : List Message) → All IsMessage (m ∷ ms) → IsTable (table_text (m ∷ ms)) (m ∷ ms)
+
+-- a name stands at this place of a header row, and at none before
+pub record StandsFirst (names : List (List ℕ)) (name : List ℕ) (place : ℕ) : Type 0 where
+  pub here : field_at names place ≡ Some name
+  pub first : (before : ℕ) → before < place → field_at names before ≢ Some name
+
+-- a name's place is the one where it stands first, and it has none exactly if it stands nowhere
+pub record IsFirstPlace : Type 0 where
+  pub first : (names : List (List ℕ)) (name : List ℕ) (place : ℕ) → (place_of names name ≡ Some place) ↔ StandsFirst names name place
+  pub none : (names : List (List ℕ)) (name : List ℕ) → (place_of names name ≡ None) ↔ ((place : ℕ) → field_at names place ≢ Some name)

@@ -1,6 +1,6 @@
 -- A reader of a table's records, between two of them.
-use Rattle.std.specs.Prelude.{◌≡◌, ℕ, List, [], ◌∷◌, Option, Some, Result, Ok, Err}
-use Rattle.csv.specs.Reading.{Reached, Ready, default_config, reader_config, reader_state, reader_trim, source_of, strip_bom}
+use Rattle.std.specs.Prelude.{◌≡◌, ℕ, true, List, [], ◌∷◌, Option, Some, Result, Ok, Err}
+use Rattle.csv.specs.Reading.{Reached, Ready, default_config, is_flexible, reader_config, reader_state, reader_trim, source_of, strip_bom}
 use Rattle.csv.specs.declared.parser.State.TheVariants as st
 use Rattle.csv.specs.declared.reader.Reader.{Reader}
 use Rattle.csv.specs.declared.reader.Trim.TheVariants as trim
@@ -11,11 +11,12 @@ use Rattle.day_tables.specs.declared.columns.Columns.{Columns}
 use Rattle.day_tables.specs.declared.table_fault.TableFault.{TableFault}
 use Rattle.day_tables.specs.declared.table_fault.TableFault.TheVariants.{Header, NoRow, Row, ReadFault, OutOfMemory}
 
--- the reader gives each record as it stands, by csv's defaults
+-- the reader gives each record as it stands, however many fields it has, by csv's defaults
 pub record IsPlain {R : Type 0} (r : Reader R) : Type 0 where
   pub trim : reader_trim r ≡ trim.None
   pub ready : Ready r
   pub config : reader_config r ≡ default_config
+  pub flexible : is_flexible r ≡ true
 
 -- the reader has read these first records of a text, and has the rest left
 pub record HasRead {R : Type 0} (remaining : R → Option (List ℕ)) (r : Reader R) (input : List ℕ) (records : List (List (List ℕ))) : Type 0 where

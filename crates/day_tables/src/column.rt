@@ -80,12 +80,12 @@ impl Column {
         match self {
             Column::Kind => "report, cancel, correct or reinstate, or R, X, C or S",
             Column::Participant => "A to Z",
-            Column::Number => "1 to 4294967295",
-            Column::Moment => "0 to 18446744073709551615",
+            Column::Number => "1 to 4294967295 in at most 20 digits",
+            Column::Moment => "0 to 18446744073709551615 in at most 20 digits",
             Column::Symbol => "1 to 8 of A to Z, 0 to 9 and .",
-            Column::Target => "1 to 4294967295",
-            Column::Price => "0.0001 to 99999999.9999 with at most four decimals",
-            Column::Size => "1 to 99999999",
+            Column::Target => "1 to 4294967295 in at most 20 digits",
+            Column::Price => "0.0001 to 99999999.9999 with at most 20 digits and four decimals",
+            Column::Size => "1 to 99999999 in at most 20 digits",
             Column::Condition => "the four codes of a sale condition, with _ for a blank",
         }
     }

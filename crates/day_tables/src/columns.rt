@@ -3,6 +3,7 @@ ghost use Rattle.std.specs.Prelude.{◌≡◌};
 ghost use Rattle.csv.specs.Records.{fields_of};
 ghost use Rattle.day_tables.specs.ColumnNames.{column_name};
 ghost use Rattle.day_tables.specs.Columns.{header_columns, header_fault, is_before, is_passed_over, is_remark, name_fault, place_of, required, row_text_of, text_at, text_or};
+ghost use Rattle.day_tables.specs.Laws.{IsFirstPlace};
 ghost use Rattle.day_tables.specs.RowTexts.{text_of_row};
 
 use crate::tape_column::is_tape_column;
@@ -55,6 +56,12 @@ fn place_of(names: &ByteRecord, name: &[u8]) -> Option<usize>
     }
     None
 }
+
+/// A name's place in a header row is the one where it stands first, and it has none exactly if it stands nowhere. A law, which does
+/// nothing.
+pub fn first_place()
+    ensures holds { IsFirstPlace }
+{}
 
 /// Whether a name stands in a header row before a place.
 fn stands_before(names: &ByteRecord, place: usize, name: &[u8]) -> bool

@@ -30,7 +30,7 @@ mod wrong_code;
 pub use check_laws::{first_fault, no_fault};
 pub use column::Column;
 pub use column_fault::ColumnFault;
-pub use columns::Columns;
+pub use columns::{Columns, first_place};
 pub use fault_text::{FAULT_TEXT_MOST, FaultText};
 pub use kind::Kind;
 pub use reading::read_row;

@@ -1,5 +1,6 @@
 //! A whole table, read.
-ghost use Rattle.std.specs.Prelude.{◌≡◌, ◌++◌, ◌∷◌, ◌⊎◌, [], ℕ, List, true, false, IfOk, IfErr, IfSome, OnOk};
+ghost use Rattle.std.specs.Prelude.{◌≡◌, ◌++◌, ◌∷◌, ◌⊎◌, [], ℕ, List, true, false, IfOk, IfErr, IfSome, IsTrue, OnOk};
+ghost use Rattle.csv.specs.Reading.{is_io, stops_reader};
 ghost use Rattle.csv.specs.Records.{fields_of};
 ghost use Rattle.day_tables.specs.TableReading.{HasColumns, HasRead, IsFaultUnder, IsHeaderFault, IsPlain, IsWholeUnder};
 ghost use Rattle.day_tables.specs.Tables.{AreTableRecords, FIRST_ROW, IsTable, IsTableFault, fields_message, record_message};
@@ -26,6 +27,22 @@ pub(crate) fn records_in<R: Read>(alloc: Global, reader: R) -> Reader<R>
         .from_reader(alloc, reader)
 }
 
+/// The fault that a read brings which failed for want of memory or in the reader underneath.
+fn failed_read(kind: &ErrorKind) -> TableFault
+    requires stopped { IsTrue (stops_reader kind.now) }
+    ensures memory { kind.now ≡ ErrorKind.OutOfMemory → result ≡ OutOfMemory }
+    ensures read { IsTrue (is_io kind.now) → result ≡ ReadFault }
+{
+    match kind {
+        ErrorKind::OutOfMemory => TableFault::OutOfMemory,
+        ErrorKind::Io(_) => TableFault::ReadFault,
+        ErrorKind::Utf8 { .. }
+        | ErrorKind::UnequalLengths { .. }
+        | ErrorKind::Serialize(_)
+        | ErrorKind::Deserialize { .. } => unreachable!(),
+    }
+}
+
 /// Reads the next record: whether there was one.
 pub(crate) fn next_record<R: Read>(
     reader: &mut Reader<R>,
@@ -41,10 +58,7 @@ pub(crate) fn next_record<R: Read>(
 {
     match reader.read_byte_record(fields) {
         Ok(found) => Ok(found),
-        Err(error) => match error.kind() {
-            ErrorKind::OutOfMemory => Err(TableFault::OutOfMemory),
-            _ => Err(TableFault::ReadFault),
-        },
+        Err(error) => Err(failed_read(error.kind())),
     }
 }
 

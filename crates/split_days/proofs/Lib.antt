@@ -4,6 +4,7 @@ mod Folds
 mod Lists
 mod Named
 mod Numbered
+mod OwnTapes
 mod Parts
 mod Renumbered
 mod WorkedDays

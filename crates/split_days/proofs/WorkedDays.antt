@@ -1,11 +1,13 @@
 -- The worked days, computed.
-use Rattle.std.proofs.Common.{◌≡◌, None, Some, refl}
+use Rattle.std.proofs.Common.{◌≡◌, ◌∷◌, [], None, Some, refl}
 use Rattle.sale_matrix.specs.Matrix.{first_rows, second_rows, third_rows, fourth_rows, cells_of, is_within}
 use Rattle.sale_matrix.specs.declared.matrix.Matrix.TheVariants.{One}
 use Rattle.scratch_fold.specs.Fold.{empty_summary}
-use Rattle.tape_core.specs.declared.refusal.Refusal.TheVariants.{Stale}
+use Rattle.tape_core.specs.declared.refusal.Refusal.TheVariants.{Full, Stale, UnknownParticipant}
 use Rattle.tape_core.specs.Standing.{symbol_summary}
-use Rattle.tape_core.specs.Tape.{messages_of, refusal, with_message}
+use Rattle.tape_types.specs.Ranges.{TAPE_MOST}
+use Rattle.tape_core.specs.Tape.{empty_tape, messages_of, refusal, with_message}
+use Rattle.table_days.specs.Days.{first_tape}
 use Rattle.split_days.specs.Split.{AdmitsAll, part_of, tape_after}
 use Rattle.split_days.specs.Worked.{ab, ab_listed, ab_start, both_start, cd, figures_at, in_number, out_of_number, report}
 
@@ -20,7 +22,7 @@ unfolding first_rows second_rows third_rows fourth_rows cells_of is_within
 whole-refuses = refl
 
 -- the part has no number above it
-pub part-admits : AdmitsAll ab_start (part_of ab_listed out_of_number)
+pub part-admits : AdmitsAll ab_start (part_of (ab ∷ []) out_of_number)
 unfolding first_rows second_rows third_rows fourth_rows cells_of is_within
 part-admits = (refl, tt)
 
@@ -30,7 +32,7 @@ unfolding first_rows second_rows third_rows fourth_rows cells_of is_within
 whole-lacks = refl
 
 -- and those of its report on the part
-pub part-has : symbol_summary One (messages_of (tape_after ab_start (part_of ab_listed out_of_number)).entries) ab ≡ figures_at 1
+pub part-has : symbol_summary One (messages_of (tape_after ab_start (part_of (ab ∷ []) out_of_number)).entries) ab ≡ figures_at 1
 unfolding first_rows second_rows third_rows fourth_rows cells_of is_within
 part-has = refl
 
@@ -45,6 +47,18 @@ unfolding first_rows second_rows third_rows fourth_rows cells_of is_within
 whole-figures = refl
 
 -- and first on the part
-pub part-figures : symbol_summary One (messages_of (tape_after ab_start (part_of ab_listed in_number)).entries) ab ≡ figures_at 1
+pub part-figures : symbol_summary One (messages_of (tape_after ab_start (part_of (ab ∷ []) in_number)).entries) ab ≡ figures_at 1
 unfolding first_rows second_rows third_rows fourth_rows cells_of is_within
 part-figures = refl
+
+-- the part's own tape lists its symbol and its participant alone
+pub own-begins : first_tape One (part_of (ab ∷ []) in_number) ≡ empty_tape ab_listed TAPE_MOST One
+own-begins = refl
+
+-- without room nothing is admitted
+pub no-room : refusal (empty_tape ab_listed 0 One) (report 1 ab) ≡ Some Full
+no-room = refl
+
+-- nor of a participant that is not listed
+pub no-name : refusal (empty_tape (record { symbols = ab ∷ []; participants = [] }) 1 One) (report 1 ab) ≡ Some UnknownParticipant
+no-name = refl

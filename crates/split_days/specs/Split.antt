@@ -1,15 +1,16 @@
 -- A day's messages split by symbols: the messages of some of them, and the figures of the one tape beside those of the other.
-use Rattle.std.specs.Prelude.{◌≡◌, ℕ, ◌==◌, List, [], ◌∷◌, Option, Some, None, filter, fold}
+use Rattle.std.specs.Prelude.{◌≡◌, ℕ, ◌==◌, ◌≤◌, Bool, List, [], ◌∷◌, length, Option, Some, None, filter, fold, is_some, position}
 use Rattle.std.specs.Bool.{⊤}
 use Rattle.std.specs.List.{find}
 use Rattle.std.specs.Option.{option_map}
-use Rattle.tape_types.specs.Names.{Names}
+use Rattle.tape_types.specs.Names.{Names, symbol_eq}
 use Rattle.reports.specs.declared.message.Message.{Message}
 use Rattle.reports.specs.Messages.{header_of}
 use Rattle.scratch_fold.specs.declared.summary.Mark.{Mark}
 use Rattle.scratch_fold.specs.declared.summary.Summary.{Summary}
 use Rattle.tape_core.specs.Standing.{NumberedMessage, symbol_summary, participant_summary}
-use Rattle.tape_core.specs.Tape.{TapeState, refusal, with_message, messages_of, lists_symbol}
+use Rattle.tape_core.specs.Tape.{TapeState, refusal, with_message, messages_of}
+use Rattle.table_days.specs.EndDays.{ListsAll}
 
 -- ## A list of messages, and its part
 
@@ -22,13 +23,18 @@ AdmitsAll t (m ∷ ms) = (refusal t m ≡ None) × AdmitsAll (with_message t m) 
 abbrev pub tape_after : TapeState → List Message → TapeState
 tape_after t ms = fold with_message t ms
 
--- the listing of these symbols, with the same participants
-abbrev pub listing_of : Names → List (List ℕ) → Names
-listing_of listing symbols = record { symbols = symbols; participants = listing.participants }
+-- whether a symbol is one of these
+abbrev pub is_among : List (List ℕ) → List ℕ → Bool
+is_among symbols symbol = is_some (position (symbol_eq symbol) symbols)
 
--- the messages of the symbols that a listing has, in their order
-abbrev pub part_of : Names → List Message → List Message
-part_of listing ms = filter (λ m. lists_symbol listing (header_of m).symbol) ms
+-- the messages of these symbols, in their order
+abbrev pub part_of : List (List ℕ) → List Message → List Message
+part_of symbols ms = filter (λ m. is_among symbols (header_of m).symbol) ms
+
+-- a listing has the names of messages, and a limit leaves room for them
+pub record HasRoom (listing : Names) (limit : ℕ) (ms : List Message) : Type 0 where
+  pub names : ListsAll listing ms
+  pub room : length ms ≤ limit
 
 -- ## The figures of two tapes
 

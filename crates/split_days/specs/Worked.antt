@@ -6,7 +6,6 @@ use Rattle.reports.specs.declared.message.Message.{Message}
 use Rattle.reports.specs.declared.message.Message.TheVariants.{Report}
 use Rattle.scratch_fold.specs.declared.summary.Summary.{Summary}
 use Rattle.tape_core.specs.Tape.{TapeState, empty_tape}
-use Rattle.split_days.specs.Split.{listing_of}
 
 -- a first symbol
 abbrev pub ab : List ℕ
@@ -20,13 +19,17 @@ cd = codes "CD      "
 abbrev pub N : ℕ
 N = 78
 
--- both symbols, and N alone
+-- the participant `Q`
+abbrev pub Q : ℕ
+Q = 81
+
+-- both symbols, and both participants
 abbrev pub both_listed : Names
-both_listed = record { symbols = ab ∷ cd ∷ []; participants = N ∷ [] }
+both_listed = record { symbols = ab ∷ cd ∷ []; participants = N ∷ Q ∷ [] }
 
 -- the first symbol, and N alone
 abbrev pub ab_listed : Names
-ab_listed = listing_of both_listed (ab ∷ [])
+ab_listed = record { symbols = ab ∷ []; participants = N ∷ [] }
 
 -- N's regular report of 100 shares at 10.00 dollars, under this number
 abbrev pub report : ℕ → List ℕ → Message
@@ -34,13 +37,13 @@ report number symbol =
     Report (record { participant = N; number = number; moment = 0; symbol = symbol })
     (record { price = 100000; size = 100; condition = codes "@   " })
 
--- the empty tape of both symbols
+-- the empty tape of both symbols, with room for two messages
 abbrev pub both_start : TapeState
-both_start = empty_tape both_listed 100 One
+both_start = empty_tape both_listed 2 One
 
--- the empty tape of the first symbol
+-- the empty tape of the first symbol and N, with room for one
 abbrev pub ab_start : TapeState
-ab_start = empty_tape ab_listed 100 One
+ab_start = empty_tape ab_listed 1 One
 
 -- N reports the second symbol under 2, and then the first under 1
 abbrev pub out_of_number : List Message

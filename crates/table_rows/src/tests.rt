@@ -120,7 +120,7 @@ fn assert_row_fault<A: Abort>(rt: &A, alloc: Global, row: &[u8], printed: &str) 
 const ROW_FAULTS: [(&[u8], &str); 12] = [
     (
         b"R,N,2,,AB,,10.00001,0,@___",
-        "row 3: price \"10.00001\" is not 0.0001 to 99999999.9999 with at most four decimals",
+        "row 3: price \"10.00001\" is not 0.0001 to 99999999.9999 with at most 20 digits and four decimals",
     ),
     (
         b"trade,N,2,,AB,,10,1,@___",
@@ -132,11 +132,11 @@ const ROW_FAULTS: [(&[u8], &str); 12] = [
     ),
     (
         b"R,N,0,,AB,,10,1,@___",
-        "row 3: number \"0\" is not 1 to 4294967295",
+        "row 3: number \"0\" is not 1 to 4294967295 in at most 20 digits",
     ),
     (
         b"R,N,2,-1,AB,,10,1,@___",
-        "row 3: moment \"-1\" is not 0 to 18446744073709551615",
+        "row 3: moment \"-1\" is not 0 to 18446744073709551615 in at most 20 digits",
     ),
     (
         b"R,N,2,,ab,,10,1,@___",
@@ -144,11 +144,11 @@ const ROW_FAULTS: [(&[u8], &str); 12] = [
     ),
     (
         b"X,N,2,,AB,,,,",
-        "row 3: target \"\" is not 1 to 4294967295",
+        "row 3: target \"\" is not 1 to 4294967295 in at most 20 digits",
     ),
     (
         b"R,N,2,,AB,,10,100000000,@___",
-        "row 3: size \"100000000\" is not 1 to 99999999",
+        "row 3: size \"100000000\" is not 1 to 99999999 in at most 20 digits",
     ),
     (
         b"R,N,2,,AB,,10,1,@",
@@ -164,7 +164,7 @@ const ROW_FAULTS: [(&[u8], &str); 12] = [
     ),
     (
         b"R,N,2,,AB,,\"10\"\"\xe2\x82\xac\\ 5678901234567890123456789012345678901\",1,@___",
-        "row 3: price \"10\\x22\\xe2\\x82\\xac\\x5c 56789012345678901234567890123456\" is not 0.0001 to 99999999.9999 with at most four decimals",
+        "row 3: price \"10\\x22\\xe2\\x82\\xac\\x5c 56789012345678901234567890123456\" is not 0.0001 to 99999999.9999 with at most 20 digits and four decimals",
     ),
 ];
 

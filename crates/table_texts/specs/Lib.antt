@@ -4,5 +4,6 @@ pub mod EndTexts
 pub mod Ends
 pub mod Laws
 pub mod OwnBytes
+pub mod Stops
 pub mod TableLines
 pub mod TextLines

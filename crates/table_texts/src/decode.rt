@@ -12,7 +12,6 @@ ghost use Rattle.table_texts.specs.declared.text_end.TextEnd.TheVariants.{OutOfM
 
 use crate::form::TableRows;
 use crate::header::check_header;
-use crate::stop::Stop;
 use crate::text_lines::next_line;
 use crate::writing::write_messages;
 use crate::{LineFault, TextEnd};
@@ -132,11 +131,8 @@ fn write_table<W: Write>(alloc: Global, messages: &[Message], writer: &mut W) ->
     let Ok(head) = head_text(alloc) else {
         return Err(TextEnd::OutOfMemory);
     };
-    match write_messages(&TableRows { alloc }, head, messages, writer) {
-        Ok(()) => Ok(()),
-        Err(Stop::OutOfMemory) => Err(TextEnd::OutOfMemory),
-        Err(Stop::WriteFault) => Err(TextEnd::WriteFault),
-    }
+    write_messages(&TableRows { alloc }, head, messages, writer)?;
+    Ok(())
 }
 
 /// Reads the text of a batch whole, and writes its messages as a table: the names of the nine columns, and the canonical row of each

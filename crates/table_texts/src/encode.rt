@@ -10,7 +10,6 @@ ghost use Rattle.table_texts.specs.Ends.{WritesText, WritesTextPart};
 
 use crate::form::BatchLines;
 use crate::header_text::header_text;
-use crate::stop::Stop;
 use crate::writing::write_messages;
 use day_tables::read_table;
 use reports::Message;
@@ -37,11 +36,8 @@ fn write_encoded<W: Write>(
     let Ok(head) = header_text(alloc, &listing) else {
         return Err(TableEnd::OutOfMemory);
     };
-    match write_messages(&BatchLines, head, messages, writer) {
-        Ok(()) => Ok(()),
-        Err(Stop::OutOfMemory) => Err(TableEnd::OutOfMemory),
-        Err(Stop::WriteFault) => Err(TableEnd::WriteFault),
-    }
+    write_messages(&BatchLines, head, messages, writer)?;
+    Ok(())
 }
 
 /// Reads a table whole, and writes its messages as the text that `tapebox batch` takes: a line of the symbols and one of the

@@ -8,7 +8,6 @@ ghost use Rattle.table_texts.specs.Ends.{IsReadingEnd, WritesText, WritesTextPar
 ghost use Rattle.table_texts.specs.OwnBytes.{line_bytes};
 
 use crate::form::OwnBytes;
-use crate::stop::Stop;
 use crate::writing::write_messages;
 use day_tables::read_table;
 use reports::Message;
@@ -29,11 +28,8 @@ fn write_line<W: Write>(
     ensures ends { IfErr result (λ end. (end ≡ OutOfMemory) ⊎ (end ≡ WriteFault)) }
     ensures prefix { WritesPrefix (line_bytes participant messages.now) (W.contents writer.old) (W.contents writer.new) }
 {
-    match write_messages(&OwnBytes { participant }, Vec::new(alloc), messages, writer) {
-        Ok(()) => Ok(()),
-        Err(Stop::OutOfMemory) => Err(TableEnd::OutOfMemory),
-        Err(Stop::WriteFault) => Err(TableEnd::WriteFault),
-    }
+    write_messages(&OwnBytes { participant }, Vec::new(alloc), messages, writer)?;
+    Ok(())
 }
 
 /// Reads a table whole, and writes the bytes of this participant's messages one after another, in order, as `tapebox live` takes them

@@ -1,7 +1,8 @@
 //! The lines of a text, taken one by one from a reader.
-ghost use Rattle.std.specs.Prelude.{◌≡◌, ◌⊎◌, ◌∷◌, [], false, Ok, IfErr, IfOk, if◌then◌else◌};
+ghost use Rattle.std.specs.Prelude.{◌≡◌, ◌≢◌, ◌⊎◌, ◌∷◌, [], false, Ok, IfErr, IfOk, if◌then◌else◌};
 ghost use Rattle.std.specs.Io.BufRead.{strip_last};
 ghost use Rattle.std.specs.Io.KnownBytes.{IsAtEnd};
+ghost use Rattle.std.specs.IoError.{error_kind};
 ghost use Rattle.table_texts.specs.TextLines.{TakesLines};
 ghost use Rattle.table_texts.specs.declared.text_end.TextEnd.TheVariants.{OutOfMemory, ReadFault};
 
@@ -10,7 +11,9 @@ use std::io::{BufRead, Error, ErrorKind};
 
 /// The end that a failed read brings.
 fn failed_read(error: &Error) -> TextEnd
-    ensures { (result ≡ OutOfMemory) ⊎ (result ≡ ReadFault) }
+    ensures one { (result ≡ OutOfMemory) ⊎ (result ≡ ReadFault) }
+    ensures memory { error_kind error.now ≡ ErrorKind.OutOfMemory → result ≡ OutOfMemory }
+    ensures fault { error_kind error.now ≢ ErrorKind.OutOfMemory → result ≡ ReadFault }
 {
     match error.kind() {
         ErrorKind::OutOfMemory => TextEnd::OutOfMemory,

@@ -18,16 +18,16 @@ const MESSAGES_AT_ONCE: usize = 512;
 fn write_part<W: Write>(writer: &mut W, text: &[u8]) -> Result<(), Stop>
     ensures written { OnOk result (Appends (W.contents writer.old) (W.contents writer.new) text.now) }
     ensures prefix { WritesPrefix text.now (W.contents writer.old) (W.contents writer.new) }
+    ensures fault { IfErr result (λ stop. stop ≡ WriteFault) }
 {
-    match write_text(writer, text) {
-        Ok(()) => Ok(()),
-        Err(_) => Err(Stop::WriteFault),
-    }
+    write_text(writer, text)?;
+    Ok(())
 }
 
 /// Flushes what was written.
 fn flush<W: Write>(writer: &mut W) -> Result<(), Stop>
     ensures kept { Keeps (W.contents writer.old) (W.contents writer.new) }
+    ensures fault { IfErr result (λ stop. stop ≡ WriteFault) }
 {
     match writer.flush() {
         Ok(()) => Ok(()),
@@ -47,10 +47,7 @@ fn next_text<F: Form, W: Write>(
     ensures prefix { WritesPrefix text.items (W.contents writer.old) (W.contents writer.new) }
 {
     write_part(writer, &text)?;
-    match form.text_of(text, messages) {
-        Ok(made) => Ok(made),
-        Err(_) => Err(Stop::OutOfMemory),
-    }
+    Ok(form.text_of(text, messages)?)
 }
 
 /// Writes a head and the text of messages behind it, many messages at once.

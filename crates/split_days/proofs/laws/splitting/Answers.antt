@@ -2,11 +2,12 @@ use Rattle.split_days.proofs.Admissions.{AdmitsAll-part, summary-split, particip
 use Rattle.split_days.proofs.laws.splitting.Goals as goal
 
 pub returns-clause-admitted : goal.returns-clause-admitted
-returns-clause-admitted c listing limit matrix symbols ms admits = AdmitsAll-part symbols listing limit matrix ms admits
+returns-clause-admitted c listing own limit most matrix symbols ms admits has = AdmitsAll-part symbols listing own limit most matrix ms admits has
 
 pub returns-clause-summary : goal.returns-clause-summary
-returns-clause-summary c listing limit matrix symbols ms symbol admits listed = summary-split symbols listing limit matrix ms admits symbol listed
+returns-clause-summary c listing own limit most matrix symbols ms symbol admits has among =
+    summary-split symbols listing own limit most matrix ms admits has symbol among
 
 pub returns-clause-participant_summary : goal.returns-clause-participant_summary
-returns-clause-participant_summary c listing limit matrix symbols ms symbol who admits listed =
-    participant_summary-split symbols listing limit matrix ms admits symbol listed who
+returns-clause-participant_summary c listing own limit most matrix symbols ms symbol who admits has among =
+    participant_summary-split symbols listing own limit most matrix ms admits has symbol among who

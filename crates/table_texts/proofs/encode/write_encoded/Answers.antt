@@ -9,13 +9,8 @@ returns-in-Err-clause-prefix g c = nothing_written (encoded_text c.args.messages
 pub returns-in_default-clause-prefix : goal.returns-in_default-clause-prefix
 returns-in_default-clause-prefix g c = nothing_written (encoded_text c.args.messages.now) (g.W.Write.contents c.args.writer.now)
 
-pub returns-in-Ok-write_messages-clause-prefix : goal.returns-in-Ok-write_messages-clause-prefix
-returns-in-Ok-write_messages-clause-prefix g c =
-    encoded_part c.args.messages.now c.in-Ok.listing c.in-Ok-header_text.head.items (g.W.Write.contents c.args.writer.now)
-    (g.W.Write.contents c.write_messages.new.writer) c.in-Ok.ensures.names c.in-Ok-header_text.ensures c.write_messages.ensures.prefix
-
-pub returns-in-Err-OutOfMemory-clause-prefix : goal.returns-in-Err-OutOfMemory-clause-prefix
-returns-in-Err-OutOfMemory-clause-prefix g c =
+pub returns-in_err-write_messages-clause-prefix : goal.returns-in_err-write_messages-clause-prefix
+returns-in_err-write_messages-clause-prefix g c =
     encoded_part c.args.messages.now c.in-Ok.listing c.in-Ok-header_text.head.items (g.W.Write.contents c.args.writer.now)
     (g.W.Write.contents c.write_messages.new.writer) c.in-Ok.ensures.names c.in-Ok-header_text.ensures c.write_messages.ensures.prefix
 

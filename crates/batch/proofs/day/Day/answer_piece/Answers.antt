@@ -1,11 +1,12 @@
 use Rattle.std.proofs.Common.{subst, sym, ap, ◌∙◌, take, length-take-le, ◌+◌, ℕ}
 use Rattle.std.proofs.BufReadLemmas.{Consumes_shown}
 use Rattle.std.specs.Io.BufRead.{FillKeeps}
-use Rattle.batch.proofs.DayLemmas.{AnswersTaken-front, AnswersTaken-none}
+use Rattle.batch.proofs.DayLemmas.{AnswersTaken-front, AnswersTaken-none, OnOk-always}
 use Rattle.batch.proofs.day.Day.answer_piece.Goals as goal
 
 pub returns-in-Err-clause-answered : goal.returns-in-Err-clause-answered
-returns-in-Err-clause-answered g c = AnswersTaken-none _ _ _ _ c.fill_buf.follows.holds-at-none.0
+returns-in-Err-clause-answered g c =
+    OnOk-always c.unread_piece.result (AnswersTaken-none c.args.self.now _ _ c.args.input.now.taken c.fill_buf.follows.holds-at-none.0)
 
 pub returns-clause-answered : goal.returns-clause-answered
 returns-clause-answered g c =
