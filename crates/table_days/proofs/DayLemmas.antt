@@ -12,8 +12,10 @@ use Rattle.tape_core.specs.declared.refusal.Refusal.TheVariants.{OutOfMemory}
 use Rattle.table_days.specs.Answers.{answer, answer_by, answers, tape_after, tape_by}
 use Rattle.table_days.specs.Days.{AnswersMore, HasAnswered}
 use Rattle.table_days.specs.Refusals.{AreRefusals}
+use Rattle.table_days.specs.StaleRows.{first_stale, number_before, stale_after, stale_row}
 use Rattle.day_tables.specs.Tables.{FIRST_ROW}
 use Rattle.table_days.specs.declared.day.Day.{Day}
+use Rattle.table_days.proofs.StaleLemmas.{first_stale-more}
 
 -- the names of one message more
 pub insert_all-more : {A : Type 0} (eq : A → A → Bool) (name : Message → A) (messages : List Message) (i : ℕ) (m : Message) → i < length messages
@@ -77,13 +79,15 @@ length-answers t [] = refl
 length-answers t (m ∷ messages) = ap suc (length-answers (tape_after t m) messages)
 
 -- a day that answered one message more
-pub AnswersMore-answer : (old new : Day) (m : Message) (answered : Result ℕ Refusal) → answered ≡ answer old.tape m → new.tape ≡ tape_after old.tape m
-    → new.row ≡ old.row + 1
+pub AnswersMore-answer : (old new : Day) (m : Message) (answered : Result ℕ Refusal) (greatest : ℕ) → answered ≡ answer old.tape m
+    → new.tape ≡ tape_after old.tape m → new.row ≡ old.row + 1 → greatest ≡ number_before old.tape m
+    → new.refusals.stale ≡ stale_after old.refusals.stale answered (stale_row m greatest)
     → ((answers : List (Result ℕ Refusal)) → old.row ≡ length answers + FIRST_ROW → AreRefusals answers old.refusals → AreRefusals (answers ++ answered ∷ []) new.refusals)
     → AnswersMore old new (m ∷ [])
-AnswersMore-answer old new m answered is tape row counted t before had = record {
+AnswersMore-answer old new m answered greatest is tape row last noted counted t before had = record {
   tape = tape ∙ ap (λ (s : TapeState). tape_after s m) had.tape ∙ sym (fold_push tape_after t before m);
   refusals = rw (answers-push t before m, sym had.tape, sym is) (counted (answers t before) (had.row ∙ ap (λ (n : ℕ). n + FIRST_ROW) (sym (length-answers t before))) had.refusals);
+  stale = first_stale-more t old.tape before m answered greatest old.refusals.stale new.refusals.stale had.tape is last had.stale noted;
   row = omega (arith, row, had.row, length-append before (m ∷ []));
 }
 
@@ -110,6 +114,7 @@ tapes-more t messages i m within is =
     ∙ fold_push tape_after t (take i messages) m
 
 -- a day with a tape that answered nothing
-pub HasAnswered-none : (t : TapeState) (day : Day) → day.tape ≡ t → AreRefusals [] day.refusals → day.row ≡ FIRST_ROW → HasAnswered t [] day
-unfolding answers
-HasAnswered-none t day tape refusals row = record { tape = tape; refusals = refusals; row = row }
+pub HasAnswered-none : (t : TapeState) (day : Day) → day.tape ≡ t → AreRefusals [] day.refusals → day.refusals.stale ≡ None → day.row ≡ FIRST_ROW
+    → HasAnswered t [] day
+unfolding answers first_stale
+HasAnswered-none t day tape refusals stale row = record { tape = tape; refusals = refusals; stale = stale; row = row }

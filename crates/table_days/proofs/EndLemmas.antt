@@ -9,8 +9,10 @@ use Rattle.day_tables.specs.Tables.{IsTable}
 use Rattle.table_days.specs.Answers.{answers}
 use Rattle.table_days.specs.Days.{first_tape}
 use Rattle.table_days.specs.Refusals.{AreRefusals, refused_for}
+use Rattle.table_days.specs.StaleRows.{first_stale}
 use Rattle.table_days.specs.TableEnds.{IsMessagesEnd, IsTableEnd, WritesTable, WritesTablePart}
 use Rattle.table_days.specs.declared.refusals.Refusals.{Refusals}
+use Rattle.table_days.specs.declared.stale_row.StaleRow.{StaleRow}
 use Rattle.table_days.specs.declared.table_end.TableEnd.{TableEnd}
 use Rattle.table_days.specs.declared.table_end.TableEnd.TheVariants.{Listing, OutOfMemory, Table, WriteFault}
 
@@ -37,6 +39,12 @@ pub flushed_refusals : (r : Result Refusals TableEnd) (refusals : Refusals) (ans
 flushed_refusals (Ok flushed) refusals answers is are = λ reason. ap (λ (s : Refusals). refused_for s reason) is ∙ are reason
 flushed_refusals (Err end) refusals answers is are = tt
 
+-- with the first stale row
+pub flushed_stale : (r : Result Refusals TableEnd) (refusals : Refusals) (first : Option StaleRow) → IfOk r (λ flushed. flushed ≡ refusals)
+    → refusals.stale ≡ first → IfOk r (λ flushed. flushed.stale ≡ first)
+flushed_stale (Ok flushed) refusals first is stale = ap (λ (s : Refusals). s.stale) is ∙ stale
+flushed_stale (Err end) refusals first is stale = tt
+
 -- a flush that fails is an end of messages
 pub flushed_end : (r : Result Refusals TableEnd) (messages : List Message) → IfErr r (λ end. end ≡ WriteFault) → IfErr r (IsMessagesEnd messages)
 flushed_end (Ok flushed) messages is = tt
@@ -52,12 +60,13 @@ flushed_silent (Err end) P is other = absurd (other (ap (λ (e : TableEnd). Err 
 -- a table was written
 pub table_written : (text : Matrix → List Message → List ℕ) (matrix : Matrix) (known : Option (List ℕ)) (messages seen : List Message)
     (r : Result Refusals TableEnd) (old new : Option (List ℕ)) → seen ≡ messages → IfSome known (λ input. IsTable input messages)
-    → IfOk r (AreRefusals (answers (first_tape matrix seen) seen)) → OnOk r (Appends old new (text matrix seen))
+    → IfOk r (AreRefusals (answers (first_tape matrix seen) seen)) → IfOk r (λ refusals. refusals.stale ≡ first_stale (first_tape matrix seen) seen)
+    → OnOk r (Appends old new (text matrix seen))
     → IfSome known (λ input. IfOk r (λ refusals. WritesTable text matrix input refusals old new))
-table_written text matrix None messages seen r old new same table refused written = tt
-table_written text matrix (Some input) messages seen (Err end) old new same table refused written = tt
-table_written text matrix (Some input) messages seen (Ok refusals) old new same table refused written =
-    record { messages = seen; table = subst (IsTable input) (sym same) table; refused = refused; written = written }
+table_written text matrix None messages seen r old new same table refused stale written = tt
+table_written text matrix (Some input) messages seen (Err end) old new same table refused stale written = tt
+table_written text matrix (Some input) messages seen (Ok refusals) old new same table refused stale written =
+    record { messages = seen; table = subst (IsTable input) (sym same) table; refused = refused; stale = stale; written = written }
 
 -- a part of a table was written
 pub table_part : (text : Matrix → List Message → List ℕ) (matrix : Matrix) (known : Option (List ℕ)) (messages seen : List Message)

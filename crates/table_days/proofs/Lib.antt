@@ -12,6 +12,8 @@ pub mod FigureLemmas
 pub mod ListingLemmas
 pub mod RefusalLemmas
 pub mod SeenLemmas
+pub mod StaleLemmas
+pub mod StrictLemmas
 pub mod SumLemmas
 pub mod TapeLemmas
 pub mod ToldLemmas

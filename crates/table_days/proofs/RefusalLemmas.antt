@@ -4,7 +4,9 @@ use Rattle.std.proofs.Common.{ap, arith, inl, inr, length, refl, replicate, subs
 use Rattle.std.proofs.lemmas.Bool.{cases_Bool, eq-eqb}
 use Rattle.std.proofs.lemmas.List.{get_or-replicate, get_or-set_other, get_or-set_same}
 use Rattle.std.proofs.lemmas.List.Sums.{count_by-le-length, sum_by_from, sum_by_push}
-use Rattle.std.specs.List.{count_by, position_from}
+use Rattle.std.specs.List.{Contains, count_by, list_all, position_from}
+use Rattle.std.specs.Prelude.{is_none}
+use Rattle.std.proofs.lemmas.List.Folds.{list_all_at}
 use Rattle.std.specs.Prelude.{slice_index_or, slice_set}
 use Rattle.std.specs.Option.{option_map}
 use Rattle.tape_core.specs.Refusals.{refusal_code}
@@ -12,7 +14,7 @@ use Rattle.tape_core.specs.declared.refusal.Refusal.{Refusal}
 use Rattle.tape_core.specs.declared.refusal.Refusal.TheVariants.{Closed, Full, WrongLine, UnknownParticipant, Stale, UnknownSymbol, NoSuchReport, OtherSymbol}
 use Rattle.tape_core.specs.declared.refusal.Refusal.TheVariants.{Cancelled, OutOfMemory, WrongNumber, Standing, NotInMatrix}
 use Rattle.day_tables.specs.Tables.{FIRST_ROW}
-use Rattle.table_days.specs.Refusals.{AreRefusals, is_refusal, one_more, refused_rows}
+use Rattle.table_days.specs.Refusals.{AreRefusals, RefusesNone, all_reasons, is_refusal, one_more, refused_for, refused_rows}
 use Rattle.table_days.specs.declared.refusals.Refusals.{Refusals}
 use Rattle.table_days.specs.declared.refusals.Refused.{Refused}
 
@@ -172,3 +174,50 @@ AreRefusals-refused old new refused place row more answers size at set is fits c
           ∙ get_or-set_other old.reasons place (refusal_code reason - 31) (Some more) None apart
           ∙ had reason ∙ sym (refused_rows-same reason answers (Err refused) other)
     ]
+
+-- they are those of the same answers where nothing but the first stale row changes
+pub AreRefusals-kept : (old new : Refusals) (answers : List (Result ℕ Refusal)) → new.reasons ≡ old.reasons → AreRefusals answers old
+    → AreRefusals answers new
+AreRefusals-kept old new answers same had reason = ap (λ (l : List (Option Refused)). slice_index_or l (refusal_code reason - 31) None) same ∙ had reason
+
+-- ## All reasons
+
+-- each refusal is among all
+pub reason-known : (reason : Refusal) → Contains all_reasons reason
+reason-known Closed = (0, omega arith, refl)
+reason-known Full = (1, omega arith, refl)
+reason-known WrongLine = (2, omega arith, refl)
+reason-known UnknownParticipant = (3, omega arith, refl)
+reason-known Stale = (4, omega arith, refl)
+reason-known UnknownSymbol = (5, omega arith, refl)
+reason-known NoSuchReport = (6, omega arith, refl)
+reason-known OtherSymbol = (7, omega arith, refl)
+reason-known Cancelled = (8, omega arith, refl)
+reason-known OutOfMemory = (9, omega arith, refl)
+reason-known WrongNumber = (10, omega arith, refl)
+reason-known Standing = (11, omega arith, refl)
+reason-known NotInMatrix = (12, omega arith, refl)
+
+-- whether a reason has no row
+abbrev has_none : Refusals → Refusal → Bool
+has_none refusals reason = is_none (refused_for refusals reason)
+
+-- where none of all reasons has a row, no refusal has
+pub RefusesNone-all : (refusals : Refusals) → list_all (has_none refusals) all_reasons ≡ true → RefusesNone refusals
+RefusesNone-all refusals all reason = cases (refused_for refusals reason) refl
+  where
+    cases : (o : Option Refused) → refused_for refusals reason ≡ o → o ≡ None
+    cases None is = refl
+    cases (Some refused) is =
+        let (k, within, at) = reason-known reason in
+        let fails : has_none refusals (slice_index_or all_reasons k reason) ≡ false =
+        ap (has_none refusals) at ∙ ap (λ (o : Option Refused). is_none o) is in
+        absurd (cc (all, list_all_at (has_none refusals) all_reasons k reason within fails))
+
+-- where no refusal has a row, none of all reasons has
+pub all-RefusesNone : (refusals : Refusals) → RefusesNone refusals → list_all (has_none refusals) all_reasons ≡ true
+all-RefusesNone refusals none = each all_reasons
+  where
+    each : (reasons : List Refusal) → list_all (has_none refusals) reasons ≡ true
+    each [] = refl
+    each (reason ∷ reasons) = rw (none reason) (each reasons)

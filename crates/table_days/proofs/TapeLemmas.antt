@@ -1,7 +1,6 @@
 -- The readable tape, row by row and piece by piece.
 use Rattle.std.proofs.Common.{◌≡◌, ◌==◌, ◌++◌, ◌+◌, ◌<◌, ◌≤◌, ◌∷◌, ◌∙◌, [], ℕ, List, Option, true, ap, append-nil, append_assoc, arith, drop, fold, get_or, length, length-append, refl, subst, sym, take}
 use Rattle.std.specs.Io.KnownBytes.{Appends}
-use Rattle.std.specs.List.{flat_map}
 use Rattle.std.proofs.lemmas.Grind.{flat_map-append}
 use Rattle.std.proofs.lemmas.List.{take-append-drop, take_more}
 use Rattle.csv.specs.Writing.{default_writer, row_text}
@@ -12,6 +11,7 @@ use Rattle.tape_core.specs.Tape.{TapeState, lists_symbol}
 use Rattle.table_days.specs.Answers.{answers, tape_after}
 use Rattle.table_days.specs.Days.{AnswersMore, HasAnswered, lists_all, symbol_of}
 use Rattle.table_days.specs.Refusals.{AreRefusals}
+use Rattle.table_days.specs.StaleRows.{first_stale}
 use Rattle.day_tables.specs.Tables.{FIRST_ROW}
 use Rattle.table_days.specs.TapeRows.{TapeRow, column_names, row_line, rows_text, tape_row, tape_rows, text_from}
 use Rattle.table_days.specs.declared.day.Day.{Day}
@@ -161,6 +161,12 @@ pub WrittenSome-answered : (t : TapeState) (now : Day) (messages rest : List Mes
     → rest ≡ [] → WrittenSome t now messages rest text known_old known_now → AreRefusals (answers t messages) now.refusals
 WrittenSome-answered t now messages rest text known_old known_now none so_far =
     subst (λ (l : List Message). AreRefusals (answers t l) now.refusals) (done_all messages so_far.done rest so_far.split none) so_far.answered.refusals
+
+-- and this is the first of them that was refused as stale
+pub WrittenSome-stale : (t : TapeState) (now : Day) (messages rest : List Message) (text : List ℕ) (known_old known_now : Option (List ℕ))
+    → rest ≡ [] → WrittenSome t now messages rest text known_old known_now → now.refusals.stale ≡ first_stale t messages
+WrittenSome-stale t now messages rest text known_old known_now none so_far =
+    so_far.answered.stale ∙ ap (first_stale t) (done_all messages so_far.done rest so_far.split none)
 
 -- the next messages have numbers
 pub WrittenSome-few : (t : TapeState) (now : Day) (messages rest next behind : List Message) (text : List ℕ) (known_old known_now : Option (List ℕ))

@@ -1,5 +1,5 @@
 -- The day of a table: its names, its tape and its report.
-use Rattle.std.specs.Prelude.{◌≡◌, ◌+◌, ◌++◌, ◌⊎◌, ℕ, Bool, List, [], length, map, fold, nat_eq, unwrap_or}
+use Rattle.std.specs.Prelude.{◌≡◌, ◌+◌, ◌++◌, ◌⊎◌, ℕ, Bool, List, [], length, map, fold, nat_eq, None, unwrap_or}
 use Rattle.std.specs.List.{list_all}
 use Rattle.indexmap.specs.IndexSet.{insert_all}
 use Rattle.tape_types.specs.Names.{Names, names_fault, symbol_eq}
@@ -14,6 +14,7 @@ use Rattle.day_report.specs.ReportText.{report_text}
 use Rattle.day_report.specs.Rows.{report_rows}
 use Rattle.table_days.specs.Answers.{answers, tape_after}
 use Rattle.table_days.specs.Refusals.{AreRefusals}
+use Rattle.table_days.specs.StaleRows.{first_stale}
 use Rattle.day_tables.specs.Tables.{FIRST_ROW}
 use Rattle.table_days.specs.declared.day.Day.{Day}
 
@@ -32,6 +33,10 @@ participants_of messages = insert_all nat_eq [] (map (λ m. (header_of m).partic
 -- the listing of messages
 abbrev pub names_of : List Message → Names
 names_of messages = record { symbols = symbols_of messages; participants = participants_of messages }
+
+-- the names of messages make a listing
+abbrev pub MakeListing : List Message → Type 0
+MakeListing messages = names_fault (symbols_of messages) (participants_of messages) ≡ None
 
 -- the names of messages make no listing, or memory ran out
 abbrev pub IsListingFault : List Message → ListingFault → Type 0
@@ -58,6 +63,7 @@ day_text matrix messages = report_text (report_rows (tape_of matrix messages))
 pub record HasAnswered (t : TapeState) (messages : List Message) (day : Day) : Type 0 where
   pub tape : day.tape ≡ fold tape_after t messages
   pub refusals : AreRefusals (answers t messages) day.refusals
+  pub stale : day.refusals.stale ≡ first_stale t messages
   pub row : day.row ≡ length messages + FIRST_ROW
 
 -- a day answered these messages more

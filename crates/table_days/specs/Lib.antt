@@ -8,5 +8,7 @@ pub mod Explained
 pub mod ExplainedLaws
 pub mod Laws
 pub mod Refusals
+pub mod StaleRows
+pub mod Strict
 pub mod TableEnds
 pub mod TapeRows

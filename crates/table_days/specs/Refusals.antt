@@ -1,12 +1,20 @@
 -- What a tape refused, counted by reason.
-use Rattle.std.specs.Prelude.{◌≡◌, ◌+◌, ◌-◌, ◌==◌, ℕ, Bool, false, List, Option, Some, None, Result, Ok, Err}
+use Rattle.std.specs.Prelude.{◌≡◌, ◌+◌, ◌-◌, ◌==◌, ℕ, Bool, false, List, [], ◌∷◌, Option, Some, None, Result, Ok, Err}
 use Rattle.std.specs.List.{count_by, position_from, slice_index_or}
 use Rattle.std.specs.Option.{option_map}
 use Rattle.tape_core.specs.Refusals.{refusal_code}
 use Rattle.day_tables.specs.Tables.{FIRST_ROW}
 use Rattle.tape_core.specs.declared.refusal.Refusal.{Refusal}
+use Rattle.tape_core.specs.declared.refusal.Refusal.TheVariants.{Closed, Full, WrongLine, UnknownParticipant, Stale, UnknownSymbol, NoSuchReport, OtherSymbol}
+use Rattle.tape_core.specs.declared.refusal.Refusal.TheVariants.{Cancelled, OutOfMemory, WrongNumber, Standing, NotInMatrix}
 use Rattle.table_days.specs.declared.refusals.Refusals.{Refusals}
 use Rattle.table_days.specs.declared.refusals.Refused.{Refused}
+
+-- every refusal, by rising number
+abbrev pub all_reasons : List Refusal
+all_reasons =
+    Closed ∷ Full ∷ WrongLine ∷ UnknownParticipant ∷ Stale ∷ UnknownSymbol ∷ NoSuchReport ∷ OtherSymbol ∷ Cancelled
+    ∷ OutOfMemory ∷ WrongNumber ∷ Standing ∷ NotInMatrix ∷ []
 
 -- whether an answer is this refusal
 abbrev pub is_refusal : Refusal → Result ℕ Refusal → Bool
@@ -30,3 +38,7 @@ AreRefusals answers refusals = (reason : Refusal) → refused_for refusals reaso
 abbrev pub one_more : Option Refused → ℕ → Refused
 one_more None row = record { count = 1; first = row }
 one_more (Some refused) row = record { count = refused.count + 1; first = refused.first }
+
+-- nothing was refused for any reason
+abbrev pub RefusesNone : Refusals → Type 0
+RefusesNone refusals = (reason : Refusal) → refused_for refusals reason ≡ None

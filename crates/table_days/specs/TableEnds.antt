@@ -1,5 +1,5 @@
 -- What was written of a table, and why it was not.
-use Rattle.std.specs.Prelude.{ℕ, List, Option}
+use Rattle.std.specs.Prelude.{◌≡◌, ℕ, List, Option}
 use Rattle.std.specs.Io.KnownBytes.{Appends}
 use Rattle.sale_matrix.specs.declared.matrix.Matrix.{Matrix}
 use Rattle.reports.specs.declared.message.Message.{Message}
@@ -8,16 +8,18 @@ use Rattle.day_tables.specs.Tables.{IsTable, IsTableFault}
 use Rattle.table_days.specs.Answers.{answers}
 use Rattle.table_days.specs.Days.{IsListingFault, first_tape}
 use Rattle.table_days.specs.Refusals.{AreRefusals}
+use Rattle.table_days.specs.StaleRows.{first_stale}
 use Rattle.table_days.specs.declared.refusals.Refusals.{Refusals}
 use Rattle.table_days.specs.declared.table_end.TableEnd.{TableEnd}
 use Rattle.table_days.specs.declared.table_end.TableEnd.TheVariants.{Table, Listing, OutOfMemory, WriteFault}
 
--- a text of a whole table was written, and these are the rows that its tape refused
+-- a text of a whole table was written, and these are the rows that its tape refused, with the first stale one
 pub record WritesTable (text : Matrix → List Message → List ℕ) (matrix : Matrix) (input : List ℕ) (refusals : Refusals)
     (old new : Option (List ℕ)) : Type 0 where
   pub messages : List Message
   pub table : IsTable input messages
   pub refused : AreRefusals (answers (first_tape matrix messages) messages) refusals
+  pub stale : refusals.stale ≡ first_stale (first_tape matrix messages) messages
   pub written : Appends old new (text matrix messages)
 
 -- a part of a text of a whole table was written, from its front

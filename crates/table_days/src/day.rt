@@ -56,8 +56,9 @@ impl Day {
         ensures row { OnOk result (self.new.row ≡ self.old.row + 1) }
         ensures more { OnOk result (AnswersMore self.old self.new (message ∷ [])) }
     {
+        let greatest = self.tape.last_of(message.header().participant);
         let answered = answer(&mut self.tape, message)?;
-        self.refusals.count(&answered, self.row);
+        self.refusals.count(&answered, self.row, &message, greatest);
         self.row += 1;
         Ok(answered)
     }

@@ -1,7 +1,7 @@
 //! The names of a table's rows, as the rows come.
 ghost use Rattle.std.specs.Prelude.{◌≡◌, ◌∷◌, ◌++◌, [], List, IfErr, IfOk, OnOk};
 ghost use Rattle.reports.specs.declared.message.Message.{Message as Sent};
-ghost use Rattle.table_days.specs.Days.{IsListingFault, names_of};
+ghost use Rattle.table_days.specs.Days.{IsListingFault, MakeListing, names_of};
 ghost use Rattle.table_days.specs.EndDays.{AreNames};
 
 use indexmap::IndexSet;
@@ -40,6 +40,7 @@ impl DayNames {
     /// The listing of the names.
     pub fn listing(&self, alloc: Global) -> Result<Listing, ListingFault>
         ensures names { IfOk result (λ listing. (messages : List Sent) → AreNames messages self.now → listing ≡ names_of messages) }
+        ensures ok { OnOk result ((messages : List Sent) → AreNames messages self.now → MakeListing messages) }
         ensures fault { IfErr result (λ fault. (messages : List Sent) → AreNames messages self.now → IsListingFault messages fault) }
     {
         Listing::new(alloc, self.symbols.as_slice(), self.participants.as_slice())

@@ -6,6 +6,7 @@ ghost use Rattle.table_days.specs.Answers.{answer, tape_after};
 
 use crate::answering::is_out_of_memory;
 use crate::day_names::DayNames;
+use crate::last_numbers::LastNumbers;
 use crate::{Answer, Refusals};
 use day_tables::FIRST_ROW;
 use reports::Message;
@@ -21,6 +22,8 @@ pub struct EndDay {
     pub tape: EndTape,
     /// The names in the rows so far.
     pub names: DayNames,
+    /// The participants' last numbers on the tape.
+    pub numbers: LastNumbers,
     /// What it refused of the rows so far.
     pub refusals: Refusals,
     /// The number of the next row.
@@ -54,6 +57,7 @@ impl EndDay {
         EndDay {
             tape: EndTape::new(alloc, matrix),
             names: DayNames::new(alloc),
+            numbers: LastNumbers::none(),
             refusals: Refusals::none(),
             row: FIRST_ROW,
         }
@@ -65,8 +69,10 @@ impl EndDay {
         ensures more { OnOk result (EndsMore self.old self.new (message ∷ [])) }
     {
         self.names.add(&message)?;
+        let greatest = self.numbers.of(message.header().participant);
         let answered = answer(&mut self.tape, message)?;
-        self.refusals.count(&answered, self.row);
+        self.refusals.count(&answered, self.row, &message, greatest);
+        self.numbers.note(&answered, &message);
         match self.row.checked_add(1) {
             Some(row) => self.row = row,
             None => return Err(AllocError),

@@ -11,6 +11,7 @@ ghost use Rattle.table_days.specs.Explained.{entry_line, explain_text, explained
 ghost use Rattle.table_days.specs.Accounts.{IsAccount};
 ghost use Rattle.table_days.specs.ExplainedLaws.{CancelledSetNothing, RowsAddUp, RowsOfFigures, RowsOfOwnFigures, RowsOfReports};
 ghost use Rattle.table_days.specs.Refusals.{AreRefusals};
+ghost use Rattle.table_days.specs.StaleRows.{first_stale};
 ghost use Rattle.table_days.specs.TableEnds.{IsMessagesEnd, IsTableEnd, WritesTable, WritesTablePart};
 ghost use Rattle.table_days.specs.declared.table_end.TableEnd.TheVariants.{OutOfMemory, WriteFault as TableWriteFault};
 
@@ -129,8 +130,12 @@ fn write_rows<W: Write>(
     write_part(writer, &text)
 }
 
-/// Writes what is told of the reports of messages, and gives what their tape refused.
-fn write_explained<W: Write>(
+/// Answers messages in order by a tape of the names in them, in the order in which they first appear, and tells of each report that the
+/// tape admitted, as `explain_over` does. It gives what the tape refused.
+///
+/// Where the text is not written whole the end says why. At a `WriteFault` a part of it from the front was written, and at
+/// `OutOfMemory` such a part or nothing; at every other end nothing was.
+pub fn write_explained<W: Write>(
     alloc: Global,
     matrix: Matrix,
     messages: &[Message],
@@ -138,6 +143,7 @@ fn write_explained<W: Write>(
 ) -> Result<Refusals, TableEnd>
     requires few { length messages.now + FIRST_ROW < 2 ^ 64 }
     ensures refused { IfOk result (AreRefusals (answers (first_tape matrix messages.now) messages.now)) }
+    ensures stale { IfOk result (λ refusals. refusals.stale ≡ first_stale (first_tape matrix messages.now) messages.now) }
     ensures written { OnOk result (Appends (W.contents writer.old) (W.contents writer.new) (explain_text matrix messages.now)) }
     ensures end { IfErr result (IsMessagesEnd messages.now) }
     ensures silent { result ≢ Err TableWriteFault → result ≢ Err OutOfMemory → OnErr result (writer.new ≡ writer.old) }
@@ -152,7 +158,7 @@ fn write_explained<W: Write>(
         return Err(TableEnd::OutOfMemory);
     };
     match write_rows(alloc, &account, head, writer) {
-        Ok(()) => flushed(writer, account.day.refusals),
+        Ok(()) => flushed(writer, &account.day.refusals),
         Err(end) => Err(end),
     }
 }

@@ -1,11 +1,33 @@
 //! What a tape refused, counted by reason.
-ghost use Rattle.std.specs.Prelude.{◌≡◌, ◌+◌, ◌<◌, ◌^◌, ◌++◌, ◌∷◌, ℕ, List, [], Result, Err, IfSome, length};
+ghost use Rattle.std.specs.Prelude.{◌≡◌, ◌↔◌, ◌+◌, ◌<◌, ◌^◌, ◌++◌, ◌∷◌, ℕ, List, [], Option, None, Result, Err, IfSome, IsTrue, is_none, length};
+ghost use Rattle.std.specs.List.{Contains, list_all};
 ghost use Rattle.tape_core.specs.Refusals.{refusal_code};
 ghost use Rattle.tape_core.specs.declared.refusal.Refusal.{Refusal as Reason};
-ghost use Rattle.table_days.specs.Refusals.{one_more};
+ghost use Rattle.tape_core.specs.declared.refusal.Refusal.TheVariants.{Stale};
+ghost use Rattle.table_days.specs.Refusals.{all_reasons, is_refusal, one_more, refused_for};
+ghost use Rattle.table_days.specs.StaleRows.{stale_after, stale_row};
 
 use crate::Answer;
+use crate::stale_row::StaleRow;
+use reports::Message;
 use tape_core::Refusal;
+
+/// Every refusal, by rising number.
+pub const ALL_REASONS: [Refusal; 13] = [
+    Refusal::Closed,
+    Refusal::Full,
+    Refusal::WrongLine,
+    Refusal::UnknownParticipant,
+    Refusal::Stale,
+    Refusal::UnknownSymbol,
+    Refusal::NoSuchReport,
+    Refusal::OtherSymbol,
+    Refusal::Cancelled,
+    Refusal::OutOfMemory,
+    Refusal::WrongNumber,
+    Refusal::Standing,
+    Refusal::NotInMatrix,
+];
 
 /// The number of the first refusal.
 const FIRST_REASON: u8 = 31;
@@ -22,10 +44,11 @@ pub struct Refused {
     pub first: u64,
 }
 
-/// What a tape refused: for each reason how many rows, and the first of them.
+/// What a tape refused: for each reason how many rows, and the first of them; and of the first stale row which numbers show it.
 #[derive(Clone, Copy, Debug, PartialEq, Eq)]
 pub struct Refusals {
     reasons: [Option<Refused>; REASONS],
+    stale: Option<StaleRow>,
 }
 
 /// The place of a refusal among those of all reasons.
@@ -35,6 +58,13 @@ fn place_of(refusal: Refusal) -> usize
     ensures place { result + FIRST_REASON ≡ refusal_code refusal }
 {
     usize::from(refusal.code() - FIRST_REASON)
+}
+
+/// Whether a refusal is that of a stale row.
+fn is_stale(refusal: Refusal) -> bool
+    ensures { result ≡ is_refusal Stale (Err refusal) }
+{
+    refusal.code() == Refusal::Stale.code()
 }
 
 /// One row more that is refused for a reason.
@@ -55,14 +85,16 @@ fn one_more(refused: Option<Refused>, row: u64) -> Refused
 
 impl Refusals {
     ghost use Rattle.day_tables.specs.Tables.{FIRST_ROW};
-    ghost use Rattle.table_days.specs.Refusals.{AreRefusals, refused_for};
+    ghost use Rattle.table_days.specs.Refusals.{AreRefusals, RefusesNone};
 
     /// Nothing is refused.
     pub fn none() -> Refusals
-        ensures { AreRefusals [] result }
+        ensures counts { AreRefusals [] result }
+        ensures stale { result.stale ≡ None }
     {
         Refusals {
             reasons: [None; REASONS],
+            stale: None,
         }
     }
 
@@ -73,9 +105,36 @@ impl Refusals {
         self.reasons[place_of(refusal)]
     }
 
+    /// The first row that was refused as `Stale`, or `None` where none was.
+    pub fn stale(&self) -> Option<StaleRow>
+        ensures stale { result ≡ self.now.stale }
+    {
+        self.stale
+    }
+
+    /// Whether no row was refused for any of these reasons.
+    fn has_none_of(&self, reasons: &[Refusal]) -> bool
+        ensures none { result ≡ list_all (λ reason. is_none (refused_for self.now reason)) reasons.now }
+    {
+        for reason in reasons {
+            if self.of(*reason).is_some() {
+                return false;
+            }
+        }
+        true
+    }
+
+    /// Whether no row was refused.
+    pub fn is_empty(&self) -> bool
+        ensures empty { IsTrue result ↔ RefusesNone self.now }
+    {
+        self.has_none_of(&ALL_REASONS)
+    }
+
     /// Counts a row more that is refused for this reason, by its number.
     fn add(&mut self, refusal: Refusal, row: u64)
-        ensures { (answers : List (Result ℕ Reason)) → row ≡ length answers + FIRST_ROW
+        ensures stale { self.new.stale ≡ self.old.stale }
+        ensures counts { (answers : List (Result ℕ Reason)) → row ≡ length answers + FIRST_ROW
             → AreRefusals answers self.old → AreRefusals (answers ++ Err refusal ∷ []) self.new }
     {
         let place = place_of(refusal);
@@ -83,14 +142,39 @@ impl Refusals {
         self.reasons[place] = Some(more);
     }
 
-    /// Counts the answer to the row of this number, where it is a refusal.
-    pub(crate) fn count(&mut self, answer: &Answer, row: u64)
-        ensures { (answers : List (Result ℕ Reason)) → row ≡ length answers + FIRST_ROW
+    /// Notes a row that was refused for this reason, if it is the first stale one.
+    fn note_stale(&mut self, refusal: Refusal, message: &Message, greatest: u32)
+        ensures reasons { self.new.reasons ≡ self.old.reasons }
+        ensures stale { self.new.stale ≡ stale_after self.old.stale (Err refusal) (stale_row message.now greatest) }
+    {
+        if is_stale(refusal) && self.stale.is_none() {
+            let header = message.header();
+            self.stale = Some(StaleRow {
+                participant: header.participant,
+                number: header.number,
+                greatest,
+            });
+        }
+    }
+
+    /// Counts the answer to the row of this number, where it is a refusal. The participant of the row's message had this greatest number
+    /// before.
+    pub(crate) fn count(&mut self, answer: &Answer, row: u64, message: &Message, greatest: u32)
+        ensures stale { self.new.stale ≡ stale_after self.old.stale answer.now (stale_row message.now greatest) }
+        ensures counts { (answers : List (Result ℕ Reason)) → row ≡ length answers + FIRST_ROW
             → AreRefusals answers self.old → AreRefusals (answers ++ answer.now ∷ []) self.new }
     {
         match answer {
             Ok(_) => {}
-            Err(refusal) => self.add(*refusal, row),
+            Err(refusal) => {
+                self.note_stale(*refusal, message, greatest);
+                self.add(*refusal, row);
+            }
         }
     }
 }
+
+/// Each refusal is among all.
+pub fn each_reason()
+    ensures holds { (reason : Reason) → Contains all_reasons reason }
+{}

@@ -12,6 +12,7 @@ ghost use Rattle.sale_matrix.specs.declared.matrix.Matrix.{Matrix as Columns};
 ghost use Rattle.tape_core.specs.Ending.{IsKept, KeepsEnd};
 ghost use Rattle.tape_core.specs.Tape.{TapeState};
 ghost use Rattle.table_days.specs.Refusals.{AreRefusals};
+ghost use Rattle.table_days.specs.StaleRows.{first_stale};
 ghost use Rattle.table_days.specs.TableEnds.{IsMessagesEnd, IsTableEnd, WritesTable, WritesTablePart};
 ghost use Rattle.table_days.specs.declared.table_end.TableEnd.TheVariants.{OutOfMemory, WriteFault as TableWriteFault};
 
@@ -52,7 +53,7 @@ fn write_day<W: Write>(
 }
 
 /// Writes the report of a day, and gives what its tape refused.
-fn write_report_of<W: Write>(
+pub fn write_report_of<W: Write>(
     alloc: Global,
     day: &EndDay,
     writer: &mut W,
@@ -60,6 +61,8 @@ fn write_report_of<W: Write>(
     requires ending { IsEnding day.now }
     ensures refused { (matrix : Columns) (messages : List Sent) → HasEnded matrix messages day.now
         → IfOk result (AreRefusals (answers (first_tape matrix messages) messages)) }
+    ensures stale { (matrix : Columns) (messages : List Sent) → HasEnded matrix messages day.now
+        → IfOk result (λ refusals. refusals.stale ≡ first_stale (first_tape matrix messages) messages) }
     ensures written { (matrix : Columns) (messages : List Sent) → HasEnded matrix messages day.now
         → OnOk result (Appends (W.contents writer.old) (W.contents writer.new) (day_text matrix messages)) }
     ensures end { (matrix : Columns) (messages : List Sent) → HasEnded matrix messages day.now → IfErr result (IsMessagesEnd messages) }
@@ -72,7 +75,7 @@ fn write_report_of<W: Write>(
         Err(fault) => return Err(TableEnd::Listing(fault)),
     };
     match write_day(alloc, &day.tape, &listing, writer) {
-        Ok(()) => flushed(writer, day.refusals),
+        Ok(()) => flushed(writer, &day.refusals),
         Err(end) => Err(end),
     }
 }

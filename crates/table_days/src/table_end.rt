@@ -58,13 +58,13 @@ impl TableEnd {
 }
 
 /// What was refused, once what was written is flushed.
-pub fn flushed<W: Write>(writer: &mut W, refusals: Refusals) -> Result<Refusals, TableEnd>
+pub fn flushed<W: Write>(writer: &mut W, refusals: &Refusals) -> Result<Refusals, TableEnd>
     ensures kept { Keeps (W.contents writer.old) (W.contents writer.new) }
-    ensures ok { IfOk result (λ flushed. flushed ≡ refusals) }
+    ensures ok { IfOk result (λ flushed. flushed ≡ refusals.now) }
     ensures err { IfErr result (λ end. end ≡ WriteFault) }
 {
     match writer.flush() {
-        Ok(()) => Ok(refusals),
+        Ok(()) => Ok(*refusals),
         Err(_) => Err(TableEnd::WriteFault),
     }
 }

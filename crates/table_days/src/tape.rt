@@ -7,6 +7,7 @@ ghost use Rattle.table_days.specs.Answers.{answers};
 ghost use Rattle.table_days.specs.Days.{AnswersMore, HasAnswered, first_tape, lists_all};
 ghost use Rattle.day_tables.specs.Tables.{FIRST_ROW};
 ghost use Rattle.table_days.specs.Refusals.{AreRefusals};
+ghost use Rattle.table_days.specs.StaleRows.{first_stale};
 ghost use Rattle.table_days.specs.TableEnds.{IsMessagesEnd, IsTableEnd, WritesTable, WritesTablePart};
 ghost use Rattle.table_days.specs.TapeRows.{column_names, rows_text, tape_rows, tape_text, text_from};
 ghost use Rattle.table_days.specs.declared.table_end.TableEnd.TheVariants.{OutOfMemory, WriteFault as TableWriteFault};
@@ -98,6 +99,7 @@ fn write_rows<W: Write>(
     requires listed { lists_all day.old.tape messages.now ≡ true }
     requires few { length messages.now + FIRST_ROW < 2 ^ 64 }
     ensures refused { OnOk result (AreRefusals (answers day.old.tape messages.now) day.new.refusals) }
+    ensures stale { OnOk result (day.new.refusals.stale ≡ first_stale day.old.tape messages.now) }
     ensures written { OnOk result (Appends (W.contents writer.old) (W.contents writer.new) (text_from day.old.tape messages.now)) }
     ensures prefix { OnErr result (WritesPrefix (text_from day.old.tape messages.now) (W.contents writer.old) (W.contents writer.new)) }
     ensures ends { IfErr result (λ end. (end ≡ OutOfMemory) ⊎ (end ≡ TableWriteFault)) }
@@ -129,6 +131,7 @@ pub fn write_tape<W: Write>(
 ) -> Result<Refusals, TableEnd>
     requires few { length messages.now + FIRST_ROW < 2 ^ 64 }
     ensures refused { IfOk result (AreRefusals (answers (first_tape matrix messages.now) messages.now)) }
+    ensures stale { IfOk result (λ refusals. refusals.stale ≡ first_stale (first_tape matrix messages.now) messages.now) }
     ensures written { OnOk result (Appends (W.contents writer.old) (W.contents writer.new) (tape_text matrix messages.now)) }
     ensures end { IfErr result (IsMessagesEnd messages.now) }
     ensures silent { result ≢ Err TableWriteFault → result ≢ Err OutOfMemory → OnErr result (writer.new ≡ writer.old) }
@@ -143,7 +146,7 @@ pub fn write_tape<W: Write>(
         return Err(TableEnd::OutOfMemory);
     };
     match write_rows(alloc, &mut day, head, messages, writer) {
-        Ok(()) => flushed(writer, day.refusals),
+        Ok(()) => flushed(writer, &day.refusals),
         Err(end) => Err(end),
     }
 }

@@ -13,7 +13,8 @@ returns-in-Ok-clause-written g c =
     let (messages, table, had) = c.in-Ok.ensures.day in
     table_written day_text c.args.matrix (g.R.Read.remaining c.args.reader) messages messages c.write_report_of.result
     (g.W.Write.contents c.args.writer.now) (g.W.Write.contents c.write_report_of.new.writer) refl table
-    (c.write_report_of.ensures.refused c.args.matrix messages had) (c.write_report_of.ensures.written c.args.matrix messages had)
+    (c.write_report_of.ensures.refused c.args.matrix messages had) (c.write_report_of.ensures.stale c.args.matrix messages had)
+    (c.write_report_of.ensures.written c.args.matrix messages had)
 
 pub returns-in-Ok-clause-prefix : goal.returns-in-Ok-clause-prefix
 returns-in-Ok-clause-prefix g c = λ ended.

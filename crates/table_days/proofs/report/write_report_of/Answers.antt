@@ -4,8 +4,8 @@ use Rattle.row_reads.specs.Lemmas.WriteLemmas.{WritesPrefix-kept, WritesPrefix-w
 use Rattle.table_days.specs.Days.{day_text, tape_of}
 use Rattle.table_days.specs.declared.table_end.TableEnd.{TableEnd}
 use Rattle.table_days.specs.declared.table_end.TableEnd.TheVariants.{WriteFault}
-use Rattle.table_days.proofs.EndDayLemmas.{HasEnded-listing, HasEnded-refusals, HasEnded-tape, IsKept-ending}
-use Rattle.table_days.proofs.EndLemmas.{any_ok, flushed_end, flushed_refusals, flushed_silent}
+use Rattle.table_days.proofs.EndDayLemmas.{HasEnded-listing, HasEnded-refusals, HasEnded-stale, HasEnded-tape, IsKept-ending}
+use Rattle.table_days.proofs.EndLemmas.{any_ok, flushed_end, flushed_refusals, flushed_silent, flushed_stale}
 use Rattle.table_days.proofs.report.write_report_of.Goals as goal
 
 pub returns-in-Err-clause-end : goal.returns-in-Err-clause-end
@@ -17,6 +17,10 @@ write_day-requires g c = record { kept = IsKept-ending c.args.day.now c.requires
 pub returns-in-Ok-write_day-clause-refused : goal.returns-in-Ok-write_day-clause-refused
 returns-in-Ok-write_day-clause-refused g c = λ matrix messages had.
     flushed_refusals c.flushed.result _ _ c.flushed.ensures.ok (HasEnded-refusals matrix messages c.args.day.now had)
+
+pub returns-in-Ok-write_day-clause-stale : goal.returns-in-Ok-write_day-clause-stale
+returns-in-Ok-write_day-clause-stale g c = λ matrix messages had.
+    flushed_stale c.flushed.result _ _ c.flushed.ensures.ok (HasEnded-stale matrix messages c.args.day.now had)
 
 pub returns-in-Ok-write_day-clause-written : goal.returns-in-Ok-write_day-clause-written
 returns-in-Ok-write_day-clause-written g c = λ matrix messages had.

@@ -10,7 +10,7 @@ pub returns-in-Ok-clause-written : goal.returns-in-Ok-clause-written
 returns-in-Ok-clause-written g c =
     table_written tape_text c.args.matrix (g.R.Read.remaining c.args.reader) c.in-Ok.messages.items c.deref.result.now c.write_tape.result
     (g.W.Write.contents c.args.writer.now) (g.W.Write.contents c.write_tape.new.writer) c.deref.ensures.value c.in-Ok.ensures.messages
-    c.write_tape.ensures.refused c.write_tape.ensures.written
+    c.write_tape.ensures.refused c.write_tape.ensures.stale c.write_tape.ensures.written
 
 pub returns-in-Ok-clause-prefix : goal.returns-in-Ok-clause-prefix
 returns-in-Ok-clause-prefix g c = λ ended.

@@ -1,6 +1,6 @@
 use Rattle.std.proofs.Common.{◌≡◌, ◌==◌, arith, length, rules, true}
 use Rattle.table_days.proofs.EndLemmas.{any_error, any_ok, ok_map}
-use Rattle.table_days.proofs.TapeLemmas.{WrittenSome-answered, WrittenSome-fault, WrittenSome-few, WrittenSome-listed, WrittenSome-next, WrittenSome-none, WrittenSome-whole, no_messages, two_parts}
+use Rattle.table_days.proofs.TapeLemmas.{WrittenSome-answered, WrittenSome-fault, WrittenSome-few, WrittenSome-listed, WrittenSome-next, WrittenSome-none, WrittenSome-stale, WrittenSome-whole, no_messages, two_parts}
 use Rattle.table_days.proofs.tape.write_rows.Goals as goal
 
 pub loop-rest-init : goal.loop-rest-init
@@ -40,6 +40,13 @@ returns-clause-refused g c =
     let test : (length c.loop-rest.rest.now == 0) ≡ true = search rules in
     any_ok c.write_part.result _
     (WrittenSome-answered c.args.day.now.tape c.loop-rest.day c.args.messages.now c.loop-rest.rest.now c.loop-rest.text.items
+    (g.W.Write.contents c.args.writer.now) (g.W.Write.contents c.loop-rest.writer) (no_messages c.loop-rest.rest.now test) c.loop-rest.invariant)
+
+pub returns-clause-stale : goal.returns-clause-stale
+returns-clause-stale g c =
+    let test : (length c.loop-rest.rest.now == 0) ≡ true = search rules in
+    any_ok c.write_part.result _
+    (WrittenSome-stale c.args.day.now.tape c.loop-rest.day c.args.messages.now c.loop-rest.rest.now c.loop-rest.text.items
     (g.W.Write.contents c.args.writer.now) (g.W.Write.contents c.loop-rest.writer) (no_messages c.loop-rest.rest.now test) c.loop-rest.invariant)
 
 pub returns-clause-written : goal.returns-clause-written

@@ -9,4 +9,4 @@ use Rattle.table_days.proofs.day.Day.of_names.Goals as goal
 pub returns-in-Ok-new-clause-day : goal.returns-in-Ok-new-clause-day
 returns-in-Ok-new-clause-day c =
     HasAnswered-none (first_tape c.args.matrix c.args.messages.now) _
-    (c.in-Ok-new.ensures.ok ∙ ap (λ (n : Names). empty_tape n TAPE_MOST c.args.matrix) c.in-Ok.ensures.names) c.none.ensures refl
+    (c.in-Ok-new.ensures.ok ∙ ap (λ (n : Names). empty_tape n TAPE_MOST c.args.matrix) c.in-Ok.ensures.names) c.none.ensures.counts c.none.ensures.stale refl

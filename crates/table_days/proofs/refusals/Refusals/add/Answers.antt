@@ -1,8 +1,9 @@
-use Rattle.std.proofs.Common.{arith, refl, rules}
+use Rattle.std.proofs.Common.{Some, arith, refl, rules, slice_set}
 use Rattle.table_days.proofs.RefusalLemmas.{AreRefusals-refused}
 use Rattle.table_days.proofs.refusals.Refusals.add.Goals as goal
 
-pub returns : goal.returns
-returns c = λ answers row had.
-    AreRefusals-refused c.args.self.now _ c.args.refusal c.place_of-place.result c.args.row c.one_more-more.result answers
+pub returns-clause-counts : goal.returns-clause-counts
+returns-clause-counts c = λ answers row had.
+    AreRefusals-refused c.args.self.now
+    (record c.args.self.now { reasons = slice_set c.args.self.now.reasons c.place_of-place.result (Some c.one_more-more.result) }) c.args.refusal c.place_of-place.result c.args.row c.one_more-more.result answers
     (search rules) c.place_of-place.ensures.place refl c.one_more-more.ensures (omega (arith, c.ranges.row.fits)) row had
