@@ -3,8 +3,9 @@ use Rattle.std.proofs.Common.{◌≡◌, ℕ, ◌+◌, ◌<◌, ◌≤◌, List,
 use Rattle.std.specs.Prelude.{All, Contains, IfSome, ◌⊎◌, ◌↔◌}
 use Rattle.std.proofs.lemmas.List.{map-append, take_all, take_more}
 use Rattle.std.proofs.lemmas.List.Elements.{All-nil, All-push, Contains-append_left, Contains-push}
-use Rattle.live_feed.specs.Faults.{IsLeast, NoneBefore, fault_status}
-use Rattle.live_feed.specs.declared.fault.Fault.{Fault}
+use Rattle.feed_ends.specs.Faults.{fault_status}
+use Rattle.feed_ends.specs.declared.fault.Fault.{Fault}
+use Rattle.live_feed.specs.Faults.{IsLeast, NoneBefore}
 
 -- none of nothing
 pub least_of_none : IsLeast [] None

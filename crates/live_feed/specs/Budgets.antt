@@ -1,6 +1,6 @@
 -- How many packets are left of a turn of the clock.
 use Rattle.std.specs.Prelude.{ℕ, ◌+◌, ◌-◌, ◌^◌, nat_lt, nat_le, ◌||◌, min, Bool, true, false, if◌then◌else◌}
-use Rattle.live_feed.specs.declared.live.budget.TheConstants.{TURN}
+use Rattle.live_feed.specs.declared.budget.TheConstants.{TURN}
 use Rattle.live_feed.specs.Paces.{PaceState, pace_after}
 
 -- what a contract sees of a budget: the pace, when the turn began in nanoseconds of the clock, how many packets were sent in it, and whether

@@ -1,21 +1,12 @@
--- What ends a day without a report, by the status that is answered.
-use Rattle.std.specs.Prelude.{◌≡◌, ◌≤◌, ◌↔◌, ℕ, List, Option, Some, None, IfSome, All, Contains}
+-- The faults that a day's lines, sender and retransmission meet.
+use Rattle.std.specs.Prelude.{◌≡◌, ◌≤◌, ◌↔◌, List, Option, Some, None, IfSome, All, Contains}
 use Rattle.participant_lines.specs.declared.line_end.Ended.{Ended}
 use Rattle.participant_lines.specs.declared.line_end.Ended.TheVariants as ended
 use Rattle.participant_lines.specs.declared.unstarted.Lack.{Lack}
 use Rattle.participant_lines.specs.declared.unstarted.Lack.TheVariants as lack
-use Rattle.live_feed.specs.declared.fault.Fault.{Fault}
-use Rattle.live_feed.specs.declared.fault.Fault.TheVariants.{Read, Write, Memory, Worker, Disagrees}
-use Rattle.live_feed.specs.declared.follow.sink.SinkFault.{SinkFault}
-use Rattle.live_feed.specs.declared.follow.sink.SinkFault.TheVariants as sink
-
--- the status of a fault
-abbrev pub fault_status : Fault → ℕ
-fault_status Read = 3
-fault_status Write = 4
-fault_status Memory = 5
-fault_status Worker = 6
-fault_status Disagrees = 7
+use Rattle.feed_ends.specs.Faults.{fault_status}
+use Rattle.feed_ends.specs.declared.fault.Fault.{Fault}
+use Rattle.feed_ends.specs.declared.fault.Fault.TheVariants.{Memory, Worker, Disagrees}
 
 -- what was met beside it, if anything, has no lesser status
 abbrev pub NoneBefore : Fault → Option Fault → Type 0
@@ -41,8 +32,3 @@ line_fault ended.Behind = Some Disagrees
 abbrev pub lack_fault : Lack → Fault
 lack_fault lack.Memory = Memory
 lack_fault lack.Worker = Worker
-
--- the run's fault for that of its sink
-abbrev pub sink_fault : SinkFault → Fault
-sink_fault sink.Write = Write
-sink_fault sink.OutOfMemory = Memory

@@ -1,12 +1,6 @@
-pub mod Addresses
 pub mod Accepting
 pub mod Budgets
 pub mod Faults
-pub mod Followers
-pub mod LinePositions
-pub mod Nexts
 pub mod Paces
 pub mod Quiets
-pub mod Reports
 pub mod Sendings
-pub mod Sinks

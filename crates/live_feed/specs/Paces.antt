@@ -1,6 +1,6 @@
 -- How many packets the sender sends in a turn of the clock.
 use Rattle.std.specs.Prelude.{ℕ, ◌+◌, ◌-◌, ◌/◌, ◌%◌, ◌^◌, ◌==◌, nat_le, min, max, Bool, if◌then◌else◌}
-use Rattle.live_feed.specs.declared.live.pace.TheConstants.{CEILING_LEAST, CALM_LEAST, CALM_RESTS, PACE_LEAST, PACE_MOST, PACE_STEP}
+use Rattle.live_feed.specs.declared.pace.TheConstants.{CEILING_LEAST, CALM_LEAST, CALM_RESTS, PACE_LEAST, PACE_MOST, PACE_STEP}
 
 -- what a contract sees of a pace: how many packets are sent in a turn, as far as that rises, and for how many rests nothing was asked for
 pub record PaceState : Type 0 where

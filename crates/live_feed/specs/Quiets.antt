@@ -1,6 +1,6 @@
 -- How long nothing was sent.
 use Rattle.std.specs.Prelude.{ℕ, zero, suc}
-use Rattle.live_feed.specs.declared.live.quiet.TheConstants.{FIRST_PAUSE, SECOND_PAUSE, LATER_PAUSE}
+use Rattle.live_feed.specs.declared.quiet.TheConstants.{FIRST_PAUSE, SECOND_PAUSE, LATER_PAUSE}
 
 -- how long after what was sent last a beat is sent, where so many beats in a row were sent last
 abbrev pub pause_before : ℕ → ℕ

@@ -1,16 +1,23 @@
-//! A day over sockets: participants' lines in, two lossy lines and a retransmission out, and the follower that holds the same
-//! day at the other end.
+//! The sender's side of a day over sockets: participants' lines in, two lossy lines and a retransmission out, and the day's report.
 #![tactic(auto)]
 
-mod fault;
-mod follow;
+mod accepting;
+mod bell;
+mod budget;
+mod feed;
 mod live;
-mod report;
+mod loss;
+mod pace;
+mod quiet;
+mod request_flag;
+mod retransmission;
+mod running;
+mod seated;
+mod sender;
+mod serving;
 mod sockets;
+mod starting;
 
-pub use fault::Fault;
-pub use follow::sink::{EntrySink, NoSink, SinkFault};
-pub use follow::{follow_over, follow_tape_over};
 pub use live::live_over;
-pub use live::loss::{Loss, NoLoss};
-pub use sockets::{FollowSockets, LiveSockets, here};
+pub use loss::{Loss, NoLoss};
+pub use sockets::LiveSockets;

@@ -1,36 +1,24 @@
 //! A live day: it accepts the participants' lines, sends the tape that they make, and reports it.
 ghost use Rattle.std.specs.Prelude.{◌≡◌, ◌≢◌, ◌⊎◌, ◌≤◌, IfErr, IfOk, None, OnOk, Some, length, true, vec_len};
+ghost use Rattle.std.specs.Io.KnownBytes.{Appends};
 ghost use Rattle.tape_core.specs.Tape.{IsLegal};
+ghost use Rattle.day_report.specs.ReportText.{report_text};
+ghost use Rattle.day_report.specs.Rows.{report_rows};
 ghost use Rattle.line_ledger.specs.Cells.{FirstTokens, HaveAll, shown};
 ghost use Rattle.line_ledger.specs.Days.{terms_of};
 ghost use Rattle.line_ledger.specs.Ends.{IsOneEach};
 ghost use Rattle.live_feed.specs.Faults.{NoneBefore};
-ghost use Rattle.live_feed.specs.Reports.{WritesItsReport, WritesOneReport};
-ghost use Rattle.live_feed.specs.declared.fault.Fault.TheVariants.{Disagrees, Write as WriteFault};
+ghost use Rattle.feed_ends.specs.Reports.{WritesItsReport, WritesOneReport};
+ghost use Rattle.feed_ends.specs.declared.fault.Fault.TheVariants.{Disagrees, Write as WriteFault};
 
-mod accepting;
-mod bell;
-mod budget;
-mod feed;
-pub(crate) mod loss;
-mod pace;
-mod quiet;
-mod request_flag;
-mod retransmission;
-mod running;
-mod seated;
-mod sender;
-mod serving;
-mod starting;
-
-use crate::live::bell::Bell;
-use crate::live::feed::Feed;
-use crate::live::running::{Joined, run_together};
-use crate::live::seated::{Ran, Reader, Waiting, seated_lines};
-use crate::live::sender::room_for_a_packet;
-use crate::live::starting::{accept_all, prepare_day};
-use crate::report::write_day;
-use crate::{Fault, LiveSockets, Loss};
+use crate::bell::Bell;
+use crate::feed::Feed;
+use crate::running::{Joined, run_together};
+use crate::seated::{Ran, Reader, Waiting, seated_lines};
+use crate::sender::room_for_a_packet;
+use crate::starting::{accept_all, prepare_day};
+use crate::{LiveSockets, Loss};
+use feed_ends::{Fault, write_day};
 use line_ledger::{Day, DayName, EndFault, LineSeat, Prepared, SharedTape, Sighting};
 use sale_matrix::Matrix;
 use std::alloc::Global;
@@ -89,22 +77,31 @@ fn is_as_sent(day: &Day, tokens: &Vec<Sighting>, number: u32) -> bool
         && confirms_all(day, tokens, number)
 }
 
+/// A day that has ended, with what was seen of each entry that the sender found published, all of which it sent. These are the entries of
+/// the day, in order.
+#[derive(Drop)]
+struct SentDay {
+    day: Day,
+    seen: Vec<Sighting>,
+    ghost sent: { shown seen.items ≡ day.tape.entries },
+}
+
 /// Ends the day that was joined: the day, whose entries are those that were sent, or the fault of the least status that was met.
-fn finish_day<D: DayName>(shared: SharedTape<D>, joined: Joined<D>) -> Result<Day, Fault>
+fn finish_day<D: DayName>(shared: SharedTape<D>, joined: Joined<D>) -> Result<SentDay, Fault>
     requires seats { IsOneEach D.terms.listing.participants joined.ran.seats.items }
     requires tokens { FirstTokens shared joined.sent.tokens.items }
     // With `least` and `met`, a fault that was met is answered by the least of all.
-    ensures none { IfOk result (λ _. (joined.served ≡ None) × (joined.sent.fault ≡ None) × (joined.ran.fault ≡ None)) }
-    ensures least { IfErr result (λ fault. NoneBefore fault joined.served × NoneBefore fault joined.sent.fault
+    ensures none { IfOk result (λ _. (joined.served.fault ≡ None) × (joined.sent.fault ≡ None) × (joined.ran.fault ≡ None)) }
+    ensures least { IfErr result (λ fault. NoneBefore fault joined.served.fault × NoneBefore fault joined.sent.fault
         × NoneBefore fault joined.ran.fault) }
-    ensures met { IfErr result (λ fault. (joined.served ≡ Some fault) ⊎ (joined.sent.fault ≡ Some fault)
+    ensures met { IfErr result (λ fault. (joined.served.fault ≡ Some fault) ⊎ (joined.sent.fault ≡ Some fault)
         ⊎ (joined.ran.fault ≡ Some fault) ⊎ (fault ≡ Disagrees)) }
-    ensures legal { IfOk result (λ day. IsLegal day.tape) }
-    ensures listed { IfOk result (λ day. day.tape.listing ≡ D.terms.listing) }
-    ensures by_matrix { IfOk result (λ day. day.tape.matrix ≡ D.terms.matrix) }
-    ensures within { IfOk result (λ day. length day.tape.entries ≤ D.terms.limit) }
-    ensures number { IfOk result (λ day. length day.tape.entries ≡ joined.sent.number) }
-    ensures sent { IfOk result (λ day. shown joined.sent.tokens.items ≡ day.tape.entries) }
+    ensures legal { IfOk result (λ ended. IsLegal ended.day.tape) }
+    ensures listed { IfOk result (λ ended. ended.day.tape.listing ≡ D.terms.listing) }
+    ensures by_matrix { IfOk result (λ ended. ended.day.tape.matrix ≡ D.terms.matrix) }
+    ensures within { IfOk result (λ ended. length ended.day.tape.entries ≤ D.terms.limit) }
+    ensures number { IfOk result (λ ended. length ended.day.tape.entries ≡ joined.sent.number) }
+    ensures seen { IfOk result (λ ended. ended.seen ≡ joined.sent.tokens) }
 {
     let Joined {
         ran: Ran { seats, fault },
@@ -112,7 +109,7 @@ fn finish_day<D: DayName>(shared: SharedTape<D>, joined: Joined<D>) -> Result<Da
         served,
     } = joined;
     let ended = end_day(shared, seats);
-    let at_the_sides = Fault::least(served, sent.fault);
+    let at_the_sides = Fault::least(served.into_fault(), sent.fault);
     if let Some(fault) = Fault::least(at_the_sides, fault) {
         drop(ended);
         return Err(fault);
@@ -122,7 +119,10 @@ fn finish_day<D: DayName>(shared: SharedTape<D>, joined: Joined<D>) -> Result<Da
         drop(day);
         return Err(Fault::Disagrees);
     }
-    Ok(day)
+    Ok(SentDay {
+        day,
+        seen: sent.tokens,
+    })
 }
 
 /// Runs the day of what was prepared, under its name, and ends it. Packets are written in the text.
@@ -132,15 +132,15 @@ fn run_named<D: DayName + Send + Sync, R: Threads + Wait + Clock + Sync, L: Loss
     prepared: Prepared,
     readers: Vec<Reader>,
     text: &mut Vec<u8>,
-) -> Result<Day, Fault>
+) -> Result<SentDay, Fault>
     requires name { prepared.blank.name ≡ D.name }
     requires parts { prepared.blank.parts ≡ D.parts }
     requires terms { terms_of prepared.tape ≡ D.terms }
     requires many { vec_len readers ≡ length D.terms.listing.participants }
-    ensures legal { IfOk result (λ day. IsLegal day.tape) }
-    ensures listed { IfOk result (λ day. day.tape.listing ≡ D.terms.listing) }
-    ensures by_matrix { IfOk result (λ day. day.tape.matrix ≡ D.terms.matrix) }
-    ensures within { IfOk result (λ day. length day.tape.entries ≤ D.terms.limit) }
+    ensures legal { IfOk result (λ ended. IsLegal ended.day.tape) }
+    ensures listed { IfOk result (λ ended. ended.day.tape.listing ≡ D.terms.listing) }
+    ensures by_matrix { IfOk result (λ ended. ended.day.tape.matrix ≡ D.terms.matrix) }
+    ensures within { IfOk result (λ ended. length ended.day.tape.entries ≤ D.terms.limit) }
 {
     let Ok(lines) = Vec::with_capacity(feed.alloc, readers.len()) else {
         drop(prepared);
@@ -172,12 +172,12 @@ fn run_day<R: Threads + Wait + Clock + Sync, L: Loss + Sync>(
     prepared: Prepared,
     readers: Vec<Reader>,
     text: &mut Vec<u8>,
-) -> Result<Day, Fault>
+) -> Result<SentDay, Fault>
     requires { vec_len readers ≡ length prepared.tape.listing.participants }
-    ensures legal { IfOk result (λ day. IsLegal day.tape) }
-    ensures listed { IfOk result (λ day. day.tape.listing ≡ prepared.tape.listing) }
-    ensures by_matrix { IfOk result (λ day. day.tape.matrix ≡ prepared.tape.matrix) }
-    ensures within { IfOk result (λ day. length day.tape.entries ≤ prepared.tape.limit) }
+    ensures legal { IfOk result (λ ended. IsLegal ended.day.tape) }
+    ensures listed { IfOk result (λ ended. ended.day.tape.listing ≡ prepared.tape.listing) }
+    ensures by_matrix { IfOk result (λ ended. ended.day.tape.matrix ≡ prepared.tape.matrix) }
+    ensures within { IfOk result (λ ended. length ended.day.tape.entries ≤ prepared.tape.limit) }
 {
     run_named::<Brand, R, L>(rt, feed, prepared, readers, text)
 }
@@ -205,11 +205,11 @@ fn hold_day<R: Threads + Wait + Clock + Sync, L: Loss + Sync>(
     limit: u32,
     matrix: Matrix,
     lines: Vec<TcpListener>,
-) -> Result<Day, Fault>
-    ensures legal { IfOk result (λ day. IsLegal day.tape) }
-    ensures listed { IfOk result (λ day. day.tape.listing ≡ listing) }
-    ensures by_matrix { IfOk result (λ day. day.tape.matrix ≡ matrix) }
-    ensures within { IfOk result (λ day. length day.tape.entries ≤ limit) }
+) -> Result<SentDay, Fault>
+    ensures legal { IfOk result (λ ended. IsLegal ended.day.tape) }
+    ensures listed { IfOk result (λ ended. ended.day.tape.listing ≡ listing) }
+    ensures by_matrix { IfOk result (λ ended. ended.day.tape.matrix ≡ matrix) }
+    ensures within { IfOk result (λ ended. length ended.day.tape.entries ≤ limit) }
 {
     if lines.len() != listing.participants().as_slice().len() {
         return Err(Fault::Read);
@@ -226,7 +226,7 @@ fn hold_day<R: Threads + Wait + Clock + Sync, L: Loss + Sync>(
     run_day(rt, feed, prepared, readers, &mut text)
 }
 
-/// Runs the day and writes its report.
+/// Runs the day and writes its report: that of the day that is returned, whose entries were sent.
 fn live<R: Threads + Wait + Clock + Sync, L: Loss + Sync, W: Write>(
     rt: &R,
     feed: &Feed<'_, L>,
@@ -235,15 +235,20 @@ fn live<R: Threads + Wait + Clock + Sync, L: Loss + Sync, W: Write>(
     matrix: Matrix,
     lines: Vec<TcpListener>,
     writer: &mut W,
-) -> Result<(), Fault>
+) -> Result<SentDay, Fault>
     ensures report { OnOk result (WritesOneReport (W.contents writer.old) (W.contents writer.new)) }
     ensures listed { OnOk result (WritesItsReport listing matrix limit (W.contents writer.old) (W.contents writer.new)) }
+    ensures sent { IfOk result (λ ended. Appends (W.contents writer.old) (W.contents writer.new) (report_text (report_rows ended.day.tape))) }
     ensures unwritten { IfErr result (λ fault. fault ≢ WriteFault → writer.new ≡ writer.old) }
 {
-    let day = hold_day(rt, feed, listing, limit, matrix, lines)?;
-    let written = write_day(rt, feed.alloc, day.tape(), writer);
-    drop(day);
-    written
+    let ended = hold_day(rt, feed, listing, limit, matrix, lines)?;
+    match write_day(rt, feed.alloc, ended.day.tape(), writer) {
+        Ok(()) => Ok(ended),
+        Err(fault) => {
+            drop(ended);
+            Err(fault)
+        }
+    }
 }
 
 /// Runs a day over sockets, and writes its report to `writer`.
@@ -303,7 +308,10 @@ pub fn live_over<R: Threads + Wait + Clock + Sync, L: Loss + Sync, W: Write>(
         alloc,
     };
     match live(rt, &feed, listing, limit, matrix, lines, writer) {
-        Ok(()) => 0,
+        Ok(ended) => {
+            drop(ended);
+            0
+        }
         Err(fault) => fault.status(),
     }
 }

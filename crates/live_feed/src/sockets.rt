@@ -1,7 +1,6 @@
-//! The sockets that a caller opens.
-ghost use Rattle.live_feed.specs.Addresses.{IsHere};
+//! The sockets that a day's caller opens.
 
-use std::net::{Ipv4Addr, SocketAddr, TcpListener, UdpSocket};
+use std::net::{TcpListener, UdpSocket};
 
 /// The open sockets of a live day.
 #[derive(Drop)]
@@ -16,22 +15,4 @@ pub struct LiveSockets {
     pub a: Vec<u16>,
     /// The same of line B.
     pub b: Vec<u16>,
-}
-
-/// The open sockets of a follower, and the port at which it asks.
-#[derive(Drop)]
-pub struct FollowSockets {
-    /// The socket from which line A is read, bound to its port.
-    pub a: UdpSocket,
-    /// The socket from which line B is read, bound to its port.
-    pub b: UdpSocket,
-    /// The port of the retransmission, on this machine.
-    pub retransmission: u16,
-}
-
-/// The address of a port of this machine, on 127.0.0.1, which no other machine reaches.
-pub fn here(port: u16) -> SocketAddr
-    ensures { IsHere result port }
-{
-    SocketAddr::from((Ipv4Addr::LOCALHOST, port))
 }

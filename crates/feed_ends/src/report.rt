@@ -1,0 +1,76 @@
+//! The report of a day.
+ghost use Rattle.std.specs.Prelude.{◌≡◌, ◌≢◌, ◌⊎◌, IfErr, IfOk, OnOk};
+ghost use Rattle.std.specs.Io.KnownBytes.{Appends};
+ghost use Rattle.day_report.specs.ReportText.{report_text};
+ghost use Rattle.day_report.specs.Rows.{report_rows};
+ghost use Rattle.day_report.specs.declared.report_fault.ReportFault.TheVariants.{BadWorkers, OutOfMemory as ReportOutOfMemory, Unstarted, WriteFault};
+ghost use Rattle.feed_ends.specs.Reports.{IsListing};
+ghost use Rattle.feed_ends.specs.declared.fault.Fault.TheVariants.{Memory, Worker, Write};
+
+use crate::Fault;
+use day_report::{ReportFault, Row, rows, write_report};
+use std::alloc::Global;
+use std::io::Write;
+use std::thread::Threads;
+use summaries::IndexStore;
+use tape_core::Tape;
+use tape_types::NoGate;
+
+/// How many workers make the rows of a report, where a thread can be started for them.
+const WORKERS: usize = 4;
+
+/// The day's fault for a report that is not written.
+fn fault_of_report(fault: ReportFault) -> Fault
+    ensures worker { (fault ≡ BadWorkers) ⊎ (fault ≡ Unstarted) → result ≡ Worker }
+    ensures memory { fault ≡ ReportOutOfMemory → result ≡ Memory }
+    ensures write { fault ≡ WriteFault → result ≡ Write }
+{
+    match fault {
+        ReportFault::BadWorkers | ReportFault::Unstarted => Fault::Worker,
+        ReportFault::OutOfMemory => Fault::Memory,
+        ReportFault::WriteFault => Fault::Write,
+    }
+}
+
+/// The rows of a tape, which several workers make. Where no thread can be started for them there is one, which needs none: a day
+/// that is finished isn't lost for want of a thread.
+fn rows_of<R: Threads + Sync>(
+    rt: &R,
+    alloc: Global,
+    tape: &Tape<IndexStore>,
+) -> Result<Vec<Row>, ReportFault>
+    ensures rows { IfOk result (λ rows. rows.items ≡ report_rows tape.now) }
+    ensures memory { IfErr result (λ fault. fault ≡ ReportOutOfMemory) }
+{
+    match rows(rt, alloc, tape, WORKERS, &NoGate) {
+        Err(ReportFault::Unstarted) => rows(rt, alloc, tape, 1, &NoGate),
+        made => made,
+    }
+}
+
+/// Writes the report of a tape and flushes the writer.
+pub fn write_day<R: Threads + Sync, W: Write>(
+    rt: &R,
+    alloc: Global,
+    tape: &Tape<IndexStore>,
+    writer: &mut W,
+) -> Result<(), Fault>
+    ensures names { IsListing tape.now.listing }
+    ensures written { OnOk result (Appends (W.contents writer.old) (W.contents writer.new) (report_text (report_rows tape.now))) }
+    ensures unwritten { IfErr result (λ fault. fault ≢ Write → writer.new ≡ writer.old) }
+    ensures fault { IfErr result (λ fault. (fault ≡ Memory) ⊎ (fault ≡ Write)) }
+{
+    // For the proof alone: by the clauses of this call a tape's listing is a day's.
+    let _ = tape.listing().symbols();
+    let rows = match rows_of(rt, alloc, tape) {
+        Ok(rows) => rows,
+        Err(fault) => return Err(fault_of_report(fault)),
+    };
+    if let Err(fault) = write_report(alloc, &rows, writer) {
+        return Err(fault_of_report(fault));
+    }
+    match writer.flush() {
+        Ok(()) => Ok(()),
+        Err(_) => Err(Fault::Write),
+    }
+}

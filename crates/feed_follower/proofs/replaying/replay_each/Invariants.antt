@@ -1,0 +1,10 @@
+use Rattle.feed_follower.specs.Followers.{KeepsTerms}
+use Rattle.feed_follower.specs.Sinks.{GivesMore}
+use Rattle.feed_follower.proofs.replaying.replay_each.Given as goal
+
+-- the sink was given what was replayed so far
+abbrev pub invariant-loop : goal.invariant-loop
+invariant-loop g l = record {
+  names : KeepsTerms l.fn.subscriber.tape l.subscriber.tape;
+  given : GivesMore g.S.EntrySink.text l.fn.subscriber.tape l.subscriber.tape (g.S.EntrySink.contents l.fn.sink) (g.S.EntrySink.contents l.sink);
+}

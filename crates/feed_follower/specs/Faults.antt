@@ -1,0 +1,10 @@
+-- What ends a run of a follower.
+use Rattle.feed_ends.specs.declared.fault.Fault.{Fault}
+use Rattle.feed_ends.specs.declared.fault.Fault.TheVariants.{Memory, Write}
+use Rattle.feed_follower.specs.declared.sink.SinkFault.{SinkFault}
+use Rattle.feed_follower.specs.declared.sink.SinkFault.TheVariants as sink
+
+-- the run's fault for that of its sink
+abbrev pub sink_fault : SinkFault → Fault
+sink_fault sink.Write = Write
+sink_fault sink.OutOfMemory = Memory

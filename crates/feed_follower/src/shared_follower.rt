@@ -1,0 +1,137 @@
+//! The follower that its threads share, and what its lines brought while one of them had it.
+//!
+//! Nothing may stay kept while nobody has the follower. So a thread that had it, or kept something for it, owes a look at what is
+//! kept, after that: an `Owed`, which can't be dropped.
+ghost use Rattle.std.specs.Prelude.{◌≡◌, []};
+ghost use Rattle.feed_follower.specs.declared.follower.Next.TheVariants.{End};
+
+use crate::EntrySink;
+use crate::follower::{Follower, Next};
+use crate::held_name::HeldName;
+use crate::inbox::{Datagram, Inbox};
+use arbitration::Line;
+use std::alloc::Global;
+use std::sync::{Mutex, MutexGuard, Wait};
+
+/// The follower, which one thread has at a time, and what is kept for it.
+#[derive(Drop)]
+pub(crate) struct SharedFollower<N: HeldName, S: EntrySink> {
+    /// Where memory comes from.
+    alloc: Global,
+    follower: Mutex<Follower<N, S>>,
+    kept: Mutex<Inbox>,
+}
+
+/// What a thread owes that had the follower, or kept something for it: a look at what is kept. Nothing outside this module makes one.
+pub(crate) struct Owed {
+    marker: (),
+}
+
+/// A thread's turn with the follower, which only `end` ends, since what the thread owes can't be dropped.
+pub(crate) struct Turn<'a, N: HeldName, S: EntrySink> {
+    pub(crate) follower: MutexGuard<'a, Follower<N, S>>,
+    owed: Owed,
+}
+
+impl Owed {
+    /// A thread owes a look.
+    fn new() -> Owed {
+        Owed { marker: () }
+    }
+
+    /// Nothing is kept, so nothing is owed any more.
+    fn see_nothing(self, kept: &Inbox)
+        requires { kept.now.datagrams.items ≡ [] }
+    {
+        // For the proof alone: only clauses speak of it.
+        let _ = kept;
+        let Owed { marker: _ } = self;
+    }
+
+    /// The run is over, so what is kept is not taken any more.
+    pub(crate) fn see_end(self, next: &Next)
+        requires { next.now ≡ End }
+    {
+        // For the proof alone: only clauses speak of it.
+        let _ = next;
+        let Owed { marker: _ } = self;
+    }
+}
+
+impl<'a, N: HeldName, S: EntrySink> Turn<'a, N, S> {
+    /// The turn of a thread that owes a look, and has the follower now. Where another thread has it, that one owes the same.
+    fn begin(owed: Owed, tried: Option<MutexGuard<'a, Follower<N, S>>>) -> Option<Turn<'a, N, S>> {
+        match tried {
+            Some(follower) => Some(Turn { follower, owed }),
+            None => {
+                let Owed { marker: _ } = owed;
+                None
+            }
+        }
+    }
+
+    /// Lets go of the follower.
+    pub(crate) fn end(self) -> Owed {
+        let Turn { follower, owed } = self;
+        drop(follower);
+        owed
+    }
+}
+
+impl<N: HeldName, S: EntrySink> SharedFollower<N, S> {
+    /// A follower for which nothing is kept yet.
+    pub(crate) fn new(
+        alloc: Global,
+        follower: Follower<N, S>,
+        kept: Inbox,
+    ) -> SharedFollower<N, S> {
+        SharedFollower {
+            alloc,
+            follower: Mutex::new(follower),
+            kept: Mutex::new(kept),
+        }
+    }
+
+    /// Waits for a turn.
+    pub(crate) fn turn<R: Wait>(&self, rt: &R) -> Turn<'_, N, S> {
+        Turn {
+            follower: self.follower.lock(rt),
+            owed: Owed::new(),
+        }
+    }
+
+    /// A turn, unless another thread has one.
+    pub(crate) fn turn_now(&self) -> Option<Turn<'_, N, S>> {
+        Turn::begin(Owed::new(), self.follower.try_lock())
+    }
+
+    /// A turn of a thread that owes a look, where something is kept and no other thread has one.
+    pub(crate) fn turn_owed<R: Wait>(&self, rt: &R, owed: Owed) -> Option<Turn<'_, N, S>> {
+        let kept = self.kept.lock(rt);
+        if kept.is_empty() {
+            owed.see_nothing(&kept);
+            return None;
+        }
+        drop(kept);
+        Turn::begin(owed, self.follower.try_lock())
+    }
+
+    /// Keeps what a line brought. `None` where there is no room or no memory.
+    pub(crate) fn keep<R: Wait>(&self, rt: &R, line: Line, bytes: &[u8]) -> Option<Owed> {
+        let datagram = Datagram::new(self.alloc, line, bytes).ok()?;
+        match self.kept.lock(rt).keep(datagram) {
+            Ok(()) => Some(Owed::new()),
+            Err(_) => None,
+        }
+    }
+
+    /// Gives out the datagram that was kept first.
+    pub(crate) fn next_kept<R: Wait>(&self, rt: &R) -> Option<Datagram> {
+        self.kept.lock(rt).next()
+    }
+
+    /// The follower, once no thread has it any more.
+    pub(crate) fn into_follower(self) -> Follower<N, S> {
+        self.follower.into_inner()
+    }
+}

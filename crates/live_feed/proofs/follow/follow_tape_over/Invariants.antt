@@ -1,4 +1,0 @@
-use Rattle.live_feed.proofs.follow.follow_tape_over.Given as goal
-
-abbrev pub ghosts-follow : goal.ghosts-follow
-ghosts-follow g a = record { listing = a.listing; matrix = a.matrix; limit = a.limit; before = g.S.EntrySink.contents a.sink }

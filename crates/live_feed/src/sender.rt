@@ -1,0 +1,397 @@
+//! The sender: what the lines admit is published and sent on both lines, then beats while nothing is, and the end at last.
+ghost use Rattle.std.specs.Prelude.{◌≡◌, ◌<◌, ◌≤◌, ◌+◌, ◌⊎◌, [], ◌∷◌, IfOk, IsSome, OnOk, None, length, ℕ};
+ghost use Rattle.line_ledger.specs.Cells.{FirstTokens, shown};
+ghost use Rattle.line_ledger.specs.Publishing.{GoesOn};
+ghost use Rattle.line_ledger.specs.declared.publish_fault.PublishFault.TheVariants.{OutOfMemory, Unpublished};
+ghost use Rattle.tape_frames.specs.Sources.{IsPublished};
+ghost use Rattle.tape_frames.specs.Spelling.{packet_text};
+ghost use Rattle.tape_frames.specs.declared.version.Version.TheVariants.{Two};
+ghost use Rattle.live_feed.specs.Faults.{IsLeast};
+ghost use Rattle.live_feed.specs.Sendings.{IsSent, beat_text, data_text, end_text};
+ghost use Rattle.feed_ends.specs.declared.fault.Fault.TheVariants.{Memory, Disagrees};
+
+use crate::Loss;
+use crate::bell::Bell;
+use crate::budget::Budget;
+use crate::feed::Feed;
+use crate::quiet::Quiet;
+use crate::request_flag::RequestFlag;
+use crate::serving::Serving;
+use arbitration::Line;
+use feed_ends::{Fault, here};
+use line_ledger::{DayName, PublishFault, Published, SharedTape, Sighting};
+use std::alloc::Global;
+use std::rt::Clock;
+use std::sync::Wait;
+use std::thread;
+use std::time::Duration;
+use tape_frames::{EntryCount, LONGEST_PACKET, Packet, Source, Version, cut, write_packet};
+
+/// How many entries are published at once, no more than a packet takes.
+const PUBLISHED_AT_ONCE: u32 = 8;
+
+/// How long the sender waits before each of the first ends, in milliseconds: a reader whose buffer is full empties it meanwhile, and one that
+/// was held up for half a second still gets an end.
+const PAUSES_BEFORE_ENDS: [u64; 3] = [0, 250, 750];
+
+/// How long the sender waits before each later end, in milliseconds.
+const PAUSE_BEFORE_LATER_END: u64 = 1_000;
+
+/// The outcome of the sender.
+#[derive(Drop)]
+pub(crate) struct Sent {
+    /// What was seen of each entry that it found published, in order. What it sent was cut from these entries.
+    pub(crate) tokens: Vec<Sighting>,
+    /// The number of the last entry that was sent, which the end tells.
+    pub(crate) number: u32,
+    /// Why it did not go on to the last entry, or sent no end: its own fault, or one that the lines met.
+    pub(crate) fault: Option<Fault>,
+}
+
+impl Sent {
+    /// The same with this fault, or with none.
+    fn with_fault(self, fault: Option<Fault>) -> Sent
+        ensures { result ≡ record self { fault = fault } }
+    {
+        Sent { fault, ..self }
+    }
+}
+
+/// The clock's time in nanoseconds, or 0 where it can't be read.
+fn nanos_of<R: Clock>(rt: &R) -> u64 {
+    match rt.monotonic() {
+        Ok(time) => u64::try_from(time.as_nanos()).unwrap_or(u64::MAX),
+        Err(_) => 0,
+    }
+}
+
+/// Why nothing is published.
+fn fault_of_publication(fault: PublishFault) -> Fault
+    ensures memory { fault ≡ OutOfMemory → result ≡ Memory }
+    ensures unpublished { (number : ℕ) → fault ≡ Unpublished number → result ≡ Disagrees }
+{
+    match fault {
+        PublishFault::Unpublished(_) => Fault::Disagrees,
+        PublishFault::OutOfMemory => Fault::Memory,
+    }
+}
+
+/// Memory for the text of one packet, which is taken before a day starts: a sender without it could send no end, and
+/// subscribers would wait for one.
+pub(crate) fn room_for_a_packet(alloc: Global) -> Result<Vec<u8>, Fault> {
+    match Vec::with_capacity(alloc, LONGEST_PACKET) {
+        Ok(room) => Ok(room),
+        Err(_) => Err(Fault::Memory),
+    }
+}
+
+/// Sends bytes to each port of a line. A failed send is a lost packet.
+fn send<L>(feed: &Feed<'_, L>, ports: &[u16], bytes: &[u8]) {
+    for port in ports {
+        let _ = feed.sender.send_to(bytes, here(*port));
+    }
+}
+
+/// Sends bytes to the ports of both lines. No line loses them before.
+fn send_to_both<L>(feed: &Feed<'_, L>, bytes: &[u8]) {
+    send(feed, feed.a, bytes);
+    send(feed, feed.b, bytes);
+}
+
+/// Makes the text that of a packet, whatever it was before.
+fn spell(packet: &Packet, text: &mut Vec<u8>) -> Result<(), Fault>
+    ensures { OnOk result (text.new.items ≡ packet_text packet.now) }
+{
+    text.clear();
+    match write_packet(packet, text) {
+        Ok(()) => Ok(()),
+        Err(_) => Err(Fault::Memory),
+    }
+}
+
+/// A number of entries as a packet tells it.
+fn count_of(number: u32) -> Result<EntryCount, Fault>
+    ensures { IfOk result (λ count. count ≡ record { version = Two; count = number }) }
+{
+    match EntryCount::try_new(Version::Two, number) {
+        Some(count) => Ok(count),
+        None => Err(Fault::Disagrees),
+    }
+}
+
+/// Sends the data packet of what is published from this number on to both lines, but for those that lose it.
+fn send_data<D: DayName, L: Loss>(
+    feed: &Feed<'_, L>,
+    published: &Published<'_, D>,
+    from: u32,
+    bytes: &[u8],
+)
+    requires { bytes.now ≡ data_text feed.now.session (shown published.now.tokens) from }
+{
+    // For the proof alone: only clauses speak of it.
+    let _ = published;
+    for (line, ports) in [(Line::A, feed.a), (Line::B, feed.b)] {
+        if !feed.loss.drops(line, from) {
+            send(feed, ports, bytes);
+        }
+    }
+}
+
+/// Cuts the packet of what is published from this number on, and sends it: the number of its last entry. The text is only
+/// room, and holds what was sent then.
+fn send_from<D: DayName, L: Loss>(
+    feed: &Feed<'_, L>,
+    published: &Published<'_, D>,
+    from: u32,
+    text: &mut Vec<u8>,
+) -> Result<u32, Fault>
+    requires first { 1 ≤ from }
+    requires within { from ≤ length (shown published.now.tokens) }
+    requires source { IsPublished (shown published.now.tokens) }
+    ensures sent { IfOk result (λ last. IsSent feed.now.session (shown published.now.tokens) from last text.new.items) }
+    ensures last { IfOk result (λ last. (from ≤ last) × (last ≤ length (shown published.now.tokens))) }
+{
+    let packet = cut(Version::Two, feed.session, from, published);
+    spell(&packet, text)?;
+    send_data(feed, published, from, text);
+    Ok(packet.last())
+}
+
+/// Publishes what the lines admitted, so many entries at most, and sends a packet of what is published after this
+/// number: the last number that was sent then. The text is only room, and holds what was sent last.
+fn send_next<D: DayName, R: Wait, L: Loss>(
+    rt: &R,
+    feed: &Feed<'_, L>,
+    shared: &SharedTape<D>,
+    published: &mut Published<'_, D>,
+    sent: u32,
+    text: &mut Vec<u8>,
+) -> Result<u32, Fault>
+    requires { sent ≤ length (shown published.old.tokens) }
+    ensures cells { published.new.names ≡ published.old.names }
+    ensures kept { OnOk result (GoesOn published.old.tokens published.new.tokens) }
+    ensures last { IfOk result (λ last. (sent ≤ last) × (last ≤ length (shown published.new.tokens))) }
+    ensures nothing { IfOk result (λ last. last ≡ sent → sent ≡ length (shown published.new.tokens)) }
+    ensures packet { IfOk result (λ last. sent < last → IsSent feed.now.session (shown published.new.tokens) (sent + 1) last text.new.items) }
+{
+    let set = match shared.publish(rt, PUBLISHED_AT_ONCE) {
+        Ok(set) => set,
+        Err(fault) => return Err(fault_of_publication(fault)),
+    };
+    let Ok(()) = published.refresh() else {
+        return Err(Fault::Memory);
+    };
+    if published.published() > sent {
+        return send_from(feed, published, sent + 1, text);
+    }
+    if set > 0 {
+        // What was set is not seen.
+        return Err(Fault::Disagrees);
+    }
+    Ok(sent)
+}
+
+/// Sends a beat to both lines, which tells how many entries are published: all of them were sent. No line loses it. The text is
+/// only room, and holds the beat then.
+fn send_beat<D: DayName, L>(
+    feed: &Feed<'_, L>,
+    published: &Published<'_, D>,
+    number: u32,
+    text: &mut Vec<u8>,
+) -> Result<(), Fault>
+    requires { number ≡ length (shown published.now.tokens) }
+    ensures { OnOk result (text.new.items ≡ beat_text feed.now.session (length (shown published.now.tokens))) }
+{
+    // For the proof alone: only clauses speak of it.
+    let _ = published;
+    let beat = Packet::Beat {
+        session: feed.session,
+        last: count_of(number)?,
+    };
+    spell(&beat, text)?;
+    send_to_both(feed, text);
+    Ok(())
+}
+
+/// Takes note of a packet that was sent at this time, and rests where the budget of its turn is spent: the budget after that.
+fn keep_pace<R: Clock>(rt: &R, requested: &RequestFlag, now: u64, budget: Budget) -> Budget {
+    let (budget, rest) = budget.at(now, requested.take()).after_packet(now);
+    if rest > 0 {
+        thread::sleep(rt, Duration::from_nanos(rest));
+    }
+    budget
+}
+
+/// Sleeps while there is nothing to send, until the bell rings or a beat is due, or sends the beat that is due: how long it has
+/// been quiet then. There is no beat before the first entry, which is all that a beat could tell of.
+fn keep_quiet<D: DayName, R: Wait + Clock, L>(
+    rt: &R,
+    feed: &Feed<'_, L>,
+    bell: &Bell,
+    published: &Published<'_, D>,
+    number: u32,
+    quiet: Quiet,
+    text: &mut Vec<u8>,
+) -> Result<Quiet, Fault>
+    requires { number ≡ length (shown published.now.tokens) }
+{
+    if number == 0 {
+        bell.wait(rt);
+        return Ok(quiet);
+    }
+    let now = nanos_of(rt);
+    let left = quiet.left(now);
+    if left > 0 {
+        bell.wait_within(rt, left);
+        return Ok(quiet);
+    }
+    send_beat(feed, published, number, text)?;
+    Ok(quiet.after_beat(now))
+}
+
+/// Publishes and sends until the lines have ended and all is sent: the number of the last entry that was sent, and why it did
+/// not go on to the last one. In a turn of the clock it sends as many packets as its followers take, and rests for what is left
+/// of it. While there is nothing to send it sleeps, until the bell rings, and sends a beat now and then.
+fn send_to_end<D: DayName, R: Wait + Clock, L: Loss>(
+    rt: &R,
+    feed: &Feed<'_, L>,
+    shared: &SharedTape<D>,
+    bell: &Bell,
+    requested: &RequestFlag,
+    published: &mut Published<'_, D>,
+    text: &mut Vec<u8>,
+) -> (u32, Option<Fault>)
+    ensures cells { published.new.names ≡ published.old.names }
+    ensures whole { result.1 ≡ None → result.0 ≡ length (shown published.new.tokens) }
+{
+    let mut number = 0;
+    let mut budget = Budget::first();
+    let mut quiet = Quiet::after_data(0);
+    for _ in rt.forever() {
+        // Looked at first: what was admitted before the end is published after it.
+        let is_last = bell.has_ended();
+        let last = match send_next(rt, feed, shared, published, number, text) {
+            Ok(last) => last,
+            Err(fault) => return (number, Some(fault)),
+        };
+        if last != number {
+            number = last;
+            let now = nanos_of(rt);
+            quiet = Quiet::after_data(now);
+            budget = keep_pace(rt, requested, now, budget);
+        } else if is_last {
+            return (number, None);
+        } else {
+            quiet = match keep_quiet(rt, feed, bell, published, number, quiet, text) {
+                Ok(quiet) => quiet,
+                Err(met) => return (number, Some(met)),
+            };
+        }
+    }
+    unreachable!()
+}
+
+/// Sends the entries of the day while the lines admit them, and until they have ended and all is sent. After a fault the
+/// connections are ended. The text is only room, and a packet that fits in it takes no memory.
+pub(crate) fn send_entries<D: DayName, R: Wait + Clock, L: Loss>(
+    rt: &R,
+    feed: &Feed<'_, L>,
+    shared: &SharedTape<D>,
+    bell: &Bell,
+    serving: &Serving,
+    text: &mut Vec<u8>,
+) -> Sent
+    ensures first { FirstTokens shared.now result.tokens.items }
+    ensures whole { result.fault ≡ None → length result.tokens.items ≡ result.number }
+{
+    let mut published = Published::new(shared);
+    let requested = &serving.requested;
+    let (number, fault) = send_to_end(rt, feed, shared, bell, requested, &mut published, text);
+    if fault.is_some() {
+        serving.give_up(rt, feed.closing);
+    }
+    Sent {
+        tokens: published.into_sightings(),
+        number,
+        fault,
+    }
+}
+
+/// Sends the end of a day that was sent whole three times on each line, with a pause before each, and then again and again
+/// while a connection is served or awaited, since its peer may have missed all of them. No line loses it.
+fn repeat_end<R: Wait + Clock, L>(
+    rt: &R,
+    feed: &Feed<'_, L>,
+    serving: &Serving,
+    sent: &Sent,
+    end: &[u8],
+)
+    requires whole { sent.now.fault ≡ None }
+    requires many { length sent.now.tokens.items ≡ sent.now.number }
+    requires end { end.now ≡ end_text feed.now.session sent.now.number }
+{
+    // For the proof alone: only clauses speak of it.
+    let _ = sent;
+    for pause in PAUSES_BEFORE_ENDS {
+        thread::sleep(rt, Duration::from_millis(pause));
+        send_to_both(feed, end);
+    }
+    for _ in rt.forever() {
+        if !serving.is_left_after(rt, Duration::from_millis(PAUSE_BEFORE_LATER_END)) {
+            return;
+        }
+        send_to_both(feed, end);
+    }
+}
+
+/// Sends the end of a day that was sent whole. The text is only room, and holds the end then.
+fn send_ends<R: Wait + Clock, L>(
+    rt: &R,
+    feed: &Feed<'_, L>,
+    serving: &Serving,
+    sent: &Sent,
+    text: &mut Vec<u8>,
+) -> Result<(), Fault>
+    requires whole { sent.now.fault ≡ None }
+    requires many { length sent.now.tokens.items ≡ sent.now.number }
+    ensures { OnOk result (text.new.items ≡ end_text feed.now.session sent.now.number) }
+{
+    let end = Packet::End {
+        session: feed.session,
+        count: count_of(sent.number)?,
+    };
+    spell(&end, text)?;
+    repeat_end(rt, feed, serving, sent, text);
+    Ok(())
+}
+
+/// Sends the end of a day, where neither its lines nor the sender met a fault. Else there is none, since a follower would take it
+/// for that of a day which is reported, whole: the connections are ended instead, and the text is empty. The text is only room, and
+/// a packet that fits in it takes no memory.
+pub(crate) fn send_end<R: Wait + Clock, L>(
+    rt: &R,
+    feed: &Feed<'_, L>,
+    serving: &Serving,
+    sent: Sent,
+    lines: Option<Fault>,
+    text: &mut Vec<u8>,
+) -> Sent
+    requires whole { sent.fault ≡ None → length sent.tokens.items ≡ sent.number }
+    ensures same { (result.tokens ≡ sent.tokens) × (result.number ≡ sent.number) }
+    ensures met { ((sent.fault ≡ None) × (lines ≡ None)) ⊎ IsLeast (sent.fault ∷ lines ∷ []) result.fault }
+    ensures end { result.fault ≡ None → text.new.items ≡ end_text feed.now.session result.number }
+    ensures no_end { IsSome result.fault → text.new.items ≡ [] }
+    ensures lines { IsSome lines → text.new.items ≡ [] }
+{
+    let met = Fault::least(sent.fault, lines);
+    let sent = sent.with_fault(met);
+    let fault = match met {
+        None => send_ends(rt, feed, serving, &sent, text).err(),
+        met => met,
+    };
+    if fault.is_some() {
+        text.clear();
+        serving.give_up(rt, feed.closing);
+    }
+    sent.with_fault(fault)
+}

@@ -1,0 +1,137 @@
+//! The connections that are served, as the sender sees them.
+ghost use Rattle.std.specs.Prelude.{◌≡◌, IfErr, IfSome};
+ghost use Rattle.feed_ends.specs.declared.fault.Fault.TheVariants.{Memory};
+
+use crate::request_flag::RequestFlag;
+use feed_ends::Fault;
+use std::alloc::Global;
+use std::net::{Shutdown, TcpStream};
+use std::sync::atomic::{AtomicBool, Ordering};
+use std::sync::{Arc, Mutex, Wait};
+use std::thread::Parker;
+use std::time::Duration;
+
+/// Who is served.
+#[derive(Drop)]
+struct Served {
+    /// Whether the sender gave the day up: nobody is served any more.
+    is_given_up: bool,
+    /// The connections in the order in which they came, each until it ends.
+    connections: Vec<Option<Arc<TcpStream>>>,
+}
+
+/// Where the retransmission and the sender meet: the sender learns of what was asked for and of the last connection's end, and
+/// ends all connections where it gives the day up.
+#[derive(Drop)]
+pub(crate) struct Serving {
+    /// Whether something was asked for.
+    pub(crate) requested: RequestFlag,
+    /// Whether a connection is served or awaited.
+    is_on: AtomicBool,
+    /// Whether memory ran out while a connection was served.
+    is_out_of_memory: AtomicBool,
+    served: Mutex<Served>,
+    /// Wakes the sender.
+    parker: Parker,
+}
+
+impl Serving {
+    /// Nobody is served or awaited yet. It takes no memory.
+    pub(crate) fn new(alloc: Global) -> Serving {
+        Serving {
+            requested: RequestFlag::new(),
+            is_on: AtomicBool::new(false),
+            is_out_of_memory: AtomicBool::new(false),
+            served: Mutex::new(Served {
+                is_given_up: false,
+                connections: Vec::new(alloc),
+            }),
+            parker: Parker::new(),
+        }
+    }
+
+    /// Connections are awaited from now on.
+    pub(crate) fn begin(&self) {
+        self.is_on.store(true, Ordering::SeqCst)
+    }
+
+    /// The last connection has ended.
+    pub(crate) fn end(&self) {
+        self.is_on.store(false, Ordering::SeqCst);
+        self.parker.unpark()
+    }
+
+    /// Waits until the last connection has ended, but no longer than this, and tells whether one is still served or awaited.
+    pub(crate) fn is_left_after<R: Wait>(&self, rt: &R, most: Duration) -> bool {
+        if self.is_on.load(Ordering::SeqCst) {
+            self.parker.park_timeout(rt, most);
+        }
+        self.is_on.load(Ordering::SeqCst)
+    }
+
+    /// Takes note of a connection that is to be served: its place among those that came, or `None` where it may not be.
+    pub(crate) fn enter<R: Wait>(
+        &self,
+        rt: &R,
+        connection: Arc<TcpStream>,
+    ) -> Result<Option<usize>, Fault>
+        ensures { IfErr result (λ fault. fault ≡ Memory) }
+    {
+        let mut served = self.served.lock(rt);
+        if served.is_given_up {
+            return Ok(None);
+        }
+        let place = served.connections.len();
+        match served.connections.push(Some(connection)) {
+            Ok(()) => Ok(Some(place)),
+            Err(_) => Err(Fault::Memory),
+        }
+    }
+
+    /// Takes note that the connection at this place has ended.
+    pub(crate) fn leave<R: Wait>(&self, rt: &R, place: usize) {
+        let mut served = self.served.lock(rt);
+        if let Some(connection) = served.connections.get_mut(place) {
+            *connection = None;
+        }
+    }
+
+    /// Whether the sender has given the day up.
+    pub(crate) fn is_given_up<R: Wait>(&self, rt: &R) -> bool {
+        self.served.lock(rt).is_given_up
+    }
+
+    /// Ends all connections that are served, and lets none come any more: what was read, written or accepted returns. The
+    /// listener is given by a handle that a socket can be shut down by.
+    pub(crate) fn give_up<R: Wait>(&self, rt: &R, listener: &TcpStream) {
+        let mut served = self.served.lock(rt);
+        served.is_given_up = true;
+        for connection in &served.connections {
+            if let Some(connection) = connection {
+                let _ = connection.shutdown(Shutdown::Both);
+            }
+        }
+        drop(served);
+        let _ = listener.shutdown(Shutdown::Both);
+    }
+
+    /// Takes note of how serving a connection ended: with this fault, if with one. Memory alone can run out there.
+    pub(crate) fn note(&self, met: Option<Fault>)
+        requires { IfSome met (λ fault. fault ≡ Memory) }
+    {
+        if met.is_some() {
+            self.is_out_of_memory.store(true, Ordering::SeqCst)
+        }
+    }
+
+    /// The fault that was taken note of, if one was.
+    pub(crate) fn fault(&self) -> Option<Fault>
+        ensures { IfSome result (λ fault. fault ≡ Memory) }
+    {
+        if self.is_out_of_memory.load(Ordering::SeqCst) {
+            Some(Fault::Memory)
+        } else {
+            None
+        }
+    }
+}

@@ -1,0 +1,60 @@
+//! What a day needs before it starts.
+ghost use Rattle.std.specs.Prelude.{◌≡◌, IfOk, vec_len};
+
+use crate::seated::Reader;
+use feed_ends::{Fault, fault_of_tape};
+use line_ledger::{Prepared, prepare};
+use sale_matrix::Matrix;
+use std::alloc::Global;
+use std::io::BufReader;
+use std::net::TcpListener;
+use summaries::IndexStore;
+use tape_core::Tape;
+use tape_types::Listing;
+
+/// An empty tape of the listing and the matrix, and the memory that its day takes.
+pub(crate) fn prepare_day(
+    alloc: Global,
+    listing: Listing,
+    limit: u32,
+    matrix: Matrix,
+) -> Result<Prepared, Fault>
+    ensures listed { IfOk result (λ prepared. prepared.tape.listing ≡ listing) }
+    ensures by_matrix { IfOk result (λ prepared. prepared.tape.matrix ≡ matrix) }
+    ensures limited { IfOk result (λ prepared. prepared.tape.limit ≡ limit) }
+{
+    let tape: Tape<IndexStore> = match Tape::new(alloc, listing, limit, matrix) {
+        Ok(tape) => tape,
+        Err(fault) => return Err(fault_of_tape(fault)),
+    };
+    match prepare(alloc, tape) {
+        Ok(prepared) => Ok(prepared),
+        Err(_) => Err(Fault::Memory),
+    }
+}
+
+/// Waits for one connection at a listener, to be read in large pieces. The listener is closed then.
+fn accept(alloc: Global, listener: TcpListener) -> Result<Reader, Fault> {
+    let Ok((stream, _)) = listener.accept() else {
+        return Err(Fault::Read);
+    };
+    match BufReader::new(alloc, stream) {
+        Ok(reader) => Ok(reader),
+        Err(_) => Err(Fault::Memory),
+    }
+}
+
+/// Waits for one connection at each listener, in their order. Each listener is closed once its connection has come, so that
+/// a second one is refused and not taken to be lost.
+pub(crate) fn accept_all(alloc: Global, listeners: Vec<TcpListener>) -> Result<Vec<Reader>, Fault>
+    ensures { IfOk result (λ readers. vec_len readers ≡ vec_len listeners) }
+{
+    let mut readers = Vec::new(alloc);
+    for listener in listeners {
+        let reader = accept(alloc, listener)?;
+        if readers.push(reader).is_err() {
+            return Err(Fault::Memory);
+        }
+    }
+    Ok(readers)
+}
