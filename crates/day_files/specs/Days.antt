@@ -1,0 +1,136 @@
+-- What a day's file says.
+use Rattle.std.specs.Prelude.{◌+◌, ◌==◌, ℕ, suc, zero, List, length, Option, Some, None, Result, Ok, Err, nat_le, if◌then◌else◌, string_bytes}
+use Rattle.sale_matrix.specs.declared.matrix.Matrix.{Matrix}
+use Rattle.sale_matrix.specs.declared.matrix.Matrix.TheVariants.{One, Two}
+use Rattle.toml.specs.Data.{Data, Members, string, get_member}
+use Rattle.feed_words.specs.Limits.{LIMIT_LEFT_OUT}
+use Rattle.day_files.specs.Entries.{entries_at, participant_at, port_at, symbol_at}
+use Rattle.day_files.specs.Faults.{Fault, ◌>>=◌, port_past_last, uneven}
+use Rattle.day_files.specs.Keys.{key_text}
+use Rattle.day_files.specs.Numbers.{number_at}
+use Rattle.day_files.specs.Tables.{known_keys, required, table_of}
+use Rattle.day_files.specs.declared.day_file.DayFile.{DayFile}
+use Rattle.day_files.specs.declared.day_file.DaySymbols.{DaySymbols}
+use Rattle.day_files.specs.declared.day_file.DaySymbols.TheVariants as read
+use Rattle.day_files.specs.declared.day_key.DayKey.{DayKey}
+use Rattle.day_files.specs.declared.day_key.DayKey.TheVariants as keys
+use Rattle.day_files.specs.declared.place.Place.TheVariants.{At}
+
+-- the symbols, or the name of their file
+pub data NamedSymbols : Type 0 where
+  listed : List (List ℕ) → NamedSymbols
+  in_file : List ℕ → NamedSymbols
+
+-- a day, as its file gives it
+pub record Day : Type 0 where
+  pub symbols : NamedSymbols
+  pub participants : List ℕ
+  pub port : ℕ
+  pub a : List ℕ
+  pub b : List ℕ
+  pub retransmission : ℕ
+  pub followers : ℕ
+  pub session : ℕ
+  pub matrix : Matrix
+  pub limit : ℕ
+
+-- the symbols of what was read
+abbrev pub symbols_view : DaySymbols → NamedSymbols
+symbols_view (read.Listed symbols) = listed symbols.items
+symbols_view (read.InFile name) = in_file (string_bytes name)
+
+-- the day of what was read
+abbrev pub day_view : DayFile → Day
+day_view day = record {
+  symbols = symbols_view day.symbols;
+  participants = day.participants.items;
+  port = day.port;
+  a = day.a.items;
+  b = day.b.items;
+  retransmission = day.retransmission;
+  followers = day.followers;
+  session = day.session;
+  matrix = day.matrix;
+  limit = day.limit;
+}
+
+-- a string is a file's name
+unfoldable pub symbols_at : Data → Result NamedSymbols Fault
+symbols_at (string name) = Ok (in_file name)
+symbols_at value = do
+  symbols ← entries_at symbol_at keys.Symbols value
+  Ok (listed symbols)
+
+-- the ports at a key
+unfoldable pub ports_in : DayKey → Members → Result (List ℕ) Fault
+ports_in key table = do
+  value ← required key table
+  entries_at port_at key value
+
+-- the number at a key
+unfoldable pub number_in : DayKey → Members → Result ℕ Fault
+number_in key table = do
+  value ← required key table
+  number_at key (At key) value
+
+-- the number at a key that may be left out
+abbrev pub number_or : ℕ → DayKey → Option Data → Result ℕ Fault
+number_or left_out key None = Ok left_out
+number_or left_out key (Some value) = number_at key (At key) value
+
+-- a matrix by its number
+abbrev pub matrix_numbered : ℕ → Matrix
+matrix_numbered (suc zero) = One
+matrix_numbered _ = Two
+
+-- the matrix, which is One if it is left out
+unfoldable pub matrix_in : Members → Result Matrix Fault
+matrix_in table = do
+  number ← number_or 1 keys.Matrix (get_member (key_text keys.Matrix) table)
+  Ok (matrix_numbered number)
+
+-- the limit, which is that of a day's words if it is left out
+unfoldable pub limit_in : Members → Result ℕ Fault
+limit_in table = number_or LIMIT_LEFT_OUT keys.Limit (get_member (key_text keys.Limit) table)
+
+-- what two keys say together: as many ports for line B as for A, and a port for each participant
+abbrev pub agreed : Day → Result Day Fault
+agreed day =
+    if length day.b == length day.a
+    then (if nat_le (day.port + length day.participants) 65536 then Ok day else Err port_past_last)
+    else Err uneven
+
+-- the day of a table of known keys: the keys are read in this order
+unfoldable pub day_in : Members → Result Day Fault
+day_in table = do
+  of_symbols ← required keys.Symbols table
+  symbols ← symbols_at of_symbols
+  of_participants ← required keys.Participants table
+  participants ← entries_at participant_at keys.Participants of_participants
+  port ← number_in keys.Port table
+  a ← ports_in keys.A table
+  b ← ports_in keys.B table
+  retransmission ← number_in keys.Retransmission table
+  followers ← number_in keys.Followers table
+  session ← number_in keys.Session table
+  matrix ← matrix_in table
+  limit ← limit_in table
+  agreed (record {
+    symbols = symbols;
+    participants = participants;
+    port = port;
+    a = a;
+    b = b;
+    retransmission = retransmission;
+    followers = followers;
+    session = session;
+    matrix = matrix;
+    limit = limit;
+  })
+
+-- the day that a text says, or the first thing wrong with it
+unfoldable pub day_of : List ℕ → Result Day Fault
+day_of text = do
+  table ← table_of text
+  known ← known_keys table
+  day_in table

@@ -1,0 +1,11 @@
+pub mod Days
+pub mod Entries
+pub mod Faults
+pub mod Keys
+pub mod Kinds
+pub mod Lines
+pub mod Listings
+pub mod Numbers
+pub mod Places
+pub mod Tables
+pub mod Words

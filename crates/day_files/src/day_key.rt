@@ -1,0 +1,108 @@
+//! The keys of a day's file.
+ghost use Rattle.std.specs.Prelude.{◌≡◌, Some};
+ghost use Rattle.day_files.specs.Keys.{is_key, key_least, key_most, key_text};
+
+use std::fmt;
+use tape_types::TAPE_MOST;
+
+/// A key of a day's file.
+#[derive(Clone, Copy, Debug, PartialEq, Eq)]
+pub enum DayKey {
+    /// `symbols`: a list of the day's symbols, or the name of a file that has one a line.
+    Symbols,
+    /// `participants`: a list of the day's participants, each by its letter.
+    Participants,
+    /// `port`: the first participant's port, 1 to 65,535. Each further participant's is the next.
+    Port,
+    /// `a`: line A's ports, 1 to 65,535, one for each follower's place.
+    A,
+    /// `b`: line B's ports, as many.
+    B,
+    /// `retransmission`: the port of the retransmission, 1 to 65,535.
+    Retransmission,
+    /// `followers`: how many connections are served on it, 0 to 65,535.
+    Followers,
+    /// `session`: the session of the tape's packets, 0 to 9,223,372,036,854,775,807.
+    Session,
+    /// `matrix`: the tape's matrix, 1 or 2.
+    Matrix,
+    /// `limit`: the limit of the tape in entries, 1 to 16,777,216.
+    Limit,
+}
+
+/// All keys.
+const KEYS: [DayKey; 10] = [
+    DayKey::Symbols,
+    DayKey::Participants,
+    DayKey::Port,
+    DayKey::A,
+    DayKey::B,
+    DayKey::Retransmission,
+    DayKey::Followers,
+    DayKey::Session,
+    DayKey::Matrix,
+    DayKey::Limit,
+];
+
+impl DayKey {
+    /// Its name, as it stands in the file.
+    pub fn name(self) -> &'static str
+        ensures text { result.now ≡ key_text self }
+    {
+        match self {
+            DayKey::Symbols => "symbols",
+            DayKey::Participants => "participants",
+            DayKey::Port => "port",
+            DayKey::A => "a",
+            DayKey::B => "b",
+            DayKey::Retransmission => "retransmission",
+            DayKey::Followers => "followers",
+            DayKey::Session => "session",
+            DayKey::Matrix => "matrix",
+            DayKey::Limit => "limit",
+        }
+    }
+
+    /// The least and the greatest number that may stand at it or in its list.
+    pub(crate) fn range(self) -> (u64, u64)
+        ensures least { result.0 ≡ key_least self }
+        ensures most { result.1 ≡ key_most self }
+    {
+        match self {
+            DayKey::Followers => (0, 65_535),
+            DayKey::Session => (0, 9_223_372_036_854_775_807),
+            DayKey::Matrix => (1, 2),
+            DayKey::Limit => (1, u64::from(TAPE_MOST)),
+            _ => (1, 65_535),
+        }
+    }
+
+    /// What may stand at it or in its list, in words.
+    pub(crate) fn range_text(self) -> &'static str {
+        match self {
+            DayKey::Symbols => "1 to 8 of A to Z, 0 to 9 and .",
+            DayKey::Participants => "one letter A to Z",
+            DayKey::Followers => "0 to 65535",
+            DayKey::Session => "0 to 9223372036854775807",
+            DayKey::Matrix => "1 or 2",
+            DayKey::Limit => "1 to 16777216",
+            _ => "1 to 65535",
+        }
+    }
+}
+
+impl fmt::Display for DayKey {
+    ghost output = { λ key. Some (key_text key) };
+
+    fn fmt<W: fmt::Write>(&self, f: &mut fmt::Formatter<W>) -> fmt::Result {
+        f.write_str(self.name())
+    }
+}
+
+/// Whether a day's file may have a key of this name.
+#[tactic(auto, unfolding(crate::specs::Keys::is_key))]
+pub(crate) fn is_key(name: &str) -> bool
+    ensures { result ≡ is_key name.now }
+{
+    KEYS.iter().any(|key| key.name() == name)
+}

@@ -1,0 +1,94 @@
+//! The entries of the lists in a day's file.
+ghost use Rattle.std.specs.Prelude.{◌≡◌, Result};
+ghost use Rattle.toml.specs.Data.{Data};
+ghost use Rattle.toml.specs.View.{view};
+ghost use Rattle.day_files.specs.Faults.{Fault, Gives};
+ghost use Rattle.day_files.specs.declared.place.Place.{Place};
+ghost use Rattle.day_files.specs.Entries.{entries_at, text_at};
+
+use crate::number::short_of;
+use crate::{DayFault, DayKey, Kind, Place};
+use std::alloc::Global;
+use tape_types::{Participant, Symbol};
+use toml::Value;
+
+/// What can stand in a list of a day's file.
+pub(crate) trait Entry: Copy {
+    /// What a value is at a place, or its fault.
+    ghost entry: { Place → Data → Result Self Fault };
+
+    /// The entry that a value is.
+    fn of_value(place: Place, value: &Value) -> Result<Self, DayFault>
+        ensures { Gives (λ entry. entry) result (entry place (view value.now)) };
+}
+
+impl Entry for Symbol {
+    ghost use Rattle.day_files.specs.Entries.{symbol_at};
+
+    ghost entry = { symbol_at };
+
+    fn of_value(place: Place, value: &Value) -> Result<Symbol, DayFault> {
+        Symbol::of_name(text_of(place, value)?.as_bytes()).ok_or(DayFault::OutOfRange(place))
+    }
+}
+
+impl Entry for Participant {
+    ghost use Rattle.day_files.specs.Entries.{participant_at};
+
+    ghost entry = { participant_at };
+
+    fn of_value(place: Place, value: &Value) -> Result<Participant, DayFault> {
+        match text_of(place, value)?.as_bytes() {
+            [letter] => Participant::try_new(*letter).ok_or(DayFault::OutOfRange(place)),
+            _ => Err(DayFault::OutOfRange(place)),
+        }
+    }
+}
+
+/// A port.
+impl Entry for u16 {
+    ghost use Rattle.day_files.specs.Entries.{port_at};
+
+    ghost entry = { port_at };
+
+    fn of_value(place: Place, value: &Value) -> Result<u16, DayFault> {
+        short_of(DayKey::Port, place, value)
+    }
+}
+
+/// A text.
+fn text_of(place: Place, value: &Value) -> Result<&str, DayFault>
+    ensures { Gives (λ text. text.now) result (text_at place (view value.now)) }
+{
+    match value.as_str() {
+        Some(text) => Ok(text),
+        None => Err(DayFault::OtherKind {
+            place,
+            found: Kind::of(value),
+        }),
+    }
+}
+
+/// The list at a key, each entry by its kind.
+pub(crate) fn entries_of<E: Entry>(
+    alloc: Global,
+    key: DayKey,
+    value: &Value,
+) -> Result<Vec<E>, DayFault>
+    ensures { Gives (λ entries. entries.items) result (entries_at E.entry key (view value.now)) }
+{
+    let Some(list) = value.as_array() else {
+        return Err(DayFault::OtherKind {
+            place: Place::At(key),
+            found: Kind::of(value),
+        });
+    };
+    if list.is_empty() {
+        return Err(DayFault::Empty(key));
+    }
+    let mut entries = Vec::new(alloc);
+    for item in list {
+        entries.push(E::of_value(Place::Entry(key, entries.len() + 1), item)?)?;
+    }
+    Ok(entries)
+}

@@ -1,0 +1,26 @@
+//! One file that says all of a running day, in TOML, which all of its peers read.
+#![tactic(auto)]
+
+mod day_fault;
+mod day_file;
+mod day_key;
+mod day_words;
+mod entry;
+mod kind;
+mod lines;
+mod listing;
+mod number;
+mod place;
+mod reading;
+mod syntax_fault;
+mod table;
+#[cfg(test)]
+mod tests;
+
+pub use day_fault::DayFault;
+pub use day_file::{DayFile, DaySymbols};
+pub use day_key::DayKey;
+pub use kind::Kind;
+pub use place::Place;
+pub use reading::read_day;
+pub use syntax_fault::SyntaxFault;

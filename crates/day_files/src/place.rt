@@ -1,0 +1,50 @@
+//! A place in a day's file.
+
+use crate::DayKey;
+use std::fmt;
+
+/// A place in a day's file, or in the file of its symbols.
+#[derive(Clone, Copy, Debug, PartialEq, Eq)]
+pub enum Place {
+    /// The value at a key.
+    At(DayKey),
+    /// An entry of the list at a key, from 1.
+    Entry(DayKey, usize),
+    /// A line of the file of the symbols, from 1.
+    Line(usize),
+}
+
+impl Place {
+    /// The key that it belongs to.
+    fn key(self) -> DayKey {
+        match self {
+            Place::At(key) | Place::Entry(key, _) => key,
+            Place::Line(_) => DayKey::Symbols,
+        }
+    }
+
+    /// What kind of value stands there, in words.
+    pub(crate) fn kind_text(self) -> &'static str {
+        match self {
+            Place::At(DayKey::Symbols) => "a list or a file's name",
+            Place::At(DayKey::Participants | DayKey::A | DayKey::B) => "a list",
+            Place::Entry(DayKey::Symbols | DayKey::Participants, _) | Place::Line(_) => "a string",
+            Place::At(_) | Place::Entry(_, _) => "a number",
+        }
+    }
+
+    /// Which values may stand there, in words.
+    pub(crate) fn range_text(self) -> &'static str {
+        self.key().range_text()
+    }
+}
+
+impl fmt::Display for Place {
+    fn fmt<W: fmt::Write>(&self, f: &mut fmt::Formatter<W>) -> fmt::Result {
+        match self {
+            Place::At(key) => write!(f, "{key}"),
+            Place::Entry(key, entry) => write!(f, "{key}, entry {entry}"),
+            Place::Line(line) => write!(f, "{}, line {line}", DayKey::Symbols),
+        }
+    }
+}

@@ -1,0 +1,140 @@
+//! A day's file, read key by key.
+ghost use Rattle.std.specs.Prelude.{◌≡◌, ◌≤◌, Err, IfErr};
+ghost use Rattle.toml.specs.View.{table_view, view};
+ghost use Rattle.day_files.specs.Days.{day_in, day_of, day_view, limit_in, matrix_in, number_in, ports_in, symbols_at, symbols_view};
+ghost use Rattle.day_files.specs.Faults.{Gives, syntax};
+ghost use Rattle.day_files.specs.Keys.{key_most};
+ghost use Rattle.day_files.specs.Places.{IsPlaced};
+ghost use Rattle.day_files.specs.Tables.{table_of};
+
+use crate::entry::entries_of;
+use crate::number::{number_of, short_of};
+use crate::table::{judge_keys, required_of, table_of, value_of};
+use crate::{DayFault, DayFile, DayKey, DaySymbols, Place};
+use sale_matrix::Matrix;
+use std::alloc::Global;
+use tape_types::TapeNumber;
+use toml::{Table, Value};
+
+/// The limit of a day's tape if its file has none, in entries.
+const LIMIT_LEFT_OUT: u32 = 1_048_576;
+
+/// How many ports there are, with port 0.
+const PORTS: usize = 65_536;
+
+/// The symbols at their key.
+#[tactic(auto, unfolding(crate::specs::Days::symbols_at))]
+fn symbols_of(alloc: Global, value: &Value) -> Result<DaySymbols, DayFault>
+    ensures { Gives symbols_view result (symbols_at (view value.now)) }
+{
+    match value.as_str() {
+        Some(name) => Ok(DaySymbols::InFile(String::from_str(alloc, name)?)),
+        None => Ok(DaySymbols::Listed(entries_of(alloc, DayKey::Symbols, value)?)),
+    }
+}
+
+/// The ports at a key.
+#[tactic(auto, unfolding(crate::specs::Days::ports_in))]
+fn ports_of(alloc: Global, table: &Table, key: DayKey) -> Result<Vec<u16>, DayFault>
+    requires short { key_most key ≤ 65535 }
+    ensures { Gives (λ ports. ports.items) result (ports_in key (table_view table.now)) }
+{
+    entries_of(alloc, key, required_of(table, key)?)
+}
+
+/// The number of 16 bits at a key.
+#[tactic(auto, unfolding(crate::specs::Days::number_in))]
+fn short_in(table: &Table, key: DayKey) -> Result<u16, DayFault>
+    requires short { key_most key ≤ 65535 }
+    ensures { Gives (λ number. number) result (number_in key (table_view table.now)) }
+{
+    short_of(key, Place::At(key), required_of(table, key)?)
+}
+
+/// The session.
+#[tactic(auto, unfolding(crate::specs::Days::number_in))]
+fn session_in(table: &Table) -> Result<u64, DayFault>
+    ensures { Gives (λ number. number) result (number_in DayKey.Session (table_view table.now)) }
+{
+    number_of(
+        DayKey::Session,
+        Place::At(DayKey::Session),
+        required_of(table, DayKey::Session)?,
+    )
+}
+
+/// The matrix, One if it is left out.
+#[tactic(auto, unfolding(crate::specs::Days::matrix_in))]
+fn matrix_in(table: &Table) -> Result<Matrix, DayFault>
+    ensures { Gives (λ matrix. matrix) result (matrix_in (table_view table.now)) }
+{
+    let Some(value) = value_of(table, DayKey::Matrix) else {
+        return Ok(Matrix::One);
+    };
+    match number_of(DayKey::Matrix, Place::At(DayKey::Matrix), value)? {
+        1 => Ok(Matrix::One),
+        _ => Ok(Matrix::Two),
+    }
+}
+
+/// The limit, `LIMIT_LEFT_OUT` if it is left out.
+#[tactic(auto, unfolding(crate::specs::Days::limit_in))]
+fn limit_in(table: &Table) -> Result<TapeNumber, DayFault>
+    ensures { Gives (λ limit. limit) result (limit_in (table_view table.now)) }
+{
+    let limit = match value_of(table, DayKey::Limit) {
+        Some(value) => number_of(DayKey::Limit, Place::At(DayKey::Limit), value)? as u32,
+        None => LIMIT_LEFT_OUT,
+    };
+    TapeNumber::try_new(limit).ok_or(DayFault::OutOfRange(Place::At(DayKey::Limit)))
+}
+
+/// The day of a table of known keys.
+#[tactic(auto, unfolding(crate::specs::Days::day_in))]
+fn day_in(alloc: Global, table: &Table) -> Result<DayFile, DayFault>
+    ensures { Gives day_view result (day_in (table_view table.now)) }
+{
+    let symbols = symbols_of(alloc, required_of(table, DayKey::Symbols)?)?;
+    let participants = entries_of(
+        alloc,
+        DayKey::Participants,
+        required_of(table, DayKey::Participants)?,
+    )?;
+    let port = short_in(table, DayKey::Port)?;
+    let a = ports_of(alloc, table, DayKey::A)?;
+    let b = ports_of(alloc, table, DayKey::B)?;
+    let retransmission = short_in(table, DayKey::Retransmission)?;
+    let followers = short_in(table, DayKey::Followers)?;
+    let session = session_in(table)?;
+    let matrix = matrix_in(table)?;
+    let limit = limit_in(table)?;
+    if b.len() != a.len() {
+        return Err(DayFault::Uneven);
+    }
+    if participants.len() > PORTS - usize::from(port) {
+        return Err(DayFault::PortPastLast);
+    }
+    Ok(DayFile {
+        symbols,
+        participants,
+        port,
+        a,
+        b,
+        retransmission,
+        followers,
+        session,
+        matrix,
+        limit,
+    })
+}
+
+/// What the text of a day's file says, or its first fault. A text that is no TOML is told by a place in it.
+#[tactic(auto, unfolding(crate::specs::Days::day_of))]
+pub fn read_day(alloc: Global, text: &[u8]) -> Result<DayFile, DayFault>
+    ensures day { Gives day_view result (day_of text.now) }
+    ensures place { table_of text.now ≡ Err syntax → IfErr result (IsPlaced text.now) }
+{
+    let table = table_of(alloc, text)?;
+    judge_keys(alloc, &table)?;
+    day_in(alloc, &table)
+}
