@@ -26,7 +26,7 @@ from common import BENCH, ROOT, build_plain, located
 PAGE = ROOT / "docs" / "SPEED.md"
 FIGURES = ROOT / "docs" / "speed.json"
 TRIED = BENCH / "target"
-PROGRAMS = ["tapebox", "tapedesk", "feed_speed"]
+PROGRAMS = ["tapebox", "feed_speed"]
 # Of each part its script, its words, and those with --quick.
 PARTS = {
     "batch": ("measure.py", "", "--turns 1 one:1000000 busy:1000000 hostile:1000000"),

@@ -115,11 +115,11 @@ def day_name(day):
 def tables(parts):
     rows = []
     for (day, count, word), of in programs_of(parts["tables"], "day", "rows", "word").items():
-        mine, other = of["tapedesk"], of.get("desk")
+        mine, other = of["tapebox"], of.get("desk")
         speeds = [rounded(count / min(record["seconds"])) if record else "" for record in (mine, other)]
         pair = of_pair(mine, other)[:3] if other else ["", "", megabytes(mine["kilobytes"])]
         rows.append([f"{day_name(day)}, {count:,} rows", f"`{word}`", *speeds, *pair, f"{min(mine['kilobytes']) * 1024 / count:,.0f}"])
-    head = ["Table", "Command", "`tapedesk`, rows a second", "`desk`", "Time, least runs", "Middle runs", "Peak memory", "Bytes a row"]
+    head = ["Table", "Command", "`tapebox`, rows a second", "`desk`", "Time, least runs", "Middle runs", "Peak memory", "Bytes a row"]
     return table(head, rows)
 
 
@@ -127,12 +127,12 @@ def least(parts):
     rows = []
     for (day, count, word), of in programs_of(parts["tables"], "day", "rows", "word").items():
         if word == "report":
-            rows.append([f"{day_name(day)}, {count:,} rows", *of_pair(of["tapedesk"], of["least"])])
+            rows.append([f"{day_name(day)}, {count:,} rows", *of_pair(of["tapebox"], of["least"])])
     return table(["Table", "Time to `least`, least runs", "Middle runs", "Peak memory", "Ratio"], rows)
 
 
 def table_growth(parts):
-    own = by(parts["table_growth"], "program")[("tapedesk",)]
+    own = by(parts["table_growth"], "program")[("tapebox",)]
     seconds = [min(record["seconds"]) for record in own]
     rows, bytes_of = [record["rows"] for record in own], [record["bytes"] for record in own]
     more = [seconds[at + 1] / rows[at + 1] / (seconds[at] / rows[at]) for at in (0, 4)]
@@ -147,11 +147,11 @@ def peers(parts):
     rows = []
     for (day, count), of in programs_of(parts["peers"], "day", "rows").items():
         for program, record in of.items():
-            name = "`tapedesk`" if program == "tapedesk" else f"`{program}`" if program in ("desk", "least") else program
+            name = f"`{program}`" if program in ("tapebox", "desk", "least") else program
             seconds = min(record["seconds"])
-            to_mine = ratio(seconds / min(of["tapedesk"]["seconds"]))
+            to_mine = ratio(seconds / min(of["tapebox"]["seconds"]))
             rows.append([f"{day_name(day)}, {count:,} rows", name, f"{seconds:.2f}", rounded(count / seconds), to_mine, megabytes(record["kilobytes"])])
-    return table(["Table", "Program", "Processor seconds", "Rows a second", "To `tapedesk`", "Peak memory"], rows)
+    return table(["Table", "Program", "Processor seconds", "Rows a second", "To `tapebox`", "Peak memory"], rows)
 
 
 def versions(figures):

@@ -1,12 +1,12 @@
 #!/usr/bin/env python3
-"""Measures `tapedesk` on tables beside programs that write the same.
+"""Measures `tapebox` on tables beside programs that write the same.
 
     bench/tables.py [DAY[:BYTES] ..]         the report and the readable tape, beside `desk` and its `least`, and the explanation by itself
     bench/tables.py peers [DAY[:BYTES] ..]   the report beside `desk`, `least`, pandas and SQLite, as far as they are there
     bench/tables.py growth                   the report of tables with more rows, columns and symbols: whether a row takes longer there
 
 `desk` is a plain program with std alone, whose tape is that of `indexed`; its `least` keeps no tape and makes the report by one fold at the end. What
-pandas and SQLite run is in bench/peers/. Builds the plain programs, takes `tapedesk` from `./run --which`, makes the tables by a seed, runs the
+pandas and SQLite run is in bench/peers/. Builds the plain programs, takes `tapebox` from `./run --which`, makes the tables by a seed, runs the
 programs on each in turns, and checks that they write the same. Prints the processor seconds, the wall-clock seconds and the peak memory in kilobytes, of
 each the least and the middle run.
 
@@ -52,9 +52,9 @@ def add_remarks(path, count):
 
 
 def own_commands(word):
-    """What writes the word's text of a table: `tapedesk`, and the plain programs that write the same."""
+    """What writes the word's text of a table: `tapebox`, and the plain programs that write the same."""
     plain = {"report": {"desk": "report", "least": "least"}, "tape": {"desk": "tape"}}.get(word, {})
-    commands = {program: [path, word] for program, path in located("tapedesk").items()}
+    commands = {program: [path, word] for program, path in located("tapebox").items()}
     return commands | {name: [RELEASE / "desk", of] for name, of in plain.items()}
 
 

@@ -13,7 +13,6 @@ byte. Prints the report once, and on standard error what the relay did. Needs py
 are bound.
 
     TAPEBOX   the program (what ../run --which tapebox prints, from here)
-    TAPEDESK  the one that reads the table (what ../run --which tapedesk prints)
     FOLLOWED  1, or 0 for a day that nobody follows: `live` awaits no retransmission, and its report alone is printed (1)
     LOSE      the percentage of packets that is lost: of both lines, or as 100,10 of each (30)
     SEED      what the relay draws from (9, which loses the third packet of a line on both)
@@ -28,8 +27,7 @@ case ${1-} in -h | --help) help; exit ;; esac
 [ $# -le 1 ] || { echo "usage: lossy_day.sh [TABLE.csv]" >&2; exit 2; }
 table=${1:-$samples/corrections.csv}
 tapebox=${TAPEBOX:-$("$tests/../run" --which tapebox)} || exit 1
-TAPEDESK=${TAPEDESK:-$("$tests/../run" --which tapedesk)} || exit 1
-export TAPEDESK
+export TAPEBOX="$tapebox"
 followed=${FOLLOWED:-1}
 lose=${LOSE:-30}
 seed=${SEED:-9}

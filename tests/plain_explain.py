@@ -1,4 +1,4 @@
-"""What became of a tape's reports, as a second opinion beside tapedesk's: by the readable tape, the report, and the matrices of RULES."""
+"""What became of a tape's reports, as a second opinion beside tapebox's: by the readable tape, the report, and the matrices of RULES."""
 
 import csv
 import functools

@@ -1,4 +1,4 @@
-"""A plain reader of desks' tables, as a second opinion beside tapedesk's: the bytes of their messages, or the first fault in its words."""
+"""A plain reader of desks' tables, as a second opinion beside tapebox's: the bytes of their messages, or the first fault in its words."""
 
 import csv
 import io
@@ -13,12 +13,12 @@ LETTERS = {word: letter for letter, word in WORDS.items()} | {letter: letter for
 RULES = {
     "kind": "report, cancel, correct or reinstate, or R, X, C or S",
     "participant": "A to Z",
-    "number": "1 to 4294967295",
-    "moment": "0 to 18446744073709551615",
+    "number": "1 to 4294967295 in at most 20 digits",
+    "moment": "0 to 18446744073709551615 in at most 20 digits",
     "symbol": "1 to 8 of A to Z, 0 to 9 and .",
-    "target": "1 to 4294967295",
-    "price": "0.0001 to 99999999.9999 with at most four decimals",
-    "size": "1 to 99999999",
+    "target": "1 to 4294967295 in at most 20 digits",
+    "price": "0.0001 to 99999999.9999 with at most 20 digits and four decimals",
+    "size": "1 to 99999999 in at most 20 digits",
     "condition": "the four codes of a sale condition, with _ for a blank",
 }
 # The codes of each position of a condition, by either matrix.

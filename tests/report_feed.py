@@ -1,4 +1,4 @@
-"""A tape of which the day's report alone tells, as a player of rows takes it: each answer is that of `tapedesk report` over the messages so far."""
+"""A tape of which the day's report alone tells, as a player of rows takes it: each answer is that of `tapebox report` over the messages so far."""
 
 import csv
 import re
@@ -8,7 +8,7 @@ from plain_tape import Mark, Refused, Summary, decode, encode  # noqa: F401
 from support import desk
 
 # A line of standard error: how many rows were refused, and by which number.
-REFUSED = re.compile(r"tapedesk: (\d+) rows? refused: (\d+) ")
+REFUSED = re.compile(r"tapebox: (\d+) rows? refused: (\d+) ")
 MARKS = ("open", "high", "low", "last")
 # Who a report's row is of that is no participant's.
 ALL = "ALL"
@@ -33,7 +33,7 @@ class Tape:
 
     def report(self):
         """Reports the messages so far: the rows, and how many were refused by each number."""
-        ended = desk("report", self.matrix, given=plain_table.table(self.messages))
+        ended = desk("report", matrix=self.matrix, given=plain_table.table(self.messages))
         rows = csv.DictReader(ended.written.decode().splitlines())
         self.rows = {(row["symbol"], row["who"]): summary_of(row) for row in rows}
         self.refused = {int(code): int(count) for count, code in REFUSED.findall(ended.said.decode())}

@@ -84,7 +84,6 @@ def locate_all():
 
 
 TAPEBOX = Program("tapebox")
-TAPEDESK = Program("tapedesk")
 FEED_SPEED = Program("feed_speed")
 
 
@@ -152,9 +151,9 @@ def need(program):
         raise unittest.SkipTest(f"no {path.name}: it is built with its proofs alone, by the gate or `rt test`")
 
 
-def desk(*words, given=b"", **options):
-    """How `tapedesk` ended on a table."""
-    return run(words, given, program=TAPEDESK, **options)
+def desk(*words, given=b"", matrix=None, **options):
+    """How a word of `tapebox` ended on a table, by a matrix if one is named."""
+    return run([*words, *([] if matrix is None else ["--matrix", matrix])], given, **options)
 
 
 def table_of(rows):
@@ -266,8 +265,8 @@ def is_refused(port):
 
 
 def message(**row):
-    """The bytes of a message, by the columns of a table."""
-    return plain_table.message({column: str(value) for column, value in row.items()})
+    """The bytes of a message, by the columns of a table. Those that are not named are empty."""
+    return plain_table.message(dict.fromkeys(plain_table.COLUMNS, "") | {column: str(value) for column, value in row.items()})
 
 
 def report(who, number, symbol="AB", price="10.00"):

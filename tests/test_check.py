@@ -1,4 +1,4 @@
-"""`tapedesk check` on whole tables at fault, beside a plain reader of them."""
+"""`tapebox check` on whole tables at fault, beside a plain reader of them."""
 
 import random
 import re
@@ -61,7 +61,7 @@ class Checks(Case):
         counted = [*(kind for kind in kinds if kind.split()[0] in COLUMNS), *unused, *(kind for kind in kinds if kind.split()[0] not in COLUMNS)]
         self.assertGreater(len(counted), 12)
         self.assert_told(table, *faults[:TOLD], *(f"{more[kind]} more: {kind}" for kind in counted))
-        self.assert_fault(desk("report", given=table), (2, f"tapedesk: {faults[0]}\n".encode()))
+        self.assert_fault(desk("report", given=table), (2, f"tapebox: {faults[0]}\n".encode()))
 
     def test_lines_of_the_file(self):
         """FORMATS, "The faults of a table": the line in which a row begins is told where it is not the row's number: behind blank lines and line ends in
@@ -71,13 +71,13 @@ class Checks(Case):
                 lines = [b",".join(name.encode() for name in HEAD), b"N,0,AB,10,1,@___", b"", b"", b'"N', b'Q",2,AB,10,1,@___', b"N,3,AB,10,1,@___", b"N,4"]
                 self.assert_told(
                     plain_table.MARK + end.join(lines),
-                    'row 2: number "0" is not 1 to 4294967295',
+                    'row 2: number "0" is not 1 to 4294967295 in at most 20 digits',
                     f'row 3: participant "N{plain_table.shown(end.decode())}Q" is not A to Z (line 5)',
                     "row 5: 2 fields, and the header row has 6 (line 8)",
                 )
         # A line that is longer than what is read at once, and then a blank one.
         long = table_of([[*HEAD, "#"], [*GOOD, "x" * 100_000]]) + b"\nN,0,AB,10,1,@___,\n"
-        self.assert_told(long, 'row 3: number "0" is not 1 to 4294967295 (line 4)')
+        self.assert_told(long, 'row 3: number "0" is not 1 to 4294967295 in at most 20 digits (line 4)')
 
     def test_header_rows(self):
         """FORMATS, "The faults of a table": a fault of the header row is the only one, and one without commas names the separator that stands there."""
@@ -86,7 +86,7 @@ class Checks(Case):
             name = plain_table.shown(sign.join(HEAD))
             fault = f'header row: column "{name}" is unknown; names have commas between them, and here stands {words}'
             self.assert_told(table, fault)
-            self.assert_fault(desk("report", given=table), (2, f"tapedesk: {fault}\n".encode()))
+            self.assert_fault(desk("report", given=table), (2, f"tapebox: {fault}\n".encode()))
         self.assert_told(table_of([HEAD[:-1], ["?"] * 5]), "header row: column condition is missing")
         self.assert_told(b"", "the table has no row")
         self.assert_told(table_of([HEAD]), "the table has no row")
@@ -109,10 +109,6 @@ class Checks(Case):
         rows = [["N", at, f"S{at}", "10.00", 100, "@___"] for at in range(1, 4_098)]
         self.assert_told(table_of([HEAD, *rows]), "the table has more than 4096 symbols")
         worse = [["N", 0, "AB", "10.00", 100, "@___"]]
-        bad = 'row 2: number "0" is not 1 to 4294967295'
+        bad = 'row 2: number "0" is not 1 to 4294967295 in at most 20 digits'
         self.assert_told(table_of([HEAD, *worse, *rows]), bad, "the table has more than 4096 symbols")
         self.assert_told(table_of([HEAD, *worse, *rows[:-1]]), bad)
-
-    def test_words_that_are_none(self):
-        """OPERATING, "Statuses": `check` takes no matrix, and nothing is read."""
-        self.assert_fault(desk("check", 1, given=b""), (2, b"tapedesk: bad arguments\n"))

@@ -1,4 +1,4 @@
-"""Calls and memory that fail `tapedesk`, and tables that are long."""
+"""Calls and memory that fail the words of a table, and tables that are long."""
 
 import contextlib
 import os
@@ -15,12 +15,9 @@ import plain_explain
 from plain_table import COLUMNS, dollars
 from preloaded import CALL_FAILED, failing
 from refused import run_refused
-from support import HEADINGS, LIMIT, SAMPLES, TAPE_COLUMNS, TAPEDESK, Case, desk, started, table_of
+from support import HEADINGS, LIMIT, OUT_OF_MEMORY, READ_FAULT, SAMPLES, TAPE_COLUMNS, WRITE_FAULT, Case, desk, started, table_of
 
 WORDS = ("report", "tape", "explain")
-READ_FAULT = (3, b"tapedesk: a read failed\n")
-WRITE_FAULT = (4, b"tapedesk: a write failed\n")
-OUT_OF_MEMORY = (5, b"tapedesk: out of memory\n")
 # Seconds until the longest table must have been read, on a busy machine.
 SOON = 300
 
@@ -141,7 +138,7 @@ class RefusedMemory(Case):
             whole, ends = desk(word, given=table), Counter()
             self.assertIn(b"1 row refused: 35 Stale", whole.said)
             for request in range(1, self.MOST):
-                was_met, ended = run_refused([word], request, given=table, program=TAPEDESK)
+                was_met, ended = run_refused([word], request, given=table)
                 with self.subTest(word, request=request):
                     ends[self.kind_of(word, ended, whole)] += was_met
                 if not was_met:
@@ -169,14 +166,15 @@ class Progress(Rising):
 
     TOLD = 1_000_000
 
-    def shown(self, word, count):
-        """What a terminal shows at standard error, and for how many seconds it ran."""
+    def shown(self, word, count, is_named=False):
+        """What a terminal shows at standard error of a table that is named or is standard input, and for how many seconds it ran."""
         terminal, errors = pty.openpty()
-        with tempfile.TemporaryFile() as table:
+        with tempfile.NamedTemporaryFile() as table:
             table.write(self.table(count))
             table.seek(0)
             began = time.monotonic()
-            with started([word], program=TAPEDESK, stdin=table, stdout=subprocess.DEVNULL, stderr=errors) as running:
+            words, given = ([word, table.name], subprocess.DEVNULL) if is_named else ([word], table)
+            with started(words, stdin=given, stdout=subprocess.DEVNULL, stderr=errors) as running:
                 os.close(errors)
                 text = b""
                 # A terminal that nothing holds open any more fails to be read.
@@ -193,12 +191,22 @@ class Progress(Rising):
         for word in WORDS:
             with self.subTest(word):
                 text, seconds = self.shown(word, self.TOLD + 300_000)
-                told = [int(rows) for rows in re.findall(rb"\rtapedesk: (\d+) lines", text)]
+                told = [int(rows) for rows in re.findall(rb"\rtapebox: (\d+) lines", text)]
                 self.assertGreaterEqual(len(told), 1)
                 self.assertLessEqual(len(told), 2 * seconds + 2)
                 self.assertGreaterEqual(min(told), self.TOLD)
                 self.assertRegex(text, rb"\r +\r\Z")
                 self.assertNotIn(b"\n", text)
+
+    def test_a_named_table(self):
+        """FORMATS, "A table": of a named table the line also tells the percentage that was read, which rises, and the time that is left."""
+        text, _ = self.shown("report", self.TOLD + 300_000, is_named=True)
+        told = [(int(lines), int(part)) for lines, part in re.findall(rb"\rtapebox: (\d+) lines read, (\d+) %, \d+ s left", text)]
+        self.assertGreaterEqual(len(told), 1)
+        self.assertEqual(told, sorted(told))
+        for lines, part in told:
+            self.assertLessEqual(abs(part - 100 * lines / (self.TOLD + 300_000)), 5)
+        self.assertNotIn(b"%", self.shown("report", self.TOLD + 300_000)[0])
 
     def test_a_shorter_table(self):
         """FORMATS, "A table": below a million rows a terminal is told nothing."""

@@ -16,9 +16,10 @@ import time
 from concurrent.futures import ThreadPoolExecutor
 from pathlib import Path
 
+import plain_feed
 from preloaded import CALL_FAILED, failing
 from support import DISAGREES, HOST, LIMIT, READ_FAULT, SAMPLES, TAPEBOX, WRITE_FAULT, Case, Ended
-from support import connect, ended, ports, report, reports, run, started, tried, wait_bound, wait_connected, wait_for, wait_read
+from support import connect, ended, message, ports, report, reports, run, started, tried, wait_bound, wait_connected, wait_for, wait_read
 
 SESSION = 7
 LOSSY_DAY = Path(__file__).resolve().with_name("lossy_day.sh")
@@ -36,6 +37,17 @@ def packet(kind, number, *messages):
 def entries(first, last, price="10.00"):
     """A packet of these entries, each a report of N under its own number."""
     return packet(b"D", first, *(report("N", number, price=price) for number in range(first, last + 1)))
+
+
+def longest_packet():
+    """A packet of sixteen reports, and the longest one there is, with a correction of each of them by what it says."""
+    tape = plain_feed.Tape(["AB"], ["N"], 32, "1")
+    for number in range(1, 17):
+        tape.admit(report("N", number))
+    for number in range(1, 17):
+        correction = {"participant": "N", "number": 16 + number, "symbol": "AB", "target": number}
+        tape.admit(message(kind="correct", price="10.00", size=100, condition="@___", **correction))
+    return plain_feed.cut(tape, 2, SESSION, 1, 32)
 
 
 def answer_of(*packets):
@@ -179,6 +191,20 @@ class Packets(Case):
             end = ended(peer.follow)
         self.assertEqual((end.status, end.said), (0, b""))
         self.assertIn(row_of(4), end.written)
+
+    def test_a_byte_beyond_the_longest_packet(self):
+        """FORMATS, "Packets": the longest packet and a byte more are no packet. The follower drops them and asks for the entries, which come by the
+        same packet alone."""
+        first, longest = longest_packet()
+        self.assertEqual(len(longest), plain_feed.LONGEST_PACKET)
+        with follower() as peer:
+            for sent in (first, longest + b"\0", packet(b"E", 32)):
+                peer.by_a(sent)
+            self.assertEqual(peer.request(), (17, 16))
+            peer.connection.sendall(answer_of(longest))
+            end = ended(peer.follow)
+        self.assertEqual((end.status, end.said), (0, b""))
+        self.assertIn(row_of(16), end.written)
 
     def test_all_is_held_while_a_request_waits(self):
         """OPERATING: a follower that holds all and knows the end closes its connection and ends, though its request was not

@@ -1,6 +1,6 @@
-"""The readable tape of a running day, as `tapedesk follow` writes it."""
+"""The readable tape of a running day, as `tapebox watch` writes it."""
 
-from support import LIMIT, TAPE_COLUMNS, TAPEDESK, Case, Ended, connect, desk, ended, ports, started, wait_bound
+from support import BAD_ARGUMENTS, DISAGREES, LIMIT, READ_FAULT, TAPE_COLUMNS, WRITE_FAULT, Case, Ended, connect, desk, ended, ports, started, wait_bound
 
 HEAD = b"kind,participant,number,symbol,target,price,size,condition\n"
 ROWS = [
@@ -11,10 +11,6 @@ ROWS = [
     b"cancel,N,5,C,2,,,\n",
     b"report,N,7,AB,,10.10,100,@___\n",
 ]
-BAD_ARGUMENTS = (2, b"tapedesk: bad arguments\n")
-READ_FAULT = (3, b"tapedesk: a read failed\n")
-WRITE_FAULT = (4, b"tapedesk: a write failed\n")
-DISAGREES = (7, b"tapedesk: tape disagrees\n")
 # A sale of an odd lot, which sets the high by Matrix Two alone.
 ODD_LOT = b"report,N,8,AB,,11.00,50,@__I\n"
 
@@ -27,9 +23,9 @@ class FollowedTape(Case):
         matrix and the limit of the one and of the other."""
         line, a, b, retransmission = ports(4)
         with started(["live", "AB,C", "N", line, a, b, retransmission, 1, *terms]) as live, connect(line) as participant:
-            with started(["follow", "AB,C", "N", a, b, retransmission, *held], program=TAPEDESK, **options) as follow:
-                wait_bound(follow, a, b)
-                case(live, follow, participant)
+            with started(["watch", "AB,C", "N", a, b, retransmission, *held], **options) as watch:
+                wait_bound(watch, a, b)
+                case(live, watch, participant)
 
     def send(self, participant, rows):
         """Sends the messages of rows as the participant's line."""
@@ -38,16 +34,16 @@ class FollowedTape(Case):
         participant.sendall(line.written)
 
     def test_each_row_once_and_at_once(self):
-        """OPERATING: `follow` writes the tape that `tape` writes of the same messages, and each row before the next message comes."""
+        """OPERATING: `watch` writes the tape that `tape` writes of the same messages, and each row before the next message comes."""
         tape = desk("tape", given=HEAD + b"".join(ROWS)).written
 
-        def case(live, follow, participant):
+        def case(live, watch, participant):
             lines = []
             for at, row in enumerate(ROWS):
                 self.send(participant, [row])
-                lines += [follow.stdout.readline() for _ in range(1 if at else 2)]
+                lines += [watch.stdout.readline() for _ in range(1 if at else 2)]
             participant.close()
-            rest = ended(follow)
+            rest = ended(watch)
             self.assertEqual((rest.status, rest.said), (0, b""))
             self.assertEqual(b"".join(lines) + rest.written, tape)
             for count in range(1, len(ROWS) + 1):
@@ -58,30 +54,30 @@ class FollowedTape(Case):
         self.day(case)
 
     def test_other_terms(self):
-        """OPERATING: the arguments of `follow` are a session, a matrix and a limit, by which the tape goes."""
+        """OPERATING: the arguments of `watch` are a session, a matrix and a limit, by which the tape goes."""
         rows = [*ROWS, ODD_LOT]
         given = HEAD + b"".join(rows)
-        tape = desk("tape", 2, given=given).written
-        self.assertNotEqual(tape, desk("tape", 1, given=given).written)
+        tape = desk("tape", matrix=2, given=given).written
+        self.assertNotEqual(tape, desk("tape", matrix=1, given=given).written)
 
-        def case(live, follow, participant):
+        def case(live, watch, participant):
             self.send(participant, rows)
             participant.close()
-            self.assertEqual(ended(follow), Ended(0, tape, b""))
+            self.assertEqual(ended(watch), Ended(0, tape, b""))
             self.assertEqual(ended(live).status, 0)
 
         self.day(case, (9, 2, len(rows)), (9, 2, len(rows)))
 
     def test_a_limit_below_the_days(self):
-        """OPERATING, "What you see": a LIMIT below the day's ends `follow` with status 7; the rows up to it were written."""
+        """OPERATING, "What you see": a LIMIT below the day's ends `watch` with status 7; the rows up to it were written."""
         tape = desk("tape", given=HEAD + b"".join(ROWS)).written
 
-        def case(live, follow, participant):
+        def case(live, watch, participant):
             self.send(participant, ROWS)
             participant.close()
             status, said = DISAGREES
             rows = b"".join(tape.splitlines(keepends=True)[: len(ROWS)])
-            self.assertEqual(ended(follow), Ended(status, rows, said))
+            self.assertEqual(ended(watch), Ended(status, rows, said))
             self.assertEqual(ended(live).status, 0)
 
         self.day(case, held=(7, 1, len(ROWS) - 1))
@@ -89,9 +85,9 @@ class FollowedTape(Case):
     def test_a_full_output(self):
         """OPERATING: a row that is not written ends the run with status 4, and the day goes on without it."""
 
-        def case(live, follow, participant):
+        def case(live, watch, participant):
             self.send(participant, ROWS)
-            self.assert_fault(ended(follow), WRITE_FAULT)
+            self.assert_fault(ended(watch), WRITE_FAULT)
             participant.close()
             self.assertEqual(ended(live).status, 0)
 
@@ -101,11 +97,11 @@ class FollowedTape(Case):
     def test_a_closed_pipe(self):
         """OPERATING: a pipe whose other end is closed ends it so too."""
 
-        def case(live, follow, participant):
-            follow.stdout.close()
+        def case(live, watch, participant):
+            watch.stdout.close()
             self.send(participant, ROWS)
-            follow.wait(LIMIT)
-            self.assertEqual((follow.returncode, follow.stderr.read()), WRITE_FAULT)
+            watch.wait(LIMIT)
+            self.assertEqual((watch.returncode, watch.stderr.read()), WRITE_FAULT)
             participant.close()
             self.assertEqual(ended(live).status, 0)
 
@@ -115,7 +111,7 @@ class FollowedTape(Case):
         """OPERATING: without a day to connect to no row is written, and with other arguments nothing at all."""
         a, b, retransmission = ports(3)
         status, said = READ_FAULT
-        self.assertEqual(desk("follow", "AB", "N", a, b, retransmission, 7), Ended(status, f"{','.join(TAPE_COLUMNS)}\n".encode(), said))
+        self.assertEqual(desk("watch", "AB", "N", a, b, retransmission, 7), Ended(status, f"{','.join(TAPE_COLUMNS)}\n".encode(), said))
         for words in ([], ["AB", "N", a, b, retransmission], ["AB,AB", "N", a, b, retransmission, 7], ["AB", "N", a, 0, retransmission, 7]):
             with self.subTest(words):
-                self.assert_fault(desk("follow", *words), BAD_ARGUMENTS)
+                self.assert_fault(desk("watch", *words), BAD_ARGUMENTS)

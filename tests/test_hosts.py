@@ -9,7 +9,7 @@ import tempfile
 import time
 from pathlib import Path
 
-from support import TAPEDESK, TOOLS, Case, run
+from support import TAPEBOX, TOOLS, Case, run
 
 # The system's own commands may not be on the path.
 PATH = os.environ["PATH"] + ":/usr/sbin:/sbin"
@@ -124,7 +124,7 @@ class Machines(Case):
             time.sleep(0.1)
 
     def program(self, text):
-        """A program in the place of tapedesk, which says where it runs."""
+        """A program in the place of tapebox, which says where it runs."""
         path = self.folder / "program"
         path.write_text(f'#!/bin/sh\nreadlink /proc/self/ns/net >> "{self.folder}/where"\n{text}\n')
         path.chmod(0o755)
@@ -134,7 +134,7 @@ class Machines(Case):
         """What split_day.py is given."""
         ssh = f"{self.ssh} -o ServerAliveInterval=1 -o ServerAliveCountMax=2"
         logins = ",".join(host.address for host in self.hosts)
-        more = {"TAPEDESK": str(program), "PARALLEL": f"--sshlogin {logins}", "PARALLEL_SSH": ssh, "TMPDIR": str(self.folder / "room"), "PATH": PATH}
+        more = {"TAPEBOX": str(program), "PARALLEL": f"--sshlogin {logins}", "PARALLEL_SSH": ssh, "TMPDIR": str(self.folder / "room"), "PATH": PATH}
         return os.environ | more
 
     def table(self):
@@ -147,8 +147,8 @@ class Machines(Case):
     def test_a_day_over_two_hosts(self):
         """SCALE, "Several machines": the parts run on both hosts, and the report is the one of this machine alone."""
         table = self.table()
-        alone = run([table, PARTS], program=TOOLS / "split_day.py", env=os.environ | {"TAPEDESK": str(TAPEDESK)})
-        ended = run([table, PARTS], program=TOOLS / "split_day.py", env=self.environment(self.program(f'exec "{TAPEDESK}" "$@"')), limit=LIMIT)
+        alone = run([table, PARTS], program=TOOLS / "split_day.py", env=os.environ | {"TAPEBOX": str(TAPEBOX)})
+        ended = run([table, PARTS], program=TOOLS / "split_day.py", env=self.environment(self.program(f'exec "{TAPEBOX}" "$@"')), limit=LIMIT)
         self.assertEqual(ended, alone)
         self.assertEqual((alone.status, alone.said), (0, b""))
         self.assertEqual(len(set((self.folder / "where").read_text().split())), len(self.hosts))

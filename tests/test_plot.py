@@ -7,7 +7,7 @@ import tempfile
 import xml.etree.ElementTree as tree
 from pathlib import Path
 
-from support import ROOT, SAMPLES, TAPEDESK, TOOLS, Case, run
+from support import ROOT, SAMPLES, TOOLS, Case, run
 
 SCRIPT = TOOLS / "plot_day.py"
 FIGURES = ("open", "high", "low", "last")
@@ -18,8 +18,8 @@ ODD_LOT = b"kind,participant,number,symbol,target,price,size,condition\nreport,N
 
 @functools.cache
 def desk(word, table, matrix):
-    """What the desk's program writes of a table."""
-    return run([word, matrix], table, program=TAPEDESK).written
+    """What a word writes of a table by a matrix."""
+    return run([word, "--matrix", matrix], table).written
 
 
 def rows_of(text):

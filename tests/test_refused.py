@@ -14,7 +14,7 @@ from typing import Optional
 
 from preloaded import built
 from refused import HEAP, Sweeps, end_of_batch, refusing, run_refused, without_told
-from support import CRATES, HOST, NO_WORKER, OUT_OF_MEMORY, READ_FAULT, TAPEBOX, TAPEDESK, WRITE_FAULT, Case, Ended
+from support import CRATES, HOST, NO_WORKER, OUT_OF_MEMORY, READ_FAULT, WRITE_FAULT, Case, Ended
 from support import batch_line, ended, listens, ports, report, reports, run, started, wait_bound
 
 # How many of a program's requests are refused in turn at most.
@@ -95,6 +95,45 @@ class Batch(Case):
             self.assertGreater(ends[kind], 0, ends)
 
 
+class Texts(Case):
+    """A table to the text of a batch and back, and a participant's line, each in two pieces, the first of 512 messages."""
+
+    REPORTS = 600
+
+    def sweep(self, words, given):
+        """How often nothing and how often a part was written, as each request that is met is refused in turn."""
+        whole = run(words, given)
+        self.assertEqual((whole.status, whole.said), (0, b""))
+        ends = Counter()
+        for request in range(1, MOST + 1):
+            with self.subTest(words, request=request):
+                was_met, end = run_refused(words, request, given=given, limit=SOON)
+                if not was_met:
+                    break
+                # A request may be made again in smaller pieces.
+                if end != whole:
+                    self.assertEqual((end.status, end.said), OUT_OF_MEMORY)
+                    self.assertEqual(whole.written[: len(end.written)], end.written)
+                    self.assertLess(len(end.written), len(whole.written))
+                    ends["a part" if end.written else "nothing"] += 1
+        return ends
+
+    def test_each_request(self):
+        """OPERATING, "Statuses", 5: whichever request of `encode`, `decode` or `line` is refused, it is told as want of memory, and what was written is a
+        part from the front, or nothing."""
+        text = b"AB\nN\n" + reports_of_n(self.REPORTS)
+        table = run(["decode"], text).written
+        # A line has no head, and its second piece fits into the memory of the first.
+        for words, given, kinds in (
+            (["encode"], table, ("nothing", "a part")),
+            (["decode"], text, ("nothing", "a part")),
+            (["line", "N"], table, ("nothing",)),
+        ):
+            ends = self.sweep(words, given)
+            for kind in kinds:
+                self.assertGreater(ends[kind], 0, (words, ends))
+
+
 def reports_of_n(count):
     """A batch's lines of so many reports of N."""
     return b"".join(batch_line(report("N", number)) for number in range(1, count + 1))
@@ -113,7 +152,7 @@ class DayEnds:
 
 
 class RunningDays(Case):
-    """Days of N and Q with a follower, which is tapedesk's where it is refused as "tape". One request of one of the two programs is refused. Several days
+    """Days of N and Q with a follower, which is a `watch` if it is refused as "tape". One request of one of the two programs is refused. Several days
     run at once, each on ports of its own."""
 
     LANES = 32
@@ -179,8 +218,8 @@ class RunningDays(Case):
         with started(words, env=of_live) as live:
             if not self.comes_to_listen(live, retransmission):
                 return DayEnds(*without_told(ended(live, SOON)))
-            words = ["follow", "AB", "N,Q", a, b, retransmission, *self.TERMS]
-            with started(words, program=TAPEDESK if refused == "tape" else TAPEBOX, env=of_follow) as follow:
+            words = ["watch" if refused == "tape" else "follow", "AB", "N,Q", a, b, retransmission, *self.TERMS]
+            with started(words, env=of_follow) as follow:
                 self.is_bound(follow, (a, b))
                 closed = self.send(lines)
                 if refused == "live":
@@ -293,11 +332,11 @@ class RunningDays(Case):
         if day.follow.status == 0:
             self.assertEqual((len(rows), day.follow.said), (2 * self.REPORTS, b""))
             return "done"
-        self.assertIn((day.follow.status, day.follow.said), [(5, b"tapedesk: out of memory\n"), (6, b"tapedesk: worker not started\n")])
+        self.assertIn((day.follow.status, day.follow.said), [OUT_OF_MEMORY, NO_WORKER])
         return "a part" if rows else "no row"
 
     def test_followed_tape(self):
-        """OPERATING, "The running tape in a pipe": `tapedesk follow` that is refused a request ends soon, by a stated status and text, and what it wrote is
+        """OPERATING, "The running tape in a pipe": `tapebox watch` that is refused a request ends soon, by a stated status and text, and what it wrote is
         a part of the tape from its front."""
         ends = self.kinds(self.end_of_tape, "tape")
         for kind in ("a part", "no row"):

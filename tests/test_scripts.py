@@ -5,12 +5,12 @@ import shutil
 import tempfile
 import unittest
 
-from support import BENCH, ROOT, SAMPLES, TAPEBOX, TAPEDESK, TESTS, TOOLS, Case, run
+from support import BENCH, ROOT, SAMPLES, TAPEBOX, TESTS, TOOLS, Case, run
 
 MISSING = "no-such-file"
 # What works without words and is not to be run here: it builds, installs, writes a page, measures or runs a day.
 WITHOUT_WORDS = {"run", "gate", "build", "set_up", "mark_built.py", "cases.py", "definitions.py", "lossy_day.sh"}
-WITHOUT_WORDS |= {"all.py", "latency.py", "live_load.py", "long_day.py", "measure.py", "tables.py"}
+WITHOUT_WORDS |= {"picture", "all.py", "latency.py", "live_load.py", "long_day.py", "measure.py", "tables.py"}
 READS_INPUT = {"plot_day.py"}
 # Scripts that read a table, by the words after its path.
 READERS = [
@@ -32,7 +32,7 @@ class Scripts(Case):
     def ran(self, script, *words, given=b""):
         """How a script ended in an empty folder."""
         with tempfile.TemporaryDirectory() as folder:
-            return run(words, given, program=script, cwd=folder, env=os.environ | {"TAPEBOX": str(TAPEBOX), "TAPEDESK": str(TAPEDESK)})
+            return run(words, given, program=script, cwd=folder, env=os.environ | {"TAPEBOX": str(TAPEBOX)})
 
     def assert_names(self, ended, fault):
         """It ended with 1, wrote nothing, and said one line: a script's name, and what is at fault first."""
@@ -79,12 +79,12 @@ class Scripts(Case):
 
     def test_bad_row(self):
         """The first bad row of a table ends a script with 1, and the file and the row are named: the row of the whole table, if a part has it."""
-        for row, fault in [("report,N,4,AB,,10.00,0,@___", 'row 8: size "0" is not 1 to 99999999'), ("report,N", "row 8: 2 fields, and the header row has 8")]:
+        for row, fault in [("report,N,4,AB,,10.00,0,@___", 'row 8: size "0" is not 1 to 99999999 in at most 20 digits'), ("report,N", "row 8: 2 fields, and the header row has 8")]:
             with tempfile.NamedTemporaryFile("w", suffix=".csv") as table:
                 table.write((SAMPLES / "corrections.csv").read_text(encoding="utf-8") + row + "\n")
                 table.flush()
                 for script, more in READERS:
-                    # Only if tapedesk is run on the parts is a field at fault.
+                    # Only if tapebox is run on the parts is a field at fault.
                     if script.name != "split_day.py" or "fields" in fault or (more == [1] and shutil.which("parallel")):
                         with self.subTest(script.name, row=row):
                             self.assert_names(self.ran(script, table.name, *more), f"{table.name}: {fault}")

@@ -6,7 +6,7 @@ import socket
 import struct
 import tempfile
 
-from support import HOST, LIMIT, TAPEDESK, TOOLS, Case, Ended, ended, ports, report, started, table_of
+from support import HOST, LIMIT, TAPEBOX, TOOLS, Case, Ended, ended, ports, report, run, started, table_of
 
 import send_day
 
@@ -14,6 +14,16 @@ COLUMNS = ["participant", "number", "symbol", "price", "size", "condition"]
 # The rows of N and Q in turn: three messages of each.
 ROWS = [[who, number, "AB", "10.00", 100, "@___"] for number in (1, 2, 3) for who in "NQ"]
 LENGTH = len(report("N", 1))
+# A day's file of both, for a first port.
+DAY = """symbols = ["AB"]
+participants = ["N", "Q"]
+port = {port}
+a = [1]
+b = [2]
+retransmission = 3
+followers = 0
+session = 7
+"""
 RESET = struct.pack("ii", 1, 0)
 
 
@@ -27,15 +37,18 @@ def read(connection, count):
 
 class Closed(Case):
     @contextlib.contextmanager
-    def sending(self, *options):
-        """The script, which sends the rows to the case's own two lines: their connections, how it ended, and the table's path."""
+    def sending(self, *options, of_day=False):
+        """The script, which sends the rows to the case's own two lines: their connections, how it ended, and the table's path. It has them in words
+        or from a day's file."""
         first, second = ports(2)
-        with tempfile.NamedTemporaryFile(suffix=".csv") as table, contextlib.ExitStack() as stack:
+        with tempfile.NamedTemporaryFile(suffix=".csv") as table, tempfile.NamedTemporaryFile("w", suffix=".toml") as day, contextlib.ExitStack() as stack:
+            day.write(DAY.format(port=first))
+            day.flush()
             table.write(table_of([COLUMNS, *ROWS]))
             table.flush()
             servers = [stack.enter_context(socket.create_server((HOST, port))) for port in (first, second)]
-            words = [*options, table.name, first, "N,Q"]
-            script = stack.enter_context(started(words, program=TOOLS / "send_day.py", env=os.environ | {"TAPEDESK": str(TAPEDESK)}))
+            words = [*options, table.name, *([day.name] if of_day else [first, "N,Q"])]
+            script = stack.enter_context(started(words, program=TOOLS / "send_day.py", env=os.environ | {"TAPEBOX": str(TAPEBOX)}))
             lines = []
             for server in servers:
                 server.settimeout(LIMIT)
@@ -49,11 +62,27 @@ class Closed(Case):
 
     def test_all_is_read(self):
         """send_day.py, 0: each line is read to its end, and closed then; or it has no rows left and is closed before."""
-        with self.sending() as ((n, q), end, _):
-            self.assertEqual(read(n, 4) + read(q, 4), b"".join(report(who, number) for who in "NQ" for number in (1, 2, 3)))
-            n.close()
-            q.close()
-            self.assertEqual(end(), Ended(0, b"", b""))
+        for of_day in (False, True):
+            with self.subTest(of_day=of_day), self.sending(of_day=of_day) as ((n, q), end, _):
+                self.assertEqual(read(n, 4) + read(q, 4), b"".join(report(who, number) for who in "NQ" for number in (1, 2, 3)))
+                n.close()
+                q.close()
+                self.assertEqual(end(), Ended(0, b"", b""))
+
+    def test_a_days_file_at_fault(self):
+        """send_day.py, 1: a day's file is judged as `live` judges it, and has the participant of each row."""
+        faults = [("[1]", "[]", "{day}: a: empty"), ('"Q"', '"P"', "{table}, row 3: participant 'Q' is not among N,P")]
+        with tempfile.NamedTemporaryFile(suffix=".csv") as table, tempfile.NamedTemporaryFile("w", suffix=".toml") as day:
+            table.write(table_of([COLUMNS, *ROWS]))
+            table.flush()
+            for old, new, fault in faults:
+                with self.subTest(new):
+                    day.seek(0)
+                    day.truncate()
+                    day.write(DAY.format(port=9_000).replace(old, new))
+                    day.flush()
+                    end = run([table.name, day.name], program=TOOLS / "send_day.py", env=os.environ | {"TAPEBOX": str(TAPEBOX)})
+                    self.assert_fails(end, fault.format(day=day.name, table=table.name))
 
     def test_closed_between_two_messages(self):
         """send_day.py, 1: a line that is closed, or reset, after some of its messages is named with how many were sent, before any more are."""
@@ -94,7 +123,7 @@ class Closed(Case):
         with tempfile.NamedTemporaryFile(suffix=".csv") as table, started(["live", "AB", "N", line, a, b, retransmission, 0, 7]) as live:
             table.write(table_of([COLUMNS, *rows]))
             table.flush()
-            with started(["--pause", "0.01", table.name, line], program=TOOLS / "send_day.py", env=os.environ | {"TAPEDESK": str(TAPEDESK)}) as script:
+            with started(["--pause", "0.01", table.name, line], program=TOOLS / "send_day.py", env=os.environ | {"TAPEBOX": str(TAPEBOX)}) as script:
                 with socket.socket(socket.AF_INET, socket.SOCK_DGRAM) as heard:
                     heard.settimeout(LIMIT)
                     heard.bind((HOST, a))

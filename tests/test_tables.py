@@ -1,4 +1,4 @@
-"""Tables through the built `tapedesk`, beside a plain reader of them and the batch."""
+"""Tables through the built `tapebox`, beside a plain reader of them and the batch."""
 
 import csv
 import random
@@ -24,14 +24,23 @@ def answers_of(written):
     return [["", answer.removeprefix("refused ")] if answer.startswith("refused ") else [answer, ""] for answer in answers]
 
 
-def refusal_lines(answers):
+def stale_text(answers, messages, row):
+    """What is said of the first stale row, of this number: its participant's number, and the greatest on the tape before unless that is repeated."""
+    named = [(chr(text[3]), int.from_bytes(text[4:8], "big")) for text in messages]
+    who, number = named[row - FIRST_ROW]
+    greatest = max(other for (at, _), (letter, other) in zip(answers[: row - FIRST_ROW], named) if at and letter == who)
+    return f": {who}'s number {number} " + ("again" if number == greatest else f"after {greatest}; sort by participant and number?")
+
+
+def refusal_lines(answers, messages):
     """What is said of refused rows: a line for each reason, by its number."""
     firsts, counts = {}, Counter()
     for row, (_, refusal) in enumerate(answers, FIRST_ROW):
         if refusal:
             counts[refusal] += 1
             firsts.setdefault(refusal, row)
-    lines = [f"tapedesk: {counts[why]} row{'s' * (counts[why] > 1)} refused: {why}, first at row {firsts[why]}\n" for why in counts]
+    details = {why: stale_text(answers, messages, row) if why == "35 Stale" else "" for why, row in firsts.items()}
+    lines = [f"tapebox: {counts[why]} row{'s' * (counts[why] > 1)} refused: {why}, first at row {firsts[why]}{details[why]}\n" for why in counts]
     return "".join(sorted(lines, key=lambda line: int(re.search(r"refused: (\d+)", line)[1]))).encode()
 
 
@@ -41,18 +50,18 @@ class Days(Case):
         are by its tape. Returns the rows of its tape."""
         messages = plain_table.read(table)
         batch = run(["batch", matrix], plain_table.batch(messages)).written
-        answers, said = answers_of(batch), refusal_lines(answers_of(batch))
-        ended = desk("report", matrix, given=table)
+        answers, said = answers_of(batch), refusal_lines(answers_of(batch), messages)
+        ended = desk("report", matrix=matrix, given=table)
         self.assertEqual((ended.status, ended.said), (0, said))
         self.assertEqual(ended.written, report_in(batch))
-        ended = desk("tape", matrix, given=table)
+        ended = desk("tape", matrix=matrix, given=table)
         self.assertEqual((ended.status, ended.said), (0, said))
         head, *rows = csv.reader(ended.written.decode().splitlines())
         self.assertEqual(head, TAPE_COLUMNS)
         wanted = [answer + [str(field) for field in plain_table.row_of(text)] for answer, text in zip(answers, messages)]
         self.assertEqual([row[:-6] for row in rows], wanted)
         self.assert_last_figures(rows, ended_report=report_in(batch))
-        explained = desk("explain", matrix, given=table)
+        explained = desk("explain", matrix=matrix, given=table)
         self.assertEqual((explained.status, explained.said), (0, said))
         self.assertEqual(list(csv.reader(explained.written.decode().splitlines())), list(plain_explain.explained(ended.written, report_in(batch), matrix)))
         return rows
@@ -169,7 +178,7 @@ class Faults(Case):
         with self.assertRaises(TableFault) as found:
             plain_table.read(table)
         for word in words:
-            self.assert_fault(desk(word, given=table), (2, f"tapedesk: {found.exception}\n".encode()))
+            self.assert_fault(desk(word, given=table), (2, f"tapebox: {found.exception}\n".encode()))
 
     def is_read(self, table):
         """Whether the plain reader finds no fault."""
@@ -233,14 +242,7 @@ class Faults(Case):
         self.assertEqual(desk("report", given=table_of([head, *rows[:-1]])).status, 0)
         for word in WORDS:
             ended = desk(word, given=table_of([head, *rows]))
-            self.assert_fault(ended, (2, b"tapedesk: the table has more than 4096 symbols\n"))
-
-    def test_words_that_are_none(self):
-        """OPERATING, "Statuses": any other arguments are bad ones, and nothing is read."""
-        table = (SAMPLES / "corrections.csv").read_bytes()
-        for words in [[], ["reports"], ["report", 3], ["tape", 1, 2], ["tape", ""], [b"\xff"], ["--help", "tape"]]:
-            with self.subTest(words):
-                self.assert_fault(desk(*words, given=table), (2, b"tapedesk: bad arguments\n"))
+            self.assert_fault(ended, (2, b"tapebox: the table has more than 4096 symbols\n"))
 
 
 class Forms(Case):

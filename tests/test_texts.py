@@ -1,9 +1,9 @@
-"""Tables to and from the text of a batch, and a participant's line, by the built `tapedesk`."""
+"""Tables to and from the text of a batch, and a participant's line, by the built `tapebox`."""
 
 import re
 
 import plain_table
-from support import HEADINGS, SAMPLES, STORED_DAYS, Case, Ended, desk
+from support import HEADINGS, SAMPLES, STORED_DAYS, Case, desk
 from test_tables import SeededDay
 
 HEADER_LINES = 2
@@ -59,7 +59,7 @@ class Texts(Case):
         """OPERATING, "Statuses", 2: a bad table has no text and no line, and its fault is told."""
         table = (SAMPLES / "corrections.csv").read_bytes() + b"report,N,4,AB,,10.00,0,@___\n"
         for words in (["encode"], ["line", "Q"]):
-            self.assert_fault(desk(*words, given=table), (2, b'tapedesk: row 8: size "0" is not 1 to 99999999\n'))
+            self.assert_fault(desk(*words, given=table), (2, b'tapebox: row 8: size "0" is not 1 to 99999999 in at most 20 digits\n'))
 
     def test_bad_lines(self):
         """OPERATING, "Statuses", 2: a line that spells no message is told by its number and its refusal, and no table is written."""
@@ -72,7 +72,7 @@ class Texts(Case):
             text = b"\n".join([*header, *good, line, *good]) + b"\n"
             fault = answer.removeprefix("refused ")
             with self.subTest(fault):
-                self.assert_fault(desk("decode", given=text), (2, f"tapedesk: line {HEADER_LINES + len(good) + 1}: {fault}\n".encode()))
+                self.assert_fault(desk("decode", given=text), (2, f"tapebox: line {HEADER_LINES + len(good) + 1}: {fault}\n".encode()))
             told.add(fault.split()[1])
         self.assertGreater(len(told), 10)
 
@@ -86,21 +86,4 @@ class Texts(Case):
         """OPERATING, "Statuses", 2: so is a line of names."""
         for text, fault in self.HEADERS:
             with self.subTest(fault):
-                self.assert_fault(desk("decode", given=text), (2, f"tapedesk: line {fault}\n".encode()))
-
-    def test_arguments_that_are_none(self):
-        """OPERATING, "Statuses": any other arguments are bad ones, and nothing is read."""
-        for words in [["line"], ["line", "n"], ["line", "NQ"], ["line", ""], ["line", "N", "Q"], ["encode", 1], ["decode", 2]]:
-            with self.subTest(words):
-                self.assert_fault(desk(*words, given=(SAMPLES / "corrections.csv").read_bytes()), (2, b"tapedesk: bad arguments\n"))
-
-    def test_help(self):
-        """Asked for help, the program and each word say how they are used, and read nothing."""
-        helps = {word: desk(word, "--help") for word in ("report", "tape", "encode", "decode", "line", "follow")}
-        for word, ended in helps.items():
-            self.assertEqual((ended.status, ended.said), (0, b""))
-            self.assertTrue(ended.written.startswith(f"tapedesk {word} ".encode()), ended)
-        whole = desk("--help")
-        self.assertEqual(whole, Ended(0, whole.written, b""))
-        for ended in helps.values():
-            self.assertIn(ended.written.splitlines()[0], whole.written)
+                self.assert_fault(desk("decode", given=text), (2, f"tapebox: line {fault}\n".encode()))

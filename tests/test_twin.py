@@ -14,7 +14,7 @@ from dataclasses import replace
 from pathlib import Path
 
 from plain_table import COLUMNS
-from support import BENCH, FEED_SPEED, SAMPLES, TAPEDESK, TOOLS, Case, Program, batch_line, batch_of, desk, report, run
+from support import BENCH, FEED_SPEED, SAMPLES, TAPEBOX, TOOLS, Case, Program, batch_line, batch_of, desk, report, run
 
 sys.path.append(str(BENCH))
 
@@ -109,7 +109,7 @@ class PlainPrograms(Case):
             table = plain_run("to_table", given=plain_run("make_day", kind, 1, BYTES_MOST // 2).written).written
             for word in ("report", "tape"):
                 with self.subTest(f"{word} {kind} {matrix}"):
-                    wanted, ended = plain_run("desk", word, matrix, given=table), desk(word, matrix, given=table)
+                    wanted, ended = plain_run("desk", word, matrix, given=table), desk(word, matrix=matrix, given=table)
                     self.assertTrue(wanted.written)
                     self.assert_writes(replace(ended, said=b""), wanted.written)
 
@@ -210,7 +210,7 @@ class SplitDay(Case):
             self.assertNotIn("refused", whole)
             for parts in (1, 3, 4):
                 with self.subTest(parts):
-                    environment = os.environ | {"TAPEDESK": str(TAPEDESK)}
+                    environment = os.environ | {"TAPEBOX": str(TAPEBOX)}
                     split = run([table.name, parts], program=TOOLS / "split_day.py", env=environment)
                     self.assertEqual((split.status, split.said), (0, b""))
                     self.assertEqual(self.figures(split.written.decode()), self.figures(whole))

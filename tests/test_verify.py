@@ -1,4 +1,4 @@
-"""Recorded tapes through the built `tapedesk verify`, beside what `tapedesk tape` writes of the messages in them."""
+"""Recorded tapes through the built `tapebox verify`, beside what `tapebox tape` writes of the messages in them."""
 
 import csv
 
@@ -43,7 +43,7 @@ class Verify(Case):
         """How `verify` should end on a text, by what `tape` writes of the lines that have an end."""
         end = text.rfind(b"\n") + 1
         lines, cut = text[:end], text[end:]
-        tape = desk("tape", matrix, given=lines)
+        tape = desk("tape", matrix=matrix, given=lines)
         if tape.status:
             return tape
         if tape.written != lines:
@@ -54,7 +54,7 @@ class Verify(Case):
 
     def assert_told(self, text, matrix="1"):
         """`verify` ends as it should on a text. Returns its status."""
-        ended = desk("verify", matrix, given=text)
+        ended = desk("verify", matrix=matrix, given=text)
         self.assertEqual(ended, self.told(text, matrix))
         return ended.status
 
@@ -62,13 +62,13 @@ class Verify(Case):
         """FORMATS, "A readable tape": what `tape` writes is as recorded, by its matrix, and tells how many entries and refusals it has."""
         for table in [*(path.read_bytes() for path in sorted(SAMPLES.glob("*.csv"))), SeededDay(5).table()]:
             for matrix in "12":
-                tape = desk("tape", matrix, given=table).written
-                self.assertEqual(desk("verify", matrix, given=tape), Ended(0, counts(tape) + ALL + b"\n", b""))
+                tape = desk("tape", matrix=matrix, given=table).written
+                self.assertEqual(desk("verify", matrix=matrix, given=tape), Ended(0, counts(tape) + ALL + b"\n", b""))
         self.assertEqual(desk("verify", given=desk("tape", given=self.SAMPLE).written).written, b"5 entries, 1 refusal, all as recorded\n")
 
     def test_the_other_matrix(self):
         """FORMATS, "A readable tape": by another matrix than it was written by, a tape differs where the matrices do."""
-        tape = desk("tape", 2, given=(SAMPLES / "matrix-two.csv").read_bytes()).written
+        tape = desk("tape", matrix=2, given=(SAMPLES / "matrix-two.csv").read_bytes()).written
         self.assertEqual([self.assert_told(tape, matrix) for matrix in "21"], [0, 1])
 
     def test_each_digit(self):
@@ -122,8 +122,6 @@ class Verify(Case):
         """OPERATING, "Statuses", 2: a recorded tape that is no table is told as any other, on standard error."""
         tape = desk("tape", given=self.SAMPLE).written
         self.assert_fault(desk("verify", given=tape.replace(b",cancel,", b",canceled,")), desk_fault(tape.replace(b",cancel,", b",canceled,")))
-        for words in (["verify", 3], ["verify", 1, 2]):
-            self.assert_fault(desk(*words, given=tape), (2, b"tapedesk: bad arguments\n"))
 
 
 def desk_fault(table):
@@ -131,5 +129,5 @@ def desk_fault(table):
     try:
         plain_table.read(table)
     except plain_table.TableFault as fault:
-        return 2, f"tapedesk: {fault}\n".encode()
+        return 2, f"tapebox: {fault}\n".encode()
     raise AssertionError("no fault")

@@ -1,15 +1,26 @@
 """The program's arguments."""
 
-from support import BAD_ARGUMENTS, SAMPLES, Case, run
+import os
+import re
+import subprocess
+import tempfile
+from pathlib import Path
+
+from support import BAD_ARGUMENTS, ROOT, SAMPLES, STORED_DAYS, TAPEBOX, Case, Ended, desk, run
 
 OTHER = [
+    [],
     [b"batches"],
     [b"batch\xff"],
     [b"\xff"],
     *map(
         str.split,
-        """batch 3
+        """reports
+--help tape
+-matrix
+batch 3
 batch 1 2
+batch -
 live AB N 0 9001 9002 9003 1 7
 live AB N 9000 0 9002 9003 1 7
 live AB N 9000 9001 65536 9003 1 7
@@ -30,8 +41,35 @@ follow AB N 9001 9002 9003 -7
 follow AB,AB N 9001 9002 9003 7
 follow AB N,1 9001 9002 9003 7
 follow AB N 9001 9002 9003 7 2 0
-follow AB N 9001 9002 9003 7 1048576""".splitlines(),
+follow AB N 9001 9002 9003 7 1048576
+watch AB N 9001 9002 9003 -7""".splitlines(),
     ),
+]
+# The words of a table, as they are given on one: all take a file's name after these.
+MATRIX_WORDS = [["report"], ["tape"], ["explain"]]
+TABLE_WORDS = [*MATRIX_WORDS, ["check"], ["encode"], ["line", "N"]]
+# Each word with an argument that it does not take, which is named.
+WRONG = [
+    ("report --matrix 3", "3"),
+    ("report --matrix", "--matrix"),
+    ("report --matrix=3", "--matrix=3"),
+    ("report --matrix 1 --matrix 2", "--matrix"),
+    ("tape --strict=1", "--strict=1"),
+    ("tape --matrix two", "two"),
+    ("explain --strickt", "--strickt"),
+    ("report --strict --matrix 2 one.csv two.csv", "two.csv"),
+    ("check --strict", "--strict"),
+    ("check one.csv two.csv", "two.csv"),
+    ("verify --strict", "--strict"),
+    ("encode --matrix 1", "--matrix"),
+    ("decode -x", "-x"),
+    ("line", "PARTICIPANT"),
+    ("line n", "n"),
+    ("line NQ", "NQ"),
+    ("line N one.csv two.csv", "two.csv"),
+    ("follow --follower 0 day.toml", "0"),
+    ("watch --follower day.toml", "day.toml"),
+    ("live --follower 1 day.toml", "--follower"),
 ]
 
 
@@ -50,3 +88,104 @@ class Words(Case):
         stopped = b"AB\nN\nN 0026524e000000010000000000000000414220202020202000000000000186a00000006440202032\n"
         self.assertTrue(run(["batch"], stopped).written.startswith(b"refused 44 NotInMatrix\n"))
         self.assertTrue(run(["batch", "2"], stopped).written.startswith(b"1\n"))
+
+
+class TableWords(Case):
+    """The words of a table with a file's name and options."""
+
+    TABLES = [SAMPLES / "corrections.csv", SAMPLES / "matrix-two.csv"]
+
+    def test_a_named_file(self):
+        """README, "Your own data": a word writes the same of a file that is named, of standard input and of standard input by the name -."""
+        for table in self.TABLES:
+            for words in TABLE_WORDS:
+                with self.subTest(words, table=table.name):
+                    given = run(words, table.read_bytes())
+                    self.assertEqual(run([*words, table]), given)
+                    self.assertEqual(run([*words, "-"], table.read_bytes()), given)
+        tape = desk("tape", given=self.TABLES[0].read_bytes()).written
+        with tempfile.NamedTemporaryFile() as file:
+            file.write(tape)
+            file.flush()
+            self.assertEqual(run(["verify", file.name]), run(["verify"], tape))
+        for day in STORED_DAYS[:1]:
+            self.assertEqual(run(["decode", day]), run(["decode"], day.read_bytes()))
+
+    def test_options_in_any_order(self):
+        """OPERATING: options stand before or after the file's name, in any order, and Matrix One is used if none is named."""
+        table = self.TABLES[1]
+        for words in MATRIX_WORDS:
+            one, two = (desk(*words, given=table.read_bytes(), matrix=matrix) for matrix in "12")
+            self.assertNotEqual(one.written, two.written)
+            self.assertEqual(run([*words, table]), one)
+            for more in ([table, "--matrix", 2], ["--matrix", 2, table], ["--matrix=2", table]):
+                with self.subTest(words, more=more):
+                    self.assertEqual(run([*words, *more]), two)
+            for more in (["--strict", "--matrix", 2, table], [table, "--matrix", 2, "--strict"], ["--matrix", 2, table, "--strict"]):
+                with self.subTest(words, more=more):
+                    self.assertEqual(run([*words, *more]), two)
+
+    def test_strict(self):
+        """README, "Your own data": with --strict a row that the tape refuses ends a word with 2; the rows are counted and nothing is written."""
+        table = self.TABLES[0]
+        for words in MATRIX_WORDS:
+            with self.subTest(words):
+                plain = run([*words, table])
+                self.assertEqual((plain.status, plain.said.count(b"\n")), (0, 1))
+                self.assert_fault(run([*words, "--strict", table]), (2, plain.said))
+
+    def test_a_wrong_argument(self):
+        """OPERATING, "Statuses", 2: an argument that a word does not take is named, with the word's form of use, and nothing is read."""
+        forms = {word: run([word, "--help"]).written.decode().splitlines()[0] for word in {words.split()[0] for words, _ in WRONG}}
+        for words, named in WRONG:
+            with self.subTest(words):
+                ended = run(words.split(), (SAMPLES / "corrections.csv").read_bytes())
+                self.assertEqual((ended.status, ended.written), (2, b""))
+                why, form = ended.said.decode().splitlines()
+                self.assertRegex(why, rf"\Atapebox: .*{re.escape(named)}")
+                self.assertIn(forms[words.split()[0]], form)
+
+    def test_a_file_that_cannot_be_opened(self):
+        """OPERATING, "Statuses", 3: a file that is not there, or is a folder, is named, with the reason."""
+        for name in ("no-such-file", SAMPLES):
+            for words in [*TABLE_WORDS, ["verify"], ["decode"]]:
+                with self.subTest(words, name=name):
+                    ended = run([*words, name])
+                    self.assertEqual((ended.status, ended.written), (3, b""))
+                    self.assertRegex(ended.said.decode(), rf"\Atapebox: {name}: [^\n]+\n\Z")
+
+    def test_a_reader_that_ends(self):
+        """OPERATING, "Statuses", 4: a pipe whose reader has ended ends a word with its status."""
+        for words in TABLE_WORDS:
+            with self.subTest(words):
+                reader, writer = os.pipe()
+                os.close(reader)
+                ended = run([*words, self.TABLES[0]], stdout=writer)
+                os.close(writer)
+                self.assertEqual(ended.status, 4)
+
+
+class Help(Case):
+    def test_help(self):
+        """Asked for help, the program and each word say how they are used, read nothing, and have the same forms as `./run --help`."""
+        whole = run(["--help"])
+        self.assertEqual(whole, Ended(0, whole.written, b""))
+        forms = re.findall(rb"(?m)^ *(tapebox [a-z]+ .*|tapebox [a-z]+)$", whole.written)
+        words = sorted({form.split()[1] for form in forms})
+        self.assertEqual(words, sorted(b"report tape explain check verify encode decode line batch live follow watch".split()))
+        for word in words:
+            with self.subTest(word):
+                ended = run([word, "--help"])
+                self.assertEqual((ended.status, ended.said), (0, b""))
+                self.assertIn(ended.written.splitlines()[0], whole.written)
+        listed = subprocess.run([ROOT / "run", "--help"], stdout=subprocess.PIPE, check=True).stdout
+        for form in forms:
+            self.assertIn(form + b"\n", listed)
+
+    def test_version(self):
+        """`--version` tells the program's own version, the commit and the kit by which it was built."""
+        ended = run(["--version"])
+        self.assertEqual((ended.status, ended.said), (0, b""))
+        built = Path(f"{TAPEBOX}.build").read_text(encoding="utf-8")
+        self.assertRegex(ended.written.decode(), r"\Atapebox \d+\.\d+")
+        self.assertIn(built.strip(), ended.written.decode())

@@ -146,12 +146,18 @@ def is_refused_in_part(kit, crate, texts):
     return all(modules) and is_refused_in(kit, crate, texts, modules)
 
 
+def came_to_a_refusal(kit):
+    """What a kit says of an edit that is refused: True, or in a later one a word for why."""
+    return [True, *(getattr(kit, name) for name in ("REFUSED", "AT_LIMIT") if hasattr(kit, name))]
+
+
 def is_refused(kit, crate, edit):
     """Whether the prover refuses a crate with an edit. What it says of one that it does not refuse is printed."""
     texts, why = kit.read_edit(edit, crate.folder)
     if not why and is_refused_in_part(kit, crate, texts):
         return True
-    well, told = kit.must_fail(crate, edit, ["--jobs", "1"])
+    came_to, told = kit.must_fail(crate, edit, ["--jobs", "1"])
+    well = came_to in came_to_a_refusal(kit)
     if not well:
         say(told)
     return well

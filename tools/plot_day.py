@@ -5,12 +5,12 @@ REPORT is what `tapebox` writes, with or without the answers of a batch before t
 symbol has a panel with a row for its consolidated figures and one for each participant: a bar from the low to the high, a ring at the
 open, a dot at the last, and the volume as a bar of its own. The first line counts the answers, refused ones by their names.
 
-TAPE is what `tapedesk tape` writes, or another table whose column `tape` has each row's tape number, and anything else where the row was
+TAPE is what `tapebox tape` writes, or another table whose column `tape` has each row's tape number, and anything else where the row was
 refused. The picture has the symbol's trades by tape number and price: a dot for each that stands, a cross for one that was cancelled, and
 for one that was corrected a ring at each price that it had, with a line to the last one. Where the table has a column `last`, a line
 follows it.
 
-FILE is what `tapedesk explain` writes of the same table by the same matrix. The trades that set the symbol's open, high, low and last have
+FILE is what `tapebox explain` writes of the same table by the same matrix. The trades that set the symbol's open, high, low and last have
 a ring each, and a line to the figure's name and price at the right.
 
 Statuses: 0 if the picture was written; 1 if a file can't be read or has no report, or no row of the symbol, or has a bad row, or FILE is
@@ -382,7 +382,7 @@ def main():
     parser = argparse.ArgumentParser(description=__doc__, formatter_class=argparse.RawDescriptionHelpFormatter)
     parser.add_argument("--symbol", metavar="SYMBOL", help="draw the trades of this symbol on a tape")
     parser.add_argument("file", nargs="?", metavar="REPORT|TAPE")
-    parser.add_argument("--explained", metavar="FILE", help="mark the trades that set its open, high, low and last, by what tapedesk explain wrote")
+    parser.add_argument("--explained", metavar="FILE", help="mark the trades that set its open, high, low and last, by what tapebox explain wrote")
     words = parser.parse_args()
     if words.explained is not None and not words.symbol:
         parser.error("--explained needs --symbol")

@@ -1,23 +1,24 @@
 #!/usr/bin/env python3
 """Sends a day's table to a running `tapebox live`, each participant's messages over a TCP connection of its own.
 
+    send_day.py [--pause SECONDS] TABLE.csv DAY.toml
     send_day.py [--pause SECONDS] TABLE.csv PORT [PARTICIPANTS]
     send_day.py --names TABLE.csv
 
-`tapedesk encode` reads the table. PORT and PARTICIPANTS are those of `live`: the participant at position i of the list, from 0, is
-sent to port PORT + i of 127.0.0.1. Without PARTICIPANTS they are the table's own, in the order of their appearance, which `--names`
-prints after the symbols, each list on a line of its own and with commas between the names. A listed participant without a row is
-connected too and sends nothing, since `live` waits for each.
+`tapebox encode` reads the table. DAY.toml is the day's file that `live` has, or PORT and PARTICIPANTS are those of `live`: the participant
+at position i of the list, from 0, is sent to port PORT + i of 127.0.0.1. With a PORT and without PARTICIPANTS they are the table's own, in
+the order of their appearance, which `--names` prints after the symbols, each list on a line of its own and with commas between the names. A
+listed participant without a row is connected too and sends nothing, since `live` waits for each.
 
 Messages leave in the order of the rows, but participants' lines run at once: without a pause after each message the tape may
 have another order between participants. Connecting is tried for ten seconds. After the last row the lines end, and it waits until
 `live` has closed them, for ten seconds at most: whether a message was admitted is not told by a line.
 
-    TAPEDESK  the program (the one that ./run finds)
+    TAPEBOX   the program (the one that ./run finds)
 
-Statuses: 0 if all was sent, or printed; 1 if the table can't be read, at its first bad row, and then nothing is sent, if nothing
-listens, or if a line was closed at the other end before all of its messages were sent and read: the participant is named then, and how
-many were sent; 2 if the words are others.
+Statuses: 0 if all was sent, or printed; 1 if the table can't be read, at its first bad row, or the day's file, at its first fault, and
+then nothing is sent, if nothing listens, or if a line was closed at the other end before all of its messages were sent and read: the
+participant is named then, and how many were sent; 2 if the words are others.
 """
 
 import argparse
@@ -30,12 +31,14 @@ import sys
 import time
 from pathlib import Path
 
+import day_file
+
 RUN = Path(__file__).resolve().parent.parent / "run"
 HOST = "127.0.0.1"
 CONNECTING_SECONDS = 10
 # How long the other ends are waited for after the last row.
 CLOSING_SECONDS = 10
-# The number of the row of the first message, as tapedesk counts rows: the header row is the first.
+# The number of the row of the first message, as tapebox counts rows: the header row is the first.
 FIRST_ROW = 2
 
 
@@ -53,10 +56,10 @@ def read_day(path):
     except OSError as fault:
         sys.exit(f"send_day.py: {path}: {fault.strerror}")
     with table:
-        done = subprocess.run([os.environ.get("TAPEDESK", RUN), "encode"], stdin=table, capture_output=True, check=False)
+        done = subprocess.run([os.environ.get("TAPEBOX", RUN), "encode"], stdin=table, capture_output=True, check=False)
     if done.returncode:
         why = done.stderr.decode(errors="replace").strip().splitlines()[-1:]
-        sys.exit(f"send_day.py: {path}: {''.join(why).removeprefix('tapedesk: ')}")
+        sys.exit(f"send_day.py: {path}: {''.join(why).removeprefix('tapebox: ')}")
     return parse_batch(done.stdout.decode())
 
 
@@ -143,15 +146,19 @@ def send(path, messages, connections, pause):
         fail(letter, "", " before all was read")
 
 
-def listed(word, path, messages):
-    """The letters of PARTICIPANTS, which has the participant of every row of the table."""
+def listed(word):
+    """The letters of PARTICIPANTS."""
     participants = word.split(",")
     if len(set(participants)) != len(participants) or not all(len(letter) == 1 for letter in participants):
         sys.exit(f"send_day.py: {word!r} is no list of different letters with commas between them")
+    return participants
+
+
+def judge_rows(path, messages, participants):
+    """Judges that the participant of each row of the table is among these."""
     for row, (letter, _) in enumerate(messages, FIRST_ROW):
         if letter not in participants:
-            sys.exit(f"send_day.py: {path}, row {row}: participant {letter!r} is not among {word}")
-    return participants
+            sys.exit(f"send_day.py: {path}, row {row}: participant {letter!r} is not among {','.join(participants)}")
 
 
 def arguments():
@@ -159,11 +166,13 @@ def arguments():
     parser.add_argument("--names", action="store_true", help="print the table's symbols and participants, and send nothing")
     parser.add_argument("--pause", type=float, default=0, metavar="SECONDS", help="rest so long after each message (0)")
     parser.add_argument("table", metavar="TABLE.csv")
-    parser.add_argument("port", nargs="?", type=int, metavar="PORT", help="the first participant's port")
+    parser.add_argument("day", nargs="?", metavar="DAY.toml|PORT", help="the day's file, or the first participant's port")
     parser.add_argument("participants", nargs="?", metavar="PARTICIPANTS", help="their letters as live has them")
     words = parser.parse_args()
-    if words.names == (words.port is not None):
-        parser.error("give either --names or PORT")
+    if words.names == (words.day is not None):
+        parser.error("give either --names, or DAY.toml or PORT")
+    if words.participants is not None and not words.day.isdecimal():
+        parser.error("a day's file has the participants itself")
     if words.pause < 0:
         parser.error("a pause must not be negative")
     return words, parser
@@ -175,11 +184,16 @@ def main():
     if words.names:
         print(",".join(symbols), ",".join(participants), sep="\n")
         return
-    if words.participants is not None:
-        participants = listed(words.participants, words.table, messages)
-    if not 1 <= words.port <= 65_536 - len(participants):
-        parser.error(f"there are no {len(participants)} ports from {words.port} on")
-    send(words.table, messages, connect(participants, words.port), words.pause)
+    if words.day.isdecimal():
+        port = int(words.day)
+        participants = listed(words.participants) if words.participants is not None else participants
+        if not 1 <= port <= 65_536 - len(participants):
+            parser.error(f"there are no {len(participants)} ports from {port} on")
+    else:
+        day = day_file.read_or_exit(words.day)
+        participants, port = day.participants, day.port
+    judge_rows(words.table, messages, participants)
+    send(words.table, messages, connect(participants, port), words.pause)
 
 
 if __name__ == "__main__":

@@ -1,17 +1,17 @@
 #!/usr/bin/env python3
 """A day over several tapes: split_day.py TABLE.csv N [FOLDER]
 
-Splits the table by its symbols into N parts, runs `tapedesk report` on each side by side by GNU parallel, and prints one report: the rows of
+Splits the table by its symbols into N parts, runs `tapebox report` on each side by side by GNU parallel, and prints one report: the rows of
 all, in the order in which the symbols and the participants appear in the table. So a table may have more rows or symbols than one tape
 holds. If one tape over the whole table would refuse no message, that is its report but for the places of the marks, which are numbers of
 each symbol's own tape. How many messages were refused stands on standard error, unless none was.
 
 The parts are balanced by their rows: each symbol goes to the part that has the fewest so far, the symbols with the most rows first. A part
 has the table's columns but its remarks, and first the column `#row`: the number of the row in the table, whose header row is the first. The
-table is read twice and never held. Its fields are read by `tapedesk`, of each part. With FOLDER nothing is run: the parts are written there,
+table is read twice and never held. Its fields are read by `tapebox`, of each part. With FOLDER nothing is run: the parts are written there,
 part-1.csv to part-N.csv.
 
-    TAPEDESK  the program (the proved one or its draft, as ./run has it)
+    TAPEBOX   the program (the proved one or its draft, as ./run has it)
     MATRIX    the matrix, 1 or 2 (1)
     PARALLEL  options of parallel, as "--sshlogin HOST1,HOST2" for several machines; docs/SCALE.md says what each needs
     PARALLEL_SSH  how they are called (ssh, which asks for no password and gives a host up that is silent for 15 seconds)
@@ -37,9 +37,9 @@ RUN = Path(__file__).resolve().parent.parent / "run"
 # The number of the row below the header row.
 FIRST_ROW = 2
 SSH = "ssh -o BatchMode=yes -o ConnectTimeout=10 -o ServerAliveInterval=5 -o ServerAliveCountMax=3"
-# What tapedesk says of a table at fault, and of messages that its tape refused.
-FAULT = re.compile(r"tapedesk: (?:row (?P<row>\d+)(?P<why>:.*)|(?P<whole>(?:header row|the table) .*))")
-REFUSED = re.compile(r"tapedesk: (\d+) rows? refused: ")
+# What tapebox says of a table at fault, and of messages that its tape refused.
+FAULT = re.compile(r"tapebox: (?:row (?P<row>\d+)(?P<why>:.*)|(?P<whole>(?:header row|the table) .*))")
+REFUSED = re.compile(r"tapebox: (\d+) rows? refused: ")
 # No field is too long to be passed on.
 csv.field_size_limit(sys.maxsize)
 
@@ -159,11 +159,11 @@ def split(path, parts):
 
 def program():
     """The program that reports a part."""
-    if "TAPEDESK" in os.environ:
-        return os.environ["TAPEDESK"]
-    done = subprocess.run([RUN, "--which", "tapedesk"], stdout=subprocess.PIPE, text=True, check=False)
+    if "TAPEBOX" in os.environ:
+        return os.environ["TAPEBOX"]
+    done = subprocess.run([RUN, "--which", "tapebox"], stdout=subprocess.PIPE, text=True, check=False)
     if done.returncode:
-        raise Fault("there is no tapedesk")
+        raise Fault("there is no tapebox")
     return done.stdout.rstrip("\n")
 
 
@@ -222,7 +222,7 @@ def report(path, count):
         symbols, participants = split(path, parts)
         if not shutil.which("parallel"):
             raise Fault("there is no GNU parallel")
-        run_parts(f'"{program()}" report {os.environ.get("MATRIX", "1")}', parts, Path(folder))
+        run_parts(f'"{program()}" report --matrix {os.environ.get("MATRIX", "1")}', parts, Path(folder))
         refused = sum(part.refused() for part in parts)
         if refused:
             print(f"split_day.py: {refused} messages were refused", file=sys.stderr)

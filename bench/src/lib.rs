@@ -2,8 +2,8 @@
 //! message, and `least` with none: the input, answers and report of `tapebox batch [1|2]`, with nothing of its code. `feed`
 //! sends that tape on two lossy lines to a subscriber, `wire` sends its packets over two ports without a tape, `forward`
 //! sends on what participants' lines bring without one, `latency` tells how long a message takes through it or through `tapebox live`, and
-//! `read_lines` says what packets, messages, requests and answers are read from given bytes. `desk` has the report and the readable tape of
-//! `tapedesk`, of a table of plain fields.
+//! `read_lines` says what packets, messages, requests and answers are read from given bytes. `desk` has the report and the readable tape
+//! of a table of plain fields, as `tapebox` writes them.
 
 mod batch;
 mod day;

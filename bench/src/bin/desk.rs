@@ -1,4 +1,4 @@
-//! `desk report|least|tape [1|2]`: the report or the readable tape of a table of plain fields, as `tapedesk` writes it. `least` writes the
+//! `desk report|least|tape [1|2]`: the report or the readable tape of a table of plain fields, as `tapebox` writes it. `least` writes the
 //! report by one fold at the end, without a tape.
 
 use bench::{Matrix, TableWord, desk};

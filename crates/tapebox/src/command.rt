@@ -1,10 +1,11 @@
 //! What the program's arguments ask for.
-ghost use Rattle.std.specs.Prelude.{◌≡◌, ◌⊎◌, IfOk, IfSome, Ok, Err, true};
+ghost use Rattle.std.specs.Prelude.{◌≡◌, ◌⊎◌, IfOk, IfSome, None, Ok, Err, true};
 ghost use Rattle.feed_words.specs.declared.fault.WordsFault.TheVariants.{OutOfMemory};
-ghost use Rattle.tapebox.specs.Program.{AsksFor, asks_follow, asks_live, batch_matrix};
-ghost use Rattle.tapebox.specs.declared.command.Command.TheVariants.{Batch};
+ghost use Rattle.tapebox.specs.Program.{AsksFor, asked_in, asks_follow, asks_live, batch_matrix};
+ghost use Rattle.tapebox.specs.declared.command.Command.TheVariants.{Asked as Asks, Batch};
 
 use feed_words::{FollowWords, LiveWords, WordsFault};
+use program_words::{Asked, read_arguments};
 use sale_matrix::Matrix;
 use std::alloc::Global;
 
@@ -32,6 +33,8 @@ pub enum Command {
     Live(LiveWords),
     /// A tape that is followed.
     Follow(FollowWords),
+    /// What arguments ask for that don't stand in a row.
+    Asked(Asked),
 }
 
 /// The matrix that the arguments of a batch ask for, or `None` for other arguments.
@@ -48,14 +51,17 @@ fn batch_matrix(words: &[u8]) -> Option<Matrix>
 }
 
 /// What arguments ask for, each ended by a zero byte, or why they ask for nothing: `BadArguments`, or `OutOfMemory` for the
-/// names of `live` or `follow`.
+/// names of `live` or `follow` in a row.
 pub fn read_command(alloc: Global, words: &[u8]) -> Result<Command, WordsFault>
+    ensures other { batch_matrix words.now ≡ None → IfSome (asked_in words.now) (λ asked. result ≡ Ok (Asks asked)) }
     ensures batch { IfSome (batch_matrix words.now) (λ matrix. result ≡ Ok (Batch matrix)) }
     ensures asked { IfOk result (λ command. AsksFor command words.now) }
     ensures memory { result ≡ Err OutOfMemory → (asks_live words.now ≡ true) ⊎ (asks_follow words.now ≡ true) }
 {
     if let Some(matrix) = batch_matrix(words) {
         Ok(Command::Batch(matrix))
+    } else if let Some(asked) = read_arguments(words) {
+        Ok(Command::Asked(asked))
     } else if words.starts_with(LIVE) {
         Ok(Command::Live(LiveWords::read(alloc, &words[LIVE.len()..])?))
     } else if words.starts_with(FOLLOW) {

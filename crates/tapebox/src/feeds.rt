@@ -1,13 +1,16 @@
 //! `live` and `follow`: their sockets, their engines, and what is said of how they end.
-ghost use Rattle.std.specs.Prelude.{◌≡◌, ◌≢◌, []};
-ghost use Rattle.live_feed.specs.Reports.{WritesItsReport};
-ghost use Rattle.tapebox.specs.Program.{IsFeedStatus, RunsFeed, feed_text};
+ghost use Rattle.std.specs.Prelude.{◌≡◌, ◌≢◌};
+ghost use Rattle.program_words.specs.Statuses.{status_code, status_text};
+ghost use Rattle.feed_ends.specs.Reports.{WritesItsReport};
+ghost use Rattle.tapebox.specs.Program.{IsFeedStatus, RunsFeed};
 ghost use Rattle.row_reads.specs.Writing.{WritesPrefix};
 
-use crate::writing::say;
-use batch::BatchEnd;
+use desk_words::say_status;
+use feed_ends::{Fault, here};
+use feed_follower::{FollowSockets, NoSink, follow_over};
 use feed_words::{FollowWords, LiveWords};
-use live_feed::{Fault, FollowSockets, LiveSockets, NoLoss, NoSink, follow_over, here, live_over};
+use live_feed::{LiveSockets, NoLoss, live_over};
+use program_words::Status;
 use std::alloc::Global;
 use std::io;
 use std::io::Write;
@@ -79,27 +82,16 @@ fn open_follow<T: Net<Listener = TcpListener, Stream = TcpStream>>(
     })
 }
 
-/// What is said of a status: nothing, or one line. Of a fault that a batch has too, the same is said.
-fn text_of(status: u8) -> &'static str
-    ensures { result.now ≡ feed_text status }
+/// Says what there is to say of the status of an engine, and returns it.
+#[tactic(auto, using(crate::proofs::FeedLemmas::feed_within))]
+fn report_status<E: Write>(errors: &mut E, code: u8) -> Status
+    requires { IsFeedStatus code }
+    ensures status { status_code result ≡ code }
+    ensures quiet { code ≡ 0 → errors.new ≡ errors.old }
+    ensures said { WritesPrefix (status_text result) (E.contents errors.old) (E.contents errors.new) }
 {
-    match status {
-        3 => BatchEnd::ReadFault.text(),
-        4 => BatchEnd::WriteFault.text(),
-        5 => BatchEnd::OutOfMemory.text(),
-        6 => "tapebox: worker not started\n",
-        7 => "tapebox: tape disagrees\n",
-        _ => "",
-    }
-}
-
-/// Says what there is to say of a status, and gives it back.
-fn report_status<E: Write>(errors: &mut E, status: u8) -> u8
-    ensures status { result ≡ status }
-    ensures quiet { feed_text status ≡ [] → errors.new ≡ errors.old }
-    ensures said { WritesPrefix (feed_text status) (E.contents errors.old) (E.contents errors.new) }
-{
-    say(errors, text_of(status));
+    let status = Status::of_code(code);
+    say_status(errors, status);
     status
 }
 
@@ -136,7 +128,7 @@ pub fn run_live<T, W, E>(
     words: LiveWords,
     writer: &mut W,
     errors: &mut E,
-) -> u8
+) -> Status
 where
     T: Threads + Wait + Clock + Net<Listener = TcpListener, Stream = TcpStream> + Sync,
     W: Write,
@@ -182,7 +174,7 @@ pub fn run_follow<T, W, E>(
     words: FollowWords,
     writer: &mut W,
     errors: &mut E,
-) -> u8
+) -> Status
 where
     T: Threads + Wait + Net<Listener = TcpListener, Stream = TcpStream> + Sync,
     W: Write,

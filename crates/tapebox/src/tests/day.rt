@@ -2,7 +2,7 @@
 
 use crate::{FollowSockets, LiveSockets, Loss, NoSink, follow_over, live_over};
 use arbitration::Line;
-use live_feed::here;
+use feed_ends::here;
 use sale_matrix::Matrix;
 use std::alloc::Global;
 use std::io::{Read, Write};

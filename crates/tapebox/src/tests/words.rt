@@ -112,7 +112,7 @@ fn asked_matrix(alloc: Global, words: &[u8]) -> Option<Matrix> {
         Ok(Command::Batch(matrix)) => Some(matrix),
         Ok(Command::Live(live)) => Some(live.matrix),
         Ok(Command::Follow(follow)) => Some(follow.matrix),
-        Err(_) => None,
+        Ok(Command::Asked(_)) | Err(_) => None,
     }
 }
 

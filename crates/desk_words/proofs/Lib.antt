@@ -1,0 +1,4 @@
+pub mod LineLemmas
+pub mod RunLemmas
+pub mod VerifyLemmas
+pub mod WatchLemmas

@@ -1,0 +1,146 @@
+-- The rows of a followed tape, the line of the columns' names before them, and the statuses of a run.
+use Rattle.std.proofs.Common.{◌≡◌, ◌++◌, ◌∙◌, ◌∷◌, ◌+◌, ◌-◌, ◌≤◌, ◌⊎◌, IfSome, IsSome, inl, inr, arith, [], List, ℕ, Option, Some, None, ap, append-nil, drop, length, refl, subst, sym, take}
+use Rattle.std.proofs.KnownBytes.{Appends-kept, Keeps-refl}
+use Rattle.std.proofs.Math.Seq.{take-append-add}
+use Rattle.std.proofs.lemmas.List.{take-append-drop}
+use Rattle.std.specs.Io.KnownBytes.{Appends, Keeps, append_known}
+use Rattle.row_reads.specs.Lemmas.WriteLemmas.{WritesPrefix-kept, WritesPrefix-longer, WritesPrefix-then, WritesUpTo-all, WritesUpTo-gathered, WritesUpTo-whole}
+use Rattle.row_reads.specs.Writing.{WritesPrefix}
+use Rattle.sale_matrix.specs.declared.matrix.Matrix.{Matrix}
+use Rattle.tape_types.specs.Names.{Names}
+use Rattle.tape_core.specs.Tape.{IsLegal, empty_tape}
+use Rattle.tape_core.specs.declared.entry.Entry.{Entry}
+use Rattle.feed_follower.specs.Sinks.{GivesPart, GivesTape, HasPart, figures_of, rows_after}
+use Rattle.table_days.specs.TapeRows.{entry_rows, head_line, rows_text}
+use Rattle.program_words.specs.Statuses.{status_code, status_text}
+use Rattle.program_words.specs.declared.status.Status.{Status}
+use Rattle.program_words.specs.declared.status.Status.TheVariants as status
+use Rattle.program_words.specs.declared.status.Status.TheVariants.{Done, Differs, Bad, ReadFault, NotStarted, Disagrees}
+use Rattle.desk_words.specs.Watches.{IsRunStatus, WritesPartOf, WritesSome, WritesTapeOf, WritesWhole, entry_line, followed_text, watch_text}
+
+-- ## Rows
+
+-- the rows of entries are what a sink that makes a row of each is given
+rows_same : (matrix : Matrix) (before entries : List Entry) → rows_text (entry_rows matrix before entries) ≡ rows_after entry_line matrix before entries
+unfolding rows_text entry_rows
+rows_same matrix before [] = refl
+rows_same matrix before (e ∷ entries) =
+    ap (λ (l : List ℕ). entry_line e (figures_of matrix (before ++ e ∷ []) e) ++ l) (rows_same matrix (before ++ e ∷ []) entries)
+
+-- a tape that holds nothing is legal
+nothing_legal : (listing : Names) (matrix : Matrix) → IsLegal (empty_tape listing 1 matrix)
+nothing_legal listing matrix k e at = absurd (cc)
+
+-- bytes that have grown by a text up to some byte of it have grown by a prefix of it
+part_prefix : (text : List ℕ) (old new : Option (List ℕ)) → HasPart text old new → WritesPrefix text old new
+part_prefix text None new part = ([], record { prefix = text; split = sym (append-nil text); written = tt })
+part_prefix text (Some xs) None part = absurd part
+part_prefix text (Some xs) (Some ys) part =
+    let n : ℕ = length ys - length xs in
+    let size : length ys ≡ length xs + n = omega (arith, part.0) in (
+      drop n text,
+      record {
+        prefix = take n text;
+        split = sym (take-append-drop n text);
+        written = part.1 ∙ ap (λ (k : ℕ). take k (xs ++ text)) size ∙ take-append-add xs text n;
+      },
+    )
+
+-- ## Tapes
+
+-- a part of the line of the names is a part of a tape
+pub head_part : (listing : Names) (matrix : Matrix) (limit : ℕ) (old new : Option (List ℕ)) → WritesPrefix head_line old new → WritesPartOf listing matrix limit old new
+head_part listing matrix limit old new prefix =
+    let t = empty_tape listing 1 matrix in (
+      t,
+      record { legal = nothing_legal listing matrix; listed = refl; by_matrix = refl; within = omega (arith) },
+      WritesPrefix-longer head_line (rows_text (entry_rows matrix [] [])) old new prefix,
+    )
+
+-- the line of the names and all rows are the whole tape, also once the writer is flushed
+pub tape_whole : (listing : Names) (matrix : Matrix) (limit : ℕ) (old mid has new : Option (List ℕ)) → Appends old mid head_line
+    → GivesTape entry_line listing matrix limit mid has → Keeps has new → WritesTapeOf listing matrix limit old new
+tape_whole listing matrix limit old mid has new head given kept =
+    let t = given.0 in
+    let rows : List ℕ = rows_after entry_line t.matrix [] t.entries in
+    let all : Appends old has (head_line ++ rows) = WritesUpTo-all (head_line ++ rows) old has
+    (WritesUpTo-gathered head_line [] rows [] rows old mid has refl (WritesUpTo-whole head_line old mid head) (WritesUpTo-whole rows mid has given.2)) in (
+      t,
+      given.1,
+      Appends-kept old has new (followed_text t) (subst (λ (l : List ℕ). Appends old has (head_line ++ l)) (sym (rows_same t.matrix [] t.entries)) all) kept,
+    )
+
+-- the line of the names and a part of the rows are a part of the tape, also once the writer is flushed
+pub tape_part : (listing : Names) (matrix : Matrix) (limit : ℕ) (old mid has new : Option (List ℕ)) → Appends old mid head_line
+    → GivesPart entry_line listing matrix limit mid has → Keeps has new → WritesPartOf listing matrix limit old new
+tape_part listing matrix limit old mid has new head given kept =
+    let t = given.0 in
+    let rows : List ℕ = rows_after entry_line t.matrix [] t.entries in
+    let some : WritesPrefix (head_line ++ rows) old has = WritesPrefix-then head_line rows old mid has head (part_prefix rows mid has given.2) in (
+      t,
+      given.1,
+      WritesPrefix-kept (followed_text t) old has new (subst (λ (l : List ℕ). WritesPrefix (head_line ++ l) old has) (sym (rows_same t.matrix [] t.entries)) some) kept,
+    )
+
+-- a buffer that holds nothing adds nothing
+pub held_nothing : (known : Option (List ℕ)) → append_known known [] ≡ known
+held_nothing None = refl
+held_nothing (Some xs) = ap Some (append-nil xs)
+
+-- the whole tape went through a buffer
+pub whole_back : {W : Type 0} (contents : W → Option (List ℕ)) (listing : Names) (matrix : Matrix) (limit : ℕ) (writer : W) (back : Option W) (first mid : Option (List ℕ))
+    → first ≡ contents writer → WritesTapeOf listing matrix limit first mid → IfSome back (λ inner. Keeps mid (contents inner)) → IsSome back
+    → WritesWhole contents listing matrix limit writer back
+whole_back contents listing matrix limit writer None first mid same whole kept some = absurd (cc some)
+whole_back contents listing matrix limit writer (Some inner) first mid same whole kept some = (
+  whole.0,
+  whole.1,
+  Appends-kept (contents writer) mid (contents inner) (followed_text whole.0)
+      (subst (λ (known : Option (List ℕ)). Appends known mid (followed_text whole.0)) same whole.2) kept,
+)
+
+-- a part of it went through a buffer
+pub some_back : {W B : Type 0} (contents : W → Option (List ℕ)) (held : B → Option (List ℕ)) (listing : Names) (matrix : Matrix) (limit : ℕ) (writer : W)
+    (first last : B) (back : Option W) → held first ≡ contents writer → (last ≡ first) ⊎ WritesPartOf listing matrix limit (held first) (held last)
+    → IfSome back (λ inner. Keeps (held last) (contents inner)) → WritesSome contents listing matrix limit writer back
+some_back contents held listing matrix limit writer first last None same part kept = tt
+some_back contents held listing matrix limit writer first last (Some inner) same (inl is) kept =
+    inl (subst (λ (known : Option (List ℕ)). Keeps known (contents inner)) (ap held is ∙ same) kept)
+some_back contents held listing matrix limit writer first last (Some inner) same (inr part) kept = inr (
+  part.0,
+  part.1,
+  WritesPrefix-kept (followed_text part.0) (contents writer) (held last) (contents inner)
+      (subst (λ (known : Option (List ℕ)). WritesPrefix (followed_text part.0) known (held last)) same part.2) kept,
+)
+
+-- known bytes that are left alone are kept
+pub keeps_same : (known : Option (List ℕ)) → Keeps known known
+keeps_same known = Keeps-refl known
+
+-- ## Statuses
+
+-- the status of a run is no other one after a flush, unless that fails
+pub flushed_status : (status result : ℕ) → IsRunStatus status → (result ≡ status) ⊎ (result ≡ 4) → IsRunStatus result
+flushed_status status result run (inl same) = subst IsRunStatus (sym same) run
+flushed_status status result run (inr failed) = inr (omega (arith, failed), omega (arith, failed))
+
+-- the status of a run is one of the program's
+pub run_within : (status : ℕ) → IsRunStatus status → status ≤ 7
+run_within status (inl done) = omega (arith, done)
+run_within status (inr fault) = fault.1
+
+-- no run has the status of bad arguments
+pub not_bad : (status : ℕ) → IsRunStatus status → status ≡ 2 → ⊥
+not_bad status (inl done) bad = omega (arith, done, bad)
+not_bad status (inr fault) bad = omega (arith, fault.0, bad)
+
+-- what is said of a run's end is the status's own text
+pub watch_said : (status : Status) → IsRunStatus (status_code status) → watch_text status ≡ status_text status
+watch_said Done run = refl
+watch_said Differs run = refl
+watch_said Bad run = absurd (not_bad 2 run refl)
+watch_said ReadFault run = refl
+watch_said status.WriteFault run = refl
+watch_said status.OutOfMemory run = refl
+watch_said NotStarted run = refl
+watch_said Disagrees run = refl

@@ -1,0 +1,15 @@
+use Rattle.table_days.specs.declared.table_end.TableEnd.TheVariants.{OutOfMemory, WriteFault}
+use Rattle.desk_words.proofs.RunLemmas.{part_known, silent_else}
+use Rattle.desk_words.proofs.program.run_encode.Goals as goal
+
+pub returns : goal.returns
+returns g c = record {
+  run = c.encode_over-run.result;
+  status_is = c.end_text.ensures.status;
+  written = c.encode_over-run.ensures.written;
+  ended = c.encode_over-run.ensures.end;
+  part = λ ended. part_known _ _ _ (c.encode_over-run.ensures.prefix ended);
+  silent = silent_else WriteFault OutOfMemory c.encode_over-run.result _ c.encode_over-run.ensures.silent;
+  quiet = c.end_text.ensures.quiet;
+  said = c.end_text.ensures.said;
+}

@@ -1,0 +1,6 @@
+pub mod Program
+pub mod RefusalLines
+pub mod TextRuns
+pub mod VerdictLines
+pub mod VerifyRuns
+pub mod Watches

@@ -1,0 +1,120 @@
+-- What the program does for its arguments.
+use Rattle.std.specs.Prelude.{◌≡◌, ◌≢◌, ◌⊎◌, ◌&&◌, ℕ, Bool, true, false, List, [], Option, IfSome, Result, Ok, Err, IsOk, if◌then◌else◌}
+use Rattle.std.specs.List.{list_any}
+use Rattle.std.specs.Option.{is_some}
+use Rattle.day_tables.specs.TableTexts.{table_text}
+use Rattle.day_tables.specs.Tables.{IsTable}
+use Rattle.sale_matrix.specs.declared.matrix.Matrix.{Matrix}
+use Rattle.reports.specs.declared.message.Message.{Message}
+use Rattle.row_reads.specs.Writing.{WritesPrefix}
+use Rattle.table_days.specs.Checks.{IsCheckEnd, WritesCheck, WritesCheckPart}
+use Rattle.table_days.specs.Days.{day_text}
+use Rattle.table_days.specs.EndTexts.{end_status}
+use Rattle.table_days.specs.Refusals.{all_reasons, refused_for}
+use Rattle.table_days.specs.Strict.{strictly}
+use Rattle.table_days.specs.Explained.{explain_text}
+use Rattle.table_days.specs.TableEnds.{IsTableEnd, WritesTable, WritesTablePart}
+use Rattle.table_days.specs.TapeRows.{tape_text}
+use Rattle.table_days.specs.declared.refusals.Refusals.{Refusals}
+use Rattle.table_days.specs.declared.table_end.TableEnd.{TableEnd}
+use Rattle.table_days.specs.declared.table_end.TableEnd.TheVariants.{OutOfMemory, WriteFault}
+use Rattle.table_texts.specs.DecodedTexts.{IsText, IsTextEnd}
+use Rattle.table_texts.specs.EncodedTexts.{encoded_text}
+use Rattle.table_texts.specs.Ends.{IsReadingEnd}
+use Rattle.table_texts.specs.OwnBytes.{line_bytes}
+use Rattle.desk_words.specs.RefusalLines.{refusal_lines}
+use Rattle.desk_words.specs.TextRuns.{RunsText, end_line, table_ends, text_ends}
+use Rattle.desk_words.specs.VerifyRuns.{RunsVerify}
+use Rattle.program_words.specs.declared.command.Command.{Command}
+use Rattle.program_words.specs.declared.command.Command.TheVariants.{Report, Tape, Explain, Check, Verify, Encode, Decode, Line}
+
+-- ## What is said
+
+-- whether rows were refused
+abbrev pub refuses_any : Refusals → Bool
+refuses_any refusals = list_any (λ reason. is_some (refused_for refusals reason)) all_reasons
+
+-- the status of a run, in which refused rows may be faults
+abbrev pub run_status : Bool → Result Refusals TableEnd → ℕ
+run_status strict (Ok refusals) = if strict && refuses_any refusals then 2 else 0
+run_status strict (Err end) = end_status end
+
+-- the text of a table, and none where a row is refused and that is a fault
+abbrev pub text_by : Bool → (Matrix → List Message → List ℕ) → Matrix → List Message → List ℕ
+text_by true text = strictly text
+text_by false text = text
+
+-- what is said of a run: the rows that were refused, or why it ended
+abbrev pub run_text : Result Refusals TableEnd → List ℕ
+run_text (Ok refusals) = refusal_lines refusals
+run_text (Err end) = end_line end
+
+-- the status of a table that was checked: 0 where it has no fault
+abbrev pub checked_status : Bool → ℕ
+checked_status true = 0
+checked_status false = 2
+
+-- the status of a check
+abbrev pub check_status : Result Bool TableEnd → ℕ
+check_status (Ok faultless) = checked_status faultless
+check_status (Err end) = end_status end
+
+-- what is said of a check: nothing, or why its faults are not all told
+abbrev pub check_line : Result Bool TableEnd → List ℕ
+check_line (Ok faultless) = []
+check_line (Err end) = end_line end
+
+-- ## Runs
+
+-- what a run did for a table: its text was written, or it ended for a reason
+abbrev pub Comes : (Matrix → List Message → List ℕ) → Matrix → List ℕ → Result Refusals TableEnd → Option (List ℕ) → Option (List ℕ) → Type 0
+Comes text matrix input (Ok refusals) old new = WritesTable text matrix input refusals old new
+Comes text matrix input (Err end) old new = IsTableEnd input end
+
+-- a text of a table was asked for, in which refused rows may be faults: the status and what is said are those of what it came to, and nothing else was written
+pub record RunsTable {W E : Type 0} (strict : Bool) (text : Matrix → List Message → List ℕ) (matrix : Matrix) (input old new : Option (List ℕ)) (status : ℕ)
+    (writer_old writer_new : W) (errors_old errors_new : E) (said_old said_new : Option (List ℕ)) : Type 0 where
+  pub run : Result Refusals TableEnd
+  pub status_is : status ≡ run_status strict run
+  pub comes : IfSome input (λ bytes. Comes (text_by strict text) matrix bytes run old new)
+  pub part : (run ≡ Err WriteFault) ⊎ (run ≡ Err OutOfMemory)
+      → (writer_new ≡ writer_old) ⊎ IfSome input (λ bytes. WritesTablePart (text_by strict text) matrix bytes old new)
+  pub silent : (end : TableEnd) → run ≡ Err end → end ≢ WriteFault → end ≢ OutOfMemory → writer_new ≡ writer_old
+  pub quiet : run_text run ≡ [] → errors_new ≡ errors_old
+  pub said : WritesPrefix (run_text run) said_old said_new
+
+-- what a check did for a table: what is told of it was written, or it ended for a reason
+abbrev pub ComesToCheck : List ℕ → Result Bool TableEnd → Option (List ℕ) → Option (List ℕ) → Type 0
+ComesToCheck input (Ok faultless) old new = WritesCheck input faultless old new
+ComesToCheck input (Err end) old new = IsCheckEnd end
+
+-- the faults of a table were asked for: the status and what is said are those of what the check came to, and nothing else was written
+pub record RunsCheck {W E : Type 0} (input old new : Option (List ℕ)) (status : ℕ)
+    (writer_old writer_new : W) (errors_old errors_new : E) (said_old said_new : Option (List ℕ)) : Type 0 where
+  pub run : Result Bool TableEnd
+  pub status_is : status ≡ check_status run
+  pub comes : IfSome input (λ bytes. ComesToCheck bytes run old new)
+  pub part : run ≡ Err WriteFault → IfSome input (λ bytes. WritesCheckPart bytes old new)
+  pub silent : (end : TableEnd) → run ≡ Err end → end ≢ WriteFault → writer_new ≡ writer_old
+  pub quiet : IsOk run → errors_new ≡ errors_old
+  pub said : WritesPrefix (check_line run) said_old said_new
+
+-- what a text of a table did; a status is that of what it came to
+abbrev pub AnswersCommand : {W E : Type 0} → Command → ℕ → Option (List ℕ) → W → W → Option (List ℕ) → Option (List ℕ) → E → E
+    → Option (List ℕ) → Option (List ℕ) → Type 0
+AnswersCommand (Report matrix strict) status input writer_old writer_new old new errors_old errors_new said_old said_new =
+    RunsTable strict day_text matrix input old new status writer_old writer_new errors_old errors_new said_old said_new × (status ≡ 5 → writer_new ≡ writer_old)
+AnswersCommand (Tape matrix strict) status input writer_old writer_new old new errors_old errors_new said_old said_new =
+    RunsTable strict tape_text matrix input old new status writer_old writer_new errors_old errors_new said_old said_new
+AnswersCommand (Explain matrix strict) status input writer_old writer_new old new errors_old errors_new said_old said_new =
+    RunsTable strict explain_text matrix input old new status writer_old writer_new errors_old errors_new said_old said_new
+AnswersCommand Check status input writer_old writer_new old new errors_old errors_new said_old said_new =
+    RunsCheck input old new status writer_old writer_new errors_old errors_new said_old said_new
+AnswersCommand (Verify matrix) status input writer_old writer_new old new errors_old errors_new said_old said_new =
+    RunsVerify matrix input old new status writer_old writer_new errors_old errors_new said_old said_new
+AnswersCommand Encode status input writer_old writer_new old new errors_old errors_new said_old said_new =
+    RunsText table_ends IsTable encoded_text IsTableEnd input old new status writer_old writer_new errors_old errors_new said_old said_new
+AnswersCommand Decode status input writer_old writer_new old new errors_old errors_new said_old said_new =
+    RunsText text_ends IsText table_text IsTextEnd input old new status writer_old writer_new errors_old errors_new said_old said_new
+AnswersCommand (Line participant) status input writer_old writer_new old new errors_old errors_new said_old said_new =
+    RunsText table_ends IsTable (line_bytes participant) IsReadingEnd input old new status writer_old writer_new errors_old errors_new said_old said_new

@@ -1,0 +1,33 @@
+-- What the program does where a recorded tape is verified.
+use Rattle.std.specs.Prelude.{◌≡◌, ◌⊎◌, ℕ, List, Option, IfSome, Result, Ok, Err}
+use Rattle.std.specs.Io.KnownBytes.{Appends}
+use Rattle.sale_matrix.specs.declared.matrix.Matrix.{Matrix}
+use Rattle.row_reads.specs.Writing.{WritesPrefix}
+use Rattle.table_days.specs.EndTexts.{end_status}
+use Rattle.table_days.specs.declared.table_end.TableEnd.{TableEnd}
+use Rattle.table_days.specs.declared.table_end.TableEnd.TheVariants.{WriteFault}
+use Rattle.recorded_tapes.specs.Verdicts.{IsVerdict, IsVerifyEnd}
+use Rattle.recorded_tapes.specs.declared.verdict.Verdict.{Verdict}
+use Rattle.desk_words.specs.TextRuns.{end_line}
+use Rattle.desk_words.specs.VerdictLines.{verdict_line, verdict_status}
+
+-- what a recorded tape is found to be, or why nothing is found
+abbrev pub Finds : Matrix → List ℕ → Result Verdict TableEnd → Type 0
+Finds matrix input (Ok verdict) = IsVerdict matrix input verdict
+Finds matrix input (Err end) = IsVerifyEnd input end
+
+-- its line was written, or a write failed; or nothing was written, and it was said why nothing is found
+abbrev pub TellsVerdict : {W E : Type 0} → Result Verdict TableEnd → ℕ → W → W → Option (List ℕ) → Option (List ℕ) → E → E
+    → Option (List ℕ) → Option (List ℕ) → Type 0
+TellsVerdict (Ok verdict) status writer_old writer_new old new errors_old errors_new said_old said_new =
+    ((status ≡ verdict_status verdict) × Appends old new (verdict_line verdict) × (errors_new ≡ errors_old))
+    ⊎ ((status ≡ 4) × WritesPrefix (verdict_line verdict) old new × WritesPrefix (end_line WriteFault) said_old said_new)
+TellsVerdict (Err end) status writer_old writer_new old new errors_old errors_new said_old said_new =
+    (status ≡ end_status end) × (writer_new ≡ writer_old) × WritesPrefix (end_line end) said_old said_new
+
+-- a recorded tape was verified
+pub record RunsVerify {W E : Type 0} (matrix : Matrix) (input old new : Option (List ℕ)) (status : ℕ) (writer_old writer_new : W)
+    (errors_old errors_new : E) (said_old said_new : Option (List ℕ)) : Type 0 where
+  pub run : Result Verdict TableEnd
+  pub finds : IfSome input (λ bytes. Finds matrix bytes run)
+  pub tells : TellsVerdict run status writer_old writer_new old new errors_old errors_new said_old said_new

@@ -1,0 +1,255 @@
+//! What is said on standard error.
+ghost use Rattle.std.specs.Prelude.{◌≡◌, IsOk, Ok, []};
+ghost use Rattle.row_reads.specs.Writing.{WritesPrefix};
+ghost use Rattle.table_days.specs.EndTexts.{end_status, listing_fault_status, table_fault_status};
+ghost use Rattle.table_texts.specs.EndTexts as text;
+ghost use Rattle.program_words.specs.Statuses.{status_code, status_text};
+ghost use Rattle.desk_words.specs.Program.{check_line, check_status, checked_status, refuses_any, run_status, run_text};
+ghost use Rattle.desk_words.specs.RefusalLines.{refusal_lines};
+ghost use Rattle.desk_words.specs.TextRuns.{end_line, machine_status, table_ends, text_end_line, text_ends, text_line, text_machine_status, text_status};
+ghost use Rattle.table_days.specs.declared.table_end.TableEnd.TheVariants.{Listing, Table};
+
+use crate::refusal_lines::refusal_lines;
+use day_tables::TableFault;
+use program_words::Status;
+use row_reads::write_text;
+use std::alloc::Global;
+use std::io::Write;
+use table_days::{ALL_REASONS, Refusals, TableEnd};
+use table_texts::TextEnd;
+use tape_types::ListingFault;
+
+/// Says a text, and for no text writes nothing. A write that fails ends it, and changes nothing of the status.
+pub fn say<E: Write>(errors: &mut E, text: &[u8])
+    ensures quiet { text.now ≡ [] → errors.new ≡ errors.old }
+    ensures said { WritesPrefix text.now (E.contents errors.old) (E.contents errors.new) }
+{
+    if !text.is_empty() {
+        let _said = write_text(errors, text);
+    }
+}
+
+/// Says what there is to say of a status.
+pub fn say_status<E: Write>(errors: &mut E, status: Status)
+    ensures quiet { status_text status ≡ [] → errors.new ≡ errors.old }
+    ensures said { WritesPrefix (status_text status) (E.contents errors.old) (E.contents errors.new) }
+{
+    say(errors, status.text().as_bytes());
+}
+
+/// The status of a table's fault that has nothing to do with what the table says.
+fn machine_status(fault: &TableFault) -> Option<Status>
+    ensures { result ≡ machine_status fault.now }
+{
+    match fault {
+        TableFault::ReadFault => Some(Status::ReadFault),
+        TableFault::OutOfMemory => Some(Status::OutOfMemory),
+        TableFault::Header(_) | TableFault::NoRow | TableFault::Row(_, _) => None,
+    }
+}
+
+/// Says what is wrong with a table. What the table says wrong is not said where there is no memory for the line.
+fn say_fault<E: Write>(alloc: Global, errors: &mut E, fault: &TableFault)
+    ensures { WritesPrefix (end_line (Table fault.now)) (E.contents errors.old) (E.contents errors.new) }
+{
+    if let Some(status) = machine_status(fault) {
+        say_status(errors, status);
+        return;
+    }
+    let Ok(line) = format!(in alloc; "tapebox: {fault}\n") else {
+        return;
+    };
+    say(errors, line.as_bytes());
+}
+
+/// What is said of names that make no listing.
+fn listing_line(fault: ListingFault) -> &'static [u8]
+    ensures { result.now ≡ end_line (Listing fault) }
+{
+    match fault {
+        ListingFault::Empty => b"tapebox: the table has no row\n",
+        ListingFault::TooMany => b"tapebox: the table has more than 4096 symbols\n",
+        ListingFault::Repeated => b"tapebox: a name stands twice in the listing\n",
+        ListingFault::OutOfMemory => Status::OutOfMemory.text().as_bytes(),
+    }
+}
+
+/// Says why a table has no text.
+fn say_why<E: Write>(alloc: Global, errors: &mut E, end: &TableEnd)
+    ensures { WritesPrefix (end_line end.now) (E.contents errors.old) (E.contents errors.new) }
+{
+    match end {
+        TableEnd::Table(fault) => say_fault(alloc, errors, fault),
+        TableEnd::Listing(fault) => say(errors, listing_line(*fault)),
+        TableEnd::OutOfMemory => say_status(errors, Status::OutOfMemory),
+        TableEnd::WriteFault => say_status(errors, Status::WriteFault),
+    }
+}
+
+/// The status of a table's fault.
+fn fault_status(fault: &TableFault) -> Status
+    ensures { status_code result ≡ table_fault_status fault.now }
+{
+    machine_status(fault).unwrap_or(Status::Bad)
+}
+
+/// The status of names that make no listing.
+fn listing_status(fault: ListingFault) -> Status
+    ensures { status_code result ≡ listing_fault_status fault }
+{
+    match fault {
+        ListingFault::Empty | ListingFault::TooMany | ListingFault::Repeated => Status::Bad,
+        ListingFault::OutOfMemory => Status::OutOfMemory,
+    }
+}
+
+/// The status of a table's end.
+fn status_of(end: &TableEnd) -> Status
+    ensures { status_code result ≡ end_status end.now }
+{
+    match end {
+        TableEnd::Table(fault) => fault_status(fault),
+        TableEnd::Listing(fault) => listing_status(*fault),
+        TableEnd::OutOfMemory => Status::OutOfMemory,
+        TableEnd::WriteFault => Status::WriteFault,
+    }
+}
+
+/// Says why a table has no text, and gives the status.
+pub fn say_end<E: Write>(alloc: Global, errors: &mut E, end: &TableEnd) -> Status
+    ensures status { status_code result ≡ end_status end.now }
+    ensures said { WritesPrefix (end_line end.now) (E.contents errors.old) (E.contents errors.new) }
+{
+    say_why(alloc, errors, end);
+    status_of(end)
+}
+
+/// Says which rows were refused, unless there is no memory for the lines.
+fn say_refusals<E: Write>(alloc: Global, errors: &mut E, refusals: &Refusals)
+    ensures quiet { refusal_lines refusals.now ≡ [] → errors.new ≡ errors.old }
+    ensures said { WritesPrefix (refusal_lines refusals.now) (E.contents errors.old) (E.contents errors.new) }
+{
+    let Ok(lines) = refusal_lines(alloc, refusals) else {
+        return;
+    };
+    say(errors, &lines);
+}
+
+/// Whether rows were refused.
+fn refuses_any(refusals: &Refusals) -> bool
+    ensures { result ≡ refuses_any refusals.now }
+{
+    ALL_REASONS
+        .iter()
+        .any(|reason| refusals.of(*reason).is_some())
+}
+
+/// The status of a table whose text was written, unless refused rows are faults.
+fn refused_status(strict: bool, refusals: &Refusals) -> Status
+    ensures { status_code result ≡ run_status strict (Ok refusals.now) }
+{
+    if strict && refuses_any(refusals) {
+        Status::Bad
+    } else {
+        Status::Done
+    }
+}
+
+/// Says what a table's text came to: the rows that were refused, which may be faults, or why it ended. It gives the status.
+pub fn end_run<E: Write>(
+    alloc: Global,
+    errors: &mut E,
+    strict: bool,
+    run: Result<Refusals, TableEnd>,
+) -> Status
+    ensures status { status_code result ≡ run_status strict run }
+    ensures quiet { run_text run ≡ [] → errors.new ≡ errors.old }
+    ensures said { WritesPrefix (run_text run) (E.contents errors.old) (E.contents errors.new) }
+{
+    match run {
+        Ok(refusals) => {
+            say_refusals(alloc, errors, &refusals);
+            refused_status(strict, &refusals)
+        }
+        Err(end) => say_end(alloc, errors, &end),
+    }
+}
+
+/// The status of a table that was checked.
+fn checked_status(faultless: bool) -> Status
+    ensures { status_code result ≡ checked_status faultless }
+{
+    if faultless { Status::Done } else { Status::Bad }
+}
+
+/// Says why the faults of a table are not all told, or nothing where they are. It gives the status, which is 2 where there are any.
+pub fn end_check<E: Write>(alloc: Global, errors: &mut E, run: Result<bool, TableEnd>) -> Status
+    ensures status { status_code result ≡ check_status run }
+    ensures quiet { IsOk run → errors.new ≡ errors.old }
+    ensures said { WritesPrefix (check_line run) (E.contents errors.old) (E.contents errors.new) }
+{
+    match run {
+        Ok(faultless) => checked_status(faultless),
+        Err(end) => say_end(alloc, errors, &end),
+    }
+}
+
+/// Says why a text of a table was not written whole, or nothing where it was. It gives the status.
+pub fn end_text<E: Write>(alloc: Global, errors: &mut E, run: Result<(), TableEnd>) -> Status
+    ensures status { status_code result ≡ text_status table_ends run }
+    ensures quiet { IsOk run → errors.new ≡ errors.old }
+    ensures said { WritesPrefix (text_line table_ends run) (E.contents errors.old) (E.contents errors.new) }
+{
+    match run {
+        Ok(()) => Status::Done,
+        Err(end) => say_end(alloc, errors, &end),
+    }
+}
+
+/// The status of the end of a batch's text that has nothing to do with what the text says.
+fn text_machine_status(end: &TextEnd) -> Option<Status>
+    ensures { result ≡ text_machine_status end.now }
+{
+    match end {
+        TextEnd::ReadFault => Some(Status::ReadFault),
+        TextEnd::OutOfMemory => Some(Status::OutOfMemory),
+        TextEnd::WriteFault => Some(Status::WriteFault),
+        TextEnd::Line(_, _) => None,
+    }
+}
+
+/// The status of the end of a batch's text.
+fn text_status_of(end: &TextEnd) -> Status
+    ensures { status_code result ≡ text.end_status end.now }
+{
+    text_machine_status(end).unwrap_or(Status::Bad)
+}
+
+/// Says why the text of a batch has no table. What the text says wrong is not said where there is no memory for the line.
+fn say_text_end<E: Write>(alloc: Global, errors: &mut E, end: &TextEnd)
+    ensures { WritesPrefix (text_end_line end.now) (E.contents errors.old) (E.contents errors.new) }
+{
+    if let Some(status) = text_machine_status(end) {
+        say_status(errors, status);
+        return;
+    }
+    let Ok(line) = format!(in alloc; "tapebox: {end}\n") else {
+        return;
+    };
+    say(errors, line.as_bytes());
+}
+
+/// Says why the text of a batch was not written whole as a table, or nothing where it was. It gives the status.
+pub fn end_decoded<E: Write>(alloc: Global, errors: &mut E, run: Result<(), TextEnd>) -> Status
+    ensures status { status_code result ≡ text_status text_ends run }
+    ensures quiet { IsOk run → errors.new ≡ errors.old }
+    ensures said { WritesPrefix (text_line text_ends run) (E.contents errors.old) (E.contents errors.new) }
+{
+    match run {
+        Ok(()) => Status::Done,
+        Err(end) => {
+            say_text_end(alloc, errors, &end);
+            text_status_of(&end)
+        }
+    }
+}

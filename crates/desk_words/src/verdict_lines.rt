@@ -1,0 +1,185 @@
+//! The line of what a recorded tape is found to be.
+ghost use Rattle.std.specs.Prelude.{◌≡◌, ◌⊎◌, ◌<◌, ◌^◌, ◌++◌, [], Err, IfOk, Ok, OnOk, decimal, get_or, length, string_bytes};
+ghost use Rattle.table_days.specs.TapeRows.{column_names};
+ghost use Rattle.desk_words.specs.VerdictLines.{counted, cut_line, cut_text, difference_line, recorded_line, refused_count, refused_for_any, rows_line, verdict_line, verdict_status};
+ghost use Rattle.program_words.specs.Statuses.{status_code};
+ghost use Rattle.desk_words.specs.VerifyRuns.{TellsVerdict};
+ghost use Rattle.table_days.specs.declared.table_end.TableEnd.TheVariants.{OutOfMemory};
+
+use crate::saying::say_end;
+use itoa::Buffer;
+use program_words::Status;
+use recorded_tapes::{Difference, Rows, Verdict};
+use row_reads::write_text;
+use std::alloc::{AllocError, Global};
+use std::io::Write;
+use table_days::{ALL_REASONS, Refusals, TableEnd};
+use tape_core::Refusal;
+
+/// How many rows were refused for a reason.
+fn refused_count(refusals: &Refusals, reason: Refusal) -> u64
+    ensures { result ≡ refused_count refusals.now reason }
+{
+    match refusals.of(reason) {
+        Some(refused) => refused.count,
+        None => 0,
+    }
+}
+
+/// How many rows were refused for any of these reasons.
+fn refused_for_any(refusals: &Refusals, reasons: &[Refusal]) -> u128
+    requires { length reasons.now < 2 ^ 64 }
+    ensures { result ≡ refused_for_any refusals.now reasons.now }
+{
+    let mut refused = 0;
+    for reason in reasons {
+        refused += u128::from(refused_count(refusals, *reason));
+    }
+    refused
+}
+
+/// Adds a number in decimal.
+fn push_number(text: &mut Vec<u8>, number: u128) -> Result<(), AllocError>
+    ensures { OnOk result (text.new.items ≡ text.old.items ++ decimal number) }
+{
+    let mut digits = Buffer::new();
+    text.extend_from_slice(digits.format(number).as_bytes())
+}
+
+/// Adds so many of what has one name for one and another for more.
+fn push_counted(text: &mut Vec<u8>, count: u128, one: &[u8], more: &[u8]) -> Result<(), AllocError>
+    ensures { OnOk result (text.new.items ≡ text.old.items ++ counted count one.now more.now) }
+{
+    push_number(text, count)?;
+    text.extend_from_slice(if count == 1 { one } else { more })
+}
+
+/// Adds how many entries and refusals the rows are.
+fn push_rows(text: &mut Vec<u8>, rows: &Rows) -> Result<(), AllocError>
+    ensures { OnOk result (text.new.items ≡ text.old.items ++ rows_line rows.now) }
+{
+    let refused = refused_for_any(&rows.refusals, &ALL_REASONS);
+    let entries = u128::from(rows.count).saturating_sub(refused);
+    push_counted(text, entries, b" entry, ", b" entries, ")?;
+    push_counted(text, refused, b" refusal, ", b" refusals, ")
+}
+
+/// The name of a readable tape's column, by how many columns are before it.
+fn column_name(column: u64) -> &'static [u8]
+    ensures { result.now ≡ get_or column_names column [] }
+{
+    match column {
+        0 => b"tape",
+        1 => b"refused",
+        2 => b"kind",
+        3 => b"participant",
+        4 => b"number",
+        5 => b"moment",
+        6 => b"symbol",
+        7 => b"target",
+        8 => b"price",
+        9 => b"size",
+        10 => b"condition",
+        11 => b"open",
+        12 => b"high",
+        13 => b"low",
+        14 => b"last",
+        15 => b"volume",
+        16 => b"trades",
+        _ => b"",
+    }
+}
+
+/// The line of the first place at which a recorded tape differs.
+fn difference_line(alloc: Global, difference: &Difference) -> Result<Vec<u8>, AllocError>
+    ensures { IfOk result (λ line. line.items ≡ difference_line difference.now) }
+{
+    let Difference {
+        line,
+        column,
+        stands,
+        wanted,
+    } = *difference;
+    let mut text = Vec::new(alloc);
+    text.extend_from_slice(b"line ")?;
+    push_number(&mut text, u128::from(line))?;
+    if stands.bytes() == wanted.bytes() {
+        text.extend_from_slice(b" has other fields than a readable tape's\n")?;
+        return Ok(text);
+    }
+    text.extend_from_slice(b": ")?;
+    text.extend_from_slice(column_name(column))?;
+    let fields = format!(in alloc; " is \"{stands}\" and should be \"{wanted}\"\n")?;
+    text.extend_from_slice(fields.as_bytes())?;
+    Ok(text)
+}
+
+/// The line of a tape that stands as recorded.
+fn recorded_line(alloc: Global, rows: &Rows) -> Result<Vec<u8>, AllocError>
+    ensures { IfOk result (λ line. line.items ≡ recorded_line rows.now) }
+{
+    let mut text = Vec::new(alloc);
+    push_rows(&mut text, rows)?;
+    text.extend_from_slice(b"all as recorded\n")?;
+    Ok(text)
+}
+
+/// Which line is cut off.
+fn cut_text(alloc: Global, line: u64) -> Result<String, AllocError>
+    ensures { IfOk result (λ text. string_bytes text ≡ cut_text line) }
+{
+    format!(in alloc; "all as recorded before line {line}, which is cut off\n")
+}
+
+/// The line of a tape that stands as recorded before this line, which is cut off.
+fn cut_line(alloc: Global, rows: &Rows, line: u64) -> Result<Vec<u8>, AllocError>
+    ensures { IfOk result (λ text. text.items ≡ cut_line rows.now line) }
+{
+    let mut text = Vec::new(alloc);
+    push_rows(&mut text, rows)?;
+    let end = cut_text(alloc, line)?;
+    text.extend_from_slice(end.as_bytes())?;
+    Ok(text)
+}
+
+/// The line of what a recorded tape is found to be.
+fn verdict_line(alloc: Global, verdict: &Verdict) -> Result<Vec<u8>, AllocError>
+    ensures { IfOk result (λ line. line.items ≡ verdict_line verdict.now) }
+{
+    match verdict {
+        Verdict::Recorded(rows) => recorded_line(alloc, rows),
+        Verdict::CutOff(rows, line) => cut_line(alloc, rows, *line),
+        Verdict::Differs(difference) => difference_line(alloc, difference),
+    }
+}
+
+/// The status of what a recorded tape is found to be.
+fn verdict_status(verdict: &Verdict) -> Status
+    ensures { status_code result ≡ verdict_status verdict.now }
+{
+    match verdict {
+        Verdict::Recorded(_) => Status::Done,
+        Verdict::CutOff(_, _) | Verdict::Differs(_) => Status::Differs,
+    }
+}
+
+/// Writes the line of what a recorded tape is found to be, and gives the status. Where there is no memory for it that is said.
+pub fn write_verdict<W: Write, E: Write>(
+    alloc: Global,
+    verdict: &Verdict,
+    writer: &mut W,
+    errors: &mut E,
+) -> Status
+    ensures { TellsVerdict (Ok verdict.now) (status_code result) writer.old writer.new (W.contents writer.old) (W.contents writer.new)
+        errors.old errors.new (E.contents errors.old) (E.contents errors.new)
+        ⊎ TellsVerdict (Err OutOfMemory) (status_code result) writer.old writer.new (W.contents writer.old) (W.contents writer.new)
+        errors.old errors.new (E.contents errors.old) (E.contents errors.new) }
+{
+    let Ok(line) = verdict_line(alloc, verdict) else {
+        return say_end(alloc, errors, &TableEnd::OutOfMemory);
+    };
+    match write_text(writer, &line) {
+        Ok(()) => verdict_status(verdict),
+        Err(_) => say_end(alloc, errors, &TableEnd::WriteFault),
+    }
+}

@@ -1,0 +1,247 @@
+//! The readable tape of a running day, as it comes.
+ghost use Rattle.std.specs.Prelude.{◌≡◌, ◌⊎◌, [], IfSome, IsSome, Some};
+ghost use Rattle.std.specs.Io.Buffered.{writer_contents};
+ghost use Rattle.feed_words.specs.Days.{NameFollow};
+ghost use Rattle.feed_words.specs.Words.{words_of};
+ghost use Rattle.program_words.specs.Statuses.{status_code, status_text};
+ghost use Rattle.program_words.specs.declared.status.Status.TheVariants.{Done};
+ghost use Rattle.std.specs.Io.KnownBytes.{Keeps};
+ghost use Rattle.row_reads.specs.Writing.{WritesPrefix};
+ghost use Rattle.desk_words.specs.Watches.{IsRunStatus, IsWatchStatus, WritesPartOf, WritesSome, WritesTapeOf, WritesWhole, entry_line, row_fault, watch_text};
+
+use crate::saying::{say, say_status};
+use day_tables::TableWriteFault;
+use feed_ends::{Fault, here};
+use feed_follower::{EntrySink, FollowSockets, SinkFault, follow_tape_over};
+use feed_words::{FollowWords, WordsFault};
+use program_words::Status;
+use scratch_fold::Summary;
+use std::alloc::Global;
+use std::io;
+use std::io::{BufWriter, Write};
+use std::net::{Net, TcpListener, TcpStream, UdpSocket};
+use std::sync::Wait;
+use std::thread::Threads;
+use table_days::{EntryRows, write_head};
+use tape_core::Entry;
+
+/// The rows of a tape that is followed, and where they are written.
+#[derive(Drop)]
+struct RowSink<W: Write + Drop> {
+    rows: EntryRows,
+    writer: W,
+}
+
+/// A fault of a row as a sink tells it.
+fn sink_fault(fault: TableWriteFault) -> SinkFault
+    ensures { result ≡ row_fault fault }
+{
+    match fault {
+        TableWriteFault::OutOfMemory => SinkFault::OutOfMemory,
+        TableWriteFault::WriteFault => SinkFault::Write,
+    }
+}
+
+impl<W: Write + Drop> EntrySink for RowSink<W> {
+    ghost text = { entry_line };
+
+    ghost contents = { λ sink. W.contents sink.writer };
+
+    fn takes_nothing(&self) -> bool {
+        false
+    }
+
+    fn take(&mut self, entry: &Entry, after: &Summary) -> Result<(), SinkFault> {
+        match self.rows.write(entry, after, &mut self.writer) {
+            Ok(()) => Ok(()),
+            Err(fault) => Err(sink_fault(fault)),
+        }
+    }
+
+    fn flush(&mut self) -> Result<(), SinkFault> {
+        match self.writer.flush() {
+            Ok(()) => Ok(()),
+            Err(_) => Err(SinkFault::Write),
+        }
+    }
+
+    #[tactic(auto, using(crate::proofs::WatchLemmas::keeps_same))]
+    fn restarted(&mut self) -> Result<(), SinkFault> {
+        Err(SinkFault::Write) // Rows that are written can't be taken back.
+    }
+}
+
+/// Opens the sockets of a follower.
+fn open_sockets<T: Net<Listener = TcpListener, Stream = TcpStream>>(
+    rt: &T,
+    words: &FollowWords,
+) -> io::Result<FollowSockets> {
+    let [a, b] = words.ports;
+    Ok(FollowSockets {
+        a: UdpSocket::bind(rt, here(a))?,
+        b: UdpSocket::bind(rt, here(b))?,
+        retransmission: words.retransmission,
+    })
+}
+
+/// Flushes what a run has written, and gives its status.
+fn flushed<W: Write>(status: u8, writer: &mut W) -> u8
+    ensures kept { Keeps (W.contents writer.old) (W.contents writer.new) }
+    ensures status { (result ≡ status) ⊎ (result ≡ 4) }
+    ensures done { result ≡ 0 → status ≡ 0 }
+{
+    let flushed = writer.flush();
+    if status == 0 && flushed.is_err() {
+        Fault::Write.status()
+    } else {
+        status
+    }
+}
+
+/// Follows the day of these arguments, and writes the rows of its tape as they come to a writer, which comes back with the status.
+#[tactic(auto, using(crate::proofs::WatchLemmas::head_part, crate::proofs::WatchLemmas::tape_whole, crate::proofs::WatchLemmas::tape_part, crate::proofs::WatchLemmas::flushed_status))]
+fn watch_day<T, W>(rt: &T, alloc: Global, words: FollowWords, writer: W) -> (u8, W)
+where
+    T: Threads + Wait + Net<Listener = TcpListener, Stream = TcpStream> + Sync,
+    W: Write + Send + Drop,
+    ensures whole { result.0 ≡ 0 → WritesTapeOf words.listing words.matrix words.limit (W.contents writer) (W.contents result.1) }
+    ensures part { (result.1 ≡ writer) ⊎ WritesPartOf words.listing words.matrix words.limit (W.contents writer) (W.contents result.1) }
+    ensures status { IsRunStatus result.0 }
+{
+    let Ok(sockets) = open_sockets(rt, &words) else {
+        return (Fault::Read.status(), writer);
+    };
+    let mut writer = writer;
+    if let Err(fault) = write_head(alloc, &mut writer) {
+        return (sink_fault(fault).fault().status(), writer);
+    }
+    let sink = RowSink {
+        rows: EntryRows::new(alloc),
+        writer,
+    };
+    let (status, sink) = follow_tape_over(
+        rt,
+        alloc,
+        words.listing,
+        words.limit,
+        words.matrix,
+        words.session,
+        sockets,
+        sink,
+    );
+    let RowSink {
+        rows: _,
+        mut writer,
+    } = sink;
+    let status = flushed(status, &mut writer);
+    (status, writer)
+}
+
+/// What is said of a day that is watched and ends so.
+fn watch_text(status: Status) -> &'static str
+    ensures { result.now ≡ watch_text status }
+{
+    match status {
+        Status::Bad => "tapebox: bad arguments\n",
+        _ => status.text(),
+    }
+}
+
+/// Says what there is to say of a day that is watched and ends so.
+fn say_watched<E: Write>(errors: &mut E, status: Status)
+    ensures quiet { watch_text status ≡ [] → errors.new ≡ errors.old }
+    ensures said { WritesPrefix (watch_text status) (E.contents errors.old) (E.contents errors.new) }
+{
+    say(errors, watch_text(status).as_bytes());
+}
+
+/// The writer of a buffer that is flushed, and the status, which is a write fault if all was well but the flush.
+fn unbuffered<W: Write + Drop>(code: u8, writer: BufWriter<W>) -> (u8, Option<W>)
+    ensures kept { IfSome result.1 (λ inner. Keeps (writer_contents W.contents writer) (W.contents inner)) }
+    ensures some { result.0 ≡ 0 → IsSome result.1 }
+    ensures status { (result.0 ≡ code) ⊎ (result.0 ≡ 4) }
+    ensures done { result.0 ≡ 0 → code ≡ 0 }
+{
+    match writer.into_inner() {
+        Ok(inner) => (code, Some(inner)),
+        Err(_) if code == 0 => (Fault::Write.status(), None),
+        Err(_) => (code, None),
+    }
+}
+
+/// Watches a day with a buffer before the writer.
+fn watch_buffered<T, W>(rt: &T, alloc: Global, words: FollowWords, writer: W) -> (u8, Option<W>)
+where
+    T: Threads + Wait + Net<Listener = TcpListener, Stream = TcpStream> + Sync,
+    W: Write + Send + Drop,
+    ensures whole { result.0 ≡ 0 → WritesWhole W.contents words.listing words.matrix words.limit writer result.1 }
+    ensures part { WritesSome W.contents words.listing words.matrix words.limit writer result.1 }
+    ensures status { IsRunStatus result.0 }
+{
+    let Ok(buffer) = BufWriter::new(alloc, writer) else {
+        return (Fault::Memory.status(), None);
+    };
+    let (code, buffer) = watch_day(rt, alloc, words, buffer);
+    unbuffered(code, buffer)
+}
+
+/// Watches a running day as a follower, and writes the readable tape of its entries as they come to a writer, which comes back with the status.
+/// A buffer stands before it, which is flushed whenever no entry more is ready. Where memory runs out for the buffer, or what it holds can't be
+/// written at the end, no writer comes back. What goes wrong is said on `errors` in one line. The status is `Done` where the whole tape was
+/// written, `ReadFault` for a read fault or a socket that cannot be opened, `WriteFault`, `OutOfMemory`, `NotStarted` where no thread was
+/// started, and `Disagrees` where the tape disagrees.
+#[tactic(auto, using(crate::proofs::WatchLemmas::run_within))]
+pub fn watch<T, W, E>(
+    rt: &T,
+    alloc: Global,
+    words: FollowWords,
+    writer: W,
+    errors: &mut E,
+) -> (Status, Option<W>)
+where
+    T: Threads + Wait + Net<Listener = TcpListener, Stream = TcpStream> + Sync,
+    W: Write + Send + Drop,
+    E: Write,
+    ensures known { IsRunStatus (status_code result.0) }
+    ensures whole { result.0 ≡ Done → WritesWhole W.contents words.listing words.matrix words.limit writer result.1 }
+    ensures part { WritesSome W.contents words.listing words.matrix words.limit writer result.1 }
+    ensures quiet { result.0 ≡ Done → errors.new ≡ errors.old }
+    ensures said { WritesPrefix (status_text result.0) (E.contents errors.old) (E.contents errors.new) }
+{
+    let (code, writer) = watch_buffered(rt, alloc, words, writer);
+    let status = Status::of_code(code);
+    say_status(errors, status);
+    (status, writer)
+}
+
+/// Watches the day that the arguments after `watch` name in a row, each ended by a zero byte, as `watch` does. Bad arguments read and write
+/// nothing, and have the status `Bad`.
+pub fn watch_row<T, W, E>(
+    rt: &T,
+    alloc: Global,
+    words: &[u8],
+    writer: W,
+    errors: &mut E,
+) -> (Status, Option<W>)
+where
+    T: Threads + Wait + Net<Listener = TcpListener, Stream = TcpStream> + Sync,
+    W: Write + Send + Drop,
+    E: Write,
+    ensures known { IsWatchStatus (status_code result.0) }
+    ensures whole { result.0 ≡ Done → (day : FollowWords) × NameFollow (words_of words.now) day × WritesWhole W.contents day.listing day.matrix day.limit writer result.1 }
+    ensures part { (result.1 ≡ Some writer) ⊎ ((day : FollowWords) × NameFollow (words_of words.now) day × WritesSome W.contents day.listing day.matrix day.limit writer result.1) }
+    ensures quiet { result.0 ≡ Done → errors.new ≡ errors.old }
+    ensures said { WritesPrefix (watch_text result.0) (E.contents errors.old) (E.contents errors.new) }
+{
+    match FollowWords::read(alloc, words) {
+        Ok(day) => watch(rt, alloc, day, writer, errors),
+        Err(WordsFault::BadArguments) => {
+            say_watched(errors, Status::Bad);
+            (Status::Bad, Some(writer))
+        }
+        Err(WordsFault::OutOfMemory) => {
+            say_watched(errors, Status::OutOfMemory);
+            (Status::OutOfMemory, Some(writer))
+        }
+    }
+}

@@ -1,0 +1,4 @@
+mod ArgumentLemmas
+pub mod DigitLemmas
+mod PushLemmas
+mod WordLemmas

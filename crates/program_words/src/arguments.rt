@@ -1,0 +1,80 @@
+//! Arguments, one after another, each ended by a zero byte.
+ghost use Rattle.std.specs.Prelude.{◌+◌, ◌≡◌, ◌<◌, ◌∷◌, [], MatchOption, get_or, length, not, position};
+ghost use Rattle.feed_words.specs.Words.{words_of};
+ghost use Rattle.memchr.specs.Find.{is_byte};
+ghost use Rattle.program_words.specs.Arguments.{in_a_row};
+ghost use Rattle.program_words.specs.Given.{given_with, nothing_given};
+
+use crate::flag::Flag;
+use crate::given::{Given, Wrong, is_option};
+use crate::word::Word;
+
+/// Where the first argument ends.
+fn end_of_argument(bytes: &[u8]) -> Option<usize>
+    ensures { result ≡ position (is_byte 0) bytes.now }
+{
+    bytes.iter().position(|byte| *byte == 0)
+}
+
+/// The first argument, and the others.
+pub fn first_argument(bytes: &[u8]) -> Option<(&[u8], &[u8])>
+    ensures { MatchOption result (words_of bytes.now ≡ [])
+        (λ parts. (words_of bytes.now ≡ parts.0.now ∷ words_of parts.1.now) × (length parts.1.now < length bytes.now)) }
+{
+    let end = end_of_argument(bytes)?;
+    Some((&bytes[..end], &bytes[end + 1..]))
+}
+
+/// The argument at a place, counted from 0, or nothing past the last.
+pub fn argument_at(bytes: &[u8], place: usize) -> &[u8]
+    ensures { result.now ≡ get_or (words_of bytes.now) place [] }
+{
+    let mut rest = bytes;
+    for _ in 0..place {
+        match first_argument(rest) {
+            Some((_, behind)) => rest = behind,
+            None => return b"",
+        }
+    }
+    match first_argument(rest) {
+        Some((argument, _)) => argument,
+        None => b"",
+    }
+}
+
+/// Whether the arguments after a word stand in a row, each known by its place, and are not a file with its options: those of a batch unless
+/// help is asked for, and those of a running day unless there is one alone, or up to three of which one is an option.
+pub(crate) fn are_in_a_row(word: Word, bytes: &[u8]) -> bool
+    ensures { result ≡ in_a_row word (words_of bytes.now) }
+{
+    if !word.is_row_word() {
+        return false;
+    }
+    let Some((first, rest)) = first_argument(bytes) else {
+        return true;
+    };
+    let Some((second, rest)) = first_argument(rest) else {
+        return word == Word::Batch && first != Flag::Help.name();
+    };
+    let Some((third, rest)) = first_argument(rest) else {
+        return word == Word::Batch || !(is_option(first) || is_option(second));
+    };
+    word == Word::Batch
+        || first_argument(rest).is_some()
+        || !(is_option(first) || is_option(second) || is_option(third))
+}
+
+/// What the arguments after a word give, or the first that is wrong.
+pub(crate) fn given(word: Word, bytes: &[u8]) -> Result<Given, Wrong>
+    ensures { result ≡ given_with word nothing_given 0 (words_of bytes.now) }
+{
+    let mut given = Given::NOTHING;
+    let mut place = 0;
+    let mut rest = bytes;
+    while let Some((argument, behind)) = first_argument(rest) {
+        given = given.with(word, place, argument)?;
+        place += 1;
+        rest = behind;
+    }
+    Ok(given)
+}

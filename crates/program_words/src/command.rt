@@ -1,0 +1,167 @@
+//! What the program's arguments ask for.
+ghost use Rattle.std.specs.Prelude.{◌≡◌};
+ghost use Rattle.feed_words.specs.Words.{words_of};
+ghost use Rattle.program_words.specs.Arguments.{asked_after, asked_alone, asked_by, asked_of, asked_with, follower_given, matrix_given};
+
+use crate::arguments::{are_in_a_row, first_argument, given};
+use crate::flag::Flag;
+use crate::given::{Given, Wrong};
+use crate::word::Word;
+use sale_matrix::Matrix;
+use tape_types::Participant;
+
+/// The argument that asks for the version.
+const VERSION: &[u8] = b"--version";
+
+/// A text of a table.
+#[derive(Clone, Copy, Debug, PartialEq, Eq)]
+pub enum Command {
+    /// The report of a table, by a matrix, and whether refused rows are faults.
+    Report(Matrix, bool),
+    /// The readable tape of a table, by a matrix, and whether refused rows are faults.
+    Tape(Matrix, bool),
+    /// What became of the reports of a table and what each sets, by a matrix, and whether refused rows are faults.
+    Explain(Matrix, bool),
+    /// Every fault of a table.
+    Check,
+    /// Whether a recorded tape stands as it is written, by a matrix.
+    Verify(Matrix),
+    /// The text of a batch of a table.
+    Encode,
+    /// The table of a batch's text.
+    Decode,
+    /// The bytes of a participant's messages in a table.
+    Line(Participant),
+}
+
+/// A text of a table, and where the table is. The arguments after a word are counted from 0.
+#[derive(Clone, Copy, Debug, PartialEq, Eq)]
+pub struct Request {
+    /// The text.
+    pub command: Command,
+    /// Which argument is the name of the table's file, which is standard input where it is `-` or none is.
+    pub file: Option<usize>,
+}
+
+/// What the program is asked for. The arguments after a word are counted from 0.
+#[derive(Clone, Copy, Debug, PartialEq, Eq)]
+pub enum Asked {
+    /// A text of a table.
+    Table(Request),
+    /// A running day, and which argument is the name of its file.
+    Live(usize),
+    /// The report of a running day at a follower's place, from 1, and which argument is the name of its file.
+    Follow(u16, usize),
+    /// The readable tape of a running day at a follower's place, from 1, and which argument is the name of its file.
+    Watch(u16, usize),
+    /// What the program does.
+    Help,
+    /// What a word does.
+    HelpOn(Word),
+    /// The program's version.
+    Version,
+    /// Nothing: an argument of a word is wrong.
+    Wrong(Word, Wrong),
+}
+
+impl Given {
+    /// The matrix, which is One where none is given.
+    fn matrix(&self) -> Matrix
+        ensures { result ≡ matrix_given self.now }
+    {
+        self.matrix.unwrap_or(Matrix::One)
+    }
+
+    /// The place of a follower, which is the first where none is given.
+    fn follower(&self) -> u16
+        ensures { result ≡ follower_given self.now }
+    {
+        self.follower.unwrap_or(1)
+    }
+}
+
+/// What a word asks for with what is given, of which no option awaits its value and none is help.
+fn asked_by(word: Word, given: &Given) -> Result<Asked, Wrong>
+    ensures { result ≡ asked_by word given.now }
+{
+    let command = match word {
+        Word::Report => Command::Report(given.matrix(), given.strict),
+        Word::Tape => Command::Tape(given.matrix(), given.strict),
+        Word::Explain => Command::Explain(given.matrix(), given.strict),
+        Word::Check => Command::Check,
+        Word::Verify => Command::Verify(given.matrix()),
+        Word::Encode => Command::Encode,
+        Word::Decode => Command::Decode,
+        Word::Line => Command::Line(given.participant.ok_or(Wrong::NoParticipant)?),
+        Word::Batch => return Ok(Asked::HelpOn(word)),
+        Word::Live => return Ok(Asked::Live(given.file.ok_or(Wrong::NoDay)?)),
+        Word::Follow => {
+            return Ok(Asked::Follow(given.follower(), given.file.ok_or(Wrong::NoDay)?));
+        }
+        Word::Watch => {
+            return Ok(Asked::Watch(given.follower(), given.file.ok_or(Wrong::NoDay)?));
+        }
+    };
+    Ok(Asked::Table(Request {
+        command,
+        file: given.file,
+    }))
+}
+
+/// What a word asks for with what is given.
+fn asked_with(word: Word, given: &Given) -> Result<Asked, Wrong>
+    ensures { result ≡ asked_with word given.now }
+{
+    if given.help {
+        return Ok(Asked::HelpOn(word));
+    }
+    match given.awaits {
+        Some(flag) => Err(Wrong::NoValue(flag)),
+        None => asked_by(word, given),
+    }
+}
+
+/// What a word asks for with the arguments after it, unless they stand in a row.
+fn asked_after(word: Word, rest: &[u8]) -> Option<Asked>
+    ensures { result ≡ asked_after (words_of rest.now) word }
+{
+    if are_in_a_row(word, rest) {
+        return None;
+    }
+    let asked = match given(word, rest) {
+        Ok(given) => asked_with(word, &given),
+        Err(wrong) => Err(wrong),
+    };
+    match asked {
+        Ok(asked) => Some(asked),
+        Err(wrong) => Some(Asked::Wrong(word, wrong)),
+    }
+}
+
+/// What one argument alone asks for.
+fn asked_alone(first: &[u8], rest: &[u8]) -> Option<Asked>
+    ensures { result ≡ asked_alone first.now (words_of rest.now) }
+{
+    if first_argument(rest).is_some() {
+        None
+    } else if first == Flag::Help.name() {
+        Some(Asked::Help)
+    } else if first == VERSION {
+        Some(Asked::Version)
+    } else {
+        None
+    }
+}
+
+/// What arguments ask for, each ended by a zero byte, or `None` where they stand in a row, as those of `live` and `follow` do, or begin with no
+/// word.
+#[tactic(auto, unfolding(crate::specs::Arguments::asked_of))]
+pub fn read_arguments(words: &[u8]) -> Option<Asked>
+    ensures { result ≡ asked_of (words_of words.now) }
+{
+    let (first, rest) = first_argument(words)?;
+    if let Some(asked) = asked_alone(first, rest) {
+        return Some(asked);
+    }
+    asked_after(Word::named(first)?, rest)
+}

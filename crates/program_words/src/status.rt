@@ -1,0 +1,74 @@
+//! How the program ends.
+ghost use Rattle.std.specs.Prelude.{◌≡◌, ◌≤◌};
+ghost use Rattle.program_words.specs.Statuses.{status_code, status_text};
+ghost use Rattle.program_words.specs.declared.status.Status.TheVariants.{Done};
+
+/// How the program ends.
+#[derive(Clone, Copy, Debug, PartialEq, Eq)]
+pub enum Status {
+    /// All is done.
+    Done,
+    /// A recorded tape is not as it is written.
+    Differs,
+    /// The input or the arguments are bad.
+    Bad,
+    /// A read failed, or a file or a socket could not be opened.
+    ReadFault,
+    /// A write failed.
+    WriteFault,
+    /// Memory ran out.
+    OutOfMemory,
+    /// A worker was not started.
+    NotStarted,
+    /// The tape disagrees with the feed.
+    Disagrees,
+}
+
+impl Status {
+    /// The number that the program ends with.
+    pub fn code(self) -> u8
+        ensures { result ≡ status_code self }
+    {
+        match self {
+            Status::Done => 0,
+            Status::Differs => 1,
+            Status::Bad => 2,
+            Status::ReadFault => 3,
+            Status::WriteFault => 4,
+            Status::OutOfMemory => 5,
+            Status::NotStarted => 6,
+            Status::Disagrees => 7,
+        }
+    }
+
+    /// The status of a number. One above 7 is no status, and is taken for 7.
+    pub fn of_code(code: u8) -> Status
+        ensures code { code ≤ 7 → status_code result ≡ code }
+        ensures done { code ≡ 0 → result ≡ Done }
+    {
+        match code {
+            0 => Status::Done,
+            1 => Status::Differs,
+            2 => Status::Bad,
+            3 => Status::ReadFault,
+            4 => Status::WriteFault,
+            5 => Status::OutOfMemory,
+            6 => Status::NotStarted,
+            _ => Status::Disagrees,
+        }
+    }
+
+    /// What is said of a fault that has nothing to do with what the input says: one line, and nothing where there is no such fault.
+    pub fn text(self) -> &'static str
+        ensures { result.now ≡ status_text self }
+    {
+        match self {
+            Status::Done | Status::Differs | Status::Bad => "",
+            Status::ReadFault => "tapebox: read fault\n",
+            Status::WriteFault => "tapebox: write fault\n",
+            Status::OutOfMemory => "tapebox: out of memory\n",
+            Status::NotStarted => "tapebox: worker not started\n",
+            Status::Disagrees => "tapebox: tape disagrees\n",
+        }
+    }
+}

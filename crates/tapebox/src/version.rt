@@ -1,0 +1,33 @@
+//! The program's version.
+
+use crate::files::read_file;
+use std::alloc::{Alloc, AllocError, Global};
+use std::fs::Files;
+use std::{env, str};
+
+/// The program's version.
+pub const VERSION: &str = "1.0";
+
+/// What is told where nothing says how the program was built.
+const UNKNOWN: &str = "build unknown";
+
+/// The first line of the file beside the program that says how it was built, if there is one: its name is the program's and ends in `.build`.
+fn build_line<R: Files + Alloc<A = Global>>(rt: &R) -> Option<String> {
+    let alloc = rt.alloc();
+    let program = env::current_exe(rt).ok()?;
+    let name = format!(in alloc; "{}.build", program.display()).ok()?;
+    let text = read_file(rt, alloc, &name).ok()?;
+    let line = str::from_utf8(&text).ok()?.lines().next()?;
+    String::from_str(alloc, line).ok()
+}
+
+/// The program's version, and how it was built.
+pub fn version_text<R: Files + Alloc<A = Global>>(rt: &R) -> Result<Vec<u8>, AllocError> {
+    let build = build_line(rt);
+    let build = match &build {
+        Some(line) => line.as_str(),
+        None => UNKNOWN,
+    };
+    let text = format!(in rt.alloc(); "tapebox {VERSION}, {build}\n")?;
+    Ok(text.into_bytes())
+}

@@ -1,5 +1,0 @@
-pub mod FollowLemmas
-pub mod LineLemmas
-pub mod RunLemmas
-pub mod VerifyLemmas
-pub mod WordLemmas

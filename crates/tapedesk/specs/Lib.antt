@@ -1,8 +1,0 @@
-pub mod Commands
-pub mod Follows
-pub mod HelpTexts
-pub mod Program
-pub mod RefusalLines
-pub mod TextRuns
-pub mod VerdictLines
-pub mod VerifyRuns
