@@ -1,4 +1,4 @@
-/* A tape, its sender and its subscriber in a process of your own: the calls of the static library libtapebox_c.a.
+/* A tape, its sender, its subscriber and the texts of a table in a process of your own: the calls of the static library libtapebox_c.a.
  *
  * Each call is proved (crates/tapebox_c): it is safe, it returns, and it answers as written here, as long as its caller keeps these,
  * which nothing checks:
@@ -9,7 +9,7 @@
  * 3. No two calls that run at once have the same handle. One thread at a time uses a handle, and each starts its turn after a lock or a join.
  * 4. malloc, realloc and free are of one allocator. No call is made from a signal handler, or by a forked child of threads.
  *
- * A handle that holds nothing, holds the other kind, or was freed twice is no fault of a caller: such a call answers 101, 102 or does nothing.
+ * A handle that holds nothing, holds another kind, or was freed twice is no fault of a caller: such a call answers 101, 102 or 110, or does nothing.
  *
  * A call that returns uint32_t returns 0, or the number of a refusal (docs/RULES.md, "Refusals by number and name", and those below).
  * What a refused call would have changed is as it was before, unless it is said otherwise. */
@@ -26,7 +26,7 @@ extern "C" {
 
 /* Refusals of the calls themselves, besides those of docs/RULES.md. */
 enum {
-    TAPEBOX_NO_TAPE = 101,       /* the handle holds no tape (for a summary, a count or an entry: holds nothing) */
+    TAPEBOX_NO_TAPE = 101,       /* the handle holds no tape (for a summary or an entry: no subscriber either) */
     TAPEBOX_NO_SUBSCRIBER = 102, /* the handle holds no subscriber */
     TAPEBOX_IN_USE = 103,        /* the handle holds something already */
     TAPEBOX_BAD_MATRIX = 104,    /* the matrix is neither 1 nor 2 */
@@ -34,14 +34,16 @@ enum {
     TAPEBOX_NO_LINE = 106,       /* the line is none of 0, 1 and 2 */
     TAPEBOX_NO_REQUEST = 107,    /* a request has 14 bytes */
     TAPEBOX_NO_ROOM = 108,       /* the row is shorter than the answer */
-    TAPEBOX_OUT_OF_MEMORY = 109  /* memory ran out for a packet or an answer */
+    TAPEBOX_OUT_OF_MEMORY = 109, /* memory ran out for a packet, an answer, a table or a text */
+    TAPEBOX_NO_TABLE = 110,      /* the handle holds no table */
+    TAPEBOX_BAD_TABLE = 111      /* the bytes are no table, or have no row or too many symbols; the handle's text says which, and where */
 };
 
 /* How many bytes the longest packet and the longest answer to a request have. */
 #define TAPEBOX_LONGEST_PACKET 1823
 #define TAPEBOX_LONGEST_ANSWER 7370
 
-/* What you keep of a tape or of a subscriber. TAPEBOX_HANDLE is one that holds nothing. */
+/* What you keep of a tape, of a subscriber or of a table. TAPEBOX_HANDLE is one that holds nothing. */
 typedef struct tapebox_handle {
     bool is_open;
     void *inside;
@@ -176,7 +178,7 @@ uint32_t tapebox_summary(tapebox_handle *handle, const uint8_t *symbol, size_t l
 /* A participant's own figures of a symbol. Refused: 101, 36, 34. */
 uint32_t tapebox_summary_of(tapebox_handle *handle, const uint8_t *symbol, size_t len, uint8_t participant, tapebox_figures *row);
 
-/* How many entries there are, 0 for a handle that holds nothing. */
+/* How many entries there are, 0 for a handle that holds neither. */
 uint32_t tapebox_count(tapebox_handle *handle);
 
 /* The entry of a tape number, from 1. Refused: 101, 105. */
@@ -217,6 +219,23 @@ uint32_t tapebox_missing(tapebox_handle *handle, tapebox_request *row);
 
 /* What is held, announced, ended and brought. Refused: 102. */
 uint32_t tapebox_news_of(tapebox_handle *handle, tapebox_news *row);
+
+/* Reads a table (docs/FORMATS.md, "A table") into a handle that holds nothing. Nothing is kept of the bytes. Refused: 103, and the handle is as it
+ * was; 109 and 111, and the handle holds what is wrong in words, as `out of memory` or `row 3: size "0" is not 1 to 99999999 in at most 20 digits`;
+ * or nothing, with 109, where memory runs out for these words too. A handle that holds words has to be freed before it reads another table. */
+uint32_t tapebox_read_table(tapebox_handle *handle, const uint8_t *table, size_t len);
+
+/* These three make a text of the table that the handle holds, by matrix 1 or 2, in place of the text that it had: its report, its readable tape,
+ * and what became of each of its reports (docs/FORMATS.md). The table is not read again. Refused: 104 and 110, and the handle is as it was; 109,
+ * and 111 for names that make no listing, and the text says so in words, or is empty where memory runs out for these. */
+uint32_t tapebox_report(tapebox_handle *handle, uint32_t matrix);
+uint32_t tapebox_tape(tapebox_handle *handle, uint32_t matrix);
+uint32_t tapebox_explain(tapebox_handle *handle, uint32_t matrix);
+
+/* How many bytes the text has that the handle holds, 0 for none; and those from the byte `from` on, at the front of `bytes`: as many as there are
+ * and as it has room for. The second returns how many it copied, 0 at the end of the text. */
+size_t tapebox_text_length(tapebox_handle *handle);
+size_t tapebox_text_copy(tapebox_handle *handle, size_t from, uint8_t *bytes, size_t bytes_len);
 
 /* The bytes of a message made of its fields. Refused: 13, 15 to 21. */
 uint32_t tapebox_encode(const tapebox_fields *fields, tapebox_message *row);

@@ -16,7 +16,7 @@ HERE = os.path.dirname(os.path.abspath(__file__))
 sys.path.insert(0, HERE)
 import tapebox
 from tapebox import _library
-from tapebox import Mark, Message, Packet, Refused, Request, Subscriber, Summary, Tape, Totals
+from tapebox import Mark, Message, Packet, Refused, Request, Subscriber, Summary, Table, Tape, Totals
 from tapebox.tables import COLUMNS
 
 SAMPLES = os.path.join(HERE, "..", "samples")
@@ -60,6 +60,35 @@ class Cases(unittest.TestCase):
             call(*arguments)
         self.assertEqual(told.exception.code, code)
 
+    def test_texts(self) -> None:
+        """A table's texts are those of its tape, whichever is asked for first, and a table is read once for all."""
+        with open(os.path.join(SAMPLES, "corrections.csv"), "rb") as file:
+            table = file.read()
+        texts = {"report": tapebox.report(table), "tape": tapebox.tape(table), "explain": tapebox.explain(table, 1)}
+        self.assertIn("AB,N,99500,1,100500,3,99500,1,99500,1,250,2", texts["report"].splitlines())
+        self.assertEqual([text.count("\n") for text in texts.values()], [3, 7, 4])
+        with Table(table) as read:
+            for name in ("explain", "report", "tape", "explain"):
+                self.assertEqual(getattr(read, name)(), texts[name])
+                self.refused(104, getattr(read, name), 3)
+            self.assertEqual(read.report(2), tapebox.report(table, 2))
+        self.refused(110, read.report)
+
+    def test_no_table(self) -> None:
+        """Bytes that are no table are refused, and what is wrong is told."""
+        head = b"kind,participant,number,symbol,target,price,size,condition\n"
+        fault = 'row 2: size "0" is not 1 to 99999999 in at most 20 digits'
+        for text, why in {head: "the table has no row", head + b"report,N,1,AB,,1.00,0,@___\n": fault}.items():
+            with self.assertRaises(Refused) as told:
+                tapebox.tape(text)
+            self.assertEqual((told.exception.code, told.exception.why), (111, why))
+        self.refused(111, Table, b"")
+        self.refused(111, Table, b"\xff\x00" * 100)
+        names = "".join(f"report,N,{at + 1},{chr(65 + at // 676)}{chr(65 + at // 26 % 26)}{chr(65 + at % 26)},,1.00,1,@___\n" for at in range(4097))
+        with Table(head + names.encode()) as read, self.assertRaises(Refused) as told:
+            read.report()
+        self.assertEqual((told.exception.code, told.exception.why), (111, "the table has more than 4096 symbols"))
+
     def test_a_day(self) -> None:
         with Tape(["AB"], "NQ") as tape:
             self.assertEqual(tape.report("N", 1, "AB", "10.00", 100, "@___"), 1)
@@ -98,6 +127,13 @@ class Cases(unittest.TestCase):
             self.assertEqual(list(tape.admit_many(entries[0])), [31])
         self.refused(101, tape.admit_many, b"".join(again))
         self.refused(101, Tape.admit_many, Subscriber(["AB"], "NQ", 7), entries[0])
+
+    def test_many_with_a_rest(self) -> None:
+        """Bytes after the last message are refused by what is wrong with them, however short they are."""
+        for text, rest, code in ((REPORT, REPORT[:10], 12), (CANCEL, CANCEL[:5], 12), (CANCEL, CANCEL[:1], 12), (REPORT, b"zz", 11), (CANCEL, b"\0\1?", 13)):
+            with self.subTest(rest), Tape(["AB"], "NQ") as tape, self.assertRaises(Refused) as refusal:
+                tape.admit_many(text + rest)
+            self.assertEqual((refusal.exception.code, refusal.exception.taken), (code, len(text)))
 
     def test_many_with_little_room(self) -> None:
         tape, text = Tape(["AB"], "NQ"), REPORT + CANCEL + REINSTATEMENT
@@ -178,6 +214,52 @@ class Cases(unittest.TestCase):
         self.refused(3, Tape, ["AB", "AB"], "NQ")
         self.refused(104, Subscriber, ["AB"], "NQ", 7, 0)
         self.assertEqual(len(Tape(["AB"], "NQ", 2, 16_777_216)), 0)
+
+    def test_numbers_that_no_field_has(self) -> None:
+        """A number that is too large or negative is refused, and never taken for another."""
+        for number in (1 << 32, (1 << 32) + 2, -1, -(1 << 32) + 2):
+            self.refused(104, Tape, ["AB"], "NQ", number)
+            self.refused(5, Tape, ["AB"], "NQ", 1, number)
+            self.refused(104, Subscriber, ["AB"], "NQ", 7, number)
+            self.refused(5, Subscriber, ["AB"], "NQ", 7, 1, number)
+            for call in (tapebox.beat, tapebox.end):
+                for version in (1, 2):
+                    self.refused(54, call, 7, number, version)
+                self.refused(52, call, 7, number, 3)
+        tape, asked = morning(), Request(7, 1, 1).encode()
+        calls = (lambda session: Subscriber(["AB"], "NQ", session), lambda session: tapebox.beat(session, 1), lambda session: tapebox.end(session, 1),
+                 lambda session: tape.packet(1, session=session), lambda session: tape.answer(asked, session=session))
+        for call in calls:
+            for session in (-1, 1 << 64, (1 << 64) + 7):
+                self.assertRaises(ValueError, call, session)
+            call((1 << 64) - 1)
+        self.assertEqual(Packet.decode(tapebox.beat((1 << 64) - 1, 1)).session, (1 << 64) - 1)
+
+    def test_names_that_are_no_names(self) -> None:
+        """A name with a space, or none at all, is refused and not taken for two."""
+        for names in (["A B"], ["AB", "C D"], [" AB"], ["AB "], [""], ["AB", ""], ["", ""], ["AB\nCD"]):
+            with self.subTest(names):
+                self.refused(9, Tape, names, "NQ")
+                self.refused(9, Subscriber, names, "NQ", 7)
+        for letters in (["N Q"], "N Q", [""], ["NQ"]):
+            self.refused(9, Tape, ["AB"], letters)
+        # What comes before the names is still refused before them.
+        self.refused(104, Tape, ["A B"], "NQ", 3)
+        self.refused(5, Tape, ["A B"], "NQ", 1, 0)
+        self.refused(1, Tape, ["AB"], "")
+
+    def test_taking(self) -> None:
+        """A packet that is refused is dropped, and a call that is wrong is not."""
+        good = packet(7, list(morning())[:1])
+        subscriber = Subscriber(["AB", "CD", "EF"], "NQP", 7)
+        for bad in (b"", good[:-1], good + b"\0", telling("H", 8, 1), telling("H", 7, 1, 3)):
+            subscriber.take("A", bad)
+        self.assertEqual(subscriber.announced, 0)
+        subscriber.take("A", good)
+        self.assertEqual((subscriber.drain(), subscriber.brought), (1, {"A": 1, "B": 0, "R": 0}))
+        self.refused(106, subscriber.take, "Z", good)
+        subscriber.free()
+        self.refused(102, subscriber.take, "A", good)
 
     def test_handles(self) -> None:
         tape = Tape(["AB"], "NQ")
@@ -379,6 +461,7 @@ class Cases(unittest.TestCase):
             self.assertEqual((told.exception.code, told.exception.drained), (42, k + 1))
             self.refused(64, subscriber.drain)
             self.refused(64, subscriber.deliver, "A", telling("H", 7, 1))
+            self.refused(64, subscriber.take, "A", telling("H", 7, 1))
             self.assertEqual(len(subscriber), k + 1)
 
 

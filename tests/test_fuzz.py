@@ -50,6 +50,17 @@ def inputs_of_samples():
         yield b"".join([*steps, call("serve", 2, request, 255), call("close", 0)])
 
 
+def inputs_of_tables():
+    """Each sample as a table whose texts are made, and read by pieces; and as one with a fault."""
+    for table in sorted(SAMPLES.glob("*.csv")):
+        given = table.read_bytes()[:4000]
+        given = given[: given.rindex(b"\n") + 1]
+        for text in (given, given.replace(b",100,", b",0,", 1)):
+            steps = [b"\1", call("read_table", 0, text), call("text_length", 0), call("text_copy", 0, 255)]
+            steps += [call(name, matrix) + call("text_copy", 3, 200) for name in ("report", "tape", "explain") for matrix in (1, 2, 3)]
+            yield b"".join([*steps, call("count", 0), call("free", 0), call("read_table", 0, text[:100])])
+
+
 def inputs_of_rows():
     """The bytes of the rows and of the page of formats, given to each call that reads bytes."""
     for file in [*sorted((ROOT / "rows").glob("*.rows")), ROOT / "docs" / "FORMATS.md"]:
@@ -83,7 +94,7 @@ class Fuzzed(Case):
             folder = Path(name)
             corpus = folder / "corpus"
             corpus.mkdir()
-            for at, given in enumerate([*inputs_of_samples(), *inputs_of_rows()]):
+            for at, given in enumerate([*inputs_of_samples(), *inputs_of_tables(), *inputs_of_rows()]):
                 (corpus / str(at)).write_bytes(given)
             words = [f"-max_total_time={SECONDS}", "-max_len=4096", "-timeout=60", "-verbosity=0", f"-artifact_prefix={folder}/", corpus]
             ended = run(words, program=self.built(folder), limit=2 * SECONDS + 120, cwd=folder)

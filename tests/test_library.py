@@ -13,7 +13,8 @@ import unittest
 import unittest.mock
 from pathlib import Path
 
-from support import CRATES, ROOT, SAMPLES, TAPEDESK, Case, desk, run
+from refused import MOST, run_refused
+from support import CRATES, ROOT, SAMPLES, Case, desk, run
 
 CLIB = ROOT / "clib"
 PYTHON = ROOT / "python"
@@ -53,6 +54,28 @@ PRINTS_LAYOUT = """#include "{header}"
 
 int main(void) {{
 {lines}    return 0;
+}}
+"""
+
+# Reads the table on standard input three times, the third after what was held is freed, and prints the first call's number, what is held in
+# words then, and the numbers of the other two. Nothing else in it takes memory.
+READS_REFUSED = """#include "{header}"
+#include <stdio.h>
+
+int main(void) {{
+    static uint8_t table[4096], words[4096];
+    setvbuf(stdin, NULL, _IONBF, 0);
+    setvbuf(stdout, NULL, _IONBF, 0);
+    tapebox_handle handle = TAPEBOX_HANDLE;
+    size_t len = fread(table, 1, sizeof table, stdin);
+    unsigned first = tapebox_read_table(&handle, table, len);
+    size_t count = tapebox_text_copy(&handle, 0, words, sizeof words);
+    unsigned again = tapebox_read_table(&handle, table, len);
+    tapebox_free(&handle);
+    unsigned freed = tapebox_read_table(&handle, table, len);
+    tapebox_free(&handle);
+    printf("%u,%.*s,%u,%u", first, (int)count, words, again, freed);
+    return 0;
 }}
 """
 
@@ -188,6 +211,24 @@ class Examples(Linked):
                 got = run(["-B", CLIB / "examples" / "report.py", table], **options)
                 self.assertEqual((got.status, got.written), (0, desk("report", given=table.read_bytes()).written))
 
+    def assert_texts(self, folder):
+        """The example of texts writes what the program does of each sample, by each matrix, and names a table's fault."""
+        for table in TABLES:
+            given = table.read_bytes()
+            for word in ("report", "tape", "explain"):
+                for matrix in ("1", "2"):
+                    with self.subTest(table.name, word=word, matrix=matrix):
+                        wanted = desk(word, given=given, matrix=matrix)
+                        got = run([word, matrix], given, program=folder / "examples" / "texts")
+                        self.assertEqual((got.status, got.written, got.said), (0, wanted.written, b""))
+        fault = run(["tape"], TABLES[0].read_bytes().replace(b",100,", b",0,", 1), program=folder / "examples" / "texts")
+        self.assertEqual((fault.status, fault.written), (2, b""))
+        self.assertRegex(fault.said, rb'\Arow \d+: size "0" is not 1 to 99999999 in at most 20 digits\n\Z')
+
+    def test_texts_in_c(self):
+        """clib/examples/texts.c: a table's texts of the library are those of the program."""
+        self.assert_texts(self.folder)
+
     def test_examples_under_a_sanitizer(self):
         """clib/tapebox.h: what the examples keep is freed at their end, and nothing outside it is read or written."""
         flag = "-fsanitize=address,undefined"
@@ -199,11 +240,12 @@ class Examples(Linked):
                 # The shared library is not linked so: clang leaves the sanitizer's own calls undefined in one.
                 (folder / "examples").mkdir()
                 program, *words = shlex.split(compiler)
-                for example in ("report", "feed"):
+                for example in ("report", "feed", "texts"):
                     more = ["-std=c11", "-O2", "-Wall", "-Wextra", "-Werror", flag, "-o", folder / "examples" / example]
                     done = run([*words, *more, CLIB / "examples" / f"{example}.c", ARCHIVE, kit_library()], program=program)
                     self.assertEqual((done.status, done.said), (0, b""))
                 self.assert_reports(folder, "report", "feed")
+                self.assert_texts(folder)
                 self.assert_leak_is_seen(folder, flag, compiler)
 
     def assert_leak_is_seen(self, folder, flag, compiler):
@@ -272,6 +314,27 @@ class Interface(Linked):
         for name in exported:
             self.assertTrue(getattr(library, name))
 
+    def test_a_table_without_memory(self):
+        """clib/tapebox.h: whichever request of `tapebox_read_table` is refused, it returns 109, and the handle holds the words "out of memory" and has
+        to be freed before it reads again, or it holds nothing, and reads again at once."""
+        good = TABLES[0].read_bytes()
+        with tempfile.TemporaryDirectory() as name:
+            program = compiled(Path(name), READS_REFUSED.format(header=HEADER), ARCHIVE, kit_library())
+            self.assertTrue(program)
+            for table, code in ((good, "0"), (good.replace(b",100,", b",0,", 1), "111")):
+                ends = set()
+                for request in range(1, MOST):
+                    was_met, ended = run_refused([], request, given=table, program=program)
+                    self.assertEqual((ended.status, ended.said), (0, b""))
+                    first, words, again, freed = ended.written.decode().split(",")
+                    if not was_met:
+                        break
+                    ends.add((first, words, again, freed))
+                with self.subTest(code):
+                    self.assertEqual((first, again, freed), (code, "103", code))
+                    # The last is a refusal of the third reading.
+                    self.assertEqual(ends, {("109", "out of memory", "103", code), ("109", "", code, code), (code, words, "103", "109")})
+
     def test_the_header_in_cpp(self):
         """clib/tapebox.h: it is C++ too."""
         compiler = shutil.which(os.environ.get("CXX", "c++"))
@@ -314,9 +377,9 @@ class Package(Linked):
             self.assertRegex(tags.read_text(encoding="utf-8"), r"(?m)^Tag: py3-none-manylinux_2_\d+_\w+$")
             page = (PYTHON / "README.md").read_text(encoding="utf-8")
             shown = re.findall(r"```python\n(.*?)```\n\n((?:    [^\n]*\n)+)", page, re.DOTALL)
-            self.assertEqual(len(shown), 2)
+            self.assertEqual(len(shown), 3)
             for code, written in shown:
-                # The page's second day has the first one's import.
+                # The page's later code has the first one's import.
                 code = code if code.startswith("import") else f"import tapebox\n{code}"
                 options = {"program": sys.executable, "cwd": ROOT, "env": environment | {"PYTHONPATH": name, "TAPEBOX_LIBRARY": ""}}
                 with self.subTest(code):

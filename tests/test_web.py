@@ -1,219 +1,51 @@
-"""The page in a real browser beside the built `tapedesk`, what it may ask the network for, and the heap beside its module."""
+"""The page in a real browser beside the built program, what it may ask the network for, and the heap beside its module."""
 
-import contextlib
-import fcntl
-import json
 import os
 import random
-import select
+import re
 import shutil
-import signal
 import socket
 import subprocess
 import sys
 import tempfile
-import time
 import unittest
 from pathlib import Path
 
 import test_tables
-from support import HOST, LIMIT, PATIENCE, ROOT, SAMPLES, Case, desk, table_of
+from browser import PAGE, Browser, PageCase
+from plain_reasons import Reasons
+from support import HOST, LIMIT, ROOT, SAMPLES, Case, desk, run, table_of, tried
 
 WEB = ROOT / "web"
-PAGE = WEB / "tapebox.html"
+# The library that the module is compiled from, for this machine.
+LIBRARY = ROOT / "crates" / "tapebox_c" / "out" / "libtapebox_c.a"
 NAMES = ("report", "tape", "explain")
-# Debian's browser without a window. It takes commands from file 3 and answers to file 4, each ended by a zero byte.
-CHROMIUM = ["chromium", "--headless=new", "--remote-debugging-pipe", "--no-first-run", "--disable-gpu", "--disable-dev-shm-usage"]
-TO_PIPES = "import os, sys; os.dup2(int(sys.argv[1]), 3); os.dup2(int(sys.argv[2]), 4); os.execvp(sys.argv[3], sys.argv[3:])"
-# A file number that is neither 3 nor 4.
-BEYOND = 10
-# Keys by their numbers in events.
-KEYS = {"Tab": 9, "ArrowRight": 39, "ArrowDown": 40}
+# What the page lists with its reasons: of each report its tape number and the words.
+LISTS = """[...document.querySelectorAll('#reasons section')].slice(0, 3).map((list) =>
+    [...list.querySelectorAll('tr')].map((line) => [line.querySelector('button').textContent.slice(1), line.lastChild.textContent]))"""
+# Measures from here on the longest time, in milliseconds, in which the page does not get to what else it has to do.
+SILENCE = """globalThis.silence = 0;
+    globalThis.looked = performance.now();
+    setInterval(() => { const now = performance.now(); silence = Math.max(silence, now - looked); looked = now; }, 10);
+    0"""
+# How many reports a list has at most.
+LISTED = 12
 
 
-def far(file):
-    """The same file under a number that the browser does not use."""
-    moved = fcntl.fcntl(file, fcntl.F_DUPFD_CLOEXEC, BEYOND)
-    os.close(file)
-    return moved
+class OneSymbol(test_tables.SeededDay):
+    """Rows of one symbol."""
+
+    SYMBOLS = ["AB"]
 
 
-class Browser:
-    """A browser with one page, and what it told of it: each event, the oldest first."""
-
-    def __init__(self):
-        self.room = tempfile.mkdtemp(prefix="tapebox-page-")
-        self.saved = Path(self.room, "saved")
-        self.saved.mkdir()
-        (theirs, self.to), (self.of, answers) = map(lambda pair: tuple(map(far, pair)), (os.pipe(), os.pipe()))
-        words = [*CHROMIUM, f"--user-data-dir={self.room}", *["--no-sandbox"] * (os.geteuid() == 0), "about:blank"]
-        how = {"pass_fds": (theirs, answers), "stdin": subprocess.DEVNULL, "stdout": subprocess.DEVNULL, "stderr": subprocess.DEVNULL}
-        self.running = subprocess.Popen([sys.executable, "-c", TO_PIPES, str(theirs), str(answers), *words], start_new_session=True, **how)
-        os.close(theirs)
-        os.close(answers)
-        self.events, self.answers, self.rest, self.count = [], {}, b"", 0
-        self.session = None
-        self.session = self.attached()
-        for domain in ("Page", "Runtime", "Network", "Log", "DOM"):
-            self.call(f"{domain}.enable")
-        # Workers wait until what they ask for is told too.
-        self.call("Target.setAutoAttach", autoAttach=True, waitForDebuggerOnStart=True, flatten=True)
-
-    def attached(self):
-        """Opens a page, and gives the name under which it is spoken to."""
-        self.call("Browser.setDownloadBehavior", behavior="allowAndName", downloadPath=str(self.saved), eventsEnabled=True)
-        target = self.call("Target.createTarget", url="about:blank")["targetId"]
-        return self.call("Target.attachToTarget", targetId=target, flatten=True)["sessionId"]
-
-    def close(self):
-        """Ends it."""
-        with contextlib.suppress(ProcessLookupError):
-            os.killpg(self.running.pid, signal.SIGKILL)
-        self.running.wait()
-        os.close(self.to)
-        os.close(self.of)
-        shutil.rmtree(self.room, ignore_errors=True)
-
-    def send(self, method, session, params):
-        """Sends a command, and gives its number."""
-        self.count += 1
-        message = {"id": self.count, "method": method, "params": params} | ({"sessionId": session} if session else {})
-        rest = json.dumps(message).encode() + b"\0"
-        while rest:
-            rest = rest[os.write(self.to, rest) :]
-        return self.count
-
-    def hear(self, until):
-        """Takes what the browser says next."""
-        if not select.select([self.of], [], [], max(until - time.monotonic(), 0))[0]:
-            raise TimeoutError("the browser does not answer")
-        part = os.read(self.of, 1 << 20)
-        if not part:
-            raise ConnectionError("the browser ended")
-        *messages, self.rest = (self.rest + part).split(b"\0")
-        for message in map(json.loads, messages):
-            if "id" in message:
-                self.answers[message["id"]] = message
-            else:
-                self.events.append(message)
-                self.look_into(message)
-
-    def look_into(self, event):
-        """Has a worker that begins tell what it asks the network for."""
-        if event["method"] == "Target.attachedToTarget" and event["params"]["waitingForDebugger"]:
-            for method in ("Network.enable", "Runtime.enable", "Runtime.runIfWaitingForDebugger"):
-                self.send(method, event["params"]["sessionId"], {})
-
-    def call(self, method, session=None, **params):
-        """What a command answers, of the page unless another is named."""
-        number, until = self.send(method, session or self.session, params), time.monotonic() + LIMIT
-        while number not in self.answers:
-            self.hear(until)
-        answer = self.answers.pop(number)
-        if "error" in answer:
-            raise RuntimeError(f"{method}: {answer['error']['message']}")
-        return answer["result"]
-
-    def value(self, expression, session=None):
-        """The value of an expression in the page."""
-        answer = self.call("Runtime.evaluate", session, expression=expression, awaitPromise=True, returnByValue=True, userGesture=True)
-        if "exceptionDetails" in answer:
-            raise RuntimeError(answer["exceptionDetails"].get("exception", {}).get("description", expression))
-        return answer["result"].get("value")
-
-    def wait(self, what, holds, limit=LIMIT):
-        """Waits until this holds."""
-        until = time.monotonic() + limit
-        while not (found := holds()):
-            if time.monotonic() > until:
-                raise TimeoutError(f"{what} never came")
-            time.sleep(0.02)
-        return found
-
-    def told(self, method):
-        """What was told by events of this name, so far."""
-        self.value("0")
-        return [event["params"] for event in self.events if event["method"] == method]
-
-    def open(self, file):
-        """Opens a file as a page."""
-        self.events.clear()
-        self.call("Page.navigate", url=file.as_uri())
-        self.wait("the page", lambda: self.told("Page.loadEventFired"))
-
-    def workers(self):
-        """The names under which the page's workers are spoken to."""
-        return [event["sessionId"] for event in self.told("Target.attachedToTarget")]
-
-    def click(self, selector):
-        """Clicks on what this names."""
-        self.value(f"document.querySelector({json.dumps(selector)}).click()")
-
-    def point(self, selector):
-        """Clicks with the mouse on what this names."""
-        place = f"(({{ x, y, width, height }}) => [x + width / 2, y + height / 2])(document.querySelector({json.dumps(selector)}).getBoundingClientRect())"
-        x, y = self.value(place)
-        for kind in ("mousePressed", "mouseReleased"):
-            self.call("Input.dispatchMouseEvent", type=kind, x=x, y=y, button="left", clickCount=1)
-
-    def press(self, key):
-        """Presses a key."""
-        for kind in ("rawKeyDown", "keyUp"):
-            self.call("Input.dispatchKeyEvent", type=kind, key=key, code=key, windowsVirtualKeyCode=KEYS[key])
-
-    def begun(self, name):
-        """Clicks on a link to save, and gives the name of the download that this begins. Chromium on a busy machine now and then begins none."""
-        before = len(self.told("Browser.downloadWillBegin"))
-        for _ in range(3):
-            self.point(f"#save-{name}")
-            with contextlib.suppress(TimeoutError):
-                return self.wait(f"what {name} saves", lambda: self.told("Browser.downloadWillBegin")[before:], PATIENCE)[0]["guid"]
-        raise TimeoutError(f"no click saves {name}")
-
-    def save(self, name):
-        """The bytes that a click on a link to save gives."""
-        begun = self.begun(name)
-        states = lambda: [it["state"] for it in self.told("Browser.downloadProgress") if it["guid"] == begun]
-        self.wait(f"all of what {name} saves", lambda: "completed" in states())
-        return (self.saved / begun).read_bytes()
-
-    def give(self, table, matrix):
-        """Gives the page a table's file by a matrix, as a person does, and waits until it has made all of it, or shows its fault."""
-        if self.value("state.matrix") != matrix:
-            self.value(f"state.file = null, document.querySelector('input[name=matrix][value=\"{matrix}\"]').click()")
-        run = self.value("state.run") + 1
-        root = self.call("DOM.getDocument")["root"]["nodeId"]
-        node = self.call("DOM.querySelector", nodeId=root, selector="#file")["nodeId"]
-        self.call("DOM.setFileInputFiles", nodeId=node, files=[str(table)])
-        done = f"state.run === {run} && (document.body.dataset.done === '{run}' || !document.getElementById('fault').hidden || state.broken !== '')"
-        self.wait("the end of a table", lambda: self.value(done))
-
-
-@unittest.skipUnless(shutil.which("chromium"), "no chromium")
-@unittest.skipUnless(PAGE.exists(), "no web/tapebox.html, which web/build makes")
-class Page(Case):
-    @classmethod
-    def setUpClass(cls):
-        cls.browser = Browser()
-        cls.addClassCleanup(cls.browser.close)
-        cls.folder = tempfile.TemporaryDirectory()
-        cls.addClassCleanup(cls.folder.cleanup)
-
-    def setUp(self):
-        self.browser.open(PAGE)
-
-    def tearDown(self):
-        """The page failed nowhere."""
-        self.assertEqual(self.browser.value("state.broken"), "")
-        self.assertEqual([it["exceptionDetails"].get("exception", {}).get("description") for it in self.browser.told("Runtime.exceptionThrown")], [])
-
+class Page(PageCase):
     def assert_texts(self, table, matrix):
         """What is saved of a table are the bytes that the program writes."""
         self.browser.give(table, matrix)
         self.assertTrue(self.browser.value("document.getElementById('fault').hidden"))
         for name in NAMES:
             with self.subTest(table.name, matrix=matrix, text=name):
-                ended = desk(name, matrix, given=table.read_bytes())
+                ended = desk(name, matrix=matrix, given=table.read_bytes())
                 self.assertEqual(ended.status, 0)
                 self.assertTrue(ended.written)
                 self.assertEqual(self.browser.save(name), ended.written)
@@ -221,18 +53,13 @@ class Page(Case):
     def assert_fault(self, table, matrix):
         """A table's fault is shown in the program's words, with its row, of which this is the text; and nothing else is."""
         self.browser.give(table, matrix)
-        ended = desk("report", matrix, given=table.read_bytes())
+        ended = desk("report", matrix=matrix, given=table.read_bytes())
         self.assertEqual((ended.status, ended.written), (2, b""))
         shown = self.browser.value("document.getElementById('fault-text').textContent")
-        self.assertEqual(f"tapedesk: {shown}\n", ended.said.decode())
+        # The program's name stands before it.
+        self.assertEqual(f"{shown}\n", ended.said.decode().partition(": ")[2])
         self.assertTrue(self.browser.value("document.getElementById('day').hidden"))
         return self.browser.value("document.querySelector('#fault-lines .bad').textContent")
-
-    def written(self, name, rows):
-        """A table's file."""
-        file = Path(self.folder.name, name)
-        file.write_bytes(rows if isinstance(rows, bytes) else table_of(rows))
-        return file
 
     def test_samples(self):
         """web/README: the three texts of the samples, as a person saves them, are the program's bytes."""
@@ -241,15 +68,21 @@ class Page(Case):
 
     def test_the_sample_of_the_page(self):
         """web/README: the page's own sample is samples/morning.csv."""
-        self.browser.click("#try")
-        self.browser.wait("the end of the sample", lambda: self.browser.value("document.body.dataset.done === '1'"))
+        self.try_sample()
         for name in NAMES:
             self.assertEqual(self.browser.save(name), desk(name, given=(SAMPLES / "morning.csv").read_bytes()).written)
 
+    @tried(3)
     def test_a_long_table(self):
-        """Texts that are copied out of the module in several pieces are whole."""
-        day = test_tables.SeededDay(41)
-        self.assert_texts(self.written("long.csv", [day.HEAD, *(day.row() for _ in range(20_000))]), 1)
+        """web/README: of 200,000 rows of one symbol the texts are whole, and the page is silent for less than half a second at a time."""
+        day = OneSymbol(41)
+        table = self.written("long.csv", [day.HEAD, *(day.row() for _ in range(200_000))])
+        self.browser.value(SILENCE)
+        self.assert_texts(table, 1)
+        for name in ("tape", "explain", "report"):
+            self.browser.click(f"#tab-{name}")
+            self.browser.value("new Promise((done) => setTimeout(done, 300))")
+        self.assertLess(self.browser.value("silence"), 500)
 
     def test_seeded_tables(self):
         """web/README: seeded tables by either matrix, one in four of them with a fault, whose row is shown."""
@@ -273,6 +106,72 @@ class Page(Case):
         self.assertEqual(self.assert_fault(self.written("blank.csv", head + b"\n" + good + b"\n\r\n" + worse), 1), f"3  {worse.decode()}")
         self.assertEqual(self.assert_fault(self.written("head.csv", b"kinds" + head[4:] + good), 2), f"1  {b'kinds'.decode()}{head[4:].decode()}")
 
+    def assert_reasons(self, table):
+        """Each reason of a table's reports, consolidated and of each participant, is the one of RULES."""
+        self.browser.give(table, 1)
+        self.browser.click("#tab-explain")
+        reasons = Reasons(*(desk(name, given=table.read_bytes()).written for name in ("explain", "tape")))
+        for symbol, letter in sorted({(row["symbol"], letter) for row in reasons.rows for letter in (None, row["participant"])}, key=str):
+            who = ord(letter) if letter else 0
+            self.browser.value(f"setSymbol(state.symbols.indexOf('{symbol}')), state.who = {who}, showTab()")
+            lists = [[list(it) for it in items[:LISTED]] for items in reasons.lists(symbol, letter)]
+            with self.subTest(table.name, symbol=symbol, participant=letter):
+                self.assertEqual(self.browser.value(LISTS), lists)
+        for refusal, (number, words) in reasons.refusals().items():
+            self.browser.value(f"setSymbol(-1), state.who = 0, goToRow({number - 2})")
+            with self.subTest(table.name, refusal=refusal):
+                self.assertEqual(self.browser.value("document.querySelector('#detail p:nth-of-type(2)').textContent"), words)
+        self.refused |= set(reasons.refusals())
+        return {reason for symbol in {row["symbol"] for row in reasons.rows} for items in reasons.lists(symbol) for _, reason in items}
+
+    def test_reasons(self):
+        """RULES, "Why a message is refused", "Why a report sets no figure": the page has these reasons, in these words; each but `32 Full` came up."""
+        self.refused = set()
+        said = self.assert_reasons(SAMPLES / "morning.csv")
+        for seed in range(14, 20):
+            day = test_tables.SeededDay(seed)
+            said |= self.assert_reasons(self.written(f"reasons-{seed}.csv", [day.HEAD, *(day.row() for _ in range(12 + 5 * seed))]))
+        for part in ("cancelled by", "never makes it", "if there is none", "own participant", "does not count"):
+            self.assertTrue(any(part in reason for reason in said), part)
+        self.assertLessEqual({"35 Stale", "37 NoSuchReport", "38 OtherSymbol", "39 Cancelled", "43 Standing", "44 NotInMatrix"}, self.refused)
+
+    def test_a_table_that_is_too_large(self):
+        """web/README: a table with more rows than there is memory for is not read, and the page says how much it needs."""
+        # So many units of 2 to the 30th power as are memory for 17 rows.
+        self.browser.value(f"Object.defineProperty(Navigator.prototype, 'deviceMemory', {{ get: () => {17 * 1200 / 2**29} }}), 0")
+        self.browser.give(SAMPLES / "morning.csv", 1)
+        shown = self.browser.value("[document.getElementById('fault').innerText, document.getElementById('day').hidden, state.report]")
+        self.assertIn("morning.csv is too large for this page", shown[0])
+        self.assertRegex(shown[0], r"\b37 rows need .* GB of memory.* takes 17 rows at most here")
+        self.assertEqual(shown[1:], [True, None])
+        # A file that is larger than that is not read at all.
+        self.browser.value("take({ name: 'huge.csv', size: 3e9 })")
+        self.assertRegex(self.browser.value("document.getElementById('fault').innerText"), r"huge.csv is too large for this page\s+It has 3.0 GB. ")
+        self.browser.open(PAGE)
+        self.assert_texts(SAMPLES / "morning.csv", 1)
+
+    def test_memory_runs_out(self):
+        """web/README: where the browser has no more memory for a table, the page says so, and the next table is made."""
+        # Fewer pages than 100,000 rows need.
+        little = Browser("--js-flags=--wasm-max-mem-pages=300")
+        self.addCleanup(little.close)
+        little.open(PAGE)
+        rows = (["", "report", "", "N", number, 0, "AB", 1, "", 1, "@___"] for number in range(1, 100_001))
+        little.give(self.written("large.csv", [test_tables.SeededDay.HEAD, *rows]), 1)
+        shown = little.value("[document.getElementById('fault').innerText, document.getElementById('day').hidden]")
+        self.assertIn("large.csv needs more memory than the browser has", shown[0])
+        self.assertTrue(shown[1])
+        little.give(SAMPLES / "morning.csv", 1)
+        self.assertEqual(little.value("[state.tape.count, document.getElementById('fault').hidden].join()"), "37,true")
+
+    def test_an_old_browser(self):
+        """web/README: where the browser does not take the module, the page names the browsers that do."""
+        # Of no browser is this a module.
+        self.browser.value("worker.postMessage({ bytes: new Uint8Array(4) })")
+        self.browser.wait("a word on it", lambda: self.browser.value("state.broken"))
+        self.assertRegex(self.browser.value("document.getElementById('busy').innerText"), r"\AThis browser does not run 64-bit WebAssembly \(Chrome 133")
+        self.browser.value("state.broken = ''")
+
     def test_no_request_leaves(self):
         """web/README: the page asks the network for nothing, and may not: a request from it, or from its worker, is refused."""
         self.browser.give(SAMPLES / "morning.csv", 1)
@@ -295,32 +194,52 @@ class Page(Case):
         self.assertEqual(len(self.browser.workers()), 1)
 
 
-    def test_keyboard(self):
-        """web/README: each control of a day is reached by the keyboard, and the rows of the tape too."""
-        self.browser.give(SAMPLES / "morning.csv", 1)
-        reached = set()
-        for _ in range(40):
-            self.browser.press("Tab")
-            reached.add(self.browser.value("(({ id, name, ariaLabel }) => id || name || ariaLabel)(document.activeElement)"))
-        self.assertLessEqual({"file", "try", "matrix", "tab-report", "symbol", "who", *(f"save-{name}" for name in NAMES), "The report"}, reached)
-        self.browser.value("document.getElementById('tab-report').focus()")
-        self.browser.press("ArrowRight")
-        self.assertEqual(self.browser.value("[state.tab, document.activeElement.id].join()"), "tape,tab-tape")
-        self.browser.value("document.querySelector('#tape-rows .table').focus()")
-        self.browser.press("ArrowDown")
-        self.assertIn("Row 2: tape number 1", self.browser.value("document.getElementById('detail').innerText"))
+class Build(Case):
+    def test_without_the_kit(self):
+        """web/build: where the kit lacks what it takes it says so, ends with 3 and makes nothing."""
+        with tempfile.TemporaryDirectory() as folder:
+            Path(folder, "python3").symlink_to(sys.executable)
+            before = PAGE.exists() and PAGE.stat().st_mtime_ns
+            ended = run([], program=WEB / "build", env=os.environ | {"PATH": folder})
+        self.assertEqual((ended.status, ended.written), (3, b""))
+        self.assertRegex(ended.said, rb"\Abuild: no page: there is no rt here[^\n]*\n\Z")
+        self.assertEqual(PAGE.exists() and PAGE.stat().st_mtime_ns, before)
 
 
 @unittest.skipUnless(shutil.which("cc"), "no C compiler")
 class Heap(Case):
+    WORDS = "-std=c11 -O1 -g -Wall -Wextra -Werror -Wno-attributes -Wno-unused-parameter -fsanitize=address,undefined -fno-sanitize-recover=all".split()
+
+    def built(self, name, *more):
+        """A program of web/, with these archives."""
+        folder = tempfile.TemporaryDirectory()
+        self.addCleanup(folder.cleanup)
+        program = Path(folder.name, name)
+        subprocess.run(["cc", *self.WORDS, "-o", program, WEB / f"{name}.c", *more], check=True)
+        return program
+
+    def said(self, program, *words):
+        """What a program says that ends well."""
+        done = subprocess.run([program, *map(str, words)], capture_output=True, text=True, timeout=LIMIT, check=False)
+        self.assertEqual((done.returncode, done.stderr), (0, ""))
+        return done.stdout
+
     def test_random_requests(self):
         """web/heap.c: blocks are aligned, apart and keep their bytes under random requests, as AddressSanitizer sees too."""
-        words = "-std=c11 -O1 -g -Wall -Wextra -Werror -Wno-attributes -Wno-unused-parameter -fsanitize=address,undefined -fno-sanitize-recover=all".split()
-        with tempfile.TemporaryDirectory() as folder:
-            program = Path(folder, "heap_test")
-            subprocess.run(["cc", *words, "-o", program, WEB / "heap_test.c"], check=True)
-            for seed in range(1, 5):
-                with self.subTest(seed):
-                    done = subprocess.run([program, str(seed), "20000"], capture_output=True, text=True, timeout=LIMIT, check=False)
-                    self.assertEqual((done.returncode, done.stderr), (0, ""))
-                    self.assertRegex(done.stdout, r"\A\d+ pages of 65536, [1-9]\d* requests refused\n\Z")
+        program = self.built("heap_test")
+        for seed in range(1, 5):
+            with self.subTest(seed):
+                self.assertRegex(self.said(program, seed, 20_000), r"\A\d+ pages of 65536, [1-9]\d* requests refused\n\Z")
+
+    @unittest.skipUnless(LIBRARY.exists(), f"no {LIBRARY.name}, which web/build makes")
+    def test_each_request_is_refused(self):
+        """web/heap.c, under the page's calls: with each request of memory refused in turn a call makes its text or says that memory ran out."""
+        program = self.built("refusals_test", LIBRARY)
+        for name, matrix in [("corrections", 1), ("morning", 1), ("matrix-two", 2)]:
+            with self.subTest(name):
+                said = self.said(program, SAMPLES / f"{name}.csv", matrix)
+                self.assertEqual(re.sub(r"\b[1-9]\d*\b", "N", said), "".join(f"{call}: N requests, N of them needed\n" for call in NAMES))
+
+
+if __name__ == "__main__":
+    unittest.main()

@@ -2,5 +2,7 @@ start();
 listenForTables();
 listenForChoices();
 listenForChart();
-// A link to the page may ask for the sample.
-if (location.hash === "#sample") trySample();
+listenForMessages();
+listenForCopies();
+addEventListener("hashchange", readAddress);
+readAddress();

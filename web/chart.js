@@ -23,25 +23,38 @@ function lastRows(sym) {
   return who > 1 ? [] : positions(tape, (row) => tape.sym[row] === sym && tape.tape[row] > 0);
 }
 
-function leastAndMost(prices) {
-  let least = Infinity, most = -Infinity;
-  for (const price of prices) {
-    least = Math.min(least, price);
-    most = Math.max(most, price);
+// The least and the most of the prices of some rows, those without one left out, and of these two.
+function leastAndMost(rows, priceOf, [least, most] = [Infinity, -Infinity]) {
+  for (const row of rows) {
+    const price = priceOf(row);
+    if (!price) continue;
+    if (price < least) least = price;
+    if (price > most) most = price;
   }
   return [least, most];
+}
+
+// Where rows lie on a canvas, by one of its two scales.
+function placesOf(rows, place) {
+  const places = new Float32Array(rows.length);
+  for (let index = 0; index < rows.length; index++) places[index] = place(rows[index]);
+  return places;
 }
 
 // Where tape numbers and prices lie on a canvas.
 function scaleFor(canvas, rows, steps) {
   const { explain, tape } = state, { clientWidth: width, clientHeight: height } = canvas;
-  const lasts = steps.map((row) => tape.last[row]).filter((price) => price);
-  const [lowest, highest] = leastAndMost([...rows.map((at) => explain.price[at]), ...lasts]), room = (highest - lowest) * 0.1 || 100;
+  const lasts = leastAndMost(steps, (row) => tape.last[row]);
+  const [lowest, highest] = leastAndMost(rows, (at) => explain.price[at], lasts), room = (highest - lowest) * 0.1 || 100;
   const least = lowest - room, most = highest + room, first = explain.tape[rows[0]];
   const last = Math.max(explain.tape[rows.at(-1)], steps.length ? tape.tape[steps.at(-1)] : 0);
   const x = (place) => LEFT + ((place - first) / Math.max(last - first, 1)) * (width - LEFT - RIGHT);
   const y = (price) => TOP + ((most - price) / (most - least)) * (height - TOP - FOOT);
   return { width, height, least, most, first, last, x, y };
+}
+
+function drawAgain() {
+  if (points) drawChart(points.rows, points.setters);
 }
 
 function drawChart(rows, setters) {
@@ -57,8 +70,8 @@ function drawChart(rows, setters) {
   pen.scale(ratio, ratio);
   pen.font = `12px ${getComputedStyle(document.body).fontFamily}`;
   pen.textBaseline = "middle";
-  points.px = Float32Array.from(rows, (at) => scale.x(explain.tape[at]));
-  points.py = Float32Array.from(rows, (at) => scale.y(explain.price[at]));
+  points.px = placesOf(rows, (at) => scale.x(explain.tape[at]));
+  points.py = placesOf(rows, (at) => scale.y(explain.price[at]));
   drawLevels(pen, inks, scale);
   drawTicks(pen, inks, scale);
   drawLast(pen, inks, scale, steps);
@@ -242,9 +255,9 @@ function listenForChart() {
   chart.addEventListener("mouseleave", () => { byId("tip").hidden = true; });
   chart.addEventListener("click", (event) => {
     const index = nearest(event);
-    if (index >= 0) goToTape(state.explain.tape[points.rows[index]], symbolShown());
+    if (index >= 0) goToTape(state.explain.tape[points.rows[index]]);
   });
   new ResizeObserver(() => {
-    if (state.tab === "explain" && state.explain && points && points.width !== chart.clientWidth) drawChart(points.rows, points.setters);
+    if (state.tab === "explain" && state.explain && points && points.width !== chart.clientWidth) drawAgain();
   }).observe(chart.parentElement);
 }

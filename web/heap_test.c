@@ -5,40 +5,7 @@
 // Built with AddressSanitizer, for which all bytes of a block beyond its request, and all of one that was given back, are out of bounds.
 //
 // Statuses: 0; 1 where the heap is wrong, with the line of this file on standard error; 2 for other words.
-#define _GNU_SOURCE
-#include <sanitizer/asan_interface.h>
-#include <stdio.h>
-#include <stdlib.h>
-#include <string.h>
-#include <sys/mman.h>
-
-// The heap's memory: room is kept for all of it, and pages are made usable as they are asked for.
-enum { BYTES = 65536, PAGES_MOST = 1280 };
-unsigned char *memory;
-static size_t pages = 3;
-
-static size_t grown(size_t more) {
-    size_t before = pages;
-    if (more > PAGES_MOST - pages) return (size_t)-1;
-    if (mprotect(memory, (pages + more) * BYTES, PROT_READ | PROT_WRITE)) abort();
-    pages += more;
-    return ((size_t)memory / BYTES) + before;
-}
-
-// The bytes that the heap itself may move: those that were asked for, to a block that is not yet handed out.
-static void copied(void *to, const void *from, size_t count) {
-    __asan_unpoison_memory_region(to, count);
-    memcpy(to, from, count);
-}
-
-#define __heap_base (*memory)
-#define __builtin_wasm_memory_size(index) ((size_t)memory / BYTES + pages)
-#define __builtin_wasm_memory_grow(index, more) grown(more)
-#define __builtin_memcpy copied
-#include "heap.c"
-#undef __builtin_memcpy
-
-#define HOLDS(fact) do { if (!(fact)) { fprintf(stderr, "heap_test: line %d: %s\n", __LINE__, #fact); exit(1); } } while (0)
+#include "heap_host.h"
 
 enum { BLOCKS = 300 };
 // What was handed out: as many bytes as were asked for, of those that the heap has room for.
@@ -134,10 +101,7 @@ static void try_dealloc(struct block *block) {
 int main(int count, char **words) {
     if (count != 3) return 2;
     drawn = strtoull(words[1], 0, 10) * 2 + 1;
-    unsigned char *room = mmap(0, (size_t)(PAGES_MOST + 1) * BYTES, PROT_NONE, MAP_PRIVATE | MAP_ANONYMOUS | MAP_NORESERVE, -1, 0);
-    HOLDS(room != MAP_FAILED);
-    memory = room + (BYTES - (size_t)room % BYTES) % BYTES;
-    HOLDS(!mprotect(memory, pages * BYTES, PROT_READ | PROT_WRITE));
+    keep_room();
     for (size_t left = strtoull(words[2], 0, 10); left; left--) {
         struct block *block = blocks + below(BLOCKS);
         if (!block->at) try_alloc(block);

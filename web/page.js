@@ -4,15 +4,17 @@
 const FIGURES = ["open", "high", "low", "last"];
 const KINDS = ["report", "cancel", "correct", "reinstate"];
 const TEXTS = ["report", "tape", "explain"];
-const STEPS = { web_report: "making the report", web_tape: "making the tape", web_explain: "explaining each report" };
+const STEPS = { tapebox_report: "making the report", tapebox_tape: "making the tape", tapebox_explain: "explaining each report" };
 // How many bytes of a faulty table's row are shown.
 const SHOWN = 400;
 // What a browser says that does not take the module.
 const TOO_OLD = /CompileError|memory64|LinkError/;
 
 // What is held: the table, the texts as the worker cut them, and what of them is asked for. `symbol` is a place among the symbols, -1 for all; `who` is
-// 0 for all figures, 1 for the consolidated ones, else a participant's letter.
-const state = { run: 0, file: null, matrix: 1, tab: "report", symbol: -1, who: 0, symbols: [], report: null, tape: null, explain: null, broken: "" };
+// 0 for all figures, 1 for the consolidated ones, else a participant's letter; `row` is the chosen one of the tape, or -1. `address` is what a link asks
+// for of a table that is being read.
+const state = { run: 0, file: null, isSample: false, matrix: 1, tab: "report", symbol: -1, who: 0, row: -1, symbols: [], broken: "" };
+Object.assign(state, { address: new URLSearchParams(), report: null, tape: null, explain: null });
 const tables = { report: null, tape: null, explain: null };
 let worker = null, saved = [];
 
@@ -35,20 +37,24 @@ function broken(text) {
     : `Something outside the proved code failed: ${text}`;
 }
 
-function run(name, bytes) {
-  Object.assign(state, { file: { name, bytes }, run: state.run + 1, symbol: -1, who: 0, report: null, tape: null, explain: null });
+// Has the worker read a table, of which what an address asks for is shown then.
+function run(name, bytes, address = new URLSearchParams()) {
+  Object.assign(state, { file: { name, bytes }, run: state.run + 1, symbol: -1, who: 0, row: -1, report: null, tape: null, explain: null });
+  Object.assign(state, { address, isSample: false });
+  tell("");
   for (const id of ["drop", "fault", "day", "detail"]) byId(id).hidden = true;
   byId("busy").hidden = false;
   byId("busy").textContent = `${name}: reading ${whole(bytes.length)} bytes …`;
   byId("engine").textContent = "";
-  worker.postMessage({ table: bytes, matrix: state.matrix, run: state.run });
+  worker.postMessage({ table: bytes, matrix: state.matrix, run: state.run, most: rowsMost() });
 }
 
 function hear(message) {
-  if (message.what === "broken") return broken(message.text);
+  if (message.what === "broken") return NO_MEMORY.test(message.text) ? showNoMemory() : broken(message.text);
   // What is left of a table that another one followed.
   if (message.run !== state.run) return undefined;
-  if (message.what === "fault") return showFault(message.text);
+  if (message.what === "large") return showTooManyRows(message.rows);
+  if (message.what === "fault") return message.text === OUT_OF_MEMORY ? showNoMemory() : showFault(message.text);
   if (message.what === "done") return showDone(message);
   if (message.what === "text") return takeText(message);
   byId("busy").textContent = `${state.file.name}: ${STEPS[message.call]} …`;
@@ -56,17 +62,20 @@ function hear(message) {
 }
 
 function takeText({ call, index, symbols }) {
-  const name = call.slice("web_".length);
+  const name = call.slice("tapebox_".length);
   state[name] = index;
   offer(name, index.text);
   if (name === "report") {
     state.symbols = symbols;
     showDay();
+    chooseAsked(state.address);
   }
   if (name === "tape") showSummary();
   // What is in sight stays where it is while the other texts come.
   if (name === "report" || name === state.tab) showTab();
   else if (name === "explain" && tables.tape) tables.tape.redraw();
+  if (name === "explain" && state.row >= 0) showDetail(state.row);
+  if (name === "tape") goToAsked(state.address);
 }
 
 // Offers a text to be saved.
@@ -79,7 +88,7 @@ function offer(name, text) {
 
 function showDone({ times, memory, all }) {
   byId("busy").hidden = true;
-  const each = Object.entries(times).map(([call, time]) => `${call.slice("web_".length)} ${time < 10 ? time.toFixed(1) : Math.round(time)} ms`);
+  const each = Object.entries(times).map(([call, time]) => `${call.slice("tapebox_".length)} ${time < 10 ? time.toFixed(1) : Math.round(time)} ms`);
   byId("engine").textContent = `In the module: ${each.join(", ")}; ${Math.round(memory / 1e6)} MB of memory. All: ${Math.round(all)} ms.`;
   document.body.dataset.done = state.run;
 }
@@ -99,12 +108,18 @@ function recordsTo(bytes, row) {
   return found;
 }
 
+// Shows why nothing is made of a table.
+function showEnd(name, what, text) {
+  for (const id of ["busy", "day", "fault-lines"]) byId(id).hidden = true;
+  byId("fault").hidden = byId("drop").hidden = false;
+  byId("fault-name").textContent = name;
+  byId("fault-what").textContent = what;
+  byId("fault-text").textContent = text;
+}
+
 // Shows what is wrong with a table, and of its rows the first, the bad one and the two before it.
 function showFault(text) {
-  byId("busy").hidden = true;
-  byId("fault").hidden = byId("drop").hidden = false;
-  byId("fault-name").textContent = state.file.name;
-  byId("fault-text").textContent = text;
+  showEnd(state.file.name, "has a fault, so nothing is made of it", text);
   const row = /^row (\d+): /.exec(text), lines = byId("fault-lines");
   lines.hidden = !row && !text.startsWith("header row: ");
   lines.replaceChildren();
@@ -157,10 +172,10 @@ function refusedText({ count, admitted, refusals }) {
 function showSummary() {
   const { tape, symbols } = state, letters = participants();
   const parts = [element("b", "", state.file.name), " · "];
-  if (tape) parts.push(element("b", "", whole(tape.count)), ` rows, ${whole(tape.admitted)} admitted`);
+  if (tape) parts.push(element("b", "", counted(tape.count, "row")), `, ${whole(tape.admitted)} admitted`);
   else parts.push("…");
   if (tape && tape.count > tape.admitted) parts.push(", ", element("span", "warn", refusedText(tape)));
-  parts.push(` · ${whole(symbols.length)} symbol${symbols.length === 1 ? "" : "s"}`);
+  parts.push(` · ${counted(symbols.length, "symbol")}`);
   parts.push(` · participants with standing trades: ${letters.length ? letters.map(letter).join(" ") : "none"} · Matrix ${state.matrix}`);
   byId("summary").replaceChildren(...parts);
 }
@@ -175,6 +190,7 @@ function showTab() {
     byId(name).hidden = name !== state.tab;
   }
   if (state[state.tab]) ({ report: showReport, tape: showTape, explain: showExplain })[state.tab]();
+  writeAddress();
 }
 
 function setTab(name) {
@@ -187,12 +203,25 @@ function setSymbol(sym) {
   byId("symbol").value = sym < 0 ? "" : state.symbols[sym];
 }
 
+// Opens a file. A link that the page was opened by asks for the first one.
 function take(file) {
-  file.arrayBuffer().then((bytes) => run(file.name, new Uint8Array(bytes)), () => broken(`${file.name} cannot be read`));
+  const address = state.run ? undefined : asked();
+  if (file.size > memoryMost()) return showTooLarge(file.name, `It has ${gigabytes(file.size)}.`);
+  return file.arrayBuffer().then((bytes) => run(file.name, new Uint8Array(bytes), address), (error) => showEnd(file.name, "can’t be read", String(error)));
 }
 
-function trySample() {
-  run("morning.csv", new TextEncoder().encode(byId("sample").textContent));
+function trySample(address) {
+  run("morning.csv", new TextEncoder().encode(byId("sample").textContent), address);
+  state.isSample = true;
+}
+
+// Reads the table once more by the other matrix, and shows the same of it.
+function changeMatrix(matrix) {
+  const { file, isSample } = state;
+  state.matrix = matrix;
+  if (!file) return;
+  run(file.name, file.bytes, asked());
+  state.isSample = isSample;
 }
 
 function listenForTables() {
@@ -200,11 +229,8 @@ function listenForTables() {
     if (target.files[0]) take(target.files[0]);
     target.value = "";
   });
-  byId("try").addEventListener("click", trySample);
-  document.querySelectorAll('input[name="matrix"]').forEach((choice) => choice.addEventListener("change", () => {
-    state.matrix = Number(choice.value);
-    if (state.file) run(state.file.name, state.file.bytes);
-  }));
+  byId("try").addEventListener("click", () => trySample());
+  document.querySelectorAll('input[name="matrix"]').forEach((choice) => choice.addEventListener("change", () => changeMatrix(Number(choice.value))));
   const over = (is) => (event) => {
     event.preventDefault();
     document.body.classList.toggle("over", is);

@@ -19,6 +19,7 @@ function link(text, go) {
 }
 
 const whole = (number) => number.toLocaleString("en-US");
+const counted = (number, name) => `${whole(number)} ${name}${number === 1 ? "" : "s"}`;
 
 // A price of ten-thousandths in dollars, with two decimals, or four where it is not whole cents.
 function dollars(price) {
@@ -42,6 +43,15 @@ function thousandths(text) {
 const letter = (code) => String.fromCharCode(code);
 const fieldsOf = (index, row) => decoder.decode(index.text.subarray(index.starts[row], index.starts[row + 1] - 1)).split(",");
 
+// The whole number in a column of a row, or NaN if the field is empty.
+function numberAt({ text, starts }, row, column) {
+  const [COMMA, ZERO] = [44, 48];
+  let at = starts[row], number = NaN;
+  for (let left = column; left; at++) if (text[at] === COMMA) left--;
+  for (; text[at] >= ZERO; at++) number = (number || 0) * 10 + text[at] - ZERO;
+  return number;
+}
+
 // The rows of a text for which this holds.
 function positions(index, wanted) {
   const found = [];
@@ -64,18 +74,24 @@ const ROW = 30, HEAD = 34, HIGHEST = 15e6;
 const SPARE = 6;
 
 class Table {
-  // columns: [heading, width, classes]; make(row, cells) fills the cells of a row and may give it classes; pick(row) is called where one is chosen.
-  constructor(place, { columns, label, make, pick, most = 620 }) {
-    Object.assign(this, { columns, make, pick, most, rows: [], chosen: -1, made: new Map() });
+  // columns: [heading, width, classes]; make(row, cells) fills the cells of a row and may give it classes. pick(row) is called if a row is chosen, and
+  // open(row) if it is clicked, or Enter is pressed on it. sort(column) is called if a heading is clicked.
+  // `means` has by a heading what its column is.
+  constructor(place, { columns, label, make, pick, open, sort, means = {}, most = 620 }) {
+    Object.assign(this, { columns, make, pick, open, sort, most, rows: [], chosen: -1, made: new Map(), name: place.id });
     this.box = element("div", "table");
     this.box.tabIndex = 0;
-    this.box.setAttribute("role", "table");
+    this.box.setAttribute("role", "grid");
     this.box.setAttribute("aria-label", label);
     this.box.style.setProperty("--columns", columns.map(([, width]) => width).join(" "));
     this.body = element("div", "body");
     this.body.setAttribute("role", "rowgroup");
     const inner = element("div", "inner");
-    inner.append(this.line("row head", "columnheader", columns.map(([heading]) => heading)), this.body);
+    this.head = this.line("row head", "columnheader", columns.map(([heading]) => heading));
+    this.head.setAttribute("aria-rowindex", 1);
+    [...this.head.children].forEach((cell) => { cell.title = means[cell.textContent] ?? ""; });
+    if (sort) [...this.head.children].forEach((cell, column) => cell.replaceChildren(this.sorter(cell.textContent, column)));
+    inner.append(this.head, this.body);
     this.box.append(inner);
     place.replaceChildren(this.box);
     this.box.addEventListener("scroll", () => this.draw(), { passive: true });
@@ -95,9 +111,23 @@ class Table {
     return line;
   }
 
+  // A heading by which rows are sorted.
+  sorter(heading, column) {
+    const made = element("button", "sorter", heading);
+    made.type = "button";
+    made.addEventListener("click", () => this.sort(column));
+    return made;
+  }
+
+  // Shows by which column the rows are sorted, and whether they fall; by none if that is -1.
+  showSorted(column, falls) {
+    [...this.head.children].forEach((cell, at) => cell.setAttribute("aria-sort", at !== column ? "none" : falls ? "descending" : "ascending"));
+  }
+
   set(rows) {
     this.rows = rows;
     this.chosen = -1;
+    this.box.removeAttribute("aria-activedescendant");
     this.full = Math.min(rows.length * ROW, HIGHEST);
     this.body.style.height = `${this.full}px`;
     this.box.style.height = `${Math.min(this.full + HEAD + 2, this.most)}px`;
@@ -149,17 +179,25 @@ class Table {
   }
 
   add(at) {
-    const row = this.line("row", "cell");
+    const row = this.line("row", "gridcell");
+    row.id = `${this.name}-${at}`;
     row.setAttribute("aria-rowindex", at + 2);
     const classes = this.make(this.rows[at], [...row.children]);
     if (classes) row.className += ` ${classes}`;
-    if (this.pick) {
-      row.classList.add("pick");
-      row.addEventListener("click", () => this.choose(at));
-    }
-    row.classList.toggle("chosen", at === this.chosen);
+    row.addEventListener("click", () => {
+      this.choose(at);
+      this.open?.(this.rows[at]);
+    });
+    this.mark(row, at === this.chosen);
     this.made.set(at, row);
     this.body.append(row);
+  }
+
+  // Marks a row as chosen or not. The links of the chosen one alone are on the way of the Tab key, which would else go through all rows.
+  mark(row, is) {
+    row.classList.toggle("chosen", is);
+    row.setAttribute("aria-selected", is);
+    for (const button of row.querySelectorAll("button")) button.tabIndex = is ? 0 : -1;
   }
 
   // Brings a row into sight.
@@ -174,17 +212,23 @@ class Table {
   }
 
   choose(at) {
-    this.made.get(this.chosen)?.classList.remove("chosen");
+    const before = this.made.get(this.chosen);
+    if (before) this.mark(before, false);
     this.chosen = at;
     this.show(at);
-    this.made.get(at)?.classList.add("chosen");
-    this.pick(this.rows[at]);
+    const row = this.made.get(at);
+    if (row) this.mark(row, true);
+    this.box.setAttribute("aria-activedescendant", `${this.name}-${at}`);
+    this.pick?.(this.rows[at]);
   }
 
   key(event) {
-    const steps = { ArrowDown: 1, ArrowUp: -1, PageDown: 15, PageUp: -15 };
-    if (!this.pick || !(event.key in steps) || !this.rows.length) return;
-    event.preventDefault();
-    this.choose(Math.min(Math.max(this.chosen + steps[event.key], 0), this.rows.length - 1));
+    const { chosen } = this, last = this.rows.length - 1, page = Math.max(Math.floor(this.inView()) - 1, 1);
+    const to = { ArrowDown: chosen + 1, ArrowUp: chosen - 1, PageDown: chosen + page, PageUp: chosen - page, Home: 0, End: last }[event.key];
+    if (event.target !== this.box || last < 0) return;
+    if (to !== undefined) {
+      event.preventDefault();
+      this.choose(Math.min(Math.max(to, 0), last));
+    } else if (event.key === "Enter" && chosen >= 0) this.open?.(this.rows[chosen]);
   }
 }

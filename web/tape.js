@@ -12,7 +12,11 @@ function targetOf(row) {
 
 function kindCell(row, why) {
   const { tape } = state, kind = KINDS[tape.kind[row]];
-  if (tape.refused[row]) return element("span", "tag refused", why);
+  if (tape.refused[row]) {
+    const made = element("span", "tag refused", why);
+    made.title = REASONS[why] ?? "";
+    return made;
+  }
   return tape.kind[row] ? element("span", `tag ${kind}`, kind) : kind;
 }
 
@@ -34,6 +38,23 @@ function tapeCells(row) {
   return [String(row + 2), place, ...message, ...figures, whole(Number(fields[15])), whole(Number(fields[16]))];
 }
 
+// What columns of the tape are whose headings are short.
+const TAPE_MEANS = {
+  Row: "The row of the table; the row of the columns' names is the first",
+  Tape: "The tape number; none if the message was refused",
+  By: "The participant that sent it",
+  "No.": "The participant's number of the message",
+  Moment: "The sender's moment, as the table has it",
+  Target: "The number of the participant's report that is cancelled, corrected or reinstated",
+  "Cond.": "The sale condition",
+  Open: "The symbol's open after the message",
+  High: "The symbol's high after the message",
+  Low: "The symbol's low after the message",
+  Last: "The symbol's last after the message",
+  Volume: "The symbol's volume after the message, in shares",
+  Trades: "The symbol's number of trades after the message",
+};
+
 function makeTape() {
   const { tape } = state, { widths } = tape, price = (column, heading) => [heading, growing(wideFor(grouped(widths[column]), heading)), "right"];
   const digits = (column, heading) => [heading, wideFor(widths[column], heading), "right"];
@@ -47,27 +68,38 @@ function makeTape() {
     tapeCells(row).forEach((content, at) => cells[at].append(content));
     return tape.refused[row] ? "is-refused" : "";
   };
-  return new Table(byId("tape-rows"), { label: "The readable tape", pick: showDetail, columns, make });
+  return new Table(byId("tape-rows"), { label: "The readable tape", pick: showDetail, means: TAPE_MEANS, columns, make });
 }
 
 function showTape() {
   const { tape, symbol, who } = state;
   tables.tape ??= makeTape();
   tables.tape.set(positions(tape, (row) => (symbol < 0 || tape.sym[row] === symbol) && (who < 2 || tape.who[row] === who)));
-  byId("detail").hidden = true;
+  hideDetail();
 }
 
-// Shows a tape number on the tape, with what is left out by a choice if need be.
-function goToTape(place, sym) {
-  if (state.symbol >= 0 && state.symbol !== sym) setSymbol(-1);
-  if (state.who > 1) {
+function hideDetail() {
+  byId("detail").hidden = true;
+  state.row = -1;
+}
+
+// Shows a row of the tape, with what is left out by a choice if need be.
+function goToRow(row) {
+  const { tape } = state;
+  if (state.symbol >= 0 && state.symbol !== tape.sym[row]) setSymbol(-1);
+  if (state.who > 1 && state.who !== tape.who[row]) {
     state.who = 0;
     byId("who").value = "0";
   }
   setTab("tape");
-  if (!state.tape) return;
-  const at = placeIn(tables.tape.rows, state.tape.rowOf[place]);
-  if (at >= 0) tables.tape.choose(at);
+  tables.tape.choose(placeIn(tables.tape.rows, row));
+}
+
+// Shows a tape number on the tape, which has the keyboard then.
+function goToTape(place) {
+  if (!state.tape) return setTab("tape");
+  goToRow(state.tape.rowOf[place]);
+  return tables.tape.box.focus({ preventScroll: true });
 }
 
 // Where a row is among rising rows, or -1.
@@ -81,7 +113,7 @@ function placeIn(rows, row) {
   return rows[low] === row ? low : -1;
 }
 
-const tapeLink = (place, sym) => link(`#${place}`, () => goToTape(place, sym));
+const tapeLink = (place) => link(`#${place}`, () => goToTape(place));
 
 // ## A row of the tape
 
@@ -131,9 +163,9 @@ function setsSentence(at) {
 // What is told of the report that a row is, or names, as it is at the day's end.
 function endParts(row, at) {
   const { tape, explain } = state, sym = tape.sym[row], told = element("p", "told");
-  if (tape.kind[row]) told.append("Its target is tape number ", tapeLink(explain.tape[at], sym), ". ");
+  if (tape.kind[row]) told.append("Its target is tape number ", tapeLink(explain.tape[at]), ". ");
   told.append(`At the day’s end that report ${explain.cancelled[at] ? "is cancelled" : "stands"} with ${sharesText(at)}`);
-  if (explain.changed[at]) told.append("; last changed by ", tapeLink(explain.changed[at], sym));
+  if (explain.changed[at]) told.append("; last changed by ", tapeLink(explain.changed[at]));
   told.append(`. ${setsSentence(at)}`);
   const more = link(`Explain ${state.symbols[sym]}`, () => {
     setSymbol(sym);
@@ -145,13 +177,19 @@ function endParts(row, at) {
 function showDetail(row) {
   const { tape, explain } = state, place = byId("detail"), close = element("button", "close", "×");
   close.setAttribute("aria-label", "Close");
-  close.addEventListener("click", () => { place.hidden = true; });
+  close.addEventListener("click", () => {
+    hideDetail();
+    writeAddress();
+    tables.tape.box.focus({ preventScroll: true });
+  });
   const isRefused = tape.refused[row] > 0, title = isRefused ? `Row ${row + 2}: refused` : `Row ${row + 2}: tape number ${tape.tape[row]}`;
   const parts = [close, element("h3", "", title), element("p", "", messageText(row))];
-  if (isRefused) parts.push(element("p", "", `The tape refuses it: ${fieldsOf(tape, row)[1]}. It changes nothing.`));
+  if (isRefused) parts.push(element("p", "", `The tape refuses it: ${refusalText(fieldsOf(tape, row)[1])}. It changes nothing.`));
   parts.push(figuresTable(row));
   const at = !explain || isRefused ? -1 : tape.kind[row] === 0 ? explained(tape.tape[row]) : targetOf(row);
   if (at >= 0) parts.push(...endParts(row, at));
   place.replaceChildren(...parts);
   place.hidden = false;
+  state.row = row;
+  writeAddress();
 }

@@ -2,7 +2,7 @@
 // The worker: runs the module on a table, and finds in each text that it makes where the rows begin, how wide the columns are, and the fields that the
 // page looks up by number. The texts are handed on as they are.
 
-const CALLS = ["web_report", "web_tape", "web_explain"];
+const CALLS = ["tapebox_report", "tapebox_tape", "tapebox_explain"];
 // How many bytes a handle has, and how many of a text are copied out of the module at once.
 const HANDLE = 16, CHUNK = 1 << 20;
 const [COMMA, LINE, DOT, SPACE] = [...",\n. "].map((sign) => sign.charCodeAt(0));
@@ -16,9 +16,9 @@ let module = null;
 
 // The text that a handle of the module holds.
 function copied(calls, handle, chunk) {
-  const text = new Uint8Array(Number(calls.web_length(handle)));
+  const text = new Uint8Array(Number(calls.tapebox_text_length(handle)));
   for (let from = 0; from < text.length; ) {
-    const count = Number(calls.web_copy(handle, BigInt(from), chunk, BigInt(CHUNK)));
+    const count = Number(calls.tapebox_text_copy(handle, BigInt(from), chunk, BigInt(CHUNK)));
     text.set(new Uint8Array(calls.memory.buffer, Number(chunk), count), from);
     from += count;
   }
@@ -202,21 +202,31 @@ function say(run, what, more, transfer = []) {
   postMessage({ run, what, ...more }, transfer);
 }
 
-// Makes the three texts of a table in a new instance of the module, so that no table's memory adds to another's.
-async function makeTexts({ table, matrix, run }) {
+// Says why a table has no text. There are no words for it where memory ran out.
+function sayFault(run, text) {
+  say(run, "fault", { text: new TextDecoder().decode(text) || "out of memory" });
+}
+
+// Reads a table, and makes its three texts of what was read, one at a time. Each table has a new instance of the module, so that none's memory adds to
+// another's.
+async function makeTexts({ table, matrix, run, most }) {
+  const rows = rowsOf(table);
+  if (rows > most) return say(run, "large", { rows });
   const begun = performance.now(), calls = (await WebAssembly.instantiate(await module, {})).exports, times = {};
   const [handle, chunk, at] = [HANDLE, CHUNK, Math.max(table.length, 1)].map((size) => calls.page_take(BigInt(size)));
   if (!handle || !chunk || !at) return say(run, "fault", { text: "out of memory" });
   new Uint8Array(calls.memory.buffer, Number(handle), HANDLE).fill(0);
   new Uint8Array(calls.memory.buffer).set(table, Number(at));
-  const found = { ids: null, admitted: 0 };
+  const start = performance.now(), found = { ids: null, admitted: 0 };
+  if (calls.tapebox_read_table(handle, at, BigInt(table.length))) return sayFault(run, copied(calls, handle, chunk));
+  times.tapebox_read_table = performance.now() - start;
+  calls.page_give(at);
   for (const call of CALLS) {
     say(run, "step", { call });
-    const start = performance.now(), status = calls[call](handle, matrix, at, BigInt(table.length));
+    const start = performance.now(), refused = calls[call](handle, matrix);
     times[call] = performance.now() - start;
     const text = copied(calls, handle, chunk);
-    calls.web_free(handle);
-    if (status) return say(run, "fault", { text: new TextDecoder().decode(text) || "out of memory" });
+    if (refused) return sayFault(run, text);
     tell(run, call, text, found);
   }
   return say(run, "done", { times, memory: calls.memory.buffer.byteLength, all: performance.now() - begun });
@@ -224,13 +234,13 @@ async function makeTexts({ table, matrix, run }) {
 
 // Hands a text to the page. The first of the three gives the symbols, and the second how many messages were admitted.
 function tell(run, call, text, found) {
-  if (call === "web_report") {
+  if (call === "tapebox_report") {
     const { index, ids, symbols } = reportIndex(text);
     found.ids = ids;
     return say(run, "text", { call, index, symbols }, buffersOf(index));
   }
-  const index = call === "web_tape" ? tapeIndex(text, found.ids) : explainIndex(text, found.ids, found.admitted);
-  if (call === "web_tape") found.admitted = index.admitted;
+  const index = call === "tapebox_tape" ? tapeIndex(text, found.ids) : explainIndex(text, found.ids, found.admitted);
+  if (call === "tapebox_tape") found.admitted = index.admitted;
   return say(run, "text", { call, index }, buffersOf(index));
 }
 

@@ -1,4 +1,5 @@
-/* A libFuzzer harness: the calls of the library, in an order and with arguments of the fuzzer's choosing, on one tape and one subscriber.
+/* A libFuzzer harness: the calls of the library, in an order and with arguments of the fuzzer's choosing, on two handles that hold a tape, a
+ * subscriber or a table.
  *
  * The library is not compiled for AddressSanitizer, so each thing that a call is given lies at the end of pages of its own, with a page behind
  * it that nothing can be read from or written to. Where a call answers what its page excludes, the harness ends by abort(). It prints how often
@@ -16,16 +17,18 @@
  * handle. */
 enum {
     OPEN, SUBSCRIBE, FREE, ADMIT, CLOSE, SUMMARY, SUMMARY_OF, COUNT, ENTRY, TOTALS, SYMBOL, PARTICIPANT, CUT, SERVE, DELIVER, DRAIN, MISSING,
-    NEWS_OF, ENCODE, DECODE, BEAT, END, READ_PACKET, PACKET_ENTRY, READ_REQUEST, READ_ANSWER, ANSWER_PACKET, CELLS, ADMIT_MANY, CALLS,
+    NEWS_OF, ENCODE, DECODE, BEAT, END, READ_PACKET, PACKET_ENTRY, READ_REQUEST, READ_ANSWER, ANSWER_PACKET, CELLS, ADMIT_MANY,
+    READ_TABLE, REPORT, TAPE, EXPLAIN, TEXT_LENGTH, TEXT_COPY, CALLS,
     SEND_ALL = CALLS, SEND_CHANGED, TRADE, STEPS
 };
 
-enum { PLACES = 4, ROOM = 1 << 14, NUMBERS_END = 110, SESSION = 7 };
+enum { PLACES = 4, ROOM = 1 << 14, NUMBERS_END = 112, SESSION = 7 };
 
 static const char *const NAMES[CALLS] = {
     "open", "subscribe", "free", "admit", "close", "summary", "summary_of", "count", "entry", "totals",
     "symbol", "participant", "cut", "serve", "deliver", "drain", "missing", "news_of", "encode", "decode",
     "beat", "end", "read_packet", "packet_entry", "read_request", "read_answer", "answer_packet", "cells", "admit_many",
+    "read_table", "report", "tape", "explain", "text_length", "text_copy",
 };
 static uint64_t made[CALLS];
 
@@ -170,6 +173,21 @@ static void call_on_bytes(int call, input *in) {
     }
 }
 
+/* Makes a text of a table: it is there if the call says so, and a table that is none has words. */
+static void make_text(int call, tapebox_handle *handle, uint32_t matrix) {
+    uint32_t code = call == REPORT ? tapebox_report(handle, matrix) : call == TAPE ? tapebox_tape(handle, matrix) : tapebox_explain(handle, matrix);
+    answered(call, code);
+    if ((code == 0 || code == TAPEBOX_BAD_TABLE) && !tapebox_text_length(handle)) fail(NAMES[call], "there is no text");
+}
+
+/* Copies a part of a text: as much as there is and as there is room for. */
+static void copy_text(tapebox_handle *handle, size_t from, size_t most) {
+    size_t len = tapebox_text_length(handle), count = tapebox_text_copy(handle, from, room(1, most), most);
+    size_t left = from < len ? len - from : 0;
+    made[TEXT_COPY]++;
+    if (count != (left < most ? left : most)) fail("text_copy", "it copies another count");
+}
+
 /* The calls with a handle that read no more than a number. */
 static void call_on_numbers(int call, tapebox_handle *handle, input *in) {
     uint32_t value = small(in);
@@ -184,6 +202,11 @@ static void call_on_numbers(int call, tapebox_handle *handle, input *in) {
     case CUT: answered(call, tapebox_cut(handle, value, small(in), small(in), small(in), room(1, sizeof(tapebox_packet)))); break;
     case DRAIN: answered(call, tapebox_drain(handle, room(1, sizeof(uint32_t)))); break;
     case MISSING: answered(call, tapebox_missing(handle, room(1, sizeof(tapebox_request)))); break;
+    case REPORT:
+    case TAPE:
+    case EXPLAIN: make_text(call, handle, value); break;
+    case TEXT_LENGTH: tapebox_text_length(handle), made[call]++; break;
+    case TEXT_COPY: copy_text(handle, value, small(in) & (ROOM - 1)); break;
     default: answered(call, tapebox_news_of(handle, room(1, sizeof(tapebox_news)))); break;
     }
 }
@@ -221,6 +244,7 @@ static void call_on_handle(int call, tapebox_handle *handle, input *in) {
         if (tapebox_count(handle) != count) fail("admit_many", "the tape has another count");
         break;
     }
+    case READ_TABLE: answered(call, tapebox_read_table(handle, given.at, given.len)); break;
     case SUMMARY: answered(call, tapebox_summary(handle, given.at, given.len, room(1, sizeof(tapebox_figures)))); break;
     case SUMMARY_OF: answered(call, tapebox_summary_of(handle, given.at, given.len, (uint8_t)value, room(1, sizeof(tapebox_figures)))); break;
     case SERVE:
@@ -261,6 +285,7 @@ static void step(tapebox_handle *handles, input *in) {
     case SUMMARY_OF:
     case SERVE:
     case ADMIT_MANY:
+    case READ_TABLE:
     case DELIVER: call_on_handle(call % STEPS, handle, in); break;
     case ENCODE:
     case DECODE:

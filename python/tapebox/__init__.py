@@ -1,4 +1,4 @@
-"""A proved trade tape, its sender and its subscriber in this process.
+"""A proved trade tape, its sender, its subscriber and the texts of a table in this process.
 
     with tapebox.Tape.from_csv("samples/morning.csv") as tape:
         print(tape.summary("AB").last.price)
@@ -15,7 +15,8 @@ from .records import Entry, Mark, Message, Summary, Totals
 from .refusals import NAMES, Refused
 from .subscriber import Subscriber, Taken, ask, open_line
 from .tables import BadTable, RefusedRow
-from .tape import Tape
+from .tapes import Tape
+from .texts import Table, explain, report, tape
 
 __all__ = [
     "LONGEST_ANSWER",
@@ -32,6 +33,7 @@ __all__ = [
     "Request",
     "Subscriber",
     "Summary",
+    "Table",
     "Taken",
     "Tape",
     "Totals",
@@ -39,6 +41,9 @@ __all__ = [
     "beat",
     "cells",
     "end",
+    "explain",
     "open_line",
     "read_answer",
+    "report",
+    "tape",
 ]

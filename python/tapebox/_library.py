@@ -10,6 +10,8 @@ from .refusals import Refused
 # How many bytes the longest packet and the longest answer to a request have.
 LONGEST_PACKET = 1823
 LONGEST_ANSWER = 7370
+# The greatest number that a field has.
+NUMBER_MOST = (1 << 32) - 1
 
 
 class Mark(c.Structure):
@@ -110,6 +112,8 @@ def library_path() -> str:
 
 # PyDLL keeps the interpreter's lock, so that two threads never are in calls of one handle, and a call costs less.
 library = c.PyDLL(library_path())
+# What a call returns that returns no number of a refusal.
+RESULTS = {"free": None, "text_length": c.c_size_t, "text_copy": c.c_size_t}
 _handle, _text = c.POINTER(Handle), [c.c_char_p, c.c_size_t]
 for _name, _arguments in {
     "open": [_handle, *_text, *_text, c.c_uint32, c.c_uint32],
@@ -131,6 +135,12 @@ for _name, _arguments in {
     "drain": [_handle, c.POINTER(c.c_uint32)],
     "missing": [_handle, c.POINTER(Request)],
     "news_of": [_handle, c.POINTER(News)],
+    "read_table": [_handle, *_text],
+    "report": [_handle, c.c_uint32],
+    "tape": [_handle, c.c_uint32],
+    "explain": [_handle, c.c_uint32],
+    "text_length": [_handle],
+    "text_copy": [_handle, c.c_size_t, c.c_char_p, c.c_size_t],
     "encode": [c.POINTER(Fields), c.POINTER(Message)],
     "decode": [*_text, c.POINTER(Fields)],
     "beat": [c.c_uint32, c.c_uint64, c.c_uint32, c.POINTER(Packet)],
@@ -143,7 +153,7 @@ for _name, _arguments in {
     "cells": [c.c_uint32, *_text, c.POINTER(Cells)],
 }.items():
     _call = getattr(library, f"tapebox_{_name}")
-    _call.argtypes, _call.restype = _arguments, None if _name == "free" else c.c_uint32
+    _call.argtypes, _call.restype = _arguments, RESULTS.get(_name, c.c_uint32)
 
 
 def checked(code: int) -> None:
@@ -155,6 +165,18 @@ def checked(code: int) -> None:
 def small(number: int) -> int:
     """The number, or 0, which every call refuses, where no field can have it."""
     return number if 0 <= number < 1 << 32 else 0
+
+
+def great(number: int) -> int:
+    """The number, or the greatest of its field, which no packet can tell, where no field can have it."""
+    return number if 0 <= number < 1 << 32 else NUMBER_MOST
+
+
+def session_of(number: int) -> int:
+    """The number of a session. One that 64 bits can't hold is a ValueError."""
+    if not 0 <= number < 1 << 64:
+        raise ValueError(f"a session of {number}")
+    return number
 
 
 def letter_of(participant: str) -> int:

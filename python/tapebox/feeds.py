@@ -5,7 +5,7 @@ import struct
 from dataclasses import dataclass
 
 from . import _library
-from ._library import LONGEST_PACKET, checked, library, small
+from ._library import LONGEST_PACKET, checked, great, library, session_of, small
 from .records import Entry, entry_of
 from .refusals import Refused
 
@@ -54,16 +54,16 @@ class Request:
 
 
 def beat(session: int, last: int, version: int = 2) -> bytes:
-    """The bytes of a beat: the tape has at least `last` entries."""
+    """The bytes of a beat: the tape has at least `last` entries. `Refused` has 52 or 54."""
     row = _library.Packet()
-    checked(library.tapebox_beat(small(version), session, last, row))
+    checked(library.tapebox_beat(small(version), session_of(session), great(last), row))
     return ctypes.string_at(row.bytes, row.len)
 
 
 def end(session: int, count: int, version: int = 2) -> bytes:
-    """The bytes of an end: the tape is closed, and has `count` entries."""
+    """The bytes of an end: the tape is closed, and has `count` entries. `Refused` has 52 or 54."""
     row = _library.Packet()
-    checked(library.tapebox_end(small(version), session, count, row))
+    checked(library.tapebox_end(small(version), session_of(session), great(count), row))
     return ctypes.string_at(row.bytes, row.len)
 
 

@@ -5,24 +5,33 @@ from collections.abc import Callable, Iterable, Iterator
 from typing import TYPE_CHECKING, NoReturn, Self
 
 from . import _library
-from ._library import LONGEST_ANSWER, checked, letter_of, library, small
+from ._library import LONGEST_ANSWER, NUMBER_MOST, checked, letter_of, library, session_of, small
 from .records import Entry, Summary, Totals, entry_of, summary_of
 from .refusals import Refused
 
 if TYPE_CHECKING:
     import pandas
 
-NUMBER_MOST = (1 << 32) - 1
+# No line of names, and refused by 9.
+NO_NAMES = b" "
+
+
+def line_of(names: Iterable[str]) -> bytes:
+    """The names with spaces between them. `NO_NAMES` where one is empty or has a space, so that it is refused and not taken for two."""
+    listed = list(names)
+    return NO_NAMES if any(not name or " " in name for name in listed) else " ".join(listed).encode()
 
 
 class Held:
     """A tape, or a subscriber's own. It is freed by `free`, by the end of a `with`, or with the object. `len` is how many entries it has,
     and its iterator gives them in order, also those that come while it runs."""
 
-    def __init__(self, opener: Callable[..., int], symbols: Iterable[str], participants: Iterable[str], *rest: int) -> None:
+    def __init__(
+        self, opener: Callable[..., int], symbols: Iterable[str], participants: Iterable[str], matrix: int, limit: int, *rest: int
+    ) -> None:
         self._handle = _library.Handle(False, None)
-        first, second = " ".join(symbols).encode(), " ".join(participants).encode()
-        checked(opener(self._handle, first, len(first), second, len(second), *rest))
+        first, second = line_of(symbols), line_of(participants)
+        checked(opener(self._handle, first, len(first), second, len(second), small(matrix), small(limit), *rest))
 
     def free(self) -> None:
         """Frees it. Every later call is refused by 101 or 102."""
@@ -120,11 +129,11 @@ class Held:
     def packet(self, first: int, *, session: int, last: int = NUMBER_MOST, version: int = 2) -> bytes:
         """The bytes of the packet of the entries from `first` on: as many as the version takes, but none above `last`."""
         row = _library.Packet()
-        checked(library.tapebox_cut(self._handle, small(version), session, small(first), small(last), row))
+        checked(library.tapebox_cut(self._handle, small(version), session_of(session), small(first), small(last), row))
         return ctypes.string_at(row.bytes, row.len)
 
     def answer(self, request: bytes, *, session: int, version: int = 2) -> bytes:
         """The bytes that answer a request's bytes, over what is on the tape. A request that can't be served is answered by one byte."""
         row, length = ctypes.create_string_buffer(LONGEST_ANSWER), ctypes.c_size_t()
-        checked(library.tapebox_serve(self._handle, small(version), session, request, len(request), row, len(row), length))
+        checked(library.tapebox_serve(self._handle, small(version), session_of(session), request, len(request), row, len(row), length))
         return row.raw[: length.value]

@@ -12,7 +12,7 @@ NAMES = {
     61: "Foreign", 62: "Conflict", 63: "PastEnd", 64: "Failed",
     71: "OtherSession", 72: "Beyond", 73: "BadSpan", 74: "ReadFault", 76: "BadAnswer", 77: "Refused", 78: "OutOfMemory",
     101: "NoTape", 102: "NoSubscriber", 103: "InUse", 104: "BadMatrix", 105: "NoEntry", 106: "NoLine", 107: "NoRequest", 108: "NoRoom",
-    109: "OutOfMemory",
+    109: "OutOfMemory", 110: "NoTable", 111: "BadTable",
 }
 
 
@@ -20,11 +20,11 @@ class Refused(Exception):
     """A call was refused.
 
     `code` is the refusal's number and `name` its name. `drained` is what a drain put on the tape before it stopped, `conflict` the number
-    of the entry of which another is known (62), `taken` how many bytes were read of an answer or of many messages, and `refusal` the
-    number by which a request was refused (77).
+    of the entry of which another is known (62), `taken` how many bytes were read of an answer or of many messages, `refusal` the
+    number by which a request was refused (77), and `why` what is wrong with a table, in words (111).
     """
 
-    def __init__(self, code: int, *, drained: int = 0, conflict: int = 0, taken: int = 0, refusal: int = 0) -> None:
+    def __init__(self, code: int, *, drained: int = 0, conflict: int = 0, taken: int = 0, refusal: int = 0, why: str = "") -> None:
         self.code, self.name = code, NAMES.get(code, "?")
-        self.drained, self.conflict, self.taken, self.refusal = drained, conflict, taken, refusal
-        super().__init__(f"{code} {self.name}")
+        self.drained, self.conflict, self.taken, self.refusal, self.why = drained, conflict, taken, refusal, why
+        super().__init__(f"{code} {self.name}: {why}" if why else f"{code} {self.name}")

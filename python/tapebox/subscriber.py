@@ -7,18 +7,20 @@ from collections.abc import Iterable, Iterator
 from dataclasses import dataclass
 
 from . import _library
-from ._library import LONGEST_PACKET, checked, library
+from ._library import LONGEST_PACKET, checked, library, session_of
 from .feeds import read_answer
 from .held import Held
 from .records import Entry
 from .refusals import Refused
-from .tape import LIMIT
+from .tapes import LIMIT
 
 HOST = "127.0.0.1"
 LINES = {"A": 0, "B": 1, "R": 2}
 # How long a turn waits for packets, in seconds. What is missing for two turns is asked for, since the other line may bring it.
 TURN = 0.02
-READ_FAULT, FAILED = 74, 64
+READ_FAULT = 74
+# The refusals of a packet's bytes. The others are of the call: no line, no subscriber, or one that failed.
+OF_A_PACKET = range(51, 64)
 
 
 @dataclass(frozen=True)
@@ -34,7 +36,7 @@ class Subscriber(Held):
     """A receiver of a session of a tape, with a tape of its own."""
 
     def __init__(self, symbols: Iterable[str], participants: Iterable[str], session: int, matrix: int = 1, limit: int = LIMIT) -> None:
-        super().__init__(library.tapebox_subscribe, symbols, participants, matrix, limit, session)
+        super().__init__(library.tapebox_subscribe, symbols, participants, matrix, limit, session_of(session))
 
     def deliver(self, line: str, packet: bytes) -> Taken:
         """Takes a packet that came by line `A`, `B` or `R`, the retransmission. `Refused` has 51 to 57 or 61 to 64."""
@@ -88,11 +90,12 @@ class Subscriber(Held):
         return news.ended if news.is_ended else None
 
     def take(self, line: str, packet: bytes) -> None:
-        """Takes a packet of a line, and drops it where it is refused: bytes that are none of the session's change nothing."""
+        """Takes a packet of a line, and drops it where it is refused by 51 to 63: bytes that are none of the session's change nothing. `Refused`
+        has 64 after a drain that stopped, 106 for a line that is none, and 102 once it was freed."""
         try:
             self.deliver(line, packet)
         except Refused as refusal:
-            if refusal.code == FAILED:
+            if refusal.code not in OF_A_PACKET:
                 raise
 
     def follow(self, a: int, b: int, retransmission: int, host: str = HOST) -> Iterator[Entry]:

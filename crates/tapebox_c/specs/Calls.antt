@@ -1,5 +1,5 @@
 -- What the calls of another language answer.
-use Rattle.std.specs.Prelude.{◌≡◌, ◌==◌, ◌-◌, ℕ, true, List, length, slice_get, Option, None, Some, Result, Ok, Err, unwrap_or, if◌then◌else◌}
+use Rattle.std.specs.Prelude.{◌≡◌, ◌==◌, ◌-◌, ℕ, true, List, length, slice_get, Option, None, Some, Result, Ok, Err, option_and_then, unwrap_or, if◌then◌else◌}
 use Rattle.batch.specs.MessageLine.{is_capital}
 use Rattle.reports.specs.Reading.{message_at}
 use Rattle.reports.specs.declared.fault.MessageFault.{MessageFault}
@@ -10,12 +10,18 @@ use Rattle.tape_core.specs.declared.refusal.Refusal.TheVariants.{OutOfMemory}
 use Rattle.tapebox_c.specs.declared.fault.Fault.{Fault}
 use Rattle.tapebox_c.specs.declared.fault.Fault.TheVariants.{NoTape, NoMessage, ExtraBytes, Refused}
 use Rattle.tapebox_c.specs.declared.held.Held.{Held}
-use Rattle.tapebox_c.specs.declared.held.Held.TheVariants.{Tape, Subscriber}
+use Rattle.tapebox_c.specs.declared.held.Held.TheVariants.{Tape, Subscriber, Table, Words}
 
--- the tape that is held, or the subscriber's own
-abbrev pub own_tape : Held → TapeState
-own_tape (Tape t) = t
-own_tape (Subscriber s) = s.tape
+-- the tape that is held, or the subscriber's own, if one of them is held
+abbrev pub own_tape : Held → Option TapeState
+own_tape (Tape t) = Some t
+own_tape (Subscriber s) = Some s.tape
+own_tape (Table table) = None
+own_tape (Words words) = None
+
+-- the tape of a handle, or its subscriber's own
+abbrev pub held_tape : Option Held → Option TapeState
+held_tape held = option_and_then own_tape held
 
 -- the message that was read, where it took all the bytes
 abbrev pub message_of_all : ℕ → Result (Message × ℕ) MessageFault → Result Message Fault
@@ -34,14 +40,14 @@ Takes old (Ok m) (Err fault) new = (fault ≡ Refused (unwrap_or (refusal old m)
 
 -- bytes are answered by what a handle holds
 abbrev pub Admits : Held → List ℕ → Result Entry Fault → Held → Type 0
-Admits (Subscriber s) bytes answer new = (answer ≡ Err NoTape) × (new ≡ Subscriber s)
 Admits (Tape t) bytes answer (Tape u) = Takes t (whole_message bytes) answer u
-Admits (Tape t) bytes answer (Subscriber s) = ⊥
+Admits (Tape t) bytes answer new = ⊥
+Admits held bytes answer new = (answer ≡ Err NoTape) × (new ≡ held)
 
 -- a tape is closed
 abbrev pub Closes : Held → Result (Unit {0}) Fault → Held → Type 0
-Closes (Subscriber s) answer new = (answer ≡ Err NoTape) × (new ≡ Subscriber s)
 Closes (Tape t) answer new = (answer ≡ Ok tt) × (new ≡ Tape (record t { closed = true }))
+Closes held answer new = (answer ≡ Err NoTape) × (new ≡ held)
 
 -- the entry of a number, from 1
 abbrev pub entry_numbered : List Entry → ℕ → Option Entry

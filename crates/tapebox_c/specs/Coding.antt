@@ -1,11 +1,12 @@
 -- The bytes of a message made of its fields, and its fields read of its bytes.
-use Rattle.std.specs.Prelude.{◌≡◌, ◌==◌, ◌||◌, ℕ, List, [], ◌∷◌, ◌++◌, length, take, Result, Ok, Err, if◌then◌else◌}
+use Rattle.std.specs.Prelude.{◌≡◌, ◌==◌, ◌||◌, ℕ, List, [], ◌∷◌, ◌++◌, drop, length, replicate, take, Result, Ok, Err, if◌then◌else◌}
 use Rattle.std.specs.Int.{w16, w32, w64, to_be_bytes}
 use Rattle.reports.specs.declared.message.Header.{Header}
 use Rattle.reports.specs.declared.message.Message.{Message}
 use Rattle.reports.specs.declared.message.Message.TheVariants.{Report, Cancel, Correct, Reinstate}
 use Rattle.sale_matrix.specs.declared.content.Content.{Content}
 use Rattle.tapebox_c.specs.Faults.{fault_code}
+use Rattle.tapebox_c.specs.Rows.{LONGEST_MESSAGE}
 use Rattle.tapebox_c.specs.declared.fault.Fault.{Fault}
 use Rattle.tapebox_c.specs.declared.rows.FieldsRow.{FieldsRow}
 use Rattle.tapebox_c.specs.declared.rows.MessageRow.{MessageRow}
@@ -30,9 +31,10 @@ fields_text f =
     else if (f.kind == 88) || (f.kind == 83) then start_part 26 f.kind ++ (header_part f ++ to_be_bytes w32 f.target)
     else start_part 1 f.kind
 
--- bytes are told where they are a message
+-- bytes are told where they are a message, with zeros behind them
 abbrev pub EncodesTo : List ℕ → Result Message Fault → ℕ → MessageRow → MessageRow → Type 0
-EncodesTo text (Ok message) code old new = (code ≡ 0) × (new.len ≡ length text) × (take new.len new.bytes ≡ text)
+EncodesTo text (Ok message) code old new =
+    (code ≡ 0) × (new.len ≡ length text) × (take new.len new.bytes ≡ text) × (drop new.len new.bytes ≡ drop new.len (replicate LONGEST_MESSAGE 0))
 EncodesTo text (Err fault) code old new = (code ≡ fault_code fault) × (new ≡ old)
 
 -- the fields of a kind that its header has

@@ -1,22 +1,18 @@
 -- What each exported call answers by its number and its row.
-use Rattle.std.specs.Prelude.{◌≡◌, ◌⊎◌, ℕ, List, length, Option, None, Some, Result, Ok, Err, option_and_then, is_some, if◌then◌else◌}
-use Rattle.std.specs.Option.{option_map}
+use Rattle.std.specs.Prelude.{◌≡◌, ◌⊎◌, ℕ, List, length, Option, None, Some, Result, Ok, Err, ok_or, option_and_then}
 use Rattle.tape_types.specs.Names.{symbol_named}
 use Rattle.scratch_fold.specs.declared.summary.Summary.{Summary}
 use Rattle.tape_core.specs.Tape.{TapeState, summary_at, participant_summary_at}
 use Rattle.tape_core.specs.declared.entry.Entry.{Entry}
-use Rattle.tapebox_c.specs.Calls.{Admits, Closes, own_tape, letter_named, entry_numbered}
+use Rattle.tape_core.specs.declared.refusal.Refusal.TheVariants.{UnknownParticipant, UnknownSymbol}
+use Rattle.tapebox_c.specs.Calls.{Admits, Closes, entry_numbered, letter_named}
 use Rattle.tapebox_c.specs.Faults.{fault_code}
-use Rattle.tapebox_c.specs.Rows.{answer_row, summary_row, IsEntryRow}
+use Rattle.tapebox_c.specs.Rows.{answer_row, IsEntryRow}
 use Rattle.tapebox_c.specs.declared.fault.Fault.{Fault}
+use Rattle.tapebox_c.specs.declared.fault.Fault.TheVariants.{NoEntry, NoTape, Refused}
 use Rattle.tapebox_c.specs.declared.held.Held.{Held}
 use Rattle.tapebox_c.specs.declared.rows.AnswerRow.{AnswerRow}
 use Rattle.tapebox_c.specs.declared.rows.EntryRow.{EntryRow}
-use Rattle.tapebox_c.specs.declared.rows.SummaryRow.{SummaryRow}
-
--- the tape of what is held
-abbrev pub held_tape : Option Held → Option TapeState
-held_tape held = option_map own_tape held
 
 -- the number of what was refused: the one that is due, or out of memory (4 or 6) where none is
 abbrev pub IsCodeOf : {X : Type 0} → Result X Fault → ℕ → Type 0
@@ -52,34 +48,39 @@ ClosesIn None code new = (code ≡ 101) × (new ≡ None)
 ClosesIn (Some held) code None = ⊥
 ClosesIn (Some held) code (Some held') = (answer : Result (Unit {0}) Fault) × Closes held answer held' × (code ≡ code_of answer)
 
--- a summary that was looked for is told
-abbrev pub told_or : ℕ → Option Summary → SummaryRow → ℕ × SummaryRow
-told_or code None row = (code, row)
-told_or code (Some s) row = (0, summary_row s)
+-- what was looked for is told by 0 and its row, or why it is not there by a number and the row as it was
+abbrev pub told : {A B : Type 0} → (A → B) → Result A Fault → B → ℕ × B
+told view (Ok x) old = (0, view x)
+told view (Err fault) old = (fault_code fault, old)
 
--- a symbol's consolidated summary is told: 101 without a tape, 36 where the symbol is not listed
-abbrev pub summary_told : Option TapeState → List ℕ → SummaryRow → ℕ × SummaryRow
-summary_told None name row = (101, row)
-summary_told (Some t) name row = told_or 36 (option_and_then (summary_at t) (symbol_named name)) row
+-- a symbol's consolidated summary: 101 without a tape, 36 where the symbol is not listed
+abbrev pub summary_found : Option TapeState → List ℕ → Result Summary Fault
+summary_found None name = Err NoTape
+summary_found (Some t) name = ok_or (option_and_then (summary_at t) (symbol_named name)) (Refused UnknownSymbol)
 
--- a participant's own summary is told: 36 where the symbol is not listed, 34 where the participant is not
-abbrev pub summary_of_told : Option TapeState → List ℕ → ℕ → SummaryRow → ℕ × SummaryRow
-summary_of_told None name letter row = (101, row)
-summary_of_told (Some t) name letter row =
-    told_or (if is_some (option_and_then (summary_at t) (symbol_named name)) then 34 else 36)
-    (option_and_then (λ symbol. option_and_then (participant_summary_at t symbol) (letter_named letter)) (symbol_named name)) row
+-- why a participant has no summary of a symbol: 36 where the symbol is not listed, else 34
+abbrev pub unlisted : Option Summary → Fault
+unlisted None = Refused UnknownSymbol
+unlisted (Some summary) = Refused UnknownParticipant
+
+-- a participant's own summary: 36 where the symbol is not listed, 34 where the participant is not
+abbrev pub summary_of_found : Option TapeState → List ℕ → ℕ → Result Summary Fault
+summary_of_found None name letter = Err NoTape
+summary_of_found (Some t) name letter =
+    ok_or (option_and_then (λ symbol. option_and_then (participant_summary_at t symbol) (letter_named letter)) (symbol_named name))
+    (unlisted (option_and_then (summary_at t) (symbol_named name)))
 
 -- how many entries a tape has
 abbrev pub count_told : Option TapeState → ℕ
 count_told None = 0
 count_told (Some t) = length t.entries
 
--- an entry that was looked for is told, or that there is none
-abbrev pub EntryTold : Option Entry → ℕ → EntryRow → EntryRow → Type 0
-EntryTold None code old new = (code ≡ 105) × (new ≡ old)
-EntryTold (Some e) code old new = (code ≡ 0) × IsEntryRow e new
+-- the entry of a number: 101 without a tape, 105 where the tape has none of that number
+abbrev pub entry_found : Option TapeState → ℕ → Result Entry Fault
+entry_found None number = Err NoTape
+entry_found (Some t) number = ok_or (entry_numbered t.entries number) NoEntry
 
--- the entry of a number is told: 101 without a tape, 105 where the tape has none of that number
-abbrev pub EntryIn : Option TapeState → ℕ → ℕ → EntryRow → EntryRow → Type 0
-EntryIn None number code old new = (code ≡ 101) × (new ≡ old)
-EntryIn (Some t) number code old new = EntryTold (entry_numbered t.entries number) code old new
+-- an entry that was looked for is told, or why there is none
+abbrev pub EntryTold : Result Entry Fault → ℕ → EntryRow → EntryRow → Type 0
+EntryTold (Ok e) code old new = (code ≡ 0) × IsEntryRow e new
+EntryTold (Err fault) code old new = (code ≡ fault_code fault) × (new ≡ old)

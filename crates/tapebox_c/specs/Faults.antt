@@ -9,7 +9,7 @@ use Rattle.tape_frames.specs.Faults.{packet_fault_code, request_fault_code}
 use Rattle.tapebox_c.specs.declared.fault.Fault.{Fault}
 use Rattle.tapebox_c.specs.declared.fault.Fault.TheVariants.{NoTape, NoSubscriber, InUse, BadMatrix, NoEntry, NoLine, NoListing, NotMade}
 use Rattle.tapebox_c.specs.declared.fault.Fault.TheVariants.{NoMessage, ExtraBytes, Refused, NotDelivered, Stopped}
-use Rattle.tapebox_c.specs.declared.fault.Fault.TheVariants.{NoRequest, NoRoom, OutOfMemory, NoPacket, BadRequest, NotAnswered}
+use Rattle.tapebox_c.specs.declared.fault.Fault.TheVariants.{NoRequest, NoRoom, OutOfMemory, NoTable, BadTable, NoPacket, BadRequest, NotAnswered}
 
 -- the number of a fault
 abbrev pub fault_code : Fault → ℕ
@@ -22,6 +22,8 @@ fault_code NoLine = 106
 fault_code NoRequest = 107
 fault_code NoRoom = 108
 fault_code OutOfMemory = 109
+fault_code NoTable = 110
+fault_code BadTable = 111
 fault_code (NoListing fault) = header_fault_code fault
 fault_code (NotMade fault) = tape_fault_code fault
 fault_code (NoMessage fault) = message_fault_code fault

@@ -15,7 +15,7 @@ use Rattle.subscriber.specs.declared.drain_fault.DrainFault.{DrainFault}
 use Rattle.tape_frames.specs.Requests.{request_text}
 use Rattle.tape_frames.specs.declared.request.Request.{Request}
 use Rattle.tapebox_c.specs.declared.held.Held.{Held}
-use Rattle.tapebox_c.specs.declared.held.Held.TheVariants.{Tape, Subscriber}
+use Rattle.tapebox_c.specs.declared.held.Held.TheVariants.{Subscriber}
 use Rattle.tapebox_c.specs.declared.rows.NewsRow.{NewsRow}
 use Rattle.tapebox_c.specs.declared.rows.RequestRow.{RequestRow}
 use Rattle.tapebox_c.specs.declared.rows.TakenRow.{TakenRow}
@@ -35,11 +35,10 @@ conflict_of fault = 0
 
 -- bytes that came by a line are answered by what is held
 abbrev pub DeliversTo : Held → Line → List ℕ → Option (Result Taken DeliveryFault) → Held → Type 0
-DeliversTo (Tape t) line bytes answer new = (answer ≡ None) × (new ≡ Tape t)
-DeliversTo (Subscriber s) line bytes answer (Tape t) = ⊥
-DeliversTo (Subscriber s) line bytes None (Subscriber u) = ⊥
 DeliversTo (Subscriber s) line bytes (Some (Ok taken)) (Subscriber u) = Delivers line bytes taken s u
 DeliversTo (Subscriber s) line bytes (Some (Err fault)) (Subscriber u) = RefusesDelivery s bytes fault × (u ≡ s)
+DeliversTo (Subscriber s) line bytes answer new = ⊥
+DeliversTo held line bytes answer new = (answer ≡ None) × (new ≡ held)
 
 -- the answer is told by a number and a row
 abbrev pub TellsTaken : Option (Result Taken DeliveryFault) → ℕ → TakenRow → TakenRow → Type 0
@@ -57,11 +56,10 @@ DeliversIn (Some held) (Some line) bytes code row row' (Some held') =
 
 -- what is ready is drained by what is held
 abbrev pub DrainsTo : Held → Option (Result ℕ DrainFault) → Held → Type 0
-DrainsTo (Tape t) answer new = (answer ≡ None) × (new ≡ Tape t)
-DrainsTo (Subscriber s) answer (Tape t) = ⊥
-DrainsTo (Subscriber s) None (Subscriber u) = ⊥
 DrainsTo (Subscriber s) (Some (Ok n)) (Subscriber u) = DrainsAll n s u
 DrainsTo (Subscriber s) (Some (Err fault)) (Subscriber u) = DrainStops fault s u
+DrainsTo (Subscriber s) answer new = ⊥
+DrainsTo held answer new = (answer ≡ None) × (new ≡ held)
 
 -- the answer is told by two numbers
 abbrev pub TellsDrained : Option (Result ℕ DrainFault) → ℕ → ℕ → ℕ → Type 0
@@ -78,10 +76,10 @@ DrainsIn (Some held) code old new (Some held') =
 
 -- what is missing first, of what is held
 abbrev pub Misses : Held → Option (Option Request) → Type 0
-Misses (Tape t) answer = answer ≡ None
 Misses (Subscriber s) None = ⊥
 Misses (Subscriber s) (Some None) = (n : ℕ) → ¬ (IsMissing s.window n)
 Misses (Subscriber s) (Some (Some r)) = (r.session ≡ s.window.session) × IsGap s.window r.from r.count
+Misses held answer = answer ≡ None
 
 -- a request asks for the first gap
 pub record AsksFor (s : SubscriberState) (row : RequestRow) : Type 0 where
@@ -93,10 +91,9 @@ pub record AsksFor (s : SubscriberState) (row : RequestRow) : Type 0 where
 
 -- a gap is told: 102 without a subscriber; a count of 0 where nothing is missing, else the request for the first gap
 abbrev pub MissingIn : Option Held → ℕ → RequestRow → RequestRow → Type 0
-MissingIn None code old new = (code ≡ 102) × (new ≡ old)
-MissingIn (Some (Tape t)) code old new = (code ≡ 102) × (new ≡ old)
 MissingIn (Some (Subscriber s)) code old new =
     (code ≡ 0) × (new.count ≡ 0 → (n : ℕ) → ¬ (IsMissing s.window n)) × (1 ≤ new.count → AsksFor s new)
+MissingIn held code old new = (code ≡ 102) × (new ≡ old)
 
 -- what a subscriber knows of the feed, as a row: an end that is not known is told as 0 with no flag
 abbrev pub end_row : ℕ → ℕ → Brought → Option ℕ → NewsRow
@@ -111,11 +108,10 @@ news_row s = end_row (length s.tape.entries) s.window.announced s.window.brought
 
 -- what is known of the feed, where a subscriber is held
 abbrev pub held_news : Held → Option NewsRow
-held_news (Tape t) = None
 held_news (Subscriber s) = Some (news_row s)
+held_news held = None
 
 -- what is known of the feed is told: 102 without a subscriber
 abbrev pub news_told : Option Held → NewsRow → ℕ × NewsRow
-news_told None row = (102, row)
-news_told (Some (Tape t)) row = (102, row)
 news_told (Some (Subscriber s)) row = (0, news_row s)
+news_told held row = (102, row)

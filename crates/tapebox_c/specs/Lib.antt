@@ -13,3 +13,4 @@ pub mod Opening
 pub mod Packets
 pub mod Rows
 pub mod Sending
+pub mod Tables

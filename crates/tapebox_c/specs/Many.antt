@@ -9,7 +9,7 @@ use Rattle.tape_core.specs.declared.refusal.Refusal.{Refusal}
 use Rattle.tapebox_c.specs.Faults.{fault_code}
 use Rattle.tapebox_c.specs.declared.fault.Fault.TheVariants.{NoMessage, Refused}
 use Rattle.tapebox_c.specs.declared.held.Held.{Held}
-use Rattle.tapebox_c.specs.declared.held.Held.TheVariants.{Tape, Subscriber}
+use Rattle.tapebox_c.specs.declared.held.Held.TheVariants.{Tape}
 use Rattle.tapebox_c.specs.declared.rows.ManyRow.{ManyRow}
 
 -- the number of an answer: 0 for an entry
@@ -53,11 +53,9 @@ pub record AdmitsMany (bytes : List ℕ) (old : TapeState) (code : ℕ) (row row
 
 -- what is held admits messages, if it is a tape
 abbrev pub HeldAdmits : Held → List ℕ → List ℕ → List ℕ → Option (ManyRow × ℕ) → Held → Type 0
-HeldAdmits (Subscriber s) bytes row row' None new = (row' ≡ row) × (new ≡ Subscriber s)
-HeldAdmits (Subscriber s) bytes row row' (Some told) new = ⊥
-HeldAdmits (Tape t) bytes row row' None new = ⊥
-HeldAdmits (Tape t) bytes row row' (Some told) (Subscriber s) = ⊥
 HeldAdmits (Tape t) bytes row row' (Some told) (Tape u) = AdmitsMany bytes t told.1 row row' told.0 u
+HeldAdmits (Tape t) bytes row row' told new = ⊥
+HeldAdmits held bytes row row' told new = (told ≡ None) × (row' ≡ row) × (new ≡ held)
 
 -- what was done is told with the code, or 101 without a tape
 abbrev pub ManyTold : Option (ManyRow × ℕ) → ℕ → ManyRow → ManyRow → Type 0

@@ -1,5 +1,5 @@
 -- What the calls answer that read a packet.
-use Rattle.std.specs.Prelude.{◌≡◌, ℕ, length, slice_get, Result, Ok, Err}
+use Rattle.std.specs.Prelude.{◌≡◌, ℕ, length, ok_or, slice_get, Result, Ok, Err}
 use Rattle.tape_frames.specs.EntryRows.{first_number}
 use Rattle.tape_frames.specs.Kinds.{DATA, BEAT, END}
 use Rattle.tape_frames.specs.Packets.{entries_of}
@@ -9,6 +9,7 @@ use Rattle.tape_frames.specs.declared.packet.Packet.{Packet}
 use Rattle.tape_frames.specs.declared.packet.Packet.TheVariants.{Data, Beat, End}
 use Rattle.tape_frames.specs.declared.packet_fault.PacketFault.{PacketFault}
 use Rattle.tapebox_c.specs.Exports.{EntryTold}
+use Rattle.tapebox_c.specs.declared.fault.Fault.TheVariants.{NoEntry}
 use Rattle.tapebox_c.specs.declared.rows.EntryRow.{EntryRow}
 use Rattle.tapebox_c.specs.declared.rows.PacketFieldsRow.{PacketFieldsRow}
 
@@ -26,5 +27,5 @@ ReadsPacket (Err fault) code old new = (code ≡ packet_fault_code fault) × (ne
 
 -- the entry at a place of what was read of a packet is told: 105 where the packet has fewer
 abbrev pub GivesEntry : Result Packet PacketFault → ℕ → ℕ → EntryRow → EntryRow → Type 0
-GivesEntry (Ok q) place code old new = EntryTold (slice_get (entries_of q) place) code old new
+GivesEntry (Ok q) place code old new = EntryTold (ok_or (slice_get (entries_of q) place) NoEntry) code old new
 GivesEntry (Err fault) place code old new = (code ≡ packet_fault_code fault) × (new ≡ old)

@@ -1,5 +1,5 @@
 -- The rows that cross to another language.
-use Rattle.std.specs.Prelude.{◌≡◌, ℕ, take, length, Option, None, Some}
+use Rattle.std.specs.Prelude.{◌≡◌, ℕ, take, drop, length, replicate, Option, None, Some}
 use Rattle.reports.specs.Spelling.{spelling}
 use Rattle.scratch_fold.specs.declared.summary.Mark.{Mark}
 use Rattle.scratch_fold.specs.declared.summary.Summary.{Summary}
@@ -38,8 +38,13 @@ carried_row number (Some after) = record { number = number; carries = 1; after =
 abbrev pub answer_row : Entry → AnswerRow
 answer_row e = carried_row e.number e.after
 
--- a row tells of an entry: its number, what it carries, and its message's bytes
+-- how many bytes the longest message has
+abbrev pub LONGEST_MESSAGE : ℕ
+LONGEST_MESSAGE = 44
+
+-- a row tells of an entry: its number, what it carries, and its message's bytes, with zeros behind them
 pub record IsEntryRow (e : Entry) (row : EntryRow) : Type 0 where
   pub answer : row.answer ≡ answer_row e
   pub len : row.len ≡ length (spelling e.message)
   pub message : take row.len row.message ≡ spelling e.message
+  pub zeros : drop row.len row.message ≡ drop row.len (replicate LONGEST_MESSAGE 0)

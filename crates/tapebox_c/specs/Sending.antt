@@ -1,9 +1,9 @@
 -- What the calls of one who sends a tape answer.
-use Rattle.std.specs.Prelude.{◌≡◌, ◌⊎◌, ◌==◌, ◌||◌, ◌++◌, ℕ, nat_le, nat_lt, Bool, true, false, List, length, take, drop, min, Option, None, Some, Result, Ok, Err, if◌then◌else◌}
+use Rattle.std.specs.Prelude.{◌≡◌, ◌⊎◌, ◌==◌, ◌||◌, ◌++◌, ℕ, nat_le, nat_lt, Bool, true, false, List, length, take, drop, min, ok_or, replicate, Option, None, Some, Result, Ok, Err, Vec, if◌then◌else◌}
 use Rattle.tape_core.specs.Tape.{TapeState}
 use Rattle.tape_core.specs.declared.entry.Entry.{Entry}
 use Rattle.tape_frames.specs.EntryRows.{CountState}
-use Rattle.tape_frames.specs.Limits.{REQUEST_LENGTH}
+use Rattle.tape_frames.specs.Limits.{LONGEST_PACKET, REQUEST_LENGTH}
 use Rattle.tape_frames.specs.Spelling.{packet_text}
 use Rattle.tape_frames.specs.Versions.{number_most}
 use Rattle.tape_frames.specs.declared.packet.Packet.{Packet}
@@ -13,7 +13,7 @@ use Rattle.tape_frames.specs.declared.version.Version.{Version}
 use Rattle.retransmit.specs.Answers.{answer_text, last_sendable, packet_cut}
 use Rattle.tapebox_c.specs.Faults.{fault_code}
 use Rattle.tapebox_c.specs.declared.fault.Fault.{Fault}
-use Rattle.tapebox_c.specs.declared.fault.Fault.TheVariants.{NoTape, NoEntry, NoPacket, NoRequest}
+use Rattle.tapebox_c.specs.declared.fault.Fault.TheVariants.{NoTape, NoEntry, NoPacket, NoRequest, OutOfMemory}
 use Rattle.tapebox_c.specs.declared.rows.PacketRow.{PacketRow}
 
 -- the packet of entries from a number on, where they have it and the version can tell of it
@@ -25,16 +25,11 @@ packet_from es version session from =
 abbrev pub packet_between : List Entry → Version → ℕ → ℕ → ℕ → Option Packet
 packet_between es version session from to = packet_from (take (min (length es) to) es) version session from
 
--- the packet that is cut, or why none is
-abbrev pub found_or : Option Packet → Result Packet Fault
-found_or None = Err NoEntry
-found_or (Some q) = Ok q
-
 -- the packet of a tape, or the first thing wrong: 52 for the version, 101 without a tape, 105 without such an entry
 abbrev pub cut_due : Option Version → Option TapeState → ℕ → ℕ → ℕ → Result Packet Fault
 cut_due None tape session from to = Err (NoPacket BadVersion)
 cut_due (Some version) None session from to = Err NoTape
-cut_due (Some version) (Some t) session from to = found_or (packet_between t.entries version session from to)
+cut_due (Some version) (Some t) session from to = ok_or (packet_between t.entries version session from to) NoEntry
 
 -- a number that a packet of a version tells: 52 for the version, 54 where the number is above its greatest
 abbrev pub count_due : Option Version → ℕ → Result CountState PacketFault
@@ -46,10 +41,11 @@ abbrev pub told_due : (CountState → Packet) → Result CountState PacketFault 
 told_due make (Ok count) = Ok (make count)
 told_due make (Err fault) = Err (NoPacket fault)
 
--- a row is a packet's bytes
+-- a row is a packet's bytes, with zeros behind them
 pub record IsPacketRow (q : Packet) (row : PacketRow) : Type 0 where
   pub len : row.len ≡ length (packet_text q)
   pub bytes : take row.len row.bytes ≡ packet_text q
+  pub zeros : drop row.len row.bytes ≡ drop row.len (replicate LONGEST_PACKET 0)
 
 -- a packet is told, or that memory ran out for it
 abbrev pub PacketTold : Packet → ℕ → PacketRow → PacketRow → Type 0
@@ -65,6 +61,13 @@ abbrev pub answer_over : Option Version → Option TapeState → ℕ → List �
 answer_over None tape session request = Err (NoPacket BadVersion)
 answer_over (Some version) None session request = Err NoTape
 answer_over (Some version) (Some t) session request = Ok (answer_text t.entries session version request)
+
+-- the answer that is due is made, or what is wrong is told, or that memory ran out for it
+abbrev pub Makes : {Z : Type 0} → Result (List ℕ) Fault → Result (Vec ℕ Z) Fault → Type 0
+Makes (Ok text) (Ok made) = made.items ≡ text
+Makes (Ok text) (Err fault) = fault ≡ OutOfMemory
+Makes (Err due) (Ok made) = ⊥
+Makes (Err due) (Err fault) = fault ≡ due
 
 -- the same, where the bytes are as many as a request has, else 107
 abbrev pub answer_due : Option Version → Option TapeState → ℕ → List ℕ → Result (List ℕ) Fault

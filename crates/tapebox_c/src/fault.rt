@@ -28,8 +28,12 @@ pub enum Fault {
     NoRequest,
     /// The row is shorter than the answer.
     NoRoom,
-    /// Memory ran out for a packet or an answer.
+    /// Memory ran out for a packet, an answer, a table or a text.
     OutOfMemory,
+    /// The handle holds no table.
+    NoTable,
+    /// The bytes are no table, or the names in it make no listing.
+    BadTable,
     /// The names make no listing.
     NoListing(HeaderFault),
     /// No tape can be made.
@@ -67,6 +71,8 @@ impl Fault {
             Fault::NoRequest => 107,
             Fault::NoRoom => 108,
             Fault::OutOfMemory => 109,
+            Fault::NoTable => 110,
+            Fault::BadTable => 111,
             Fault::NoListing(fault) => u32::from(fault.code()),
             Fault::NotMade(fault) => u32::from(fault.code()),
             Fault::NoMessage(fault) => u32::from(fault.code()),

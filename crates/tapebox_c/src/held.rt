@@ -1,45 +1,53 @@
 //! What a handle holds.
-ghost use Rattle.std.specs.Prelude.{◌≡◌, IfSome, option_and_then, length, slice_get};
-ghost use Rattle.tape_types.specs.Names.{symbol_named};
-ghost use Rattle.retransmit.specs.Answers.{answer_text};
-ghost use Rattle.tape_core.specs.Tape.{summary_at, participant_summary_at};
-ghost use Rattle.tapebox_c.specs.Calls.{Admits, entry_numbered, letter_named, own_tape, whole_message, Closes};
+ghost use Rattle.std.specs.Prelude.{◌≡◌, Some, option_copied};
+ghost use Rattle.tapebox_c.specs.Calls.{Admits, own_tape, whole_message, Closes};
+ghost use Rattle.tapebox_c.specs.Exports.{count_told, entry_found, summary_found, summary_of_found};
 ghost use Rattle.tapebox_c.specs.Feeds.{DeliversTo, DrainsTo, Misses, held_news};
-ghost use Rattle.tapebox_c.specs.Listed.{totals_of};
+ghost use Rattle.tapebox_c.specs.Listed.{letter_found, symbol_found, totals_found};
 ghost use Rattle.tapebox_c.specs.Many.{HeldAdmits};
-ghost use Rattle.tapebox_c.specs.Sending.{packet_between};
+ghost use Rattle.tapebox_c.specs.Sending.{Makes, answer_over, cut_due};
+ghost use Rattle.tapebox_c.specs.Tables.{WritesTo, text_named, text_of};
 
 use crate::fault::Fault;
 use crate::many::admit_each;
+use crate::readings::{
+    answer_in, entry_in, packet_in, participant_in, summary_in, summary_of_in, symbol_in, totals_in,
+};
 use crate::rows::{ManyRow, NewsRow};
+use crate::table::{Table, Text};
 use arbitration::{Line, Taken};
 use reports::{Message, decode};
-use retransmit::{Ended, serve};
+use sale_matrix::Matrix;
 use scratch_fold::Summary;
 use std::alloc::Global;
 use subscriber::{DeliveryFault, DrainFault, Subscriber};
 use summaries::IndexStore;
-use tape_core::{Entry, Figures, Tape};
-use tape_frames::{Packet, REQUEST_LENGTH, Request, SliceSource, Source, Version, cut};
+use tape_core::{Entry, Figures, Refusal, Tape};
+use tape_frames::{Packet, REQUEST_LENGTH, Request, Version};
 use tape_types::{Participant, Symbol};
 
-/// A tape, or a subscriber with a tape of its own.
+/// A tape, a subscriber with a tape of its own, a table, or why there is none.
 #[derive(Drop)]
 pub enum Held {
     /// A tape that admits messages.
     Tape(Tape<IndexStore>),
     /// A subscriber, whose tape follows a feed.
     Subscriber(Subscriber),
+    /// A table that was read, with a text of it.
+    Table(Table),
+    /// Why a table was not read, in words.
+    Words(Vec<u8>),
 }
 
 impl Held {
-    /// The tape: the one that is held, or the subscriber's own.
-    pub(crate) fn tape(&self) -> &Tape<IndexStore>
-        ensures { result.now ≡ own_tape self.now }
+    /// The tape: the one that is held, or the subscriber's own, if one of them is held.
+    pub(crate) fn tape(&self) -> Option<&Tape<IndexStore>>
+        ensures { option_copied result ≡ own_tape self.now }
     {
         match self {
-            Held::Tape(tape) => tape,
-            Held::Subscriber(subscriber) => subscriber.tape(),
+            Held::Tape(tape) => Some(tape),
+            Held::Subscriber(subscriber) => Some(subscriber.tape()),
+            Held::Table(_) | Held::Words(_) => None,
         }
     }
 
@@ -79,20 +87,32 @@ impl Held {
     }
 
     /// The consolidated summary of a symbol by its name.
-    pub(crate) fn summary(&self, name: &[u8]) -> Option<Summary>
-        ensures { result ≡ option_and_then (summary_at (own_tape self.now)) (symbol_named name.now) }
+    pub(crate) fn summary(&self, name: &[u8]) -> Result<Summary, Fault>
+        ensures { result ≡ summary_found (own_tape self.now) name.now }
     {
-        let symbol = Symbol::of_name(name)?;
-        self.tape().summary(symbol)
+        let Some(tape) = self.tape() else {
+            return Err(Fault::NoTape);
+        };
+        match summary_in(tape, name) {
+            Some(summary) => Ok(summary),
+            None => Err(Fault::Refused(Refusal::UnknownSymbol)),
+        }
     }
 
     /// A participant's own summary of a symbol by its name.
-    pub(crate) fn summary_of(&self, name: &[u8], letter: u8) -> Option<Summary>
-        ensures { result ≡ option_and_then (λ symbol. option_and_then (participant_summary_at (own_tape self.now) symbol) (letter_named letter)) (symbol_named name.now) }
+    pub(crate) fn summary_of(&self, name: &[u8], letter: u8) -> Result<Summary, Fault>
+        ensures { result ≡ summary_of_found (own_tape self.now) name.now letter }
     {
-        let symbol = Symbol::of_name(name)?;
-        let who = participant(letter)?;
-        self.tape().summary_of(symbol, who)
+        let Some(tape) = self.tape() else {
+            return Err(Fault::NoTape);
+        };
+        if let Some(summary) = summary_of_in(tape, name, letter) {
+            return Ok(summary);
+        }
+        match summary_in(tape, name) {
+            Some(_) => Err(Fault::Refused(Refusal::UnknownParticipant)),
+            None => Err(Fault::Refused(Refusal::UnknownSymbol)),
+        }
     }
 
     /// Takes the packet that the bytes are.
@@ -136,7 +156,7 @@ impl Held {
         let Held::Subscriber(subscriber) = self else {
             return None;
         };
-        let held = self.count();
+        let held = subscriber.tape().entries().len() as u32;
         let announced = subscriber.announced();
         let (is_ended, ended) = match subscriber.ended() {
             None => (0, 0),
@@ -153,92 +173,111 @@ impl Held {
         })
     }
 
-    /// How many entries the tape has.
+    /// How many entries the tape has, 0 without one.
     pub(crate) fn count(&self) -> u32
-        ensures { result ≡ length (own_tape self.now).entries }
+        ensures { result ≡ count_told (own_tape self.now) }
     {
-        self.tape().entries().len() as u32
+        match self.tape() {
+            Some(tape) => tape.entries().len() as u32,
+            None => 0,
+        }
     }
 
     /// The entry of a number.
-    pub(crate) fn entry(&self, number: u32) -> Option<Entry>
-        ensures { result ≡ entry_numbered (own_tape self.now).entries number }
+    pub(crate) fn entry(&self, number: u32) -> Result<Entry, Fault>
+        ensures { result ≡ entry_found (own_tape self.now) number }
     {
-        if number == 0 {
-            return None;
+        let Some(tape) = self.tape() else {
+            return Err(Fault::NoTape);
+        };
+        match entry_in(tape, number) {
+            Some(entry) => Ok(entry),
+            None => Err(Fault::NoEntry),
         }
-        self.tape().entries().get(number as usize - 1).copied()
     }
 
     /// What a participant has sent, by its letter.
-    pub(crate) fn totals(&self, letter: u8) -> Option<Figures>
-        ensures { result ≡ totals_of (own_tape self.now) letter }
+    pub(crate) fn totals(&self, letter: u8) -> Result<Figures, Fault>
+        ensures { result ≡ totals_found (own_tape self.now) letter }
     {
-        let who = participant(letter)?;
-        Some(self.tape().figures_of(who))
+        let Some(tape) = self.tape() else {
+            return Err(Fault::NoTape);
+        };
+        totals_in(tape, letter).ok_or(Fault::Refused(Refusal::UnknownParticipant))
     }
 
     /// The symbol at a place of the listing.
-    pub(crate) fn symbol(&self, place: u32) -> Option<Symbol>
-        ensures { result ≡ slice_get (own_tape self.now).listing.symbols place }
+    pub(crate) fn symbol(&self, place: u32) -> Result<Symbol, Fault>
+        ensures { result ≡ symbol_found (own_tape self.now) place }
     {
-        let symbols = self.tape().listing().symbols();
-        symbols.as_slice().get(place as usize).copied()
+        let Some(tape) = self.tape() else {
+            return Err(Fault::NoTape);
+        };
+        symbol_in(tape, place).ok_or(Fault::Refused(Refusal::UnknownSymbol))
     }
 
     /// The participant at a place of the listing.
-    pub(crate) fn participant(&self, place: u32) -> Option<Participant>
-        ensures { result ≡ slice_get (own_tape self.now).listing.participants place }
+    pub(crate) fn participant(&self, place: u32) -> Result<Participant, Fault>
+        ensures { result ≡ letter_found (own_tape self.now) place }
     {
-        let participants = self.tape().listing().participants();
-        participants.as_slice().get(place as usize).copied()
+        let Some(tape) = self.tape() else {
+            return Err(Fault::NoTape);
+        };
+        participant_in(tape, place).ok_or(Fault::Refused(Refusal::UnknownParticipant))
     }
 
     /// The packet of the entries from one number on, up to another.
-    pub(crate) fn cut(&self, version: Version, session: u64, from: u32, to: u32) -> Option<Packet>
-        ensures { result ≡ packet_between (own_tape self.now).entries version session from to }
+    pub(crate) fn cut(
+        &self,
+        version: Version,
+        session: u64,
+        from: u32,
+        to: u32,
+    ) -> Result<Packet, Fault>
+        ensures { result ≡ cut_due (Some version) (own_tape self.now) session from to }
     {
-        let entries = self.tape().entries();
-        let many = entries.len().min(to as usize);
-        let source = SliceSource::new(&entries[..many]);
-        let last = source.published().min(version.number_most());
-        if from == 0 || last < from {
-            return None;
-        }
-        Some(cut(version, session, from, &source))
+        let Some(tape) = self.tape() else {
+            return Err(Fault::NoTape);
+        };
+        packet_in(tape, version, session, from, to).ok_or(Fault::NoEntry)
     }
 
-    /// The answer to a request, or `None` where memory runs out.
+    /// The answer to a request.
     pub(crate) fn answer(
         &self,
         alloc: Global,
         version: Version,
         session: u64,
         request: &[u8; REQUEST_LENGTH],
-    ) -> Option<Vec<u8>>
-        ensures { IfSome result (λ text. text.items ≡ answer_text (own_tape self.now).entries session version request.now) }
+    ) -> Result<Vec<u8>, Fault>
+        ensures { Makes (answer_over (Some version) (own_tape self.now) session request.now) result }
     {
-        let mut source = SliceSource::of(self.tape());
-        let published = source.published();
-        let mut reader: &[u8] = request;
-        let mut text = Vec::new(alloc);
-        let end = serve(alloc, &mut source, session, version, &mut reader, &mut text);
-        // The tape is lent while it is served, so the answer is over the entries that it had before.
-        if source.published() != published {
-            return None;
-        }
-        match end.ended {
-            Ended::Clean => Some(text),
-            _ => None,
+        let Some(tape) = self.tape() else {
+            return Err(Fault::NoTape);
+        };
+        answer_in(alloc, tape, version, session, request).ok_or(Fault::OutOfMemory)
+    }
+
+    /// Makes a text of the table, in place of the one before, and gives 0 or the number of why there is none.
+    pub(crate) fn write(&mut self, alloc: Global, text: Text, matrix: Matrix) -> u32
+        ensures { WritesTo (text_named text) matrix self.old result self.new }
+    {
+        let Held::Table(table) = self else {
+            return Fault::NoTable.code();
+        };
+        table.write(alloc, text, matrix)
+    }
+
+    /// The text of the table, or why it was not read in words.
+    pub(crate) fn text(&self) -> &[u8]
+        ensures { result.now ≡ text_of self.now }
+    {
+        match self {
+            Held::Table(table) => &table.text,
+            Held::Words(words) => words,
+            Held::Tape(_) | Held::Subscriber(_) => b"",
         }
     }
-}
-
-/// The participant of a letter.
-fn participant(letter: u8) -> Option<Participant>
-    ensures { result ≡ letter_named letter }
-{
-    Participant::try_new(letter)
 }
 
 /// The message that all the bytes are.

@@ -1,8 +1,9 @@
-//! A tape, a subscriber and the messages' bytes for other languages, as a static library.
+//! A tape, a subscriber, a table's texts and the messages' bytes for other languages, as a static library.
 #![tactic(auto)]
 
 mod asked;
 mod coder;
+mod ends;
 mod fault;
 mod handle;
 mod held;
@@ -13,9 +14,12 @@ mod many;
 mod matrices;
 mod opening;
 mod packets;
+mod readings;
 mod rows;
 mod sending;
 mod subscribers;
+mod table;
+mod tables;
 mod tapes;
 
 pub use asked::{tapebox_answer_packet, tapebox_read_answer, tapebox_read_request};
@@ -36,6 +40,11 @@ pub use rows::{
 pub use sending::{tapebox_beat, tapebox_cut, tapebox_end, tapebox_serve};
 pub use subscribers::{
     tapebox_deliver, tapebox_drain, tapebox_missing, tapebox_news_of, tapebox_subscribe,
+};
+pub use table::{Table, Text};
+pub use tables::{
+    tapebox_explain, tapebox_read_table, tapebox_report, tapebox_tape, tapebox_text_copy,
+    tapebox_text_length,
 };
 pub use tapes::{
     tapebox_admit, tapebox_close, tapebox_count, tapebox_entry, tapebox_free, tapebox_open,

@@ -1,14 +1,14 @@
 //! What a tape says of its names.
 ghost use Rattle.std.specs.Prelude.{◌≡◌};
-ghost use Rattle.tapebox_c.specs.Exports.{held_tape};
-ghost use Rattle.tapebox_c.specs.Listed.{letter_told, symbol_told, totals_row, totals_told};
+ghost use Rattle.tapebox_c.specs.Calls.{held_tape};
+ghost use Rattle.tapebox_c.specs.Exports.{told};
+ghost use Rattle.tapebox_c.specs.Listed.{letter_found, name_row, symbol_found, totals_found, totals_row};
 
 use crate::fault::Fault;
 use crate::handle::Handle;
 use crate::rows::{NameRow, TotalsRow};
 use std::alloc::Global;
-use tape_core::{Figures, Refusal};
-use tape_types::Participant;
+use tape_core::Figures;
 
 /// Gives what a participant has sent, by its letter: zeros for one that is not listed.
 #[unsafe(no_mangle)]
@@ -18,7 +18,7 @@ pub extern "C" fn tapebox_totals(
     participant: u8,
     row: &mut TotalsRow,
 ) -> u32
-    ensures told { (result, row.new) ≡ totals_told (held_tape handle.old.inside.held) participant row.old }
+    ensures told { (result, row.new) ≡ told totals_row (totals_found (held_tape handle.old.inside.held) participant) row.old }
     ensures kept { handle.new.inside.held ≡ handle.old.inside.held }
 {
     let Some(held) = handle.take(alloc) else {
@@ -26,11 +26,13 @@ pub extern "C" fn tapebox_totals(
     };
     let found = held.totals(participant);
     handle.put(held);
-    let Some(figures) = found else {
-        return Fault::Refused(Refusal::UnknownParticipant).code();
-    };
-    *row = totals_row(figures);
-    0
+    match found {
+        Ok(figures) => {
+            *row = totals_row(figures);
+            0
+        }
+        Err(fault) => fault.code(),
+    }
 }
 
 /// Gives the symbol at a place of the listing, from 0.
@@ -41,7 +43,7 @@ pub extern "C" fn tapebox_symbol(
     place: u32,
     row: &mut NameRow,
 ) -> u32
-    ensures told { (result, row.new) ≡ symbol_told (held_tape handle.old.inside.held) place row.old }
+    ensures told { (result, row.new) ≡ told name_row (symbol_found (held_tape handle.old.inside.held) place) row.old }
     ensures kept { handle.new.inside.held ≡ handle.old.inside.held }
 {
     let Some(held) = handle.take(alloc) else {
@@ -49,13 +51,14 @@ pub extern "C" fn tapebox_symbol(
     };
     let found = held.symbol(place);
     handle.put(held);
-    let Some(symbol) = found else {
-        return Fault::Refused(Refusal::UnknownSymbol).code();
-    };
-    *row = NameRow {
-        bytes: symbol.value(),
-    };
-    0
+    match found {
+        Ok(symbol) => {
+            let bytes = symbol.value();
+            *row = NameRow { bytes };
+            0
+        }
+        Err(fault) => fault.code(),
+    }
 }
 
 /// Gives the letter of the participant at a place of the listing, from 0.
@@ -66,7 +69,7 @@ pub extern "C" fn tapebox_participant(
     place: u32,
     letter: &mut u8,
 ) -> u32
-    ensures told { (result, letter.new) ≡ letter_told (held_tape handle.old.inside.held) place letter.old }
+    ensures told { (result, letter.new) ≡ told (λ who. who) (letter_found (held_tape handle.old.inside.held) place) letter.old }
     ensures kept { handle.new.inside.held ≡ handle.old.inside.held }
 {
     let Some(held) = handle.take(alloc) else {
@@ -74,11 +77,13 @@ pub extern "C" fn tapebox_participant(
     };
     let found = held.participant(place);
     handle.put(held);
-    let Some(participant) = found else {
-        return Fault::Refused(Refusal::UnknownParticipant).code();
-    };
-    *letter = participant.value();
-    0
+    match found {
+        Ok(participant) => {
+            *letter = participant.value();
+            0
+        }
+        Err(fault) => fault.code(),
+    }
 }
 
 /// What a participant has sent, as a row.

@@ -2,7 +2,7 @@
 ghost use Rattle.std.specs.Prelude.{◌≡◌, IfSome, Ok};
 ghost use Rattle.tape_frames.specs.Versions.{version_of_byte};
 ghost use Rattle.tape_frames.specs.declared.packet.Packet.TheVariants.{Beat, End};
-ghost use Rattle.tapebox_c.specs.Exports.{held_tape};
+ghost use Rattle.tapebox_c.specs.Calls.{held_tape};
 ghost use Rattle.tapebox_c.specs.Sending.{IsPacketRow, PacketIn, PacketTold, ServesIn, TellsText, answer_due, count_due, cut_due, told_due};
 
 use crate::fault::Fault;
@@ -47,10 +47,10 @@ pub extern "C" fn tapebox_cut(
     };
     let found = held.cut(version, session, from, to);
     handle.put(held);
-    let Some(packet) = found else {
-        return Fault::NoEntry.code();
-    };
-    give_packet(alloc, &packet, row)
+    match found {
+        Ok(packet) => give_packet(alloc, &packet, row),
+        Err(fault) => fault.code(),
+    }
 }
 
 /// Gives a beat, which tells how many entries the tape has so far.
@@ -112,10 +112,10 @@ pub extern "C" fn tapebox_serve(
     };
     let told = held.answer(alloc, version, session, &request);
     handle.put(held);
-    let Some(text) = told else {
-        return Fault::OutOfMemory.code();
-    };
-    give_text(&text, row, len)
+    match told {
+        Ok(text) => give_text(&text, row, len),
+        Err(fault) => fault.code(),
+    }
 }
 
 /// The number of entries that a packet of a version tells.

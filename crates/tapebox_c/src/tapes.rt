@@ -1,7 +1,9 @@
 //! The calls of a tape, and those that a subscriber shares with it.
 ghost use Rattle.std.specs.Prelude.{◌≡◌, None};
 ghost use Rattle.batch.specs.Header.{header_listing};
-ghost use Rattle.tapebox_c.specs.Exports.{AdmitsIn, ClosesIn, EntryIn, OpensIn, count_told, held_tape, summary_of_told, summary_told};
+ghost use Rattle.tapebox_c.specs.Calls.{held_tape};
+ghost use Rattle.tapebox_c.specs.Exports.{AdmitsIn, ClosesIn, EntryTold, OpensIn, count_told, entry_found, summary_found, summary_of_found, told};
+ghost use Rattle.tapebox_c.specs.Rows.{summary_row};
 ghost use Rattle.tapebox_c.specs.Opening.{matrix_numbered, tape_opened};
 ghost use Rattle.tapebox_c.specs.declared.held.Held.TheVariants.{Tape as AsTape};
 
@@ -11,7 +13,6 @@ use crate::held::Held;
 use crate::opening::open_tape;
 use crate::rows::{AnswerRow, EntryRow, SummaryRow, answer_row, entry_row, summary_row};
 use std::alloc::Global;
-use tape_core::Refusal;
 
 /// Opens a tape: the symbols and the participants' letters with single spaces between them, the matrix (1 or 2) and the most
 /// entries. The handle must hold nothing.
@@ -83,7 +84,7 @@ pub extern "C" fn tapebox_summary(
     symbol: &[u8],
     row: &mut SummaryRow,
 ) -> u32
-    ensures told { (result, row.new) ≡ summary_told (held_tape handle.old.inside.held) symbol.now row.old }
+    ensures told { (result, row.new) ≡ told summary_row (summary_found (held_tape handle.old.inside.held) symbol.now) row.old }
     ensures kept { handle.new.inside.held ≡ handle.old.inside.held }
 {
     let Some(held) = handle.take(alloc) else {
@@ -91,11 +92,13 @@ pub extern "C" fn tapebox_summary(
     };
     let found = held.summary(symbol);
     handle.put(held);
-    let Some(summary) = found else {
-        return Fault::Refused(Refusal::UnknownSymbol).code();
-    };
-    *row = summary_row(&summary);
-    0
+    match found {
+        Ok(summary) => {
+            *row = summary_row(&summary);
+            0
+        }
+        Err(fault) => fault.code(),
+    }
 }
 
 /// Gives a participant's own summary of a symbol, by its letter and the symbol's name.
@@ -107,24 +110,21 @@ pub extern "C" fn tapebox_summary_of(
     participant: u8,
     row: &mut SummaryRow,
 ) -> u32
-    ensures told { (result, row.new) ≡ summary_of_told (held_tape handle.old.inside.held) symbol.now participant row.old }
+    ensures told { (result, row.new) ≡ told summary_row (summary_of_found (held_tape handle.old.inside.held) symbol.now participant) row.old }
     ensures kept { handle.new.inside.held ≡ handle.old.inside.held }
 {
     let Some(held) = handle.take(alloc) else {
         return Fault::NoTape.code();
     };
     let found = held.summary_of(symbol, participant);
-    let is_listed = held.summary(symbol).is_some();
     handle.put(held);
-    let Some(summary) = found else {
-        return if is_listed {
-            Fault::Refused(Refusal::UnknownParticipant).code()
-        } else {
-            Fault::Refused(Refusal::UnknownSymbol).code()
-        };
-    };
-    *row = summary_row(&summary);
-    0
+    match found {
+        Ok(summary) => {
+            *row = summary_row(&summary);
+            0
+        }
+        Err(fault) => fault.code(),
+    }
 }
 
 /// How many entries the tape has, 0 where there is none.
@@ -149,7 +149,7 @@ pub extern "C" fn tapebox_entry(
     number: u32,
     row: &mut EntryRow,
 ) -> u32
-    ensures told { EntryIn (held_tape handle.old.inside.held) number result row.old row.new }
+    ensures told { EntryTold (entry_found (held_tape handle.old.inside.held) number) result row.old row.new }
     ensures kept { handle.new.inside.held ≡ handle.old.inside.held }
 {
     let Some(held) = handle.take(alloc) else {
@@ -157,11 +157,13 @@ pub extern "C" fn tapebox_entry(
     };
     let found = held.entry(number);
     handle.put(held);
-    let Some(entry) = found else {
-        return Fault::NoEntry.code();
-    };
-    *row = entry_row(&entry);
-    0
+    match found {
+        Ok(entry) => {
+            *row = entry_row(&entry);
+            0
+        }
+        Err(fault) => fault.code(),
+    }
 }
 
 /// Frees what the handle holds, if anything. The handle holds nothing then, and may be opened again.

@@ -1,0 +1,94 @@
+//! A table that was read, and its texts.
+ghost use Rattle.std.specs.Prelude.{◌≡◌};
+ghost use Rattle.tapebox_c.specs.Tables.{ComesTo, Tells, Writes, end_fault, run_of, text_named};
+
+use crate::ends::end_text;
+use crate::fault::Fault;
+use reports::Message;
+use sale_matrix::Matrix;
+use std::alloc::Global;
+use table_days::{TableEnd, write_explained, write_messages_report, write_tape};
+
+/// The status of an end at which memory ran out.
+const OUT_OF_MEMORY: u8 = 5;
+
+/// A text of a table.
+#[derive(Clone, Copy)]
+pub enum Text {
+    /// Its report.
+    Report,
+    /// Its readable tape.
+    Tape,
+    /// What became of each of its reports.
+    Explanation,
+}
+
+/// A table that was read.
+#[derive(Drop)]
+pub struct Table {
+    /// Its messages.
+    pub messages: Vec<Message>,
+    /// The text that was made of them last, or why there is none, in words. Empty where none was made.
+    pub text: Vec<u8>,
+}
+
+/// The fault of an end: out of memory, or another.
+pub(crate) fn end_fault(end: &TableEnd) -> Fault
+    ensures { result ≡ end_fault end.now }
+{
+    if end.status() == OUT_OF_MEMORY {
+        Fault::OutOfMemory
+    } else {
+        Fault::BadTable
+    }
+}
+
+/// A text of messages, or why they have none. A write into memory fails only where that runs out.
+fn text_of(
+    alloc: Global,
+    text: Text,
+    matrix: Matrix,
+    messages: &[Message],
+) -> Result<Vec<u8>, TableEnd>
+    ensures { ComesTo (text_named text) matrix messages.now (run_of result) }
+{
+    let mut writer = Vec::new(alloc);
+    let written = match text {
+        Text::Report => write_messages_report(alloc, matrix, messages, &mut writer),
+        Text::Tape => write_tape(alloc, matrix, messages, &mut writer),
+        Text::Explanation => write_explained(alloc, matrix, messages, &mut writer),
+    };
+    match written {
+        Ok(_) => Ok(writer),
+        Err(TableEnd::WriteFault) => Err(TableEnd::OutOfMemory),
+        Err(end) => Err(end),
+    }
+}
+
+/// The text that a run came to and 0, or why there is none, in words, and the number of that; no words where memory runs out for them.
+fn told(alloc: Global, run: Result<Vec<u8>, TableEnd>) -> (u32, Vec<u8>)
+    ensures { Tells (run_of run) result.0 result.1.items }
+{
+    let end = match run {
+        Ok(text) => return (0, text),
+        Err(end) => end,
+    };
+    match end_text(alloc, &end) {
+        Ok(words) => (end_fault(&end).code(), words),
+        Err(_) => (Fault::OutOfMemory.code(), Vec::new(alloc)),
+    }
+}
+
+impl Table {
+    /// Makes a text of the table, in place of the one before, and gives 0 or the number of why there is none.
+    pub(crate) fn write(&mut self, alloc: Global, text: Text, matrix: Matrix) -> u32
+        ensures { Writes (text_named text) matrix self.old result self.new }
+    {
+        // The text before goes first, so that two are never held.
+        self.text = Vec::new(alloc);
+        let run = text_of(alloc, text, matrix, &self.messages);
+        let (code, told) = told(alloc, run);
+        self.text = told;
+        code
+    }
+}

@@ -1,4 +1,0 @@
-mod AsBox
-mod InsideSteps
-mod TextLemmas
-mod Values

@@ -1,0 +1,96 @@
+"""The texts of a table (docs/FORMATS.md): its report, its readable tape, and what became of each of its reports.
+
+    import tapebox
+    print(tapebox.report(open("day.csv", "rb").read()))
+
+A table that is asked for more than one is read once as a `Table`:
+
+    with tapebox.Table(table) as day:
+        day.report(), day.explain(matrix=2)
+"""
+
+import ctypes
+from collections.abc import Callable
+from typing import NoReturn, Self
+
+from . import _library
+from ._library import library, small
+from .refusals import Refused
+
+
+class Table:
+    """A table that was read of its bytes. It is freed by `free`, by the end of a `with`, or with the object.
+
+    `Refused` has 111 for bytes that are no table, and `why` then says what is wrong, as `row 3: size "0" is not 1 to 99999999 in at most 20
+    digits`. It has 109 where memory runs out, as in each call.
+    """
+
+    def __init__(self, table: bytes) -> None:
+        self._handle = _library.Handle(False, None)
+        self._checked(library.tapebox_read_table(self._handle, table, len(table)))
+
+    def free(self) -> None:
+        """Frees it. Every later call is refused by 110."""
+        library.tapebox_free(self._handle)
+
+    def __del__(self) -> None:
+        if hasattr(self, "_handle"):
+            self.free()
+
+    def __enter__(self) -> Self:
+        return self
+
+    def __exit__(self, *why: object) -> None:
+        self.free()
+
+    def __copy__(self) -> NoReturn:
+        raise TypeError("a table cannot be copied")
+
+    def __deepcopy__(self, known: object) -> NoReturn:
+        self.__copy__()
+
+    def __reduce__(self) -> NoReturn:
+        self.__copy__()
+
+    def report(self, matrix: int = 1) -> str:
+        """The report, as `tapebox report` writes it. `Refused` has 104 for a matrix that is neither 1 nor 2, and 111 for too many symbols."""
+        return self._made(library.tapebox_report, matrix)
+
+    def tape(self, matrix: int = 1) -> str:
+        """The readable tape, as `tapebox tape` writes it. Refused as `report`."""
+        return self._made(library.tapebox_tape, matrix)
+
+    def explain(self, matrix: int = 1) -> str:
+        """What became of each report and which figures it sets, as `tapebox explain` writes it. Refused as `report`."""
+        return self._made(library.tapebox_explain, matrix)
+
+    def _made(self, call: Callable[[_library.Handle, int], int], matrix: int) -> str:
+        self._checked(call(self._handle, small(matrix)))
+        return self._text()
+
+    def _checked(self, code: int) -> None:
+        if code:
+            raise Refused(code, why=self._text() if code == 111 else "")
+
+    def _text(self) -> str:
+        row = ctypes.create_string_buffer(library.tapebox_text_length(self._handle))
+        library.tapebox_text_copy(self._handle, 0, row, len(row))
+        return row.raw.decode()
+
+
+def report(table: bytes, matrix: int = 1) -> str:
+    """The report of a table's bytes. Refused as `Table` and `Table.report`."""
+    with Table(table) as read:
+        return read.report(matrix)
+
+
+def tape(table: bytes, matrix: int = 1) -> str:
+    """The readable tape of a table's bytes. Refused as `report`."""
+    with Table(table) as read:
+        return read.tape(matrix)
+
+
+def explain(table: bytes, matrix: int = 1) -> str:
+    """What became of each report of a table's bytes, and which figures it sets. Refused as `report`."""
+    with Table(table) as read:
+        return read.explain(matrix)
