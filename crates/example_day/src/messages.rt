@@ -1,0 +1,46 @@
+//! The messages of the day.
+
+use anyhow::Context;
+use reports::{Content, Header, Message, Moment};
+use sale_matrix::Condition;
+use tape_types::{MsgNumber, Participant, Price, Size, Symbol};
+
+/// A participant's report of a regular trade, under its number: so many shares at a price in ten-thousandths of a dollar. A value
+/// out of its range is an error.
+pub fn report(
+    symbol: Symbol,
+    participant: Participant,
+    number: u32,
+    price: u64,
+    shares: u32,
+) -> anyhow::Result<Message> {
+    let content = Content {
+        price: Price::try_new(price).context("the price is out of range")?,
+        size: Size::try_new(shares).context("the size is out of range")?,
+        condition: Condition::try_new(*b"@   ").context("the condition has an unknown code")?,
+    };
+    let header = header(symbol, participant, number)?;
+    Ok(Message::Report { header, content })
+}
+
+/// A participant's cancel, under its number, of the report that it sent under another. A value out of its range is an error.
+pub fn cancel(
+    symbol: Symbol,
+    participant: Participant,
+    number: u32,
+    target: u32,
+) -> anyhow::Result<Message> {
+    let target = MsgNumber::try_new(target).context("the message number is out of range")?;
+    let header = header(symbol, participant, number)?;
+    Ok(Message::Cancel { header, target })
+}
+
+/// The front of a message that is sent at midnight.
+fn header(symbol: Symbol, participant: Participant, number: u32) -> anyhow::Result<Header> {
+    Ok(Header {
+        participant,
+        number: MsgNumber::try_new(number).context("the message number is out of range")?,
+        moment: Moment::new(0),
+        symbol,
+    })
+}
