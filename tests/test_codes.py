@@ -129,7 +129,7 @@ def of_rows():
 def explained(matrix, conditions):
     """The cells that an explanation has for a report of each of these conditions, unless a tape by the matrix refuses it."""
     rows = [["N", number, "AB", "10.00", 100, condition] for number, condition in enumerate(conditions, 1)]
-    written = desk("explain", matrix, given=table_of([["participant", "number", "symbol", "price", "size", "condition"], *rows])).written
+    written = desk("explain", matrix=matrix, given=table_of([["participant", "number", "symbol", "price", "size", "condition"], *rows])).written
     told = csv.DictReader(written.decode().splitlines())
     return [(row["condition"], "".join(WORDS[row[column]] for column in COLUMNS)) for row in told]
 

@@ -14,7 +14,7 @@ from pathlib import Path
 import plain_explain
 import plain_table
 import plain_tape
-from support import HEADINGS, ROOT, SAMPLES, TAPEDESK, TOOLS, Case, desk, run, transcripts
+from support import HEADINGS, ROOT, SAMPLES, TAPEBOX, TOOLS, Case, desk, run, transcripts
 from test_reports import OWN_PYTHON, has_pandas
 
 SCRIPT = TOOLS / "from_taq.py"
@@ -453,7 +453,7 @@ class Page(Case):
 
     def setUp(self):
         # Before the commands, each of which has less time than a draft takes to compile.
-        self.assertTrue(Path(TAPEDESK).exists())
+        self.assertTrue(Path(TAPEBOX).exists())
         folder = tempfile.TemporaryDirectory()
         self.addCleanup(folder.cleanup)
         self.folder = Path(folder.name)

@@ -31,9 +31,9 @@ ROW = re.compile(r"^\| (.+) \|$", re.MULTILINE)
 # How many words a promise has at most.
 WORDS_MOST = 40
 CODE = re.compile(r"`([^`]*)`")
-# A limit with its value, in code or in definitions, and a refusal's number by its name, in definitions.
+# A limit with its value, in code or in definitions, and a refusal's number by its name, in definitions, which the program's status is not.
 LIMIT = re.compile(r"^(?:pub(?:\(crate\))? )?(?:const )?(\w+)(?:: \w+)? = ([\d_]+);?$", re.MULTILINE)
-NUMBER = re.compile(r"^\w+_code \(?([\w.]+)(?: \w+\))? = (\d+)$", re.MULTILINE)
+NUMBER = re.compile(r"^(?!status_)\w+_code \(?([\w.]+)(?: \w+\))? = (\d+)$", re.MULTILINE)
 NAME = re.compile(r"[A-Za-z_]\w*")
 
 

@@ -13,7 +13,7 @@ from pathlib import Path
 
 import plain_table
 from plain_tape import Refused, Report, Tape, fold
-from support import ROOT, SAMPLES, TAPEDESK, TOOLS, Case, run, table_of, transcripts
+from support import ROOT, SAMPLES, TAPEBOX, TOOLS, Case, run, table_of, transcripts
 
 # The system's own Python has what the system's packages bring.
 OWN_PYTHON = "/usr/bin"
@@ -31,7 +31,7 @@ class PageCase(Case):
 
     def setUp(self):
         # Before the commands, each of which has less time than a draft takes to compile.
-        self.assertTrue(Path(TAPEDESK).exists())
+        self.assertTrue(Path(TAPEBOX).exists())
 
     def new_folder(self, runs):
         """A folder in which this program runs as `./run`."""
@@ -189,7 +189,7 @@ class Recipes(PageCase):
 
     def page_answers(self, table):
         """What the page's commands write of this table in place of the morning, by question."""
-        folder = self.new_folder(TAPEDESK)
+        folder = self.new_folder(TAPEBOX)
         (folder / "samples").mkdir()
         (folder / "samples" / "morning.csv").write_bytes(table)
         written = {}

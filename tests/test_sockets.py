@@ -7,7 +7,7 @@ import socket
 import sys
 from pathlib import Path
 
-from support import HOST, TAPEDESK, Case, addresses, connect, ended, listens, ports, report, started, wait_bound, wait_connected, wait_for
+from support import HOST, Case, addresses, connect, ended, listens, ports, report, started, wait_bound, wait_connected, wait_for
 
 SESSION = 7
 PROTOCOLS = ("tcp", "tcp6", "udp", "udp6")
@@ -57,7 +57,7 @@ class Sockets(Case):
         self.assertLessEqual(wanted, own | {(protocol, -port_of(peer)) for protocol, _, peer in found.values()})
 
     def test_a_running_day(self):
-        """README: all sockets of a running day are on 127.0.0.1: those of `live` before the participants come and while it runs, and those of both programs'
+        """README: all sockets of a running day are on 127.0.0.1: those of `live` before the participants come and while it runs, and those of its
         followers."""
         line, other_line, a, b, other_a, other_b, retransmission = ports(7)
         lines = {("tcp", line), ("tcp", other_line), ("tcp", retransmission)}
@@ -68,21 +68,21 @@ class Sockets(Case):
             self.assert_here(live, lines)
             participants = [stack.enter_context(connect(port)) for port in (line, other_line)]
             follow = stack.enter_context(started(["follow", "AB", "N,Q", a, b, retransmission, SESSION]))
-            desk = stack.enter_context(started(["follow", "AB", "N,Q", other_a, other_b, retransmission, SESSION], program=TAPEDESK))
+            watch = stack.enter_context(started(["watch", "AB", "N,Q", other_a, other_b, retransmission, SESSION]))
             wait_bound(follow, a, b)
-            wait_bound(desk, other_a, other_b)
+            wait_bound(watch, other_a, other_b)
             wait_connected(live, retransmission, 2)
             participants[0].sendall(report("N", 1))
             # The names of the columns, and the entry that has gone the whole way.
             for _ in range(2):
-                self.assertTrue(desk.stdout.readline())
+                self.assertTrue(watch.stdout.readline())
             self.assert_here(live, lines)
             self.assertIn("udp", {protocol for protocol, _, _ in sockets(live.pid).values()})
             self.assert_here(follow, {("udp", a), ("udp", b), ("tcp", -retransmission)})
-            self.assert_here(desk, {("udp", other_a), ("udp", other_b), ("tcp", -retransmission)})
+            self.assert_here(watch, {("udp", other_a), ("udp", other_b), ("tcp", -retransmission)})
             for participant in participants:
                 participant.close()
-            self.assertEqual([ended(program).status for program in (live, follow, desk)], [0, 0, 0])
+            self.assertEqual([ended(program).status for program in (live, follow, watch)], [0, 0, 0])
 
     def test_other_sockets_are_seen(self):
         """A socket that listens on every address, is bound to it, speaks version 6, or is in no table of the four, is not taken for one of the host."""
