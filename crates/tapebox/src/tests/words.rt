@@ -164,7 +164,7 @@ fn asked_limit(alloc: Global, words: &[u8]) -> Result<u32, WordsFault> {
     match read_command(alloc, words)? {
         Command::Live(live) => Ok(live.limit),
         Command::Follow(follow) => Ok(follow.limit),
-        Command::Batch(_) => Err(WordsFault::BadArguments),
+        Command::Batch(_) | Command::Asked(_) => Err(WordsFault::BadArguments),
     }
 }
 
