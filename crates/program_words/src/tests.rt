@@ -10,9 +10,13 @@ fn by_two(command: Command, file: Option<usize>) -> Option<Asked> {
     Some(Asked::Table(Request { command, file }))
 }
 
+/// Whether arguments ask for a strict report by Matrix Two, whose name is this argument.
+fn ask_for_a_strict_report(words: &[u8], file: Option<usize>) -> bool {
+    read_arguments(words) == by_two(Command::Report(Matrix::Two, true), file)
+}
+
 #[test]
 fn options_stand_in_any_order_beside_a_file(rt: HostRuntime) {
-    let strict = Command::Report(Matrix::Two, true);
     for (words, file) in [
         (
             b"report\0--matrix\x002\0--strict\0day.csv\0".as_slice(),
@@ -22,7 +26,7 @@ fn options_stand_in_any_order_beside_a_file(rt: HostRuntime) {
         (b"report\0--strict\0--matrix\x002\0-\0", Some(3)),
         (b"report\0--matrix=2\0--strict\0", None),
     ] {
-        assert!(rt; read_arguments(words) == by_two(strict, file));
+        assert!(rt; ask_for_a_strict_report(words, file));
     }
     let lenient = Command::Tape(Matrix::Two, false);
     assert!(rt; read_arguments(b"tape\0--matrix=2\0") == by_two(lenient, None));
