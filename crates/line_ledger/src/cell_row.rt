@@ -1,7 +1,7 @@
 //! The cells beside the lock, each of which is set once and read by anyone.
-ghost use Rattle.std.specs.Prelude.{◌≡◌, ◌+◌, ◌-◌, ◌<◌, ◌≤◌, [], length, slice_get, IfErr, IfOk, IfSome, IsTrue, Some};
+ghost use Rattle.std.specs.Prelude.{◌≡◌, ◌↔◌, ◌+◌, ◌-◌, ◌<◌, ◌≤◌, [], length, slice_get, IfErr, IfOk, IfSome, IsTrue, Some};
 ghost use Rattle.std.specs.Vec.{vec_capacity};
-ghost use Rattle.line_ledger.specs.Cells.{IsTokenOf, TokenAt, NextTokens, SeenAt, FirstSeen, NextSeen};
+ghost use Rattle.line_ledger.specs.Cells.{IsTokenOf, TokenAt, FirstTokens, NextTokens, HaveAll, SeenAt, FirstSeen, NextSeen};
 ghost use Rattle.tape_types.specs.Ranges.{TAPE_MOST};
 
 use crate::same_entry::is_same;
@@ -200,6 +200,38 @@ impl CellRow {
             },
             None => unreachable!(),
         }
+    }
+
+    /// Whether the entries have at this number what was seen in the cell of the number, which is read there again.
+    fn has_seen(&self, entries: &[Entry], number: u32, sighting: &Sighting) -> bool
+        requires cell { IsTokenOf self.now sighting.now }
+        requires number { sighting.now.number ≡ number }
+        ensures { IsTrue result ↔ (slice_get entries.now (number - 1) ≡ Some sighting.now.entry) }
+    {
+        let token = self.show(number, sighting);
+        match entries.get(number as usize - 1) {
+            Some(entry) => is_same(entry, &token.entry),
+            None => false,
+        }
+    }
+
+    /// Whether the entries have what was seen in each of the first so many cells.
+    pub(crate) fn have_all_seen(
+        &self,
+        entries: &[Entry],
+        sightings: &Vec<Sighting>,
+        many: u32,
+    ) -> bool
+        requires cells { FirstTokens self.now sightings.now.items }
+        requires many { length sightings.now.items ≡ many }
+        ensures { IsTrue result ↔ HaveAll entries.now sightings.now.items }
+    {
+        for at in 0..many {
+            if !self.has_seen(entries, at + 1, &sightings[at as usize]) {
+                return false;
+            }
+        }
+        true
     }
 
     /// Two tokens of one cell show one entry.

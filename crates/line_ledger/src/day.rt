@@ -1,8 +1,8 @@
 //! Which day it is, and what is left of it.
-ghost use Rattle.std.specs.Prelude.{◌≡◌, ◌↔◌, ◌+◌, ◌-◌, ◌<◌, ◌≤◌, [], length, slice_get, Some};
+ghost use Rattle.std.specs.Prelude.{◌≡◌, ◌↔◌, ◌+◌, ◌-◌, ◌<◌, ◌≤◌, [], length, slice_get, IsTrue, Some};
 ghost use Rattle.std.specs.Result.{IsOk};
 ghost use Rattle.sale_matrix.specs.declared.matrix.Matrix.TheVariants.{One};
-ghost use Rattle.line_ledger.specs.Cells.{IsTokenOf};
+ghost use Rattle.line_ledger.specs.Cells.{IsTokenOf, FirstTokens, HaveAll};
 ghost use Rattle.line_ledger.specs.Days.{Terms};
 
 use crate::same_entry::is_same;
@@ -90,6 +90,15 @@ impl Day {
         ensures sure { sighting.now.number ≤ self.now.published → IsOk result }
     {
         self.confirm(&self.row.show(number, sighting))
+    }
+
+    /// Whether the day has what was seen in each of the first so many cells: whether `confirm_seen` would confirm each sighting.
+    pub fn has_all_seen(&self, sightings: &Vec<Sighting>, many: u32) -> bool
+        requires cells { FirstTokens self.now.names sightings.now.items }
+        requires many { length sightings.now.items ≡ many }
+        ensures { IsTrue result ↔ HaveAll self.now.tape.entries sightings.now.items }
+    {
+        self.row.have_all_seen(self.tape.entries(), sightings, many)
     }
 
     /// A cell is set once, so the token shows the entry that the end saw in its cell, which is the day's.

@@ -13,6 +13,7 @@ ghost use Rattle.line_ledger.specs.Seats.{agrees, untold, sizes_told, last_told}
 ghost use Rattle.line_ledger.specs.Views.{Shows, view_fault};
 
 mod publishing;
+mod reading;
 
 use crate::ends::{find_disagreement, is_one_each};
 use crate::{

@@ -1,12 +1,12 @@
 //! The tape behind one lock.
-ghost use Rattle.std.specs.Prelude.{◌≡◌, ◌≤◌, ◌↔◌, false, map, length, IfOk, IfErr, IfSome, Err};
+ghost use Rattle.std.specs.Prelude.{◌≡◌, ◌≤◌, ◌↔◌, false, map, length, IfOk, IfErr, IfSome, IsTrue, Err};
 ghost use Rattle.tape_core.specs.Tape.{lists_symbol};
 ghost use Rattle.line_ledger.specs.Days.{terms_of};
 ghost use Rattle.line_ledger.specs.declared.end_fault.EndFault.TheVariants.{MissingSeat, Disagrees};
 ghost use Rattle.line_ledger.specs.declared.open_fault.OpenFault.TheVariants.{OutOfMemory};
 ghost use Rattle.line_ledger.specs.declared.view_fault.ViewFault.TheVariants.{UnknownSymbol};
 ghost use Rattle.line_ledger.specs.Admissions.{Tells, TellsWhy};
-ghost use Rattle.line_ledger.specs.Cells.{IsTokenOf};
+ghost use Rattle.line_ledger.specs.Cells.{IsTokenOf, FirstTokens, HaveAll};
 ghost use Rattle.line_ledger.specs.Ends.{IsOneEach, IsEnd, IsDispute};
 ghost use Rattle.line_ledger.specs.Seats.{untold};
 ghost use Rattle.line_ledger.specs.Views.{IsShown};
@@ -20,6 +20,7 @@ use std::alloc::Global;
 use std::hint::spin_loop;
 use std::marker::Model;
 use std::sync::{Mutex, MutexGuard, Wait};
+use tape_core::Entry;
 use tape_types::Symbol;
 
 /// How often a call of the sender or of a viewer tries for the lock before it may sleep for it.
@@ -131,6 +132,12 @@ impl<D: DayName> SharedTape<D> {
         Ok(seen.len() as u32)
     }
 
+    /// Takes the lock for a reader of the tape, as when the lines have ended: what it guards is lent, and whoever admits, views or publishes
+    /// waits until the guard is dropped. It may wait for the lock.
+    pub fn read(&self, rt: &impl Wait) -> MutexGuard<'_, Locked<D>> {
+        self.lock(rt, TRIES)
+    }
+
     /// Reads the cell of a tape number: `None` where the number is 0, above the tape's limit, or not seen to be published.
     /// It takes no lock and never waits, whatever the lines do, and the same few steps at each number. That what was published
     /// is seen is not promised.
@@ -165,6 +172,16 @@ impl<D: DayName> SharedTape<D> {
         ensures same { one.now.entry ≡ other.now.entry }
     {
         self.row.compare(one, other);
+    }
+
+    /// Whether these entries have what was seen in each of the first so many cells, as the entries of a tape of the day have. It takes no
+    /// lock.
+    pub fn have_all_seen(&self, entries: &[Entry], sightings: &Vec<Sighting>, many: u32) -> bool
+        requires cells { FirstTokens self.now sightings.now.items }
+        requires many { length sightings.now.items ≡ many }
+        ensures { IsTrue result ↔ HaveAll entries.now sightings.now.items }
+    {
+        self.row.have_all_seen(entries, sightings, many)
     }
 
     /// How many cells there are: the tape's limit.
