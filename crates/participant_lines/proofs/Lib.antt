@@ -2,3 +2,4 @@ mod Fronts
 mod Places
 mod Spelled
 mod Steps
+pub mod Tallies

@@ -1,7 +1,8 @@
 -- A line's frames, done one after the other.
-use Rattle.std.proofs.Common.{◌≡◌, ◌≢◌, ℕ, ◌+◌, ◌<◌, ◌≤◌, List, [], ◌∷◌, ◌++◌, Option, Result, Ok, Err, IfOk, IfErr, inl, inr}
+use Rattle.std.proofs.Common.{◌≡◌, ◌≢◌, ℕ, ◌+◌, ◌<◌, ◌≤◌, List, [], ◌∷◌, ◌++◌, ◌^◌, Option, Some, None, IfSome, Result, Ok, Err, IfOk, IfErr, inl, inr}
+use Rattle.std.specs.Prelude.{IfNone}
 use Rattle.std.proofs.Common.{length, length-append, append-nil, refl, sym, ap, subst, ◌∙◌, arith}
-use Rattle.std.specs.List.{concat}
+use Rattle.std.specs.List.{concat, cons_option}
 use Rattle.std.specs.Io.KnownBytes.{Consumes}
 use Rattle.std.proofs.KnownBytes.{Consumes-nil, Consumes-trans}
 use Rattle.std.proofs.lemmas.List.Folds.{concat-append}
@@ -11,53 +12,67 @@ use Rattle.line_ledger.specs.Admissions.{Tells, TellsWhy}
 use Rattle.line_ledger.specs.declared.line_refusal.LineRefusal.{LineRefusal}
 use Rattle.line_ledger.specs.declared.line_refusal.LineRefusal.TheVariants as line
 use Rattle.line_ledger.specs.declared.told.Told.{Told}
+use Rattle.reports.specs.Messages.{header_of}
 use Rattle.reports.specs.Spelling.{Spells}
-use Rattle.reports.specs.declared.fault.MessageFault.TheVariants as fault
 use Rattle.reports.specs.declared.message.Message.{Message}
 use Rattle.tape_core.specs.declared.refusal.Refusal.{Refusal}
 use Rattle.tape_core.specs.declared.refusal.Refusal.TheVariants as tape
 use Rattle.participant_lines.specs.Frames.{EndsInput, IsFrame}
-use Rattle.participant_lines.specs.Runs.{AreDone, Does, EndsAfter, IsAnswered, IsDone, Runs, StopsAt, TakesMessage, effect_of, FRAMES_MOST, refusal_effect}
+use Rattle.participant_lines.specs.Runs.{AreDone, Does, EndsAfter, IsAnswered, IsDone, Runs, RunsSo, RunsTallied, StopsAt, TakesMessage, effect_of, FRAMES_MOST, is_counted, refusal_effect}
+use Rattle.participant_lines.specs.Tallies.{AreCounted}
+use Rattle.participant_lines.specs.declared.tally.Mark.{Mark}
+use Rattle.participant_lines.specs.declared.tally.Tally.{Tally}
 use Rattle.participant_lines.specs.declared.line_end.Ended.{Ended}
 use Rattle.participant_lines.specs.declared.line_end.Ended.TheVariants.{Clean, Truncated, Oversize, ReadFault, TooMany, OutOfMemory, Behind}
 
+-- the refusal that an effect counts
+abbrev mark_in : Result (Option Mark) Ended → Option Mark
+mark_in (Ok mark) = mark
+mark_in (Err ended) = None
+
+-- a refusal that is counted is one mark
+once : (number : ℕ) (r : Refusal) (mark : Option Mark) → is_counted number r ≡ Ok mark → length (cons_option mark []) ≡ 1
+once number r mark is = sym (ap (λ (o : Option Mark). length (cons_option o [])) (ap mark_in is))
+
 -- a refusal by the tape after which the line goes on is counted once
-counted_once : (r : Refusal) (refused : ℕ) → refusal_effect r ≡ Ok refused → refused ≡ 1
-counted_once tape.Closed refused is = cc
-counted_once tape.Full refused is = cc
-counted_once tape.WrongLine refused is = cc
-counted_once tape.UnknownParticipant refused is = cc
-counted_once tape.Stale refused is = cc
-counted_once tape.UnknownSymbol refused is = cc
-counted_once tape.NoSuchReport refused is = cc
-counted_once tape.OtherSymbol refused is = cc
-counted_once tape.Cancelled refused is = cc
-counted_once tape.OutOfMemory refused is = absurd cc
-counted_once tape.WrongNumber refused is = cc
-counted_once tape.Standing refused is = cc
-counted_once tape.NotInMatrix refused is = cc
+counted_once : (number : ℕ) (r : Refusal) (mark : Option Mark) → refusal_effect number r ≡ Ok mark → length (cons_option mark []) ≡ 1
+counted_once number tape.Closed mark is = once number tape.Closed mark is
+counted_once number tape.Full mark is = once number tape.Full mark is
+counted_once number tape.WrongLine mark is = once number tape.WrongLine mark is
+counted_once number tape.UnknownParticipant mark is = once number tape.UnknownParticipant mark is
+counted_once number tape.Stale mark is = once number tape.Stale mark is
+counted_once number tape.UnknownSymbol mark is = once number tape.UnknownSymbol mark is
+counted_once number tape.NoSuchReport mark is = once number tape.NoSuchReport mark is
+counted_once number tape.OtherSymbol mark is = once number tape.OtherSymbol mark is
+counted_once number tape.Cancelled mark is = once number tape.Cancelled mark is
+counted_once number tape.OutOfMemory mark is = absurd cc
+counted_once number tape.WrongNumber mark is = once number tape.WrongNumber mark is
+counted_once number tape.Standing mark is = once number tape.Standing mark is
+counted_once number tape.NotInMatrix mark is = once number tape.NotInMatrix mark is
 
 -- what a message that was taken does to the counts of a seat
-takes_counts : (terms : Terms) (s s' : SeatState) (m : Message) (answer : Result ℕ LineRefusal) (refused : ℕ) → IsAnswered terms s m answer s'
-    → effect_of answer ≡ Ok refused → (length s'.told + refused ≡ length s.told + 1) × (refused ≤ 1) × (s'.who ≡ s.who)
-takes_counts terms s s' m (Ok number) refused tells is =
+takes_counts : (terms : Terms) (s s' : SeatState) (m : Message) (answer : Result ℕ LineRefusal) (mark : Option Mark) → IsAnswered terms s m answer s'
+    → effect_of (header_of m).number answer ≡ Ok mark
+    → (length s'.told + length (cons_option mark []) ≡ length s.told + 1) × (length (cons_option mark []) ≤ 1) × (s'.who ≡ s.who)
+takes_counts terms s s' m (Ok number) mark tells is =
     let t : Told = record { number = number; message = m } in
-    let none : refused ≡ 0 = cc in (
+    let none : length (cons_option mark []) ≡ 0 = sym (ap (λ (o : Option Mark). length (cons_option o [])) (ap mark_in is)) in (
       omega (arith, ap (λ (x : SeatState). length x.told) tells.told, length-append s.told (t ∷ []), none),
       omega (arith, none),
       ap (λ (x : SeatState). x.who) tells.told,
     )
-takes_counts terms s s' m (Err line.Behind) refused tells is = absurd cc
-takes_counts terms s s' m (Err (line.Refused r)) refused tells is =
-    let one = counted_once r refused is in
+takes_counts terms s s' m (Err line.Behind) mark tells is = absurd cc
+takes_counts terms s s' m (Err (line.Refused r)) mark tells is =
+    let one : length (cons_option mark []) ≡ 1 = counted_once (header_of m).number r mark is in
     (omega (arith, ap (λ (x : SeatState). length x.told) tells.seat, one), omega (arith, one), ap (λ (x : SeatState). x.who) tells.seat)
 
 -- what a frame does to the counts of a seat
-counts : (terms : Terms) (s s' : SeatState) (frame : List ℕ) (refused : ℕ) → IsDone terms s frame refused s'
-    → (length s'.told + refused ≡ length s.told + 1) × (refused ≤ 1) × (s'.who ≡ s.who)
-counts terms s s' frame refused (inl (fault, read, same, one)) =
-    (omega (arith, ap (λ (x : SeatState). length x.told) same, one), omega (arith, one), ap (λ (x : SeatState). x.who) same)
-counts terms s s' frame refused (inr (m, spells, (answer, tells, is))) = takes_counts terms s s' m answer refused tells is
+counts : (terms : Terms) (s s' : SeatState) (frame : List ℕ) (mark : Option Mark) → IsDone terms s frame mark s'
+    → (length s'.told + length (cons_option mark []) ≡ length s.told + 1) × (length (cons_option mark []) ≤ 1) × (s'.who ≡ s.who)
+counts terms s s' frame mark (inl (fault, read, same, one)) =
+    let many : length (cons_option mark []) ≡ 1 = ap (λ (o : Option Mark). length (cons_option o [])) one in
+    (omega (arith, ap (λ (x : SeatState). length x.told) same, many), omega (arith, many), ap (λ (x : SeatState). x.who) same)
+counts terms s s' frame mark (inr (m, spells, (answer, tells, is))) = takes_counts terms s s' m answer mark tells is
 
 -- an answer as what a seat's holder learns of it
 pub answered : (terms : Terms) (s s' : SeatState) (m : Message) (answer : Result ℕ LineRefusal) → IfOk answer (λ number. Tells s m number s')
@@ -66,14 +81,14 @@ answered terms s s' m (Ok number) tells why = tells
 answered terms s s' m (Err refusal) tells why = why
 
 -- an answer after which the line goes on
-pub taken : (terms : Terms) (s s' : SeatState) (m : Message) (answer : Result ℕ LineRefusal) (result : Result ℕ Ended) → IsAnswered terms s m answer s'
-    → result ≡ effect_of answer → IfOk result (λ refused. TakesMessage terms s m refused s')
-taken terms s s' m answer (Ok refused) tells is = (answer, tells, sym is)
+pub taken : (terms : Terms) (s s' : SeatState) (m : Message) (answer : Result ℕ LineRefusal) (result : Result (Option Mark) Ended) → IsAnswered terms s m answer s'
+    → result ≡ effect_of (header_of m).number answer → IfOk result (λ mark. TakesMessage terms s m mark s')
+taken terms s s' m answer (Ok mark) tells is = (answer, tells, sym is)
 taken terms s s' m answer (Err ended) tells is = tt
 
 -- a refusal by the tape at which the line ends
 stopped_by : (terms : Terms) (s s' : SeatState) (m : Message) (r : Refusal) → TellsWhy terms s m (line.Refused r) s'
-    → IfErr (refusal_effect r) (λ ended. (s' ≡ s) × StopsAt ended terms s m)
+    → IfErr (refusal_effect (header_of m).number r) (λ ended. (s' ≡ s) × StopsAt ended terms s m)
 stopped_by terms s s' m tape.Closed tells = tt
 stopped_by terms s s' m tape.Full tells = tt
 stopped_by terms s s' m tape.WrongLine tells = tt
@@ -90,19 +105,19 @@ stopped_by terms s s' m tape.NotInMatrix tells = tt
 
 -- an answer at which the line ends leaves the seat as it was, and gives the reason of the end
 effect-stops : (terms : Terms) (s s' : SeatState) (m : Message) (answer : Result ℕ LineRefusal) → IsAnswered terms s m answer s'
-    → IfErr (effect_of answer) (λ ended. (s' ≡ s) × StopsAt ended terms s m)
+    → IfErr (effect_of (header_of m).number answer) (λ ended. (s' ≡ s) × StopsAt ended terms s m)
 effect-stops terms s s' m (Ok number) tells = tt
 effect-stops terms s s' m (Err line.Behind) tells = (tells.seat, subst (TellsWhy terms s m line.Behind) tells.seat tells)
 effect-stops terms s s' m (Err (line.Refused r)) tells = stopped_by terms s s' m r tells
 
 -- an answer at which the line ends
-pub stopped : (terms : Terms) (s s' : SeatState) (m : Message) (answer : Result ℕ LineRefusal) (result : Result ℕ Ended) → IsAnswered terms s m answer s'
-    → result ≡ effect_of answer → IfErr result (λ ended. (s' ≡ s) × StopsAt ended terms s m)
+pub stopped : (terms : Terms) (s s' : SeatState) (m : Message) (answer : Result ℕ LineRefusal) (result : Result (Option Mark) Ended) → IsAnswered terms s m answer s'
+    → result ≡ effect_of (header_of m).number answer → IfErr result (λ ended. (s' ≡ s) × StopsAt ended terms s m)
 stopped terms s s' m answer result tells is =
-    subst (λ (r : Result ℕ Ended). IfErr r (λ ended. (s' ≡ s) × StopsAt ended terms s m)) (sym is) (effect-stops terms s s' m answer tells)
+    subst (λ (r : Result (Option Mark) Ended). IfErr r (λ ended. (s' ≡ s) × StopsAt ended terms s m)) (sym is) (effect-stops terms s s' m answer tells)
 
 -- where nothing was read, no frame is done and the seat is as it was
-pub does_none : (terms : Terms) (s : SeatState) (had : Option (List ℕ)) → Does terms s had had 0 0 s
+pub does_none : (terms : Terms) (s : SeatState) (had : Option (List ℕ)) → Does terms s had had 0 [] s
 unfolding AreDone
 does_none terms s had = record {
   frames = [];
@@ -115,46 +130,55 @@ does_none terms s had = record {
 }
 
 -- where one frame was read and done, one is done
-pub does_one : (terms : Terms) (s s' : SeatState) (had rest : Option (List ℕ)) (frame : List ℕ) (refused : ℕ) → IsFrame frame
-    → IsDone terms s frame refused s' → Consumes had rest frame → Does terms s had rest 1 refused s'
+pub does_one : (terms : Terms) (s s' : SeatState) (had rest : Option (List ℕ)) (frame : List ℕ) (mark : Option Mark) → IsFrame frame
+    → IsDone terms s frame mark s' → Consumes had rest frame → Does terms s had rest 1 (cons_option mark []) s'
 unfolding AreDone
-does_one terms s s' had rest frame refused is done read =
-    let many = counts terms s s' frame refused done in
+does_one terms s s' had rest frame mark is done read =
+    let many = counts terms s s' frame mark done in
     record {
       frames = frame ∷ [];
       number = refl;
       read = subst (Consumes had rest) (sym (append-nil frame)) read;
-      done = (s', refused, 0, is, done, (refl, refl), omega arith);
+      done = (s', mark, [], is, done, (refl, refl), refl);
       sum = many.0;
       few = many.1;
       same = many.2;
     }
 
+-- a mark before two lists
+cons_both : (mark : Option Mark) (others more : List Mark) → cons_option mark others ++ more ≡ cons_option mark (others ++ more)
+cons_both None others more = refl
+cons_both (Some mark) others more = refl
+
 -- two lists of frames that are done one after the other are done as one list
-done_both : (terms : Terms) (s s' s'' : SeatState) (xs ys : List (List ℕ)) (n m : ℕ) → AreDone terms s xs n s' → AreDone terms s' ys m s''
-    → AreDone terms s (xs ++ ys) (n + m) s''
+done_both : (terms : Terms) (s s' s'' : SeatState) (xs ys : List (List ℕ)) (n m : List Mark) → AreDone terms s xs n s' → AreDone terms s' ys m s''
+    → AreDone terms s (xs ++ ys) (n ++ m) s''
 unfolding AreDone
 done_both terms s s' s'' [] ys n m one two =
-    let none : n + m ≡ m = omega (arith, one.1) in
-    subst (λ (k : ℕ). AreDone terms s ys k s'') (sym none) (subst (λ (x : SeatState). AreDone terms x ys m s'') one.0 two)
-done_both terms s s' s'' (frame ∷ xs) ys n m (between, first, others, is, done, later, sum) two =
-    (between, first, others + m, is, done, done_both terms between s' s'' xs ys others m later two, omega (arith, sum))
+    let none : n ++ m ≡ m = ap (λ (k : List Mark). k ++ m) one.1 in
+    subst (λ (k : List Mark). AreDone terms s ys k s'') (sym none) (subst (λ (x : SeatState). AreDone terms x ys m s'') one.0 two)
+done_both terms s s' s'' (frame ∷ xs) ys n m (between, first, others, is, done, later, sum) two = (
+  between,
+  first,
+  others ++ m,
+  is,
+  done,
+  done_both terms between s' s'' xs ys others m later two,
+  ap (λ (k : List Mark). k ++ m) sum ∙ cons_both first others m,
+)
 
 -- frames that are done one part after the other are done together
-pub does_both : (terms : Terms) (s s' s'' : SeatState) (had left rest : Option (List ℕ)) (n m a b many refused : ℕ)
-    → Does terms s had left n a s' → Does terms s' left rest m b s'' → many ≡ n + m → refused ≡ a + b
-    → Does terms s had rest many refused s''
-does_both terms s s' s'' had left rest n m a b many refused one two all more = record {
+pub does_both : (terms : Terms) (s s' s'' : SeatState) (had left rest : Option (List ℕ)) (n m : ℕ) (a b : List Mark) (many : ℕ)
+    → Does terms s had left n a s' → Does terms s' left rest m b s'' → many ≡ n + m → Does terms s had rest many (a ++ b) s''
+does_both terms s s' s'' had left rest n m a b many one two all = record {
   frames = one.frames ++ two.frames;
   number = omega (arith, length-append one.frames two.frames, one.number, two.number, all);
   read =
       subst (Consumes had rest) (sym (concat-append one.frames two.frames))
       (Consumes-trans had left rest (concat one.frames) (concat two.frames) one.read two.read);
-  done =
-      subst (λ (k : ℕ). AreDone terms s (one.frames ++ two.frames) k s'') (sym more)
-      (done_both terms s s' s'' one.frames two.frames a b one.done two.done);
-  sum = omega (arith, one.sum, two.sum, all, more);
-  few = omega (arith, one.few, two.few, all, more);
+  done = done_both terms s s' s'' one.frames two.frames a b one.done two.done;
+  sum = omega (arith, one.sum, two.sum, all, length-append a b);
+  few = omega (arith, one.few, two.few, all, length-append a b);
   same = two.same ∙ one.same;
 }
 
@@ -189,11 +213,11 @@ pub refusal_few : (ended : Ended) (terms : Terms) (s : SeatState) (m : Message) 
 refusal_few ended terms s m stop is = subst (λ (e : Ended). StopsAt e terms s m) is stop
 
 -- a line that ended before it did as many frames as ever are
-pub runs_ended : (terms : Terms) (s s' s'' : SeatState) (had left rest : Option (List ℕ)) (many refused : ℕ) (ended : Ended)
-    → Does terms s had left many refused s' → s'' ≡ s' → EndsAfter ended terms s' left rest → ended ≢ TooMany → many < FRAMES_MOST
-    → Runs terms s had rest refused ended s''
-runs_ended terms s s' s'' had left rest many refused ended does same after goes_on fewer =
-    subst (Runs terms s had rest refused ended) (sym same) (record {
+pub runs_ended : (terms : Terms) (s s' s'' : SeatState) (had left rest : Option (List ℕ)) (many : ℕ) (marks : List Mark) (ended : Ended)
+    → Does terms s had left many marks s' → s'' ≡ s' → EndsAfter ended terms s' left rest → ended ≢ TooMany → many < FRAMES_MOST
+    → RunsSo terms s had rest marks ended s''
+runs_ended terms s s' s'' had left rest many marks ended does same after goes_on fewer =
+    subst (RunsSo terms s had rest marks ended) (sym same) (record {
       many = many;
       left = left;
       does = does;
@@ -203,9 +227,9 @@ runs_ended terms s s' s'' had left rest many refused ended does same after goes_
     })
 
 -- a line that did as many frames as ever are
-pub runs_most : (terms : Terms) (s s' : SeatState) (had rest : Option (List ℕ)) (many refused : ℕ)
-    → Does terms s had rest many refused s' → many ≡ FRAMES_MOST → Runs terms s had rest refused TooMany s'
-runs_most terms s s' had rest many refused does all = record {
+pub runs_most : (terms : Terms) (s s' : SeatState) (had rest : Option (List ℕ)) (many : ℕ) (marks : List Mark)
+    → Does terms s had rest many marks s' → many ≡ FRAMES_MOST → RunsSo terms s had rest marks TooMany s'
+runs_most terms s s' had rest many marks does all = record {
   many = many;
   left = rest;
   does = does;
@@ -213,3 +237,15 @@ runs_most terms s s' had rest many refused does all = record {
   most = λ _. all;
   fewer = λ other. absurd (other refl);
 }
+
+-- a run with a tally is one with the count of refused frames
+pub runs_counted : (terms : Terms) (s s' : SeatState) (had rest : Option (List ℕ)) (tally : Tally) (refused : ℕ) (ended : Ended)
+    → refused ≡ tally.refused → RunsTallied terms s had rest tally ended s' → Runs terms s had rest refused ended s'
+runs_counted terms s s' had rest tally refused ended is (marks, counted, runs) = (marks, is ∙ counted.all, runs)
+
+-- a tally with what is counted of one frame more, if anything
+pub counted_next : (marks : List Mark) (mark : Option Mark) (old new : Tally) → IfNone mark (new ≡ old)
+    → IfSome mark (λ m. length marks + 1 < 2 ^ 32 → AreCounted marks old → AreCounted (marks ++ m ∷ []) new)
+    → length marks + 1 < 2 ^ 32 → AreCounted marks old → AreCounted (marks ++ cons_option mark []) new
+counted_next marks None old new none some fits had = subst (λ (l : List Mark). AreCounted l new) (sym (append-nil marks)) (subst (AreCounted marks) (sym none) had)
+counted_next marks (Some mark) old new none some fits had = some fits had

@@ -1,3 +1,4 @@
 pub mod Frames
 pub mod Lines
 pub mod Runs
+pub mod Tallies

@@ -1,5 +1,6 @@
 -- What a line does with its frames, and how it ends.
-use Rattle.std.specs.Prelude.{◌≡◌, ◌≢◌, ◌+◌, ◌<◌, ◌≤◌, ◌⊎◌, ℕ, List, [], ◌∷◌, length, Option, Result, Ok, Err}
+use Rattle.std.specs.Prelude.{◌≡◌, ◌≢◌, ◌+◌, ◌<◌, ◌≤◌, ◌⊎◌, ℕ, List, [], ◌∷◌, length, Option, Some, None, Result, Ok, Err}
+use Rattle.std.specs.List.{cons_option}
 use Rattle.std.specs.List.{concat}
 use Rattle.std.specs.Io.KnownBytes.{Consumes}
 use Rattle.line_ledger.specs.Days.{Terms}
@@ -7,6 +8,7 @@ use Rattle.line_ledger.specs.Admissions.{Tells, TellsWhy}
 use Rattle.line_ledger.specs.Seats.{SeatState}
 use Rattle.line_ledger.specs.declared.line_refusal.LineRefusal.{LineRefusal}
 use Rattle.line_ledger.specs.declared.line_refusal.LineRefusal.TheVariants as line
+use Rattle.reports.specs.Messages.{header_of}
 use Rattle.reports.specs.Reading.{message_at}
 use Rattle.reports.specs.Spelling.{Spells}
 use Rattle.reports.specs.declared.fault.MessageFault.{MessageFault}
@@ -14,6 +16,10 @@ use Rattle.reports.specs.declared.message.Message.{Message}
 use Rattle.tape_core.specs.declared.refusal.Refusal.{Refusal}
 use Rattle.tape_core.specs.declared.refusal.Refusal.TheVariants as tape
 use Rattle.participant_lines.specs.Frames.{EndsInput, IsFrame}
+use Rattle.participant_lines.specs.Tallies.{AreCounted}
+use Rattle.participant_lines.specs.declared.tally.Mark.{Mark}
+use Rattle.participant_lines.specs.declared.tally.Reason.TheVariants.{Unspelled, Refused as ByTape}
+use Rattle.participant_lines.specs.declared.tally.Tally.{Tally}
 use Rattle.participant_lines.specs.declared.line_end.Ended.{Ended}
 use Rattle.participant_lines.specs.declared.line_end.Ended.TheVariants.{Clean, Truncated, Oversize, ReadFault, TooMany, OutOfMemory, Behind}
 
@@ -21,59 +27,65 @@ use Rattle.participant_lines.specs.declared.line_end.Ended.TheVariants.{Clean, T
 abbrev pub FRAMES_MOST : ℕ
 FRAMES_MOST = 33554432
 
--- what a tape's refusal does to its line: out of memory ends it, and each other one is counted
-abbrev pub refusal_effect : Refusal → Result ℕ Ended
-refusal_effect tape.Closed = Ok 1
-refusal_effect tape.Full = Ok 1
-refusal_effect tape.WrongLine = Ok 1
-refusal_effect tape.UnknownParticipant = Ok 1
-refusal_effect tape.Stale = Ok 1
-refusal_effect tape.UnknownSymbol = Ok 1
-refusal_effect tape.NoSuchReport = Ok 1
-refusal_effect tape.OtherSymbol = Ok 1
-refusal_effect tape.Cancelled = Ok 1
-refusal_effect tape.OutOfMemory = Err OutOfMemory
-refusal_effect tape.WrongNumber = Ok 1
-refusal_effect tape.Standing = Ok 1
-refusal_effect tape.NotInMatrix = Ok 1
+-- the effect of a refusal that is counted: the message of this number is refused, and the line goes on
+abbrev pub is_counted : ℕ → Refusal → Result (Option Mark) Ended
+is_counted number refusal = Ok (Some (record { reason = ByTape refusal; number = number }))
 
--- what an answer does to its line: how many refusals it makes, or the end that it brings
-abbrev pub effect_of : Result ℕ LineRefusal → Result ℕ Ended
-effect_of (Ok number) = Ok 0
-effect_of (Err line.Behind) = Err Behind
-effect_of (Err (line.Refused refusal)) = refusal_effect refusal
+-- what a tape's refusal of the message of this number does to its line: out of memory ends it, and each other one is counted
+abbrev pub refusal_effect : ℕ → Refusal → Result (Option Mark) Ended
+refusal_effect number tape.Closed = is_counted number tape.Closed
+refusal_effect number tape.Full = is_counted number tape.Full
+refusal_effect number tape.WrongLine = is_counted number tape.WrongLine
+refusal_effect number tape.UnknownParticipant = is_counted number tape.UnknownParticipant
+refusal_effect number tape.Stale = is_counted number tape.Stale
+refusal_effect number tape.UnknownSymbol = is_counted number tape.UnknownSymbol
+refusal_effect number tape.NoSuchReport = is_counted number tape.NoSuchReport
+refusal_effect number tape.OtherSymbol = is_counted number tape.OtherSymbol
+refusal_effect number tape.Cancelled = is_counted number tape.Cancelled
+refusal_effect number tape.OutOfMemory = Err OutOfMemory
+refusal_effect number tape.WrongNumber = is_counted number tape.WrongNumber
+refusal_effect number tape.Standing = is_counted number tape.Standing
+refusal_effect number tape.NotInMatrix = is_counted number tape.NotInMatrix
+
+-- what an answer to the message of this number does to its line: the refusal that is counted, none at an admission, or the end that
+-- it brings
+abbrev pub effect_of : ℕ → Result ℕ LineRefusal → Result (Option Mark) Ended
+effect_of number (Ok tape_number) = Ok None
+effect_of number (Err line.Behind) = Err Behind
+effect_of number (Err (line.Refused refusal)) = refusal_effect number refusal
 
 -- what a seat's holder learns of an answer
 abbrev pub IsAnswered : Terms → SeatState → Message → Result ℕ LineRefusal → SeatState → Type 0
 IsAnswered terms s m (Ok number) s' = Tells s m number s'
 IsAnswered terms s m (Err why) s' = TellsWhy terms s m why s'
 
--- a message was answered so that its line goes on, with so many refusals more
-abbrev pub TakesMessage : Terms → SeatState → Message → ℕ → SeatState → Type 0
-TakesMessage terms s m refused s' = (answer : Result ℕ LineRefusal) × IsAnswered terms s m answer s' × (effect_of answer ≡ Ok refused)
+-- a message was answered so that its line goes on, and its refusal is counted, if it was refused
+abbrev pub TakesMessage : Terms → SeatState → Message → Option Mark → SeatState → Type 0
+TakesMessage terms s m mark s' =
+    (answer : Result ℕ LineRefusal) × IsAnswered terms s m answer s' × (effect_of (header_of m).number answer ≡ Ok mark)
 
 -- a frame was done: it spells no message, which is counted as refused, or its message was taken
-abbrev pub IsDone : Terms → SeatState → List ℕ → ℕ → SeatState → Type 0
-IsDone terms s frame refused s' =
-    ((fault : MessageFault) × (message_at frame ≡ Err fault) × (s' ≡ s) × (refused ≡ 1))
-    ⊎ ((m : Message) × Spells frame m × TakesMessage terms s m refused s')
+abbrev pub IsDone : Terms → SeatState → List ℕ → Option Mark → SeatState → Type 0
+IsDone terms s frame mark s' =
+    ((fault : MessageFault) × (message_at frame ≡ Err fault) × (s' ≡ s) × (mark ≡ Some (record { reason = Unspelled fault; number = 0 })))
+    ⊎ ((m : Message) × Spells frame m × TakesMessage terms s m mark s')
 
--- these frames were done one after the other, and so many of them were refused
-unfoldable pub AreDone : Terms → SeatState → List (List ℕ) → ℕ → SeatState → Type 0
-AreDone terms s [] refused s' = (s' ≡ s) × (refused ≡ 0)
-AreDone terms s (frame ∷ frames) refused s' =
-    (between : SeatState) × (one others : ℕ) × IsFrame frame × IsDone terms s frame one between
-    × AreDone terms between frames others s' × (refused ≡ one + others)
+-- these frames were done one after the other, and these of them were refused
+unfoldable pub AreDone : Terms → SeatState → List (List ℕ) → List Mark → SeatState → Type 0
+AreDone terms s [] marks s' = (s' ≡ s) × (marks ≡ [])
+AreDone terms s (frame ∷ frames) marks s' =
+    (between : SeatState) × (mark : Option Mark) × (others : List Mark) × IsFrame frame × IsDone terms s frame mark between
+    × AreDone terms between frames others s' × (marks ≡ cons_option mark others)
 
--- so many frames were read of what a reader had, which left the rest, and were done: each was told of or is counted as
+-- so many frames were read of what a reader had, which left the rest, and were done: each was told of or is among those that were
 -- refused, and the seat is the same participant's
-pub record Does (terms : Terms) (s : SeatState) (had rest : Option (List ℕ)) (many refused : ℕ) (s' : SeatState) : Type 0 where
+pub record Does (terms : Terms) (s : SeatState) (had rest : Option (List ℕ)) (many : ℕ) (marks : List Mark) (s' : SeatState) : Type 0 where
   pub frames : List (List ℕ)
   pub number : length frames ≡ many
   pub read : Consumes had rest (concat frames)
-  pub done : AreDone terms s frames refused s'
-  pub sum : length s'.told + refused ≡ length s.told + many
-  pub few : refused ≤ many
+  pub done : AreDone terms s frames marks s'
+  pub sum : length s'.told + length marks ≡ length s.told + many
+  pub few : length marks ≤ many
   pub same : s'.who ≡ s.who
 
 -- the refusals at which a line ends, by its end
@@ -101,11 +113,19 @@ EndsAfter TooMany terms s had rest = Consumes had rest []
 EndsAfter OutOfMemory terms s had rest = IsStopped OutOfMemory terms s had rest
 EndsAfter Behind terms s had rest = IsStopped Behind terms s had rest
 
--- a line's run: frames were done, as many as ever are with TooMany alone, and then it ended so
-pub record Runs (terms : Terms) (s : SeatState) (had rest : Option (List ℕ)) (refused : ℕ) (ended : Ended) (s' : SeatState) : Type 0 where
+-- a line's run, in which these frames were refused: frames were done, as many as ever are with TooMany alone, and then it ended so
+pub record RunsSo (terms : Terms) (s : SeatState) (had rest : Option (List ℕ)) (marks : List Mark) (ended : Ended) (s' : SeatState) : Type 0 where
   pub many : ℕ
   pub left : Option (List ℕ)
-  pub does : Does terms s had left many refused s'
+  pub does : Does terms s had left many marks s'
   pub after : EndsAfter ended terms s' left rest
   pub most : ended ≡ TooMany → many ≡ FRAMES_MOST
   pub fewer : ended ≢ TooMany → many < FRAMES_MOST
+
+-- a line's run, in which so many frames were refused
+abbrev pub Runs : Terms → SeatState → Option (List ℕ) → Option (List ℕ) → ℕ → Ended → SeatState → Type 0
+Runs terms s had rest refused ended s' = (marks : List Mark) × (refused ≡ length marks) × RunsSo terms s had rest marks ended s'
+
+-- a line's run with the tally of its refused frames
+abbrev pub RunsTallied : Terms → SeatState → Option (List ℕ) → Option (List ℕ) → Tally → Ended → SeatState → Type 0
+RunsTallied terms s had rest tally ended s' = (marks : List Mark) × AreCounted marks tally × RunsSo terms s had rest marks ended s'

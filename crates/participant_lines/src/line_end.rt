@@ -1,5 +1,6 @@
 //! How a line ends.
 
+use crate::Tally;
 use line_ledger::{DayName, LineSeat};
 
 /// Why a line does no more frames.
@@ -30,6 +31,17 @@ pub struct LineEnd<D: DayName> {
     /// How many frames were refused, from 0 to `FRAMES_MOST`: those that spell no message, and those whose message the tape does
     /// not take, out of memory aside.
     pub refused: u32,
+    /// Why no more were done.
+    pub ended: Ended,
+}
+
+/// A line that has ended, with what was refused of it. It must be spent, since it holds the line's seat.
+pub struct TalliedEnd<D: DayName> {
+    /// The line's seat, with what it was told.
+    pub seat: LineSeat<D>,
+    /// The frames that were refused: those that spell no message, and those whose message the tape does not take, out of memory
+    /// aside.
+    pub tally: Tally,
     /// Why no more were done.
     pub ended: Ended,
 }

@@ -1,11 +1,12 @@
 //! All lines of a day, run at once.
 ghost use Rattle.std.specs.Prelude.{◌≡◌, ◌<◌, ◌≤◌, ℕ, IfErr, IfOk, None, Some, [], length, map, slice_index_or, vec_len};
 ghost use Rattle.std.specs.Vec.{vec_capacity};
-ghost use Rattle.participant_lines.specs.Lines.{HasRun, held};
+ghost use Rattle.participant_lines.specs.Lines.{HasRun, HasTallied, held};
 ghost use Rattle.participant_lines.specs.declared.unstarted.Lack.TheVariants.{Worker};
 
 use crate::running::{Outcome, run_frames};
-use crate::{Ended, Lack, LineEnd, Unstarted};
+use crate::watch::ByGate;
+use crate::{Ended, Lack, LineEnd, LineWatch, TalliedEnd, Tally, Unstarted};
 use line_ledger::{DayName, LineSeat, SharedTape};
 use std::alloc::Global;
 use std::io::BufRead;
@@ -19,6 +20,21 @@ struct Running<D: DayName, R> {
     seat: LineSeat<D>,
     reader: Option<R>,
     outcome: Outcome,
+}
+
+/// Lines that were not started, for want of this.
+fn unstarted<D: DayName, R>(
+    alloc: Global,
+    lines: Vec<(LineSeat<D>, R)>,
+    why: Lack,
+) -> Unstarted<D, R>
+    ensures { (result.ends.items ≡ []) × (result.lines.items ≡ lines.items) × (result.why ≡ why) }
+{
+    Unstarted {
+        ends: Vec::new(alloc),
+        lines,
+        why,
+    }
 }
 
 /// The lines as they are before they run, or the lines again where memory runs out.
@@ -38,7 +54,7 @@ fn running_lines<D: DayName, R>(
             seat,
             reader: Some(reader),
             outcome: Outcome {
-                refused: 0,
+                tally: Tally::none(),
                 ended: Ended::Clean,
             },
         });
@@ -48,14 +64,14 @@ fn running_lines<D: DayName, R>(
 }
 
 /// The ends of lines that have run, put into a vector with room for them.
-fn line_ends<D: DayName, R: Drop>(
+fn tallied_ends<D: DayName, R: Drop>(
     running: Vec<Running<D, R>>,
-    ends: Vec<LineEnd<D>>,
-) -> Vec<LineEnd<D>>
+    ends: Vec<TalliedEnd<D>>,
+) -> Vec<TalliedEnd<D>>
     requires room { vec_len running ≤ vec_capacity ends }
     requires empty { ends.items ≡ [] }
     requires closed { (i : ℕ) (d : _) → i < length running.items → (slice_index_or running.items i d).reader ≡ None }
-    ensures { result.items ≡ map (λ r. record { seat = r.seat; refused = r.outcome.refused; ended = r.outcome.ended }) running.items }
+    ensures { result.items ≡ map (λ r. record { seat = r.seat; tally = r.outcome.tally; ended = r.outcome.ended }) running.items }
 {
     let mut ends = ends;
     let mut left = running.into_iter();
@@ -63,11 +79,27 @@ fn line_ends<D: DayName, R: Drop>(
         let Running {
             seat,
             reader: _,
-            outcome: Outcome { refused, ended },
+            outcome: Outcome { tally, ended },
         } = line;
+        ends.push_reserved(TalliedEnd { seat, tally, ended });
+    }
+    left.destroy_empty();
+    ends
+}
+
+/// The same ends without their tallies, put into a vector with room for them.
+fn line_ends<D: DayName>(tallied: Vec<TalliedEnd<D>>, ends: Vec<LineEnd<D>>) -> Vec<LineEnd<D>>
+    requires room { vec_len tallied ≤ vec_capacity ends }
+    requires empty { ends.items ≡ [] }
+    ensures { result.items ≡ map (λ e. record { seat = e.seat; refused = e.tally.refused; ended = e.ended }) tallied.items }
+{
+    let mut ends = ends;
+    let mut left = tallied.into_iter();
+    while let Some(end) = left.next() {
+        let TalliedEnd { seat, tally, ended } = end;
         ends.push_reserved(LineEnd {
             seat,
-            refused,
+            refused: tally.refused(),
             ended,
         });
     }
@@ -79,14 +111,14 @@ fn line_ends<D: DayName, R: Drop>(
 fn run_each<
     D: DayName + Send + Sync,
     R: BufRead + Send + Drop,
-    G: Gate + Sync,
+    G: LineWatch + Sync,
     T: Threads + Wait + Sync,
->(rt: &T, shared: &SharedTape<D>, lines: &mut [Running<D, R>], gate: &G)
+>(rt: &T, shared: &SharedTape<D>, lines: &mut [Running<D, R>], watch: &G)
     ensures len { length lines.new ≡ length lines.old }
     ensures who { (i : ℕ) (d : _) → i < length lines.old → (slice_index_or lines.new i d).seat.who ≡ (slice_index_or lines.old i d).seat.who }
     ensures each { (i : ℕ) (d : _) → i < length lines.old → (r : _) → (slice_index_or lines.old i d).reader ≡ Some r
-        → HasRun D.terms (slice_index_or lines.old i d).seat (R.remaining r)
-        (slice_index_or lines.new i d).outcome.refused (slice_index_or lines.new i d).outcome.ended (slice_index_or lines.new i d).seat }
+        → HasTallied D.terms (slice_index_or lines.old i d).seat (R.remaining r)
+        (slice_index_or lines.new i d).outcome.tally (slice_index_or lines.new i d).outcome.ended (slice_index_or lines.new i d).seat }
     ensures closed { (i : ℕ) (d : _) → i < length lines.old → (slice_index_or lines.new i d).reader ≡ None }
 {
     let workers = lines.len();
@@ -95,24 +127,24 @@ fn run_each<
     }
     let work = |line: usize, running: &mut Running<D, R>|
         ensures who { running.exit.now.seat.who ≡ running.entry.now.seat.who }
-        ensures ran { (r : _) → running.entry.now.reader ≡ Some r → HasRun D.terms running.entry.now.seat (R.remaining r)
-            running.exit.now.outcome.refused running.exit.now.outcome.ended running.exit.now.seat }
+        ensures ran { (r : _) → running.entry.now.reader ≡ Some r → HasTallied D.terms running.entry.now.seat (R.remaining r)
+            running.exit.now.outcome.tally running.exit.now.outcome.ended running.exit.now.seat }
         ensures closed { running.exit.now.reader ≡ None }
-    { run_one(rt, shared, line, running, gate) };
+    { run_one(rt, shared, line, running, watch) };
     thread::for_each_mut(rt, lines, workers, &work);
 }
 
 /// Runs one line, and lets go of its reader as soon as the line has ended: its peer is not kept waiting for the other lines.
-fn run_one<D: DayName, R: BufRead + Drop, G: Gate, W: Wait>(
+fn run_one<D: DayName, R: BufRead + Drop, G: LineWatch, W: Wait>(
     rt: &W,
     shared: &SharedTape<D>,
     line: usize,
     running: &mut Running<D, R>,
-    gate: &G,
+    watch: &G,
 )
     ensures who { running.new.seat.who ≡ running.old.seat.who }
-    ensures ran { (r : _) → running.old.reader ≡ Some r → HasRun D.terms running.old.seat (R.remaining r)
-        running.new.outcome.refused running.new.outcome.ended running.new.seat }
+    ensures ran { (r : _) → running.old.reader ≡ Some r → HasTallied D.terms running.old.seat (R.remaining r)
+        running.new.outcome.tally running.new.outcome.ended running.new.seat }
     ensures closed { running.new.reader ≡ None }
 {
     let Running {
@@ -121,8 +153,49 @@ fn run_one<D: DayName, R: BufRead + Drop, G: Gate, W: Wait>(
         outcome,
     } = running;
     if let Some(mut open) = reader.take() {
-        *outcome = run_frames(rt, shared, line, seat, &mut open, gate);
+        *outcome = run_frames(rt, shared, line, seat, &mut open, watch);
     }
+}
+
+/// Runs all lines at once as `run_lines` does, tells the watch after each frame of each, and hands their tallies back with their ends.
+/// Nothing is started, and all lines come back with their seats, where `run_lines` starts none.
+pub fn run_watched_lines<
+    D: DayName + Send + Sync,
+    R: BufRead + Send + Drop,
+    G: LineWatch + Sync,
+    T: Threads + Wait + Sync,
+>(
+    rt: &T,
+    alloc: Global,
+    shared: &SharedTape<D>,
+    lines: Vec<(LineSeat<D>, R)>,
+    watch: &G,
+) -> Result<Vec<TalliedEnd<D>>, Unstarted<D, R>>
+    ensures len { IfOk result (λ ends. length ends.items ≡ length lines.items) }
+    // Each end is that of the line at its position.
+    ensures each { IfOk result (λ ends. (i : ℕ) (l : _) (e : _) → i < length lines.items
+        → HasTallied D.terms (slice_index_or lines.items i l).0 (R.remaining (slice_index_or lines.items i l).1)
+        (slice_index_or ends.items i e).tally (slice_index_or ends.items i e).ended (slice_index_or ends.items i e).seat) }
+    ensures same { IfOk result (λ ends. map (λ e. e.seat.who) ends.items ≡ map (λ l. l.0.who) lines.items) }
+    ensures back { IfErr result (λ unstarted. (unstarted.ends.items ≡ []) × (unstarted.lines.items ≡ lines.items)) }
+    ensures why { IfErr result (λ unstarted. unstarted.why ≡ Worker → 2 ≤ length lines.items) }
+{
+    let Ok(ends) = Vec::with_capacity(alloc, lines.len()) else {
+        return Err(unstarted(alloc, lines, Lack::Memory));
+    };
+    if lines.len() > 1 && !can_start(rt) {
+        ends.destroy_empty();
+        return Err(unstarted(alloc, lines, Lack::Worker));
+    }
+    let mut running = match running_lines(alloc, lines) {
+        Ok(running) => running,
+        Err(lines) => {
+            ends.destroy_empty();
+            return Err(unstarted(alloc, lines, Lack::Memory));
+        }
+    };
+    run_each(rt, shared, running.as_mut_slice(), watch);
+    Ok(tallied_ends(running, ends))
 }
 
 /// Runs all lines at once, each in a worker as `run_line` runs it, with its position from 0 as its number, and waits for
@@ -154,29 +227,13 @@ pub fn run_lines<
     ensures why { IfErr result (λ unstarted. unstarted.why ≡ Worker → 2 ≤ length lines.items) }
 {
     let Ok(ends) = Vec::with_capacity(alloc, lines.len()) else {
-        return Err(Unstarted {
-            ends: Vec::new(alloc),
-            lines,
-            why: Lack::Memory,
-        });
+        return Err(unstarted(alloc, lines, Lack::Memory));
     };
-    if lines.len() > 1 && !can_start(rt) {
-        return Err(Unstarted {
-            ends,
-            lines,
-            why: Lack::Worker,
-        });
-    }
-    let mut running = match running_lines(alloc, lines) {
-        Ok(running) => running,
-        Err(lines) => {
-            return Err(Unstarted {
-                ends,
-                lines,
-                why: Lack::Memory,
-            });
+    match run_watched_lines(rt, alloc, shared, lines, &ByGate { gate }) {
+        Ok(tallied) => Ok(line_ends(tallied, ends)),
+        Err(unstarted) => {
+            ends.destroy_empty();
+            Err(unstarted)
         }
-    };
-    run_each(rt, shared, running.as_mut_slice(), gate);
-    Ok(line_ends(running, ends))
+    }
 }

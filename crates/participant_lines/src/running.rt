@@ -1,10 +1,13 @@
 //! One line run to its end.
-ghost use Rattle.std.specs.Prelude.{◌≡◌, ◌≢◌, IfErr, IfOk};
-ghost use Rattle.participant_lines.specs.Runs.{Does, EndsAfter, Runs, StopsAt, TakesMessage, effect_of};
+ghost use Rattle.std.specs.Prelude.{◌≡◌, ◌≢◌, [], IfErr, IfOk};
+ghost use Rattle.std.specs.List.{cons_option};
+ghost use Rattle.reports.specs.Messages.{header_of};
+ghost use Rattle.participant_lines.specs.Runs.{Does, EndsAfter, Runs, RunsTallied, StopsAt, TakesMessage, effect_of};
 ghost use Rattle.participant_lines.specs.declared.line_end.Ended.TheVariants.{TooMany};
 
 use crate::frame::read_spelled;
-use crate::{Ended, LineEnd};
+use crate::watch::ByGate;
+use crate::{Ended, LineEnd, LineWatch, Mark, Reason, Tally};
 use line_ledger::{DayName, LineRefusal, LineSeat, Receipt, SharedTape};
 use reports::{LONGEST_FRAME, Message};
 use std::io::BufRead;
@@ -18,41 +21,45 @@ pub const FRAMES_MOST: u32 = 33_554_432;
 /// The outcome of a run, beside its seat.
 #[derive(Clone, Copy, Debug, PartialEq, Eq)]
 pub(crate) struct Outcome {
-    /// How many frames were refused.
-    pub refused: u32,
+    /// The frames that were refused.
+    pub tally: Tally,
     /// Why no more were done.
     pub ended: Ended,
 }
 
-/// What an answer does to its line: how many refusals it makes, 0 or 1, or the end that it brings. Nothing else decides
-/// which refusals end a line.
+/// What an answer to the message of this number does to its line: the refusal that is counted, none at an admission, or the end that
+/// it brings. Nothing else decides which refusals end a line.
 #[inline(always)]
-fn effect_of(answer: Result<Receipt, LineRefusal>) -> Result<u32, Ended>
-    ensures { result ≡ effect_of answer }
+fn effect_of(answer: Result<Receipt, LineRefusal>, number: u32) -> Result<Option<Mark>, Ended>
+    ensures { result ≡ effect_of number answer }
 {
     match answer {
-        Ok(_) => Ok(0),
+        Ok(_) => Ok(None),
         Err(LineRefusal::Behind) => Err(Ended::Behind),
         Err(LineRefusal::Refused(Refusal::OutOfMemory)) => Err(Ended::OutOfMemory),
-        Err(LineRefusal::Refused(_)) => Ok(1),
+        Err(LineRefusal::Refused(refusal)) => Ok(Some(Mark {
+            reason: Reason::Refused(refusal),
+            number,
+        })),
     }
 }
 
-/// Admits a message: how many refusals that makes, 0 or 1, or why the line ends at it.
+/// Admits a message: its refusal, if it is refused so that the line goes on, or why the line ends at it.
 #[inline(always)]
 fn take_message<D: DayName, W: Wait>(
     rt: &W,
     shared: &SharedTape<D>,
     seat: &mut LineSeat<D>,
     message: Message,
-) -> Result<u32, Ended>
-    ensures ok { IfOk result (λ refused. TakesMessage D.terms seat.old message refused seat.new) }
+) -> Result<Option<Mark>, Ended>
+    ensures ok { IfOk result (λ mark. TakesMessage D.terms seat.old message mark seat.new) }
     ensures err { IfErr result (λ ended. (seat.new ≡ seat.old) × StopsAt ended D.terms seat.old message) }
 {
-    effect_of(shared.admit(rt, seat, message))
+    let number = message.header().number.value();
+    effect_of(shared.admit(rt, seat, message), number)
 }
 
-/// Reads the next frame and does it: how many refusals that makes, 0 or 1, or why the line ends before or at it. The row is
+/// Reads the next frame and does it: the refusal that is counted, if it is refused, or why the line ends before or at it. The row is
 /// only room.
 #[inline(always)]
 fn do_frame<D: DayName, R: BufRead, W: Wait>(
@@ -61,8 +68,8 @@ fn do_frame<D: DayName, R: BufRead, W: Wait>(
     seat: &mut LineSeat<D>,
     reader: &mut R,
     row: &mut [u8; LONGEST_FRAME],
-) -> Result<u32, Ended>
-    ensures ok { IfOk result (λ refused. Does D.terms seat.old (R.remaining reader.old) (R.remaining reader.new) 1 refused seat.new) }
+) -> Result<Option<Mark>, Ended>
+    ensures ok { IfOk result (λ mark. Does D.terms seat.old (R.remaining reader.old) (R.remaining reader.new) 1 (cons_option mark []) seat.new) }
     ensures same { IfErr result (λ _. seat.new ≡ seat.old) }
     ensures err { IfErr result (λ ended. EndsAfter ended D.terms seat.old (R.remaining reader.old) (R.remaining reader.new)) }
     ensures goes_on { IfErr result (λ ended. ended ≢ TooMany) }
@@ -73,32 +80,35 @@ fn do_frame<D: DayName, R: BufRead, W: Wait>(
     };
     match spelled {
         Ok(message) => take_message(rt, shared, seat, message),
-        Err(_) => Ok(1),
+        Err(fault) => Ok(Some(Mark {
+            reason: Reason::Unspelled(fault),
+            number: 0,
+        })),
     }
 }
 
-/// Does a line's frames until it ends.
-pub(crate) fn run_frames<D: DayName, R: BufRead, G: Gate, W: Wait>(
+/// Does a line's frames until it ends, and tells the watch after each.
+pub(crate) fn run_frames<D: DayName, R: BufRead, G: LineWatch, W: Wait>(
     rt: &W,
     shared: &SharedTape<D>,
     line: usize,
     seat: &mut LineSeat<D>,
     reader: &mut R,
-    gate: &G,
+    watch: &G,
 ) -> Outcome
-    ensures { Runs D.terms seat.old (R.remaining reader.old) (R.remaining reader.new) result.refused result.ended seat.new }
+    ensures { RunsTallied D.terms seat.old (R.remaining reader.old) (R.remaining reader.new) result.tally result.ended seat.new }
 {
     let mut row = [0; LONGEST_FRAME];
-    let mut refused = 0;
+    let mut tally = Tally::none();
     for done in 0..FRAMES_MOST {
         match do_frame(rt, shared, seat, reader, &mut row) {
-            Ok(more) => refused += more,
-            Err(ended) => return Outcome { refused, ended },
+            Ok(mark) => tally.count(mark),
+            Err(ended) => return Outcome { tally, ended },
         }
-        gate.between(line, done + 1);
+        watch.after_frame(line, done + 1, seat.last(), &tally);
     }
     Outcome {
-        refused,
+        tally,
         ended: Ended::TooMany,
     }
 }
@@ -121,10 +131,11 @@ pub fn run_line<D: DayName, R: BufRead, G: Gate, W: Wait>(
     ensures runs { Runs D.terms seat (R.remaining reader.old) (R.remaining reader.new) result.refused result.ended result.seat }
 {
     let mut seat = seat;
-    let Outcome { refused, ended } = run_frames(rt, shared, line, &mut seat, reader, gate);
+    let watch = ByGate { gate };
+    let Outcome { tally, ended } = run_frames(rt, shared, line, &mut seat, reader, &watch);
     LineEnd {
         seat,
-        refused,
+        refused: tally.refused(),
         ended,
     }
 }

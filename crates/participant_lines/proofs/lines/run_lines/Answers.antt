@@ -1,75 +1,32 @@
-use Rattle.std.proofs.Common.{rules, ◌≡◌, ◌<◌, ℕ, List, None, Option, Some, length, map, slice_index_or, refl, subst, sym, ap, ◌∙◌, arith}
-use Rattle.std.proofs.lemmas.List.{length-map}
-use Rattle.line_ledger.specs.declared.locked.LineSeat.{LineSeat}
-use Rattle.participant_lines.specs.Lines.{HasRun, held}
+use Rattle.std.proofs.Common.{[], List, map, slice_index_or, refl, subst, sym, ap, ◌∙◌}
+use Rattle.participant_lines.specs.Lines.{HasRun}
 use Rattle.participant_lines.specs.declared.line_end.LineEnd.{LineEnd}
-use Rattle.participant_lines.specs.declared.lines.Running.{Running}
-use Rattle.participant_lines.proofs.Places.{at_place, made_at, map_made, same_maps, whole_slice}
+use Rattle.participant_lines.specs.declared.line_end.TalliedEnd.{TalliedEnd}
+use Rattle.participant_lines.proofs.Places.{made_at, map_made}
+use Rattle.participant_lines.proofs.Steps.{runs_counted}
 use Rattle.participant_lines.proofs.lines.run_lines.Goals as goal
 
--- the lines that ran are those that were given, and the ends are theirs
-pub returns-clause-each : goal.returns-clause-each
-returns-clause-each g c = λ i l e within.
-    let Given : Type 0 = LineSeat g.row.D.Denot × g.row.R.Denot in
-    let Line : Type 0 = LineSeat g.row.D.Denot × Option g.row.R.Denot in
+-- the ends are those with tallies, by how many frames they count
+pub returns-in-Ok-run_watched_lines-clause-each : goal.returns-in-Ok-run_watched_lines-clause-each
+returns-in-Ok-run_watched_lines-clause-each g c = λ i l e within.
+    let Tallied : Type 0 = TalliedEnd g.row.D.Denot in
     let End : Type 0 = LineEnd g.row.D.Denot in
-    let Run : Type 0 = Running g.row.D.Denot g.row.R.Denot in
-    let seated : Given → Line = held in
-    let line : Run → Line = λ r. (r.seat, r.reader) in
-    let end : Run → End = λ r. record { seat = r.seat; refused = r.outcome.refused; ended = r.outcome.ended } in
-    let Ran : Line → End → Type 0 = λ x y. (r : g.row.R.Denot) → x.1 ≡ Some r
-    → HasRun g.D.DayName.terms x.0 (g.R.Read.remaining r) y.refused y.ended y.seat in
-    let running = c.in-Ok-running_lines.running.items in
-    let after = c.run_each.new.lines in
-    let lent : c.as_mut_slice.result.now ≡ running = c.as_mut_slice.ensures.value in
-    let each = subst (λ (xs : List Run). (k : ℕ) (d : Run) → k < length xs → Ran (line (slice_index_or xs k d)) (end (slice_index_or after k d)))
-    lent c.run_each.ensures.each in
-    let long : length after ≡ length running = c.run_each.ensures.len ∙ ap length lent in
-    let whole = whole_slice running after c.in-Ok-running_lines.running.len (search rules) long in
-    let lines : map line running ≡ map seated c.args.lines.items = c.in-Ok-running_lines.ensures.ok in
-    let ends : c.line_ends.result.items ≡ map end after = c.line_ends.ensures ∙ ap (map end) whole in
-    let inside : i < length running = omega (arith, within, ap length lines, length-map running line, length-map c.args.lines.items seated) in
-    let ran : Ran (slice_index_or (map seated c.args.lines.items) i (seated l)) (slice_index_or c.line_ends.result.items i e)
-    = subst (λ (ls : List Line). Ran (slice_index_or ls i (seated l)) (slice_index_or c.line_ends.result.items i e)) lines
-    (subst (λ (es : List End). Ran (slice_index_or (map line running) i (seated l)) (slice_index_or es i e)) (sym ends)
-    (at_place line end Ran running after each long i (seated l) e inside)) in
-    subst (λ (x : Line). Ran x (slice_index_or c.line_ends.result.items i e)) (made_at seated c.args.lines.items i l) ran
-    (slice_index_or c.args.lines.items i l).1 refl
+    let plain : Tallied → End = λ t. record { seat = t.seat; refused = t.tally.refused; ended = t.ended } in
+    let ends = c.in-Ok-run_watched_lines.tallied.items in
+    let line = slice_index_or c.args.lines.items i l in
+    let d : Tallied = record { seat = e.seat; tally = record { reasons = []; refused = e.refused }; ended = e.ended } in
+    let ran = c.in-Ok-run_watched_lines.ensures.each i l d within in
+    let end = slice_index_or ends i d in
+    let counted : HasRun g.D.DayName.terms line.0 (g.R.Read.remaining line.1) (plain end).refused (plain end).ended (plain end).seat =
+    (ran.0, runs_counted _ _ _ _ _ _ _ _ refl ran.1) in
+    subst (λ (x : End). HasRun g.D.DayName.terms line.0 (g.R.Read.remaining line.1) x.refused x.ended x.seat)
+    (sym (ap (λ (es : List End). slice_index_or es i e) c.line_ends.ensures ∙ made_at plain ends i d)) counted
 
-pub returns-clause-same : goal.returns-clause-same
-returns-clause-same g c =
-    let Given : Type 0 = LineSeat g.row.D.Denot × g.row.R.Denot in
-    let Line : Type 0 = LineSeat g.row.D.Denot × Option g.row.R.Denot in
+pub returns-in-Ok-run_watched_lines-clause-same : goal.returns-in-Ok-run_watched_lines-clause-same
+returns-in-Ok-run_watched_lines-clause-same g c =
+    let Tallied : Type 0 = TalliedEnd g.row.D.Denot in
     let End : Type 0 = LineEnd g.row.D.Denot in
-    let Run : Type 0 = Running g.row.D.Denot g.row.R.Denot in
-    let seated : Given → Line = held in
-    let line : Run → Line = λ r. (r.seat, r.reader) in
-    let end : Run → End = λ r. record { seat = r.seat; refused = r.outcome.refused; ended = r.outcome.ended } in
-    let who : Run → ℕ = λ r. r.seat.who in
-    let running = c.in-Ok-running_lines.running.items in
-    let after = c.run_each.new.lines in
-    let lent : c.as_mut_slice.result.now ≡ running = c.as_mut_slice.ensures.value in
-    let each = subst (λ (xs : List Run). (k : ℕ) (d : Run) → k < length xs → who (slice_index_or after k d) ≡ who (slice_index_or xs k d))
-    lent c.run_each.ensures.who in
-    let long : length after ≡ length running = c.run_each.ensures.len ∙ ap length lent in
-    let whole = whole_slice running after c.in-Ok-running_lines.running.len (search rules) long in
-    let lines : map line running ≡ map seated c.args.lines.items = c.in-Ok-running_lines.ensures.ok in
-    let ends : c.line_ends.result.items ≡ map end after = c.line_ends.ensures ∙ ap (map end) whole in
-    ap (map (λ (y : End). y.seat.who)) ends
-    ∙ map_made end (λ (y : End). y.seat.who) after
-    ∙ same_maps who running after each long
-    ∙ sym (map_made line (λ (x : Line). x.0.who) running)
-    ∙ ap (map (λ (x : Line). x.0.who)) lines
-    ∙ map_made seated (λ (x : Line). x.0.who) c.args.lines.items
-
--- no line that has run holds its reader
-pub line_ends-requires-clause-closed : goal.line_ends-requires-clause-closed
-line_ends-requires-clause-closed g c =
-    let Run : Type 0 = Running g.row.D.Denot g.row.R.Denot in
-    let running = c.in-Ok-running_lines.running.items in
-    let after = c.run_each.new.lines in
-    let lent : c.as_mut_slice.result.now ≡ running = c.as_mut_slice.ensures.value in
-    let long : length after ≡ length running = c.run_each.ensures.len ∙ ap length lent in
-    let whole = whole_slice running after c.in-Ok-running_lines.running.len (search rules) long in
-    subst (λ (xs : List Run). (k : ℕ) (d : Run) → k < length xs → (slice_index_or xs k d).reader ≡ None) (sym whole)
-    (λ k d less. c.run_each.ensures.closed k d (omega (arith, less, c.run_each.ensures.len)))
+    let plain : Tallied → End = λ t. record { seat = t.seat; refused = t.tally.refused; ended = t.ended } in
+    ap (map (λ (x : End). x.seat.who)) c.line_ends.ensures
+    ∙ map_made plain (λ (x : End). x.seat.who) c.in-Ok-run_watched_lines.tallied.items
+    ∙ c.in-Ok-run_watched_lines.ensures.same

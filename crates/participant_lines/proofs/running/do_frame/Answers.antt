@@ -1,6 +1,7 @@
-use Rattle.std.proofs.Common.{inl, inr, refl, subst}
+use Rattle.std.proofs.Common.{Some, inl, inr, refl, subst}
 use Rattle.std.proofs.lemmas.Result.{IfOk-weaker}
 use Rattle.participant_lines.specs.Frames.{IsSpelled}
+use Rattle.participant_lines.specs.declared.tally.Reason.TheVariants.{Unspelled}
 use Rattle.participant_lines.proofs.Steps.{does_one}
 use Rattle.participant_lines.proofs.running.do_frame.Goals as goal
 
@@ -9,8 +10,8 @@ returns-in-Ok-spelled-clause-ok g c =
     let remaining = g.R.Read.remaining in
     let read = c.in-Ok.ensures.ok in
     let spells = subst (IsSpelled read.0) c.in-Ok-spelled.is read.3 in
-    IfOk-weaker c.take_message.result _ _ (λ refused takes. does_one g.D.DayName.terms c.args.seat.now c.take_message.new.seat
-    (remaining c.args.reader.now) (remaining c.read_spelled.new.reader) read.0 refused read.1 (inr (c.in-Ok-spelled.message, spells, takes)) read.2)
+    IfOk-weaker c.take_message.result _ _ (λ mark takes. does_one g.D.DayName.terms c.args.seat.now c.take_message.new.seat
+    (remaining c.args.reader.now) (remaining c.read_spelled.new.reader) read.0 mark read.1 (inr (c.in-Ok-spelled.message, spells, takes)) read.2)
     c.take_message.ensures.ok
 
 pub returns-in-Err-spelled-clause-ok : goal.returns-in-Err-spelled-clause-ok
@@ -18,5 +19,6 @@ returns-in-Err-spelled-clause-ok g c =
     let remaining = g.R.Read.remaining in
     let read = c.in-Ok.ensures.ok in
     let fault = subst (IsSpelled read.0) c.in-Err-spelled.is read.3 in
-    does_one g.D.DayName.terms c.args.seat.now c.args.seat.now (remaining c.args.reader.now) (remaining c.read_spelled.new.reader) read.0 1
-    read.1 (inl (c.in-Err-spelled.field-0, fault, refl, refl)) read.2
+    does_one g.D.DayName.terms c.args.seat.now c.args.seat.now (remaining c.args.reader.now) (remaining c.read_spelled.new.reader) read.0
+    (Some (record { reason = Unspelled c.in-Err-spelled.fault; number = 0 }))
+    read.1 (inl (c.in-Err-spelled.fault, fault, refl, refl)) read.2
