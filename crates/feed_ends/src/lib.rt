@@ -1,10 +1,17 @@
-//! How both sides of a running day end: with the report of a tape, or with a fault and its status. And where on this machine they meet.
+//! How both sides of a running day end: with the report of a tape, or with a fault and its status. And where on this machine they meet, and
+//! which of their sockets could not be opened.
 #![tactic(auto)]
 
 mod address;
+mod cause;
 mod fault;
+mod open_fault;
+mod place;
 mod report;
 
 pub use address::here;
+pub use cause::Cause;
 pub use fault::{Fault, fault_of_tape};
+pub use open_fault::OpenFault;
+pub use place::Place;
 pub use report::write_day;

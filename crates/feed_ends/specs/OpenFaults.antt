@@ -1,0 +1,44 @@
+-- What is said of a socket that could not be opened.
+use Rattle.std.specs.Prelude.{◌++◌, ◌∷◌, ℕ, List, codes, decimal}
+use Rattle.std.specs.declared.io.ErrorKind.{ErrorKind}
+use Rattle.std.specs.declared.io.ErrorKind.TheVariants as kind
+use Rattle.feed_ends.specs.declared.cause.Cause.{Cause}
+use Rattle.feed_ends.specs.declared.cause.Cause.TheVariants as cause
+use Rattle.feed_ends.specs.declared.open_fault.OpenFault.{OpenFault}
+use Rattle.feed_ends.specs.declared.place.Place.{Place}
+use Rattle.feed_ends.specs.declared.place.Place.TheVariants as place
+
+-- the cause of an error of a socket, by its kind
+abbrev pub cause_of : ErrorKind → Cause
+cause_of kind.AddrInUse = cause.AddressInUse
+cause_of kind.AddrNotAvailable = cause.AddressNotAvailable
+cause_of kind.PermissionDenied = cause.PermissionDenied
+cause_of kind.ConnectionRefused = cause.Refused
+cause_of kind.ConnectionReset = cause.Reset
+cause_of kind.TimedOut = cause.TimedOut
+cause_of kind.NotFound = cause.NotFound
+cause_of _ = cause.Other
+
+-- a cause in words
+abbrev pub cause_text : Cause → List ℕ
+cause_text cause.AddressInUse = codes "address in use"
+cause_text cause.AddressNotAvailable = codes "address not available"
+cause_text cause.PermissionDenied = codes "permission denied"
+cause_text cause.Refused = codes "connection refused"
+cause_text cause.Reset = codes "connection reset"
+cause_text cause.TimedOut = codes "timed out"
+cause_text cause.NotFound = codes "not found"
+cause_text cause.Other = codes "not opened"
+
+-- a place and its port; the sender's socket has whichever port is free
+abbrev pub place_text : Place → ℕ → List ℕ
+place_text (place.Line participant) port = codes "port " ++ decimal port ++ codes " (" ++ (participant ∷ codes ")")
+place_text place.A port = codes "line A " ++ decimal port
+place_text place.B port = codes "line B " ++ decimal port
+place_text place.Retransmission port = codes "retransmission " ++ decimal port
+place_text place.Sender port = codes "the sender's socket"
+place_text place.Control port = codes "control " ++ decimal port
+
+-- which socket could not be opened, and why
+abbrev pub open_fault_text : OpenFault → List ℕ
+open_fault_text fault = place_text fault.place fault.port ++ codes ": " ++ cause_text fault.cause

@@ -1,0 +1,42 @@
+//! A socket that could not be opened.
+ghost use Rattle.std.specs.Prelude.{◌≡◌, IfOk};
+ghost use Rattle.feed_ends.specs.OpenFaults.{cause_of, open_fault_text};
+
+use crate::{Cause, Place};
+use std::alloc::{AllocError, Global};
+use std::io::ErrorKind;
+
+/// A socket that could not be opened. A day ends with `Fault::Read` for it.
+#[derive(Clone, Copy, Debug, PartialEq, Eq)]
+pub struct OpenFault {
+    /// Which socket.
+    pub place: Place,
+    /// Its port.
+    pub port: u16,
+    /// Why.
+    pub cause: Cause,
+}
+
+impl OpenFault {
+    /// The fault of a socket whose opening ended with an error of this kind.
+    pub fn new(place: Place, port: u16, kind: ErrorKind) -> OpenFault
+        ensures { result ≡ record { place = place; port = port; cause = cause_of kind } }
+    {
+        OpenFault {
+            place,
+            port,
+            cause: Cause::of(kind),
+        }
+    }
+
+    /// The fault in words, without a line feed: `port 23001 (Q): address in use`.
+    pub fn text(self, alloc: Global) -> Result<Vec<u8>, AllocError>
+        ensures { IfOk result (λ text. text.items ≡ open_fault_text self) }
+    {
+        let mut text = Vec::new(alloc);
+        self.place.push(&mut text, self.port)?;
+        text.extend_from_slice(b": ")?;
+        text.extend_from_slice(self.cause.text())?;
+        Ok(text)
+    }
+}

@@ -1,0 +1,66 @@
+//! Where a socket of a day is.
+ghost use Rattle.std.specs.Prelude.{◌≡◌, ◌++◌, OnOk, decimal};
+ghost use Rattle.feed_ends.specs.OpenFaults.{place_text};
+
+use itoa::Buffer;
+use std::alloc::AllocError;
+use tape_types::Participant;
+
+/// A socket of a day, by what it is for.
+#[derive(Clone, Copy, Debug, PartialEq, Eq)]
+pub enum Place {
+    /// A participant's line.
+    Line(Participant),
+    /// Line A of a follower.
+    A,
+    /// Line B of a follower.
+    B,
+    /// The retransmission.
+    Retransmission,
+    /// The socket that the packets of both lines are sent from. It has whichever port is free.
+    Sender,
+    /// The control socket.
+    Control,
+}
+
+/// Adds a number in decimal.
+fn push_number(text: &mut Vec<u8>, number: u16) -> Result<(), AllocError>
+    ensures { OnOk result (text.new.items ≡ text.old.items ++ decimal number) }
+{
+    let mut digits = Buffer::new();
+    text.extend_from_slice(digits.format(number).as_bytes())
+}
+
+/// Adds what a port is for, and the port.
+fn push_port(text: &mut Vec<u8>, what: &[u8], port: u16) -> Result<(), AllocError>
+    ensures { OnOk result (text.new.items ≡ text.old.items ++ (what.now ++ decimal port)) }
+{
+    text.extend_from_slice(what)?;
+    push_number(text, port)
+}
+
+/// Adds a participant's port, and whose it is.
+fn push_line(text: &mut Vec<u8>, participant: Participant, port: u16) -> Result<(), AllocError>
+    ensures { OnOk result (text.new.items ≡ text.old.items ++ place_text (Place.Line participant) port) }
+{
+    push_port(text, b"port ", port)?;
+    text.extend_from_slice(b" (")?;
+    text.push(participant.value())?;
+    text.extend_from_slice(b")")
+}
+
+impl Place {
+    /// Adds the place in words, with its port.
+    pub(crate) fn push(self, text: &mut Vec<u8>, port: u16) -> Result<(), AllocError>
+        ensures { OnOk result (text.new.items ≡ text.old.items ++ place_text self port) }
+    {
+        match self {
+            Place::Line(participant) => push_line(text, participant, port),
+            Place::A => push_port(text, b"line A ", port),
+            Place::B => push_port(text, b"line B ", port),
+            Place::Retransmission => push_port(text, b"retransmission ", port),
+            Place::Sender => text.extend_from_slice(b"the sender's socket"),
+            Place::Control => push_port(text, b"control ", port),
+        }
+    }
+}
