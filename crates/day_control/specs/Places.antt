@@ -1,0 +1,29 @@
+-- Where a control socket is, and who can enter its folder.
+use Rattle.std.specs.Prelude.{◌≡◌, ℕ, [], ◌∷◌, bit_and, Bool, true, false, Result, Ok, Err}
+use Rattle.std.specs.Net.Addr.{ipv4_octets}
+use Rattle.std.specs.Net.Socket.{socket_ip, socket_port}
+use Rattle.std.specs.declared.net.ip_addr.IpAddr.TheVariants.{V4}
+use Rattle.std.specs.declared.net.ipv4_addr.Ipv4Addr.{Ipv4Addr}
+use Rattle.std.specs.declared.net.socket_addr.SocketAddr.{SocketAddr}
+use Rattle.day_control.specs.declared.control_fault.ControlFault.{ControlFault}
+use Rattle.day_control.specs.declared.control_fault.ControlFault.TheVariants.{NotASocket, InUse}
+use Rattle.day_control.specs.declared.standing.Standing.{Standing}
+use Rattle.day_control.specs.declared.standing.Standing.TheVariants.{Nothing, OtherFile, Deserted, Answered}
+
+-- the address is that of a port on 127.0.0.1, which no other machine reaches
+pub record IsHere (address : SocketAddr) (port : ℕ) : Type 0 where
+  pub ip : Ipv4Addr
+  pub has_ip : socket_ip address ≡ V4 ip
+  pub octets : ipv4_octets ip ≡ 127 ∷ 0 ∷ 0 ∷ 1 ∷ []
+  pub has_port : socket_port address ≡ port
+
+-- a folder of this mode gives its group and others nothing
+abbrev pub IsPrivate : ℕ → Type 0
+IsPrivate mode = bit_and mode 63 ≡ 0
+
+-- whether what stands at a path is removed before a socket is made there: a socket that nobody answers at, and nothing else
+abbrev pub cleared : Standing → Result Bool ControlFault
+cleared Nothing = Ok false
+cleared Deserted = Ok true
+cleared OtherFile = Err NotASocket
+cleared Answered = Err InUse

@@ -1,0 +1,48 @@
+//! The client's side of a control socket.
+
+use crate::place::here;
+use crate::{Command, ControlFault, ControlPlace, ask_over};
+use std::alloc::Global;
+use std::io;
+use std::io::{BufReader, Write};
+use std::net::{Net, TcpListener, TcpStream};
+use std::os::fd::OwnedFd;
+use std::os::unix::net::UnixStream;
+use std::time::Duration;
+
+/// How long the answer is waited for, in seconds.
+const ANSWERS_WITHIN: u64 = 10;
+
+/// Connects to a control socket, of either kind.
+fn connect<R: Net<Listener = TcpListener, Stream = TcpStream>>(
+    rt: &R,
+    place: &ControlPlace,
+) -> io::Result<UnixStream> {
+    let connection = match place {
+        ControlPlace::Path(path) => UnixStream::connect(rt, path)?,
+        ControlPlace::Port(port) => {
+            UnixStream::from(OwnedFd::from(TcpStream::connect(rt, here(*port))?))
+        }
+    };
+    connection.set_read_timeout(Some(Duration::from_secs(ANSWERS_WITHIN)))?;
+    connection.set_write_timeout(Some(Duration::from_secs(ANSWERS_WITHIN)))?;
+    Ok(connection)
+}
+
+/// Asks the day whose control socket this is, and writes the lines of its answer, all or none, and flushes the writer. An answer that does not come
+/// within ten seconds is `CutOff`.
+pub fn ask_control<R: Net<Listener = TcpListener, Stream = TcpStream>, W: Write>(
+    rt: &R,
+    alloc: Global,
+    place: &ControlPlace,
+    command: Command,
+    writer: &mut W,
+) -> Result<(), ControlFault> {
+    let Ok(connection) = connect(rt, place) else {
+        return Err(ControlFault::Unanswered);
+    };
+    let Ok(mut reader) = BufReader::new(alloc, &connection) else {
+        return Err(ControlFault::OutOfMemory);
+    };
+    ask_over(alloc, command, &mut reader, &mut &connection, writer)
+}

@@ -1,0 +1,34 @@
+//! A control socket: an operator asks a running day for its status and ends it.
+#![tactic(auto)]
+
+mod answer;
+mod asking;
+mod client;
+mod command;
+mod connections;
+mod control;
+mod control_fault;
+mod line;
+mod listener;
+mod operator;
+mod place;
+mod serve_end;
+mod serving;
+mod standing;
+mod transport;
+
+pub use asking::{ANSWER_MOST, ask_over};
+pub use client::ask_control;
+pub use command::Command;
+pub use connections::CONNECTIONS_MOST;
+pub use control::serve_control;
+pub use control_fault::ControlFault;
+pub use line::LINE_MOST;
+pub use listener::{ControlListener, open_control, remove_control};
+pub use operator::{Operated, Operator};
+pub use place::ControlPlace;
+pub use serve_end::{Ended, ServeEnd};
+pub use serving::serve_commands;
+
+#[cfg(test)]
+mod tests;

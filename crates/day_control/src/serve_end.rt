@@ -1,0 +1,29 @@
+//! How a connection ended.
+
+/// Why a connection ended.
+#[derive(Clone, Copy, Debug, PartialEq, Eq)]
+pub enum Ended {
+    /// The input ended after a line's end.
+    Clean,
+    /// The input ended within a line, which gets no answer.
+    Truncated,
+    /// A line was longer than `LINE_MOST` bytes. It got the answer of an unknown command.
+    TooLong,
+    /// A read failed, or brought nothing in time.
+    ReadFault,
+    /// A write or a flush of an answer failed.
+    WriteFault,
+    /// Memory ran out for the answer to a status.
+    OutOfMemory,
+    /// As many lines were answered as may be.
+    TooMany,
+}
+
+/// How many lines of a connection were answered, and why it ended.
+#[derive(Clone, Copy, Debug, PartialEq, Eq)]
+pub struct ServeEnd {
+    /// The lines that were answered whole, but for one that was too long.
+    pub served: u32,
+    /// Why it ended.
+    pub ended: Ended,
+}

@@ -1,0 +1,144 @@
+//! Commands answered as they come.
+ghost use Rattle.std.specs.Prelude.{◌≡◌, ◌≢◌, ◌<◌, ◌∷◌, [], IfErr, OnOk, Some};
+ghost use Rattle.std.specs.Io.KnownBytes.{Appends};
+ghost use Rattle.row_reads.specs.Writing.{WritesPrefix};
+ghost use Rattle.day_control.specs.Answers.{AnswersTo, AnswerFails, UNKNOWN_LINE};
+ghost use Rattle.day_control.specs.Lines.{answer_text};
+ghost use Rattle.day_control.specs.Serving.{Serves, ServesTo};
+ghost use Rattle.day_control.specs.declared.command.Command.TheVariants.{Status, End};
+ghost use Rattle.day_control.specs.declared.serve_end.Ended.TheVariants.{TooMany, WriteFault};
+
+use crate::answer::{ending, put_answer, unknown};
+use crate::line::{LINE_ROOM, LineRead, read_line};
+use crate::transport::send;
+use crate::{Command, Ended, Operator, ServeEnd};
+use std::alloc::Global;
+use std::io::{Read, Write};
+
+/// The buffers that all answers of a connection share.
+#[derive(Drop)]
+struct Room {
+    /// What was told of the day.
+    told: Vec<u8>,
+    /// An answer.
+    text: Vec<u8>,
+}
+
+/// Answers the lines that come, one after the other and no more than this: each is read whole, makes its call, and its answer is written in one
+/// write where the writer takes it whole, and flushed. A line that is no command makes no call. Memory is taken for the answer to a status alone.
+pub fn serve_commands<O: Operator, R: Read, W: Write>(
+    alloc: Global,
+    most: u32,
+    operator: &mut O,
+    reader: &mut R,
+    writer: &mut W,
+) -> ServeEnd
+    // What was read, called and written.
+    ensures serves { ServesTo result.ended (O.calls operator.old) (O.calls operator.new) (R.remaining reader.old) (R.remaining reader.new)
+        (W.contents writer.old) (W.contents writer.new) result.served }
+    // It goes on up to the most lines.
+    ensures many { result.ended ≡ TooMany → result.served ≡ most }
+    ensures few { result.ended ≢ TooMany → result.served < most }
+{
+    let mut room = Room {
+        told: Vec::new(alloc),
+        text: Vec::new(alloc),
+    };
+    for served in 0..most {
+        if let Err(ended) = serve_next(operator, reader, writer, &mut room) {
+            return ServeEnd { served, ended };
+        }
+    }
+    ServeEnd {
+        served: most,
+        ended: Ended::TooMany,
+    }
+}
+
+/// Answers the next line, or tells why there is none or no answer.
+fn serve_next<O: Operator, R: Read, W: Write>(
+    operator: &mut O,
+    reader: &mut R,
+    writer: &mut W,
+    room: &mut Room,
+) -> Result<(), Ended>
+    ensures ok { OnOk result (Serves (O.calls operator.old) (O.calls operator.new) (R.remaining reader.old) (R.remaining reader.new)
+        (W.contents writer.old) (W.contents writer.new) 1) }
+    ensures err { IfErr result (λ ended. ServesTo ended (O.calls operator.old) (O.calls operator.new) (R.remaining reader.old) (R.remaining reader.new)
+        (W.contents writer.old) (W.contents writer.new) 0) }
+    ensures goes_on { IfErr result (λ ended. ended ≢ TooMany) }
+{
+    let mut row = [0; LINE_ROOM];
+    match read_line(reader, &mut row) {
+        LineRead::Line(len) => answer(operator, Command::of_line(&row[..len]), writer, room),
+        LineRead::TooLong => match answer_unknown(writer) {
+            Ok(()) => Err(Ended::TooLong),
+            Err(ended) => Err(ended),
+        },
+        LineRead::Nothing => Err(Ended::Clean),
+        LineRead::Part => Err(Ended::Truncated),
+        LineRead::Fault => Err(Ended::ReadFault),
+    }
+}
+
+/// Makes a command's call and answers it.
+fn answer<O: Operator, W: Write>(
+    operator: &mut O,
+    command: Option<Command>,
+    writer: &mut W,
+    room: &mut Room,
+) -> Result<(), Ended>
+    ensures ok { OnOk result (AnswersTo command (O.calls operator.old) (O.calls operator.new) (W.contents writer.old) (W.contents writer.new)) }
+    ensures err { IfErr result (λ ended. AnswerFails ended command (O.calls operator.old) (O.calls operator.new) (W.contents writer.old) (W.contents writer.new)) }
+{
+    match command {
+        Some(Command::Status) => answer_status(operator, writer, room),
+        Some(Command::End) => answer_end(operator, writer),
+        None => answer_unknown(writer),
+    }
+}
+
+/// Tells what there is to say of what is operated.
+fn answer_status<O: Operator, W: Write>(
+    operator: &mut O,
+    writer: &mut W,
+    room: &mut Room,
+) -> Result<(), Ended>
+    ensures ok { OnOk result (AnswersTo (Some Status) (O.calls operator.old) (O.calls operator.new) (W.contents writer.old) (W.contents writer.new)) }
+    ensures err { IfErr result (λ ended. AnswerFails ended (Some Status) (O.calls operator.old) (O.calls operator.new) (W.contents writer.old) (W.contents writer.new)) }
+{
+    room.told.clear();
+    let Ok(()) = operator.put_status(&mut room.told) else {
+        return Err(Ended::OutOfMemory);
+    };
+    let Ok(()) = put_answer(&room.told, &mut room.text) else {
+        return Err(Ended::OutOfMemory);
+    };
+    if !send(writer, &room.text) {
+        return Err(Ended::WriteFault);
+    }
+    Ok(())
+}
+
+/// Ends what is operated.
+fn answer_end<O: Operator, W: Write>(operator: &mut O, writer: &mut W) -> Result<(), Ended>
+    ensures ok { OnOk result (AnswersTo (Some End) (O.calls operator.old) (O.calls operator.new) (W.contents writer.old) (W.contents writer.new)) }
+    ensures err { IfErr result (λ ended. AnswerFails ended (Some End) (O.calls operator.old) (O.calls operator.new) (W.contents writer.old) (W.contents writer.new)) }
+{
+    let is_first = operator.end();
+    if !send(writer, ending(is_first)) {
+        return Err(Ended::WriteFault);
+    }
+    Ok(())
+}
+
+/// Answers what is no command.
+fn answer_unknown<W: Write>(writer: &mut W) -> Result<(), Ended>
+    ensures ok { OnOk result (Appends (W.contents writer.old) (W.contents writer.new) (answer_text (UNKNOWN_LINE ∷ []))) }
+    ensures err { IfErr result (λ ended. (ended ≡ WriteFault) × WritesPrefix (answer_text (UNKNOWN_LINE ∷ [])) (W.contents writer.old) (W.contents writer.new)) }
+{
+    if !send(writer, unknown()) {
+        return Err(Ended::WriteFault);
+    }
+    Ok(())
+}

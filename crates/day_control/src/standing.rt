@@ -1,0 +1,97 @@
+//! What stands at a path where a socket is to be made, and the folder that it stands in.
+ghost use Rattle.std.specs.Prelude.{◌≡◌, ◌↔◌, IsTrue};
+ghost use Rattle.day_control.specs.Places.{IsPrivate, cleared};
+
+use crate::ControlFault;
+use std::fs;
+use std::fs::{DirBuilder, Files};
+use std::io::ErrorKind;
+use std::net::Net;
+use std::os::unix::fs::{DirBuilderExt, FileTypeExt, MetadataExt};
+use std::os::unix::net::UnixStream;
+use std::path::Path;
+
+/// The mode of a folder that is made: its owner alone reads, writes and enters it.
+const OWNER_ALONE: u32 = 0o700;
+
+/// What a folder's mode gives its group and others.
+const OTHERS: u32 = 0o077;
+
+/// What stands at a path.
+#[derive(Clone, Copy, Debug, PartialEq, Eq)]
+pub(crate) enum Standing {
+    /// Nothing.
+    Nothing,
+    /// A file that is no socket.
+    OtherFile,
+    /// A socket that nobody answers at: whoever made it is gone.
+    Deserted,
+    /// A socket that somebody answers at, or that can't be told from one.
+    Answered,
+}
+
+/// Whether a folder of this mode gives its group and others nothing.
+fn is_private(mode: u32) -> bool
+    ensures { IsTrue result ↔ IsPrivate mode }
+{
+    mode & OTHERS == 0
+}
+
+/// Whether what stands at a path is to be removed before a socket is made there. Only a socket that nobody answers at is.
+fn clears(standing: Standing) -> Result<bool, ControlFault>
+    ensures { result ≡ cleared standing }
+{
+    match standing {
+        Standing::Nothing => Ok(false),
+        Standing::OtherFile => Err(ControlFault::NotASocket),
+        Standing::Deserted => Ok(true),
+        Standing::Answered => Err(ControlFault::InUse),
+    }
+}
+
+/// Looks at what stands at a path.
+fn look<R: Files + Net>(rt: &R, path: &str) -> Result<Standing, ControlFault> {
+    match fs::symlink_metadata(rt, path) {
+        Ok(found) if !found.file_type().is_socket() => return Ok(Standing::OtherFile),
+        Ok(_) => {}
+        Err(error) if error.kind() == ErrorKind::NotFound => return Ok(Standing::Nothing),
+        Err(_) => return Err(ControlFault::Unopened),
+    }
+    match UnixStream::connect(rt, path) {
+        Ok(_) => Ok(Standing::Answered),
+        Err(error) => match error.kind() {
+            ErrorKind::ConnectionRefused => Ok(Standing::Deserted),
+            ErrorKind::NotFound => Ok(Standing::Nothing),
+            _ => Ok(Standing::Answered),
+        },
+    }
+}
+
+/// Removes a socket at a path that nobody answers at.
+pub(crate) fn clear<R: Files + Net>(rt: &R, path: &str) -> Result<(), ControlFault> {
+    if clears(look(rt, path)?)? && fs::remove_file(rt, path).is_err() {
+        return Err(ControlFault::Unopened);
+    }
+    Ok(())
+}
+
+/// The folder that a path names a file of.
+fn folder_of(path: &str) -> &str {
+    match Path::new(path).parent() {
+        Some(folder) if !folder.as_str().is_empty() => folder.as_str(),
+        _ => ".",
+    }
+}
+
+/// Makes the folder of a path if it isn't there, and looks whether only its owner can enter it.
+pub(crate) fn enter_folder<R: Files>(rt: &R, path: &str) -> Result<(), ControlFault> {
+    let folder = folder_of(path);
+    // Where it can't be made, it may be there.
+    let _ = DirBuilder::new().mode(OWNER_ALONE).create(rt, folder);
+    match fs::metadata(rt, folder) {
+        Ok(found) if !found.is_dir() => Err(ControlFault::NoFolder),
+        Ok(found) if !is_private(found.mode()) => Err(ControlFault::OpenFolder),
+        Ok(_) => Ok(()),
+        Err(_) => Err(ControlFault::NoFolder),
+    }
+}

@@ -1,0 +1,4 @@
+//! Connections over memory, and a control socket with its clients.
+
+mod connections;
+mod sockets;
