@@ -1,6 +1,11 @@
 pub mod Accepting
+pub mod Accounts
 pub mod Budgets
 pub mod Faults
+pub mod Followers
 pub mod Paces
+pub mod Patience
 pub mod Quiets
+pub mod Reports
 pub mod Sendings
+pub mod Status

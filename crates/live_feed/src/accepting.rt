@@ -36,7 +36,7 @@ const ENOBUFS: i32 = 105;
 const REST: u64 = 50;
 
 /// Whether a connection may be accepted later, although this is why one was not.
-fn is_transient(error: &Error) -> bool
+pub(crate) fn is_transient(error: &Error) -> bool
     ensures { result ≡ is_transient (raw_os_error error.now) }
 {
     matches!(
@@ -65,7 +65,7 @@ fn tries_again(error: &Error, is_given_up: bool) -> Result<bool, Fault>
 pub(crate) fn next_connection<R: Wait + Clock, L>(
     rt: &R,
     feed: &Feed<'_, L>,
-    serving: &Serving,
+    serving: &Serving<'_>,
 ) -> Result<Option<TcpStream>, Fault>
     ensures { IfErr result (λ fault. fault ≡ Read) }
 {

@@ -2,13 +2,27 @@
 #![tactic(auto)]
 
 mod accepting;
+mod account;
 mod bell;
 mod budget;
+mod clock;
+mod counted;
+mod doors;
 mod feed;
+mod follower_counts;
+mod followers;
+mod line_counts;
+mod line_input;
+mod line_slot;
 mod live;
 mod loss;
+mod opening;
+mod operated_day;
+mod operation;
 mod pace;
+mod patience;
 mod quiet;
+mod reporting;
 mod request_flag;
 mod retransmission;
 mod running;
@@ -17,7 +31,10 @@ mod sender;
 mod serving;
 mod sockets;
 mod starting;
+mod status;
 
-pub use live::live_over;
+pub use live::{live_over, run_live};
 pub use loss::{Loss, NoLoss};
+pub use operated_day::{LiveEnd, LiveTerms, live_day};
+pub use operation::Operation;
 pub use sockets::LiveSockets;

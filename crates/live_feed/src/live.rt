@@ -13,8 +13,10 @@ ghost use Rattle.feed_ends.specs.declared.fault.Fault.TheVariants.{Disagrees, Wr
 
 use crate::bell::Bell;
 use crate::feed::Feed;
+use crate::line_input::Reader;
+use crate::opening::open_lines;
 use crate::running::{Joined, run_together};
-use crate::seated::{Ran, Reader, Waiting, seated_lines};
+use crate::seated::Ran;
 use crate::sender::room_for_a_packet;
 use crate::starting::{accept_all, prepare_day};
 use crate::{LiveSockets, Loss};
@@ -80,14 +82,17 @@ fn is_as_sent(day: &Day, tokens: &Vec<Sighting>, number: u32) -> bool
 /// A day that has ended, with what was seen of each entry that the sender found published, all of which it sent. These are the entries of
 /// the day, in order.
 #[derive(Drop)]
-struct SentDay {
+pub(crate) struct SentDay {
     day: Day,
     seen: Vec<Sighting>,
     ghost sent: { shown seen.items ≡ day.tape.entries },
 }
 
 /// Ends the day that was joined: the day, whose entries are those that were sent, or the fault of the least status that was met.
-fn finish_day<D: DayName>(shared: SharedTape<D>, joined: Joined<D>) -> Result<SentDay, Fault>
+pub(crate) fn finish_day<D: DayName>(
+    shared: SharedTape<D>,
+    joined: Joined<D>,
+) -> Result<SentDay, Fault>
     requires seats { IsOneEach D.terms.listing.participants joined.ran.seats.items }
     requires tokens { FirstTokens shared joined.sent.tokens.items }
     // With `least` and `met`, a fault that was met is answered by the least of all.
@@ -104,10 +109,15 @@ fn finish_day<D: DayName>(shared: SharedTape<D>, joined: Joined<D>) -> Result<Se
     ensures seen { IfOk result (λ ended. ended.seen ≡ joined.sent.tokens) }
 {
     let Joined {
-        ran: Ran { seats, fault },
+        ran: Ran {
+            seats,
+            fault,
+            accounts,
+        },
         sent,
         served,
     } = joined;
+    drop(accounts);
     let ended = end_day(shared, seats);
     let at_the_sides = Fault::least(served.into_fault(), sent.fault);
     if let Some(fault) = Fault::least(at_the_sides, fault) {
@@ -142,23 +152,10 @@ fn run_named<D: DayName + Send + Sync, R: Threads + Wait + Clock + Sync, L: Loss
     ensures by_matrix { IfOk result (λ ended. ended.day.tape.matrix ≡ D.terms.matrix) }
     ensures within { IfOk result (λ ended. length ended.day.tape.entries ≤ D.terms.limit) }
 {
-    let Ok(lines) = Vec::with_capacity(feed.alloc, readers.len()) else {
-        drop(prepared);
-        return Err(Fault::Memory);
-    };
-    let Ok(room) = Vec::with_capacity(feed.alloc, readers.len()) else {
-        lines.destroy_empty();
-        drop(prepared);
-        return Err(Fault::Memory);
-    };
-    let Ok((shared, seats)) = SharedTape::<D>::open(prepared) else {
-        lines.destroy_empty();
-        room.destroy_empty();
-        return Err(Fault::Memory);
-    };
-    let waiting = Waiting {
-        lines: seated_lines(seats, readers, lines),
-        room,
+    let slots = Vec::new(feed.alloc);
+    let (shared, waiting) = match open_lines::<D>(feed.alloc, prepared, readers, slots) {
+        Ok(opened) => opened,
+        Err(fault) => return Err(fault),
     };
     let bell = Bell::new();
     let joined = run_together(rt, feed, &shared, waiting, &bell, text);
@@ -251,6 +248,55 @@ fn live<R: Threads + Wait + Clock + Sync, L: Loss + Sync, W: Write>(
     }
 }
 
+/// A handle of a listener by which it can be shut down, which its own type can't.
+pub(crate) fn closing_of(listener: &TcpListener) -> Result<TcpStream, Fault> {
+    match listener.try_clone() {
+        Ok(handle) => Ok(TcpStream::from(OwnedFd::from(handle))),
+        Err(_) => Err(Fault::Read),
+    }
+}
+
+/// Runs a day as `live_over` does: `Ok` for its status 0, and else the fault whose status that returns.
+pub fn run_live<R: Threads + Wait + Clock + Sync, L: Loss + Sync, W: Write>(
+    rt: &R,
+    alloc: Global,
+    listing: Listing,
+    limit: u32,
+    matrix: Matrix,
+    session: u64,
+    serves: u16,
+    sockets: LiveSockets,
+    loss: &L,
+    writer: &mut W,
+) -> Result<(), Fault>
+    ensures report { OnOk result (WritesOneReport (W.contents writer.old) (W.contents writer.new)) }
+    ensures listed { OnOk result (WritesItsReport listing matrix limit (W.contents writer.old) (W.contents writer.new)) }
+    ensures unwritten { IfErr result (λ fault. fault ≢ WriteFault → writer.new ≡ writer.old) }
+{
+    let LiveSockets {
+        lines,
+        retransmission,
+        sender,
+        a,
+        b,
+    } = sockets;
+    let closing = closing_of(&retransmission)?;
+    let feed = Feed {
+        sender: &sender,
+        retransmission: &retransmission,
+        closing: &closing,
+        a: &a,
+        b: &b,
+        loss,
+        session,
+        serves,
+        alloc,
+    };
+    let ended = live(rt, &feed, listing, limit, matrix, lines, writer)?;
+    drop(ended);
+    Ok(())
+}
+
 /// Runs a day over sockets, and writes its report to `writer`.
 ///
 /// It waits for one connection of each participant, in listing order, closes the listener at which it came, and runs the lines
@@ -284,34 +330,10 @@ pub fn live_over<R: Threads + Wait + Clock + Sync, L: Loss + Sync, W: Write>(
     ensures unwritten { result ≢ 0 → result ≢ 4 → writer.new ≡ writer.old }
     ensures status { (result ≡ 0) ⊎ ((3 ≤ result) × (result ≤ 7)) }
 {
-    let LiveSockets {
-        lines,
-        retransmission,
-        sender,
-        a,
-        b,
-    } = sockets;
-    let Ok(handle) = retransmission.try_clone() else {
-        return Fault::Read.status();
-    };
-    // A listener can't be shut down by its own type.
-    let closing = TcpStream::from(OwnedFd::from(handle));
-    let feed = Feed {
-        sender: &sender,
-        retransmission: &retransmission,
-        closing: &closing,
-        a: &a,
-        b: &b,
-        loss,
-        session,
-        serves,
-        alloc,
-    };
-    match live(rt, &feed, listing, limit, matrix, lines, writer) {
-        Ok(ended) => {
-            drop(ended);
-            0
-        }
+    match run_live(
+        rt, alloc, listing, limit, matrix, session, serves, sockets, loss, writer,
+    ) {
+        Ok(()) => 0,
         Err(fault) => fault.status(),
     }
 }

@@ -4,7 +4,9 @@ ghost use Rattle.feed_ends.specs.declared.fault.Fault.TheVariants.{Memory, Read}
 ghost use Rattle.retransmit.specs.declared.serve_end.Ended.TheVariants.{OutOfMemory};
 
 use crate::accepting::next_connection;
+use crate::counted::{CountedAnswers, CountedRequests};
 use crate::feed::Feed;
+use crate::followers::Follower;
 use crate::request_flag::Requests;
 use crate::serving::Serving;
 use feed_ends::Fault;
@@ -29,13 +31,15 @@ fn fault_of_serving(ended: Ended) -> Option<Fault>
     }
 }
 
-/// Answers what a connection asks for until it ends, however many requests come: as many as `serve` answers at most, and again.
+/// Answers what a connection asks for until it ends, however many requests come: as many as `serve` answers at most, and again. What it
+/// asks for is counted where it is counted.
 fn answer_all<D: DayName, R: Wait, L>(
     rt: &R,
     feed: &Feed<'_, L>,
     shared: &SharedTape<D>,
-    serving: &Serving,
+    serving: &Serving<'_>,
     connection: &TcpStream,
+    follower: Option<&Follower>,
 ) -> Option<Fault>
     ensures few { IfSome result (λ fault. fault ≡ Memory) }
 {
@@ -44,9 +48,16 @@ fn answer_all<D: DayName, R: Wait, L>(
     let mut published = Published::new(shared);
     // What is published by now is looked at before the first request comes. Where that fails, the request finds it so.
     let _ = published.refresh();
-    let mut requests = Requests {
+    let mut requests = CountedRequests {
+        requests: Requests {
+            connection,
+            flag: &serving.requested,
+        },
+        follower,
+    };
+    let mut answers = CountedAnswers {
         connection,
-        flag: &serving.requested,
+        follower,
     };
     for _ in rt.forever() {
         let end = serve(
@@ -55,7 +66,7 @@ fn answer_all<D: DayName, R: Wait, L>(
             feed.session,
             Version::Two,
             &mut requests,
-            &mut &*connection,
+            &mut answers,
         );
         if !matches!(end.ended, Ended::TooMany) {
             return fault_of_serving(end.ended);
@@ -64,12 +75,33 @@ fn answer_all<D: DayName, R: Wait, L>(
     unreachable!()
 }
 
-/// Serves a connection until it ends. However its peer behaves, that ends the connection alone.
-fn serve_connection<D: DayName, R: Wait, L>(
+/// The same, and counts what the connection asks for where someone looks on.
+fn answer_counted<D: DayName, R: Wait + Clock, L>(
     rt: &R,
     feed: &Feed<'_, L>,
     shared: &SharedTape<D>,
-    serving: &Serving,
+    serving: &Serving<'_>,
+    connection: &TcpStream,
+) -> Option<Fault>
+    ensures few { IfSome result (λ fault. fault ≡ Memory) }
+{
+    let Some(followers) = serving.followers else {
+        return answer_all(rt, feed, shared, serving, connection, None);
+    };
+    let Some(follower) = followers.enter(rt) else {
+        return answer_all(rt, feed, shared, serving, connection, None);
+    };
+    let met = answer_all(rt, feed, shared, serving, connection, Some(&follower));
+    follower.end();
+    met
+}
+
+/// Serves a connection until it ends. However its peer behaves, that ends the connection alone.
+fn serve_connection<D: DayName, R: Wait + Clock, L>(
+    rt: &R,
+    feed: &Feed<'_, L>,
+    shared: &SharedTape<D>,
+    serving: &Serving<'_>,
     stream: TcpStream,
 ) -> Option<Fault>
     ensures few { IfSome result (λ fault. fault ≡ Memory) }
@@ -85,17 +117,17 @@ fn serve_connection<D: DayName, R: Wait, L>(
         Ok(None) => return None,
         Err(fault) => return Some(fault),
     };
-    let met = answer_all(rt, feed, shared, serving, &connection);
+    let met = answer_counted(rt, feed, shared, serving, &connection);
     serving.leave(rt, place);
     met
 }
 
 /// The same, and takes note of the fault.
-fn serve_and_note<D: DayName, R: Wait, L>(
+fn serve_and_note<D: DayName, R: Wait + Clock, L>(
     rt: &R,
     feed: &Feed<'_, L>,
     shared: &SharedTape<D>,
-    serving: &Serving,
+    serving: &Serving<'_>,
     stream: TcpStream,
 ) {
     serving.note(serve_connection(rt, feed, shared, serving, stream));
@@ -107,7 +139,7 @@ fn serve_each<D: DayName + Send + Sync, R: Threads + Wait + Clock + Sync, L: Syn
     rt: &R,
     feed: &Feed<'_, L>,
     shared: &SharedTape<D>,
-    serving: &Serving,
+    serving: &Serving<'_>,
 ) -> Option<Fault>
     ensures few { IfSome result (λ fault. fault ≡ Read) }
 {
@@ -156,7 +188,7 @@ pub(crate) fn serve_all<D: DayName + Send + Sync, R: Threads + Wait + Clock + Sy
     rt: &R,
     feed: &Feed<'_, L>,
     shared: &SharedTape<D>,
-    serving: &Serving,
+    serving: &Serving<'_>,
 ) -> Served
     ensures few { IfSome result.fault (λ fault. (fault ≡ Read) ⊎ (fault ≡ Memory)) }
     ensures none { feed.now.serves ≡ 0 → result.fault ≡ None }

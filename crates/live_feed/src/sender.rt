@@ -13,6 +13,7 @@ ghost use Rattle.feed_ends.specs.declared.fault.Fault.TheVariants.{Memory, Disag
 use crate::Loss;
 use crate::bell::Bell;
 use crate::budget::Budget;
+use crate::clock::nanos_of;
 use crate::feed::Feed;
 use crate::quiet::Quiet;
 use crate::request_flag::RequestFlag;
@@ -35,7 +36,7 @@ const PUBLISHED_AT_ONCE: u32 = 8;
 const PAUSES_BEFORE_ENDS: [u64; 3] = [0, 250, 750];
 
 /// How long the sender waits before each later end, in milliseconds.
-const PAUSE_BEFORE_LATER_END: u64 = 1_000;
+pub(crate) const PAUSE_BEFORE_LATER_END: u64 = 1_000;
 
 /// The outcome of the sender.
 #[derive(Drop)]
@@ -50,18 +51,10 @@ pub(crate) struct Sent {
 
 impl Sent {
     /// The same with this fault, or with none.
-    fn with_fault(self, fault: Option<Fault>) -> Sent
+    pub(crate) fn with_fault(self, fault: Option<Fault>) -> Sent
         ensures { result ≡ record self { fault = fault } }
     {
         Sent { fault, ..self }
-    }
-}
-
-/// The clock's time in nanoseconds, or 0 where it can't be read.
-fn nanos_of<R: Clock>(rt: &R) -> u64 {
-    match rt.monotonic() {
-        Ok(time) => u64::try_from(time.as_nanos()).unwrap_or(u64::MAX),
-        Err(_) => 0,
     }
 }
 
@@ -93,7 +86,7 @@ fn send<L>(feed: &Feed<'_, L>, ports: &[u16], bytes: &[u8]) {
 }
 
 /// Sends bytes to the ports of both lines. No line loses them before.
-fn send_to_both<L>(feed: &Feed<'_, L>, bytes: &[u8]) {
+pub(crate) fn send_to_both<L>(feed: &Feed<'_, L>, bytes: &[u8]) {
     send(feed, feed.a, bytes);
     send(feed, feed.b, bytes);
 }
@@ -298,7 +291,7 @@ pub(crate) fn send_entries<D: DayName, R: Wait + Clock, L: Loss>(
     feed: &Feed<'_, L>,
     shared: &SharedTape<D>,
     bell: &Bell,
-    serving: &Serving,
+    serving: &Serving<'_>,
     text: &mut Vec<u8>,
 ) -> Sent
     ensures first { FirstTokens shared.now result.tokens.items }
@@ -317,15 +310,21 @@ pub(crate) fn send_entries<D: DayName, R: Wait + Clock, L: Loss>(
     }
 }
 
-/// Sends the end of a day that was sent whole three times on each line, with a pause before each, and then again and again
-/// while a connection is served or awaited, since its peer may have missed all of them. No line loses it.
-fn repeat_end<R: Wait + Clock, L>(
-    rt: &R,
-    feed: &Feed<'_, L>,
-    serving: &Serving,
-    sent: &Sent,
-    end: &[u8],
-)
+/// Makes the text the end of a day that was sent whole.
+pub(crate) fn spell_end<L>(feed: &Feed<'_, L>, sent: &Sent, text: &mut Vec<u8>) -> Result<(), Fault>
+    requires whole { sent.now.fault ≡ None }
+    requires many { length sent.now.tokens.items ≡ sent.now.number }
+    ensures { OnOk result (text.new.items ≡ end_text feed.now.session sent.now.number) }
+{
+    let end = Packet::End {
+        session: feed.session,
+        count: count_of(sent.number)?,
+    };
+    spell(&end, text)
+}
+
+/// Sends the end of a day that was sent whole three times on each line, with a pause before each. No line loses it.
+pub(crate) fn send_first_ends<R: Clock, L>(rt: &R, feed: &Feed<'_, L>, sent: &Sent, end: &[u8])
     requires whole { sent.now.fault ≡ None }
     requires many { length sent.now.tokens.items ≡ sent.now.number }
     requires end { end.now ≡ end_text feed.now.session sent.now.number }
@@ -336,6 +335,23 @@ fn repeat_end<R: Wait + Clock, L>(
         thread::sleep(rt, Duration::from_millis(pause));
         send_to_both(feed, end);
     }
+}
+
+/// Sends the end of a day that was sent whole again and again while a connection is served or awaited, since its peer may have missed those
+/// before. No line loses it.
+fn repeat_end<R: Wait + Clock, L>(
+    rt: &R,
+    feed: &Feed<'_, L>,
+    serving: &Serving<'_>,
+    sent: &Sent,
+    end: &[u8],
+)
+    requires whole { sent.now.fault ≡ None }
+    requires many { length sent.now.tokens.items ≡ sent.now.number }
+    requires end { end.now ≡ end_text feed.now.session sent.now.number }
+{
+    // For the proof alone: only clauses speak of it.
+    let _ = sent;
     for _ in rt.forever() {
         if !serving.is_left_after(rt, Duration::from_millis(PAUSE_BEFORE_LATER_END)) {
             return;
@@ -348,7 +364,7 @@ fn repeat_end<R: Wait + Clock, L>(
 fn send_ends<R: Wait + Clock, L>(
     rt: &R,
     feed: &Feed<'_, L>,
-    serving: &Serving,
+    serving: &Serving<'_>,
     sent: &Sent,
     text: &mut Vec<u8>,
 ) -> Result<(), Fault>
@@ -356,11 +372,8 @@ fn send_ends<R: Wait + Clock, L>(
     requires many { length sent.now.tokens.items ≡ sent.now.number }
     ensures { OnOk result (text.new.items ≡ end_text feed.now.session sent.now.number) }
 {
-    let end = Packet::End {
-        session: feed.session,
-        count: count_of(sent.number)?,
-    };
-    spell(&end, text)?;
+    spell_end(feed, sent, text)?;
+    send_first_ends(rt, feed, sent, text);
     repeat_end(rt, feed, serving, sent, text);
     Ok(())
 }
@@ -371,7 +384,7 @@ fn send_ends<R: Wait + Clock, L>(
 pub(crate) fn send_end<R: Wait + Clock, L>(
     rt: &R,
     feed: &Feed<'_, L>,
-    serving: &Serving,
+    serving: &Serving<'_>,
     sent: Sent,
     lines: Option<Fault>,
     text: &mut Vec<u8>,

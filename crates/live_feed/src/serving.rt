@@ -2,6 +2,7 @@
 ghost use Rattle.std.specs.Prelude.{◌≡◌, IfErr, IfSome};
 ghost use Rattle.feed_ends.specs.declared.fault.Fault.TheVariants.{Memory};
 
+use crate::followers::Followers;
 use crate::request_flag::RequestFlag;
 use feed_ends::Fault;
 use std::alloc::Global;
@@ -23,7 +24,9 @@ struct Served {
 /// Where the retransmission and the sender meet: the sender learns of what was asked for and of the last connection's end, and
 /// ends all connections where it gives the day up.
 #[derive(Drop)]
-pub(crate) struct Serving {
+pub(crate) struct Serving<'a> {
+    /// What the connections ask for, where someone looks on.
+    pub(crate) followers: Option<&'a Followers>,
     /// Whether something was asked for.
     pub(crate) requested: RequestFlag,
     /// Whether a connection is served or awaited.
@@ -35,10 +38,11 @@ pub(crate) struct Serving {
     parker: Parker,
 }
 
-impl Serving {
+impl<'a> Serving<'a> {
     /// Nobody is served or awaited yet. It takes no memory.
-    pub(crate) fn new(alloc: Global) -> Serving {
+    pub(crate) fn new(alloc: Global, followers: Option<&'a Followers>) -> Serving<'a> {
         Serving {
+            followers,
             requested: RequestFlag::new(),
             is_on: AtomicBool::new(false),
             is_out_of_memory: AtomicBool::new(false),
@@ -102,17 +106,23 @@ impl Serving {
     }
 
     /// Ends all connections that are served, and lets none come any more: what was read, written or accepted returns. The
-    /// listener is given by a handle that a socket can be shut down by.
-    pub(crate) fn give_up<R: Wait>(&self, rt: &R, listener: &TcpStream) {
+    /// listener is given by a handle that a socket can be shut down by. Returns how many were served.
+    pub(crate) fn give_up<R: Wait>(&self, rt: &R, listener: &TcpStream) -> u32 {
+        if let Some(followers) = self.followers {
+            followers.give_up(rt);
+        }
         let mut served = self.served.lock(rt);
         served.is_given_up = true;
+        let mut many: u32 = 0;
         for connection in &served.connections {
             if let Some(connection) = connection {
                 let _ = connection.shutdown(Shutdown::Both);
+                many = many.saturating_add(1);
             }
         }
         drop(served);
         let _ = listener.shutdown(Shutdown::Both);
+        many
     }
 
     /// Takes note of how serving a connection ended: with this fault, if with one. Memory alone can run out there.

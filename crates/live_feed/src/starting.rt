@@ -1,7 +1,7 @@
 //! What a day needs before it starts.
 ghost use Rattle.std.specs.Prelude.{◌≡◌, IfOk, vec_len};
 
-use crate::seated::Reader;
+use crate::line_input::{LineInput, Reader};
 use feed_ends::{Fault, fault_of_tape};
 use line_ledger::{Prepared, prepare};
 use sale_matrix::Matrix;
@@ -38,7 +38,7 @@ fn accept(alloc: Global, listener: TcpListener) -> Result<Reader, Fault> {
     let Ok((stream, _)) = listener.accept() else {
         return Err(Fault::Read);
     };
-    match BufReader::new(alloc, stream) {
+    match BufReader::new(alloc, LineInput::of(stream)) {
         Ok(reader) => Ok(reader),
         Err(_) => Err(Fault::Memory),
     }

@@ -1,6 +1,6 @@
 use denote.Param.Send.{sendable}
 use Rattle.live_feed.proofs.Crossing.{sent_send}
-use Rattle.live_feed.proofs.running.run_and_send.Goals as goal
+use Rattle.live_feed.proofs.running.run_beside_sender.Goals as goal
 
 -- what is told of the sender may go to another thread
 pub join_mut-sent-requires-send-A : goal.join_mut-sent-requires-send-A

@@ -1,0 +1,53 @@
+-- What is said of a day that runs.
+use Rattle.std.specs.Prelude.{◌≡◌, ◌<◌, ◌+◌, ◌-◌, ◌^◌, ◌/◌, ◌++◌, ◌∷◌, ℕ, Bool, if◌then◌else◌, List, [], codes, decimal, max, min}
+use Rattle.std.specs.List.{flat_map, list_any, sum_by}
+use Rattle.live_feed.specs.Accounts.{is_awaited, seen_lines}
+use Rattle.live_feed.specs.declared.line_counts.SeenLine.{SeenLine}
+use Rattle.live_feed.specs.declared.status.DayFigures.{DayFigures}
+
+-- how many messages of all lines were admitted: the tape's last number
+abbrev pub admitted_in_all : List SeenLine → ℕ
+admitted_in_all lines = sum_by (λ l. l.counts.admitted) lines
+
+-- how many messages of all lines were refused
+abbrev pub refused_in_all : List SeenLine → ℕ
+refused_in_all lines = sum_by (λ l. l.counts.tally.refused) lines
+
+-- these are the figures of these lines
+pub record AreFigures (lines : List SeenLine) (f : DayFigures) : Type 0 where
+  pub admitted : admitted_in_all lines < 2 ^ 64 → f.admitted ≡ admitted_in_all lines
+  pub refused : refused_in_all lines < 2 ^ 64 → f.refused ≡ refused_in_all lines
+
+-- how many messages came so far
+abbrev pub messages_of : DayFigures → ℕ
+messages_of f = min (f.admitted + f.refused) (2 ^ 64 - 1)
+
+-- for how long the day runs, and its tape number
+abbrev pub number_text : ℕ → DayFigures → List ℕ
+number_text seconds f = codes "since " ++ decimal seconds ++ codes " s, tape number " ++ decimal f.admitted
+
+-- how many messages came in a second so far
+abbrev pub rate_text : ℕ → DayFigures → List ℕ
+rate_text seconds f = codes ", " ++ decimal (messages_of f / max seconds 1) ++ codes " messages a second\n"
+
+-- the name of a participant whose line is waited for
+abbrev pub awaited_name : SeenLine → List ℕ
+awaited_name l = if is_awaited l.stage then codes " " ++ l.who ∷ [] else []
+
+-- the participants whose lines the day's end waits for
+abbrev pub names_line : List SeenLine → List ℕ
+names_line lines = codes "the end waits for the lines of" ++ flat_map awaited_name lines ++ codes "\n"
+
+-- what the day's end waits for
+unfoldable pub waits_line : List SeenLine → List ℕ
+waits_line lines =
+    if list_any (λ l. is_awaited l.stage) lines then names_line lines else codes "all lines have ended\n"
+
+-- whether the day was ended
+unfoldable pub ended_line : Bool → List ℕ
+ended_line is_ended = if is_ended then codes "the day was ended\n" else []
+
+-- what is said of a day's lines, by their figures
+abbrev pub status_text : ℕ → Bool → DayFigures → List SeenLine → List ℕ
+status_text seconds is_ended figures lines =
+    number_text seconds figures ++ rate_text seconds figures ++ ended_line is_ended ++ waits_line lines ++ flat_map seen_lines lines

@@ -1,0 +1,126 @@
+//! The account of a day's lines, for whoever runs the day.
+ghost use Rattle.std.specs.Prelude.{◌≡◌, ◌++◌, IfOk, OnOk};
+ghost use Rattle.std.specs.List.{flat_map};
+ghost use Rattle.live_feed.specs.Accounts.{account_lines, account_text, end_words, given_up_line, given_up_text, program_word, ran_lines};
+
+use crate::follower_counts::push_number;
+use crate::line_counts::{
+    LineCounts, LineStage, push_absent, push_all_refused, push_counts, push_head, push_text,
+    push_words,
+};
+use participant_lines::Ended;
+use std::alloc::{AllocError, Global};
+use tape_types::Participant;
+
+/// How a participant's line came out.
+#[derive(Clone, Copy, Debug, PartialEq, Eq)]
+pub(crate) struct LineAccount {
+    /// Whose line it is.
+    pub(crate) who: Participant,
+    /// How far it came.
+    pub(crate) stage: LineStage,
+    /// What became of its messages.
+    pub(crate) counts: LineCounts,
+    /// Why no more were done.
+    pub(crate) ended: Ended,
+    /// Whether it was open when the day was ended, which is no fault of its participant.
+    pub(crate) was_cut: bool,
+}
+
+/// What every line of an account begins with.
+#[tactic(auto, unfolding(crate::specs::Accounts::program_word))]
+fn program_word() -> &'static [u8]
+    ensures { result.now ≡ program_word }
+{
+    b"tapebox: "
+}
+
+/// What is said of a line that did not end cleanly, or that was open when the day was ended; nothing of another.
+#[tactic(auto, unfolding(crate::specs::Accounts::end_words))]
+fn end_words(ended: Ended, was_cut: bool) -> &'static [u8]
+    ensures { result.now ≡ end_words ended was_cut }
+{
+    match (ended, was_cut) {
+        (Ended::Clean, false) => b"",
+        (Ended::Clean, true) => b"the day was ended while the line was open",
+        (Ended::Truncated, false) => b"the line ended within a message",
+        (Ended::Truncated, true) => b"the day was ended within a message",
+        (Ended::Oversize, _) => b"the line ended at a length that no message has",
+        (Ended::ReadFault, _) => b"the line ended at a read that failed",
+        (Ended::TooMany, _) => b"the line ended after as many messages as one may have",
+        (Ended::OutOfMemory, _) => b"the line ended for want of memory",
+        (Ended::Behind, _) => b"the line ended at a tape that disagrees",
+    }
+}
+
+/// Adds the lines of a participant whose line ran and ended in these words.
+fn push_ran(
+    text: &mut Vec<u8>,
+    word: &[u8],
+    account: &LineAccount,
+    words: &[u8],
+) -> Result<(), AllocError>
+    ensures { OnOk result (text.new.items ≡ text.old.items ++ ran_lines word.now account.now words.now) }
+{
+    push_head(text, word, account.who)?;
+    push_counts(text, &account.counts)?;
+    push_text(text, b"\n")?;
+    push_all_refused(text, word, account.who, &account.counts.tally)?;
+    push_words(text, word, account.who, words)
+}
+
+/// Adds the lines of a participant.
+fn push_account(text: &mut Vec<u8>, account: &LineAccount) -> Result<(), AllocError>
+    ensures { OnOk result (text.new.items ≡ text.old.items ++ account_lines account.now) }
+{
+    if account.stage.has_connected() {
+        let words = end_words(account.ended, account.was_cut);
+        push_ran(text, program_word(), account, words)
+    } else {
+        push_absent(text, program_word(), account.who, account.stage)
+    }
+}
+
+/// Adds the lines of these participants, one after another.
+fn push_accounts(text: &mut Vec<u8>, accounts: &[LineAccount]) -> Result<(), AllocError>
+    ensures { OnOk result (text.new.items ≡ text.old.items ++ flat_map account_lines accounts.now) }
+{
+    for account in accounts {
+        push_account(text, account)?;
+    }
+    Ok(())
+}
+
+/// Adds that so many followers were waited for no longer.
+fn push_given(text: &mut Vec<u8>, word: &[u8], given_up: u64) -> Result<(), AllocError>
+    ensures { OnOk result (text.new.items ≡ text.old.items ++ given_up_text word.now given_up) }
+{
+    push_text(text, word)?;
+    push_number(text, given_up)?;
+    push_text(text, b" followers were waited for no longer\n")
+}
+
+/// Adds how many followers were waited for no longer, if any.
+#[tactic(auto, unfolding(crate::specs::Accounts::given_up_line))]
+fn push_given_up(text: &mut Vec<u8>, given_up: u32) -> Result<(), AllocError>
+    ensures { OnOk result (text.new.items ≡ text.old.items ++ given_up_line given_up) }
+{
+    if given_up == 0 {
+        return Ok(());
+    }
+    push_given(text, program_word(), u64::from(given_up))
+}
+
+/// The account of a day: the lines of each participant, in listing order, and how many followers were given up.
+pub(crate) fn account_text(
+    alloc: Global,
+    accounts: &[LineAccount],
+    given_up: u32,
+) -> Result<Vec<u8>, AllocError>
+    ensures { IfOk result (λ text. text.items ≡ account_text accounts.now given_up) }
+{
+    let mut text = Vec::new(alloc);
+    push_accounts(&mut text, accounts)?;
+    push_given_up(&mut text, given_up)?;
+    Ok(text)
+}

@@ -1,0 +1,141 @@
+//! What each connection of the retransmission asked for, for whoever looks on.
+
+use crate::clock::nanos_of;
+use crate::follower_counts::{FollowerCounts, FollowerState, push_lines};
+use std::alloc::{AllocError, Global};
+use std::rt::Clock;
+use std::sync::atomic::{AtomicBool, AtomicU64, Ordering};
+use std::sync::{Arc, Mutex, Wait};
+use tape_frames::REQUEST_LENGTH;
+
+/// How many nanoseconds a second has.
+const SECOND: u64 = 1_000_000_000;
+
+/// One connection that is counted. Its thread counts without a lock, and whoever looks on reads what was counted so far.
+#[derive(Drop)]
+pub(crate) struct Follower {
+    /// In whole seconds after the day's start.
+    since: u64,
+    /// How many bytes of requests were read.
+    asked: AtomicU64,
+    /// How many answers were written whole.
+    answered: AtomicU64,
+    /// How many bytes of answers were written.
+    bytes: AtomicU64,
+    is_ended: AtomicBool,
+    is_given_up: AtomicBool,
+}
+
+impl Follower {
+    /// A connection that is served since so many seconds after the day's start, and asked for nothing yet.
+    fn new(since: u64) -> Follower {
+        Follower {
+            since,
+            asked: AtomicU64::new(0),
+            answered: AtomicU64::new(0),
+            bytes: AtomicU64::new(0),
+            is_ended: AtomicBool::new(false),
+            is_given_up: AtomicBool::new(false),
+        }
+    }
+
+    /// So many bytes of requests were read.
+    pub(crate) fn count_asked(&self, bytes: usize) {
+        self.asked.fetch_add(bytes as u64, Ordering::SeqCst);
+    }
+
+    /// So many bytes of an answer were written.
+    pub(crate) fn count_bytes(&self, bytes: usize) {
+        self.bytes.fetch_add(bytes as u64, Ordering::SeqCst);
+    }
+
+    /// An answer was written whole.
+    pub(crate) fn count_answer(&self) {
+        self.answered.fetch_add(1, Ordering::SeqCst);
+    }
+
+    /// It has ended.
+    pub(crate) fn end(&self) {
+        self.is_ended.store(true, Ordering::SeqCst)
+    }
+
+    /// Where it is served still, it is given up.
+    fn give_up(&self) {
+        if !self.is_ended.load(Ordering::SeqCst) {
+            self.is_given_up.store(true, Ordering::SeqCst)
+        }
+    }
+
+    /// What was counted so far of the connection that came at this place, from 1.
+    fn counts(&self, place: u64) -> FollowerCounts {
+        let state = if self.is_given_up.load(Ordering::SeqCst) {
+            FollowerState::GivenUp
+        } else if self.is_ended.load(Ordering::SeqCst) {
+            FollowerState::Ended
+        } else {
+            FollowerState::Served
+        };
+        FollowerCounts {
+            place,
+            since: self.since,
+            asked: self.asked.load(Ordering::SeqCst) / REQUEST_LENGTH as u64,
+            answered: self.answered.load(Ordering::SeqCst),
+            bytes: self.bytes.load(Ordering::SeqCst),
+            state,
+        }
+    }
+}
+
+/// The connections of a day's retransmission in the order in which they came, those that have ended included.
+#[derive(Drop)]
+pub(crate) struct Followers {
+    alloc: Global,
+    /// When the day began, in nanoseconds of the clock.
+    began: u64,
+    came: Mutex<Vec<Arc<Follower>>>,
+}
+
+impl Followers {
+    /// No connection came yet, and the day begins now. It takes no memory.
+    pub(crate) fn new<R: Clock>(rt: &R, alloc: Global) -> Followers {
+        Followers {
+            alloc,
+            began: nanos_of(rt),
+            came: Mutex::new(Vec::new(alloc)),
+        }
+    }
+
+    /// A connection came, which is counted from now on. Where memory runs out it is not counted, and served all the same.
+    pub(crate) fn enter<R: Wait + Clock>(&self, rt: &R) -> Option<Arc<Follower>> {
+        let since = nanos_of(rt).saturating_sub(self.began) / SECOND;
+        let follower = Arc::new(self.alloc, Follower::new(since)).ok()?;
+        let kept = Arc::try_clone(&follower).ok()?;
+        self.came.lock(rt).push(kept).ok()?;
+        Some(follower)
+    }
+
+    /// Those that are served still are given up.
+    pub(crate) fn give_up<R: Wait>(&self, rt: &R) {
+        let came = self.came.lock(rt);
+        for follower in came.iter() {
+            follower.give_up();
+        }
+    }
+
+    /// What was counted of each connection so far. Nobody enters meanwhile, and what is served goes on.
+    fn counts<R: Wait>(&self, rt: &R) -> Result<Vec<FollowerCounts>, AllocError> {
+        let came = self.came.lock(rt);
+        let mut counts = Vec::with_capacity(self.alloc, came.len())?;
+        for (at, follower) in came.iter().enumerate() {
+            counts.push(follower.counts(at as u64 + 1))?;
+        }
+        Ok(counts)
+    }
+
+    /// Adds a line for each connection, in the order in which they came:
+    /// `follower 1: since 12 s, asked 3 times, answered 3 times, 5120 bytes, served`, in whole seconds after the day's start, and `ended` or
+    /// `given up` in place of `served`. Where memory runs out, some of the lines may have been added.
+    pub(crate) fn put_text<R: Wait>(&self, rt: &R, text: &mut Vec<u8>) -> Result<(), AllocError> {
+        push_lines(b"", &self.counts(rt)?, text)
+    }
+}

@@ -1,0 +1,387 @@
+//! A day that is operated: someone looks on, and may end it.
+ghost use Rattle.std.specs.Prelude.{◌≡◌, ◌<◌, Err, None, IfErr, IfOk, OnOk, length, vec_len, true, false};
+ghost use Rattle.line_ledger.specs.Cells.{FirstTokens};
+ghost use Rattle.line_ledger.specs.Days.{terms_of};
+ghost use Rattle.line_ledger.specs.Ends.{IsOneEach};
+ghost use Rattle.live_feed.specs.Faults.{NoneBefore};
+ghost use Rattle.feed_ends.specs.Faults.{fault_status};
+ghost use Rattle.feed_ends.specs.Reports.{WritesItsReport};
+ghost use Rattle.live_feed.specs.Accounts.{HasAccount};
+
+use crate::account::{LineAccount, account_text};
+use crate::bell::Bell;
+use crate::doors::wait_for_lines;
+use crate::feed::Feed;
+use crate::line_input::Reader;
+use crate::line_slot::LineSlot;
+use crate::live::{closing_of, finish_day};
+use crate::opening::open_lines;
+use crate::operation::Operation;
+use crate::patience::Watch;
+use crate::running::{Joined, Reported, run_and_report};
+use crate::seated::Ran;
+use crate::sender::room_for_a_packet;
+use crate::starting::prepare_day;
+use crate::{LiveSockets, Loss};
+use feed_ends::Fault;
+use line_ledger::{DayName, Prepared, SharedTape};
+use sale_matrix::Matrix;
+use std::alloc::Global;
+use std::io::Write;
+use std::marker::Brand;
+use std::net::TcpListener;
+use std::rt::Clock;
+use std::sync::{Arc, Wait};
+use std::thread::Threads;
+use tape_types::{Listing, can_start};
+
+/// The terms of a day that is operated.
+#[derive(Drop)]
+pub struct LiveTerms {
+    /// The names of the day.
+    pub listing: Listing,
+    /// How many entries the tape takes, from 1 to `TAPE_MOST`.
+    pub limit: u32,
+    /// The sale condition matrix.
+    pub matrix: Matrix,
+    /// The session that its packets name.
+    pub session: u64,
+    /// How many connections of the retransmission are served; with 0 none is awaited.
+    pub serves: u16,
+    /// After how many seconds a participant that did not connect is given up; without such a number never.
+    pub connect_within: Option<u32>,
+    /// For how many seconds after the end followers may still ask; without such a number until the last connection has ended.
+    pub followers_wait: Option<u32>,
+}
+
+/// How an operated day ended.
+#[derive(Drop)]
+pub struct LiveEnd {
+    /// `Ok` where nothing was met; else the fault of the least status that was.
+    pub result: Result<(), Fault>,
+    /// Whether the report was written whole and flushed, which it may be beside a fault that was met after it.
+    pub is_whole: bool,
+    /// What is said of the day, for standard error: lines of `tapebox: `, for each participant what became of its messages. Empty where
+    /// the lines were not run, or memory ran out for it.
+    pub account: Vec<u8>,
+}
+
+/// How the run of a day ended.
+#[derive(Drop)]
+struct Held {
+    result: Result<(), Fault>,
+    is_whole: bool,
+    accounts: Vec<LineAccount>,
+    given_up: u32,
+}
+
+/// A day that was not run, for this fault.
+fn not_held(alloc: Global, fault: Fault) -> Held
+    ensures result { result.result ≡ Err fault }
+    ensures unwritten { result.is_whole ≡ false }
+{
+    Held {
+        result: Err(fault),
+        is_whole: false,
+        accounts: Vec::new(alloc),
+        given_up: 0,
+    }
+}
+
+/// The same day without its accounts, and these.
+fn take_accounts<D: DayName>(alloc: Global, joined: Joined<D>) -> (Joined<D>, Vec<LineAccount>)
+    ensures sent { result.0.sent ≡ joined.sent }
+    ensures served { result.0.served ≡ joined.served }
+    ensures seats { result.0.ran.seats ≡ joined.ran.seats }
+    ensures fault { result.0.ran.fault ≡ joined.ran.fault }
+    ensures accounts { result.1 ≡ joined.ran.accounts }
+{
+    let Joined { ran, sent, served } = joined;
+    let Ran {
+        seats,
+        fault,
+        accounts,
+    } = ran;
+    let ran = Ran {
+        seats,
+        fault,
+        accounts: Vec::new(alloc),
+    };
+    (Joined { ran, sent, served }, accounts)
+}
+
+/// Other owners of the slots of a day's lines.
+fn slots_of(alloc: Global, operation: &Operation) -> Result<Vec<Arc<LineSlot>>, Fault> {
+    let mut slots = Vec::new(alloc);
+    for slot in operation.lines.as_slice() {
+        let Ok(slot) = Arc::try_clone(slot) else {
+            return Err(Fault::Memory);
+        };
+        if slots.push(slot).is_err() {
+            return Err(Fault::Memory);
+        }
+    }
+    Ok(slots)
+}
+
+/// How the run of a day ended that was joined, whose report was written whole or not.
+fn held_of<D: DayName>(
+    alloc: Global,
+    shared: SharedTape<D>,
+    joined: Joined<D>,
+    is_whole: bool,
+    given_up: u32,
+) -> Held
+    requires seats { IsOneEach D.terms.listing.participants joined.ran.seats.items }
+    requires tokens { FirstTokens shared joined.sent.tokens.items }
+    requires whole { joined.sent.fault ≡ None → is_whole ≡ true }
+    ensures same { result.is_whole ≡ is_whole }
+    ensures whole { OnOk result.result (result.is_whole ≡ true) }
+    ensures least { IfErr result.result (λ fault. NoneBefore fault joined.sent.fault) }
+{
+    let (joined, accounts) = take_accounts(alloc, joined);
+    match finish_day(shared, joined) {
+        Ok(ended) => {
+            drop(ended);
+            Held {
+                result: Ok(()),
+                is_whole,
+                accounts,
+                given_up,
+            }
+        }
+        Err(fault) => Held {
+            result: Err(fault),
+            is_whole,
+            accounts,
+            given_up,
+        },
+    }
+}
+
+/// Runs the day of what was prepared under a name, and writes its report. Packets are written in the text.
+fn run_named<D: DayName + Send + Sync, R: Threads + Wait + Clock + Sync, L: Loss + Sync, W: Write>(
+    rt: &R,
+    feed: &Feed<'_, L>,
+    prepared: Prepared,
+    readers: Vec<Reader>,
+    slots: Vec<Arc<LineSlot>>,
+    watch: &Watch<'_>,
+    text: &mut Vec<u8>,
+    writer: &mut W,
+) -> Held
+    requires name { prepared.blank.name ≡ D.name }
+    requires parts { prepared.blank.parts ≡ D.parts }
+    requires terms { terms_of prepared.tape ≡ D.terms }
+    requires many { vec_len readers ≡ length D.terms.listing.participants }
+    ensures report { result.is_whole ≡ true
+        → WritesItsReport D.terms.listing D.terms.matrix D.terms.limit (W.contents writer.old) (W.contents writer.new) }
+    ensures whole { OnOk result.result (result.is_whole ≡ true) }
+    ensures unwritten { result.is_whole ≡ false → IfErr result.result (λ fault. 4 < fault_status fault → writer.new ≡ writer.old) }
+{
+    let (shared, waiting) = match open_lines::<D>(feed.alloc, prepared, readers, slots) {
+        Ok(opened) => opened,
+        Err(fault) => return not_held(feed.alloc, fault),
+    };
+    let bell = Bell::new();
+    let Reported {
+        joined,
+        is_whole,
+        given_up,
+    } = run_and_report(rt, feed, &shared, waiting, &bell, watch, text, writer);
+    held_of(feed.alloc, shared, joined, is_whole, given_up)
+}
+
+/// Runs the day of what was prepared.
+fn run_prepared<R: Threads + Wait + Clock + Sync, L: Loss + Sync, W: Write>(
+    rt: &R,
+    feed: &Feed<'_, L>,
+    prepared: Prepared,
+    readers: Vec<Reader>,
+    slots: Vec<Arc<LineSlot>>,
+    watch: &Watch<'_>,
+    text: &mut Vec<u8>,
+    writer: &mut W,
+) -> Held
+    requires { vec_len readers ≡ length prepared.tape.listing.participants }
+    ensures report { result.is_whole ≡ true → WritesItsReport prepared.tape.listing prepared.tape.matrix prepared.tape.limit
+        (W.contents writer.old) (W.contents writer.new) }
+    ensures whole { OnOk result.result (result.is_whole ≡ true) }
+    ensures unwritten { result.is_whole ≡ false → IfErr result.result (λ fault. 4 < fault_status fault → writer.new ≡ writer.old) }
+{
+    run_named::<Brand, R, L, W>(rt, feed, prepared, readers, slots, watch, text, writer)
+}
+
+/// What the day's lines are read from, once their participants have connected or were given up, where a thread can be started for them then.
+fn readers_of<R: Threads + Wait + Clock>(
+    rt: &R,
+    alloc: Global,
+    operation: &Operation,
+    connect_within: Option<u32>,
+    lines: Vec<TcpListener>,
+) -> Result<Vec<Reader>, Fault>
+    ensures { IfOk result (λ readers. vec_len readers ≡ vec_len lines) }
+{
+    let readers = wait_for_lines(rt, alloc, operation, connect_within, lines)?;
+    if !can_start(rt) {
+        return Err(Fault::Worker);
+    }
+    Ok(readers)
+}
+
+/// What a day has before it runs.
+#[derive(Drop)]
+struct Ready {
+    prepared: Prepared,
+    text: Vec<u8>,
+    slots: Vec<Arc<LineSlot>>,
+    readers: Vec<Reader>,
+}
+
+/// Prepares the day and waits for its lines.
+fn ready_day<R: Threads + Wait + Clock>(
+    rt: &R,
+    alloc: Global,
+    listing: Listing,
+    limit: u32,
+    matrix: Matrix,
+    connect_within: Option<u32>,
+    lines: Vec<TcpListener>,
+    operation: &Operation,
+) -> Result<Ready, Fault>
+    ensures many { IfOk result (λ ready. vec_len ready.readers ≡ length listing.participants) }
+    ensures listed { IfOk result (λ ready. ready.prepared.tape.listing ≡ listing) }
+    ensures by_matrix { IfOk result (λ ready. ready.prepared.tape.matrix ≡ matrix) }
+    ensures limited { IfOk result (λ ready. ready.prepared.tape.limit ≡ limit) }
+{
+    if lines.len() != listing.participants().as_slice().len() {
+        return Err(Fault::Read);
+    }
+    let text = room_for_a_packet(alloc)?;
+    let slots = slots_of(alloc, operation)?;
+    let prepared = prepare_day(alloc, listing, limit, matrix)?;
+    match readers_of(rt, alloc, operation, connect_within, lines) {
+        Ok(readers) => Ok(Ready {
+            prepared,
+            text,
+            slots,
+            readers,
+        }),
+        Err(fault) => {
+            drop(prepared);
+            Err(fault)
+        }
+    }
+}
+
+/// The end of a day of this listing that was run so, with its account.
+fn end_of(alloc: Global, held: Held) -> LiveEnd
+    ensures result { result.result ≡ held.result }
+    ensures is_whole { result.is_whole ≡ held.is_whole }
+    ensures account { HasAccount result.account.items }
+{
+    let Held {
+        result,
+        is_whole,
+        accounts,
+        given_up,
+    } = held;
+    let account = match account_text(alloc, &accounts, given_up) {
+        Ok(account) => account,
+        Err(_) => Vec::new(alloc),
+    };
+    LiveEnd {
+        result,
+        is_whole,
+        account,
+    }
+}
+
+/// Runs a day that is operated, and writes its report to `writer` once its lines have ended and the end was sent.
+///
+/// It waits for one connection of each participant, at all listeners at once, for `connect_within` seconds, and closes the listener at which
+/// one came. A participant that did not connect in time is given up: the day runs without it. Then it runs as `live_over`'s does, but
+/// that its report is written after the first ends, while followers still ask, for `followers_wait` seconds or until the last has
+/// ended. `operation` was made of the same listing; by it others see meanwhile how the day stands, and may end it: then all that was read of
+/// the lines is admitted, and nothing else.
+///
+/// A connection whose peer misbehaves ends alone, and a packet that cannot be sent is lost. What else goes wrong is answered by the fault
+/// of the least status: `Read` where a participant's connection can't be accepted, the listener of the retransmission is gone, or
+/// there is not one listener and one line of the operation for each participant; `Write` for a failed write of the report; `Memory`;
+/// `Worker` where no thread can be started for the lines; `Disagrees` where the tape disagrees with what was told or sent of it, and for a
+/// limit outside 1 to `TAPE_MOST`. Without `Read` and `Write` there is the whole report or none of it.
+pub fn live_day<R: Threads + Wait + Clock + Sync, L: Loss + Sync, W: Write>(
+    rt: &R,
+    alloc: Global,
+    terms: LiveTerms,
+    sockets: LiveSockets,
+    loss: &L,
+    operation: &Operation,
+    writer: &mut W,
+) -> LiveEnd
+    ensures report { result.is_whole ≡ true
+        → WritesItsReport terms.listing terms.matrix terms.limit (W.contents writer.old) (W.contents writer.new) }
+    ensures whole { OnOk result.result (result.is_whole ≡ true) }
+    ensures unwritten { result.is_whole ≡ false → IfErr result.result (λ fault. 4 < fault_status fault → writer.new ≡ writer.old) }
+    ensures account { HasAccount result.account.items }
+{
+    let LiveTerms {
+        listing,
+        limit,
+        matrix,
+        session,
+        serves,
+        connect_within,
+        followers_wait,
+    } = terms;
+    let LiveSockets {
+        lines,
+        retransmission,
+        sender,
+        a,
+        b,
+    } = sockets;
+    let closing = match closing_of(&retransmission) {
+        Ok(closing) => closing,
+        Err(fault) => return end_of(alloc, not_held(alloc, fault)),
+    };
+    let ready = ready_day(
+        rt,
+        alloc,
+        listing,
+        limit,
+        matrix,
+        connect_within,
+        lines,
+        operation,
+    );
+    let Ready {
+        prepared,
+        mut text,
+        slots,
+        readers,
+    } = match ready {
+        Ok(ready) => ready,
+        Err(fault) => return end_of(alloc, not_held(alloc, fault)),
+    };
+    let feed = Feed {
+        sender: &sender,
+        retransmission: &retransmission,
+        closing: &closing,
+        a: &a,
+        b: &b,
+        loss,
+        session,
+        serves,
+        alloc,
+    };
+    let watch = Watch {
+        followers_wait,
+        hurried: &operation.hurried,
+        followers: &operation.followers,
+    };
+    let held = run_prepared(
+        rt, &feed, prepared, readers, slots, &watch, &mut text, writer,
+    );
+    end_of(alloc, held)
+}

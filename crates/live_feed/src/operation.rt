@@ -1,0 +1,105 @@
+//! What an operator sees of a day, and can do to it.
+ghost use Rattle.std.specs.Prelude.{◌≡◌, IfOk, length};
+
+use crate::clock::nanos_of;
+use crate::followers::Followers;
+use crate::line_counts::SeenLine;
+use crate::line_slot::LineSlot;
+use crate::status::{DayFigures, push_status};
+use std::alloc::{AllocError, Global};
+use std::rt::Clock;
+use std::sync::atomic::{AtomicBool, Ordering};
+use std::sync::{Arc, Wait};
+use tape_types::Listing;
+
+/// How many nanoseconds a second has.
+const SECOND: u64 = 1_000_000_000;
+
+/// What an operator sees of a day, and can do to it. The day and whoever operates it share one.
+#[derive(Drop)]
+pub struct Operation {
+    alloc: Global,
+    /// When the day began, in nanoseconds of the clock.
+    began: u64,
+    /// The participants' lines, in listing order.
+    pub(crate) lines: Vec<Arc<LineSlot>>,
+    /// Raised where the day was ended.
+    is_ended: AtomicBool,
+    /// Raised where followers are to be waited for no longer.
+    pub(crate) hurried: AtomicBool,
+    /// The connections of the retransmission.
+    pub(crate) followers: Followers,
+}
+
+impl Operation {
+    /// That of a day of this listing, which begins now. Nobody has connected.
+    pub fn new<R: Clock>(rt: &R, alloc: Global, listing: &Listing) -> Result<Operation, AllocError>
+        ensures lines { IfOk result (λ operation. length operation.lines.items ≡ length listing.now.participants) }
+    {
+        let participants = listing.participants().as_slice();
+        let mut lines = Vec::with_capacity(alloc, participants.len())?;
+        for who in participants {
+            lines.push(Arc::new(alloc, LineSlot::new(*who))?)?;
+        }
+        Ok(Operation {
+            alloc,
+            began: nanos_of(rt),
+            lines,
+            is_ended: AtomicBool::new(false),
+            hurried: AtomicBool::new(false),
+            followers: Followers::new(rt, alloc),
+        })
+    }
+
+    /// Ends the day as if every line had closed now: what was read of the lines is admitted, connections that did not come are waited for no
+    /// longer, and the day goes on to its end and its report. It returns at once, and tells whether it was the first call. From the
+    /// second call on followers are waited for no longer either.
+    pub fn end(&self) -> bool {
+        if self.is_ended.swap(true, Ordering::SeqCst) {
+            self.hurried.store(true, Ordering::SeqCst);
+            return false;
+        }
+        for line in self.lines.as_slice() {
+            line.stop();
+        }
+        true
+    }
+
+    /// Whether the day was ended.
+    pub(crate) fn is_ended(&self) -> bool {
+        self.is_ended.load(Ordering::SeqCst)
+    }
+
+    /// How long the day has run, in whole seconds.
+    pub(crate) fn seconds<R: Clock>(&self, rt: &R) -> u64 {
+        nanos_of(rt).saturating_sub(self.began) / SECOND
+    }
+
+    /// What is known of each line, in listing order, each as it is at one moment.
+    pub(crate) fn seen<R: Wait>(&self, rt: &R) -> Result<Vec<SeenLine>, AllocError> {
+        let mut seen = Vec::with_capacity(self.alloc, self.lines.len())?;
+        for line in self.lines.as_slice() {
+            seen.push(line.seen(rt))?;
+        }
+        Ok(seen)
+    }
+
+    /// Adds what there is to say of the day to a text, as lines: for how long it runs, its tape number and messages a second, each participant
+    /// with what became of its messages, each connection of the retransmission, and what the day's end waits for. Where memory runs out,
+    /// some of the lines may have been added.
+    pub fn put_status<R: Wait + Clock>(
+        &self,
+        rt: &R,
+        text: &mut Vec<u8>,
+    ) -> Result<(), AllocError> {
+        let seen = self.seen(rt)?;
+        push_status(
+            text,
+            self.seconds(rt),
+            self.is_ended(),
+            DayFigures::of(&seen),
+            &seen,
+        )?;
+        self.followers.put_text(rt, text)
+    }
+}
