@@ -1,3 +1,7 @@
+pub mod Counts
+pub mod Heards
 pub mod Kept
+pub mod Reports
 pub mod Rows
+pub mod Texts
 pub mod Wholes

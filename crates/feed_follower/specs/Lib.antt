@@ -1,5 +1,10 @@
+pub mod AccountTexts
+pub mod Accounts
+pub mod Conflicts
 pub mod Faults
 pub mod Followers
+pub mod Hearing
 pub mod LinePositions
 pub mod Nexts
+pub mod Reported
 pub mod Sinks

@@ -1,17 +1,20 @@
 -- What is next in a follower's run.
-use Rattle.std.specs.Prelude.{ℕ, ◌≡◌, ◌-◌, Option, None, Some, length}
+use Rattle.std.specs.Prelude.{ℕ, ◌≡◌, ◌≤◌, ◌-◌, Option, None, Some, length}
 use Rattle.arbitration.specs.Gaps.{IsGap, IsMissing}
 use Rattle.subscriber.specs.Subscribers.{SubscriberState}
+use Rattle.feed_follower.specs.Conflicts.{AsksFor}
 use Rattle.feed_follower.specs.LinePositions.{IsToWait}
+use Rattle.feed_follower.specs.declared.conflicts.Conflicts.{Conflicts}
 use Rattle.feed_follower.specs.declared.line_positions.LinePositions.{LinePositions}
 use Rattle.feed_follower.specs.declared.follower.Next.{Next}
-use Rattle.feed_follower.specs.declared.follower.Next.TheVariants.{Read, Wait, Ask, Connect, End}
+use Rattle.feed_follower.specs.declared.follower.Next.TheVariants.{Read, Wait, Ask, Settle, Connect, End}
 
 -- the first number that is to be asked for
 abbrev pub asked_of : Next → Option ℕ
 asked_of Read = None
 asked_of (Wait number) = None
 asked_of (Ask request) = Some request.from
+asked_of (Settle request) = None
 asked_of Connect = None
 asked_of End = None
 
@@ -19,11 +22,12 @@ asked_of End = None
 abbrev pub ahead_of : SubscriberState → ℕ
 ahead_of s = s.window.announced - length s.tape.entries
 
--- while a run goes on, packets are read where nothing is missing; else what is missing first is waited for where it is to be, and asked for where it
--- is not
-abbrev pub IsNext : SubscriberState → LinePositions → Next → Type 0
-IsNext s p Read = (n : ℕ) → ¬ (IsMissing s.window n)
-IsNext s p (Wait number) = (count : ℕ) × IsGap s.window number count × IsToWait number (ahead_of s) p
-IsNext s p (Ask request) = (request.session ≡ s.window.session) × IsGap s.window request.from request.count × ¬ (IsToWait request.from (ahead_of s) p)
-IsNext s p Connect = ⊥
-IsNext s p End = ⊥
+-- while a run goes on, what is missing first is waited for where it is to be, and asked for where it is not; where nothing is missing the
+-- numbers of which packets told differently are asked for, and packets are read where there are none
+abbrev pub IsNext : SubscriberState → LinePositions → Conflicts → ℕ → Next → Type 0
+IsNext s p c session Read = ((n : ℕ) → ¬ (IsMissing s.window n)) × (c.wanted.before ≤ c.wanted.from)
+IsNext s p c session (Wait number) = (count : ℕ) × IsGap s.window number count × IsToWait number (ahead_of s) p
+IsNext s p c session (Ask request) = (request.session ≡ s.window.session) × IsGap s.window request.from request.count × ¬ (IsToWait request.from (ahead_of s) p)
+IsNext s p c session (Settle request) = ((n : ℕ) → ¬ (IsMissing s.window n)) × (request.session ≡ session) × AsksFor c.wanted request
+IsNext s p c session Connect = ⊥
+IsNext s p c session End = ⊥

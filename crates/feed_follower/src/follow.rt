@@ -1,20 +1,22 @@
 //! A follower of a day: it reads both lines, asks for what is missing, and reports the tape that it comes to hold.
-ghost use Rattle.std.specs.Prelude.{◌≡◌, ◌≢◌, ◌⊎◌, ◌≤◌, [], IfErr, IfOk, OnOk};
+ghost use Rattle.std.specs.Prelude.{◌≡◌, ◌≢◌, ◌⊎◌, ◌≤◌, [], Err, IfErr, IfOk, IfSome, IsSome, None, OnOk, true};
 ghost use Rattle.std.specs.Io.KnownBytes.{Appends};
 ghost use Rattle.day_report.specs.ReportText.{report_text};
 ghost use Rattle.day_report.specs.Rows.{report_rows};
 ghost use Rattle.feed_ends.specs.Faults.{fault_status};
 ghost use Rattle.feed_ends.specs.Reports.{IsListing, WritesItsReport, WritesOneReport};
 ghost use Rattle.feed_follower.specs.Followers.{HasAllOf};
+ghost use Rattle.feed_follower.specs.Reported.{follow_fault};
 ghost use Rattle.feed_follower.specs.Sinks.{GivesItsReport, GivesPart, GivesTape, IsTapeOf, rows_of};
 ghost use Rattle.feed_ends.specs.declared.fault.Fault.TheVariants.{Write as WriteFault};
 ghost use Rattle.tape_core.specs.Tape.{IsLegal};
 
+use crate::followed::Followed;
 use crate::follower::{Follower, subscribe};
 use crate::held_name::HeldName;
 use crate::requester::Requester;
 use crate::run::{Ready, Run, follow_at_once};
-use crate::{EntrySink, FollowSockets};
+use crate::{EntrySink, FollowAccount, FollowFault, FollowSockets};
 use feed_ends::{Fault, write_day};
 use sale_matrix::Matrix;
 use std::alloc::Global;
@@ -25,6 +27,30 @@ use std::sync::Wait;
 use std::thread::Threads;
 use subscriber::Subscriber;
 use tape_types::Listing;
+
+/// How a run is to go.
+#[derive(Clone, Copy)]
+pub(crate) struct Ways {
+    /// For how many seconds it tries to connect.
+    connect_within: Option<u32>,
+    /// Whether it asks for the numbers of which packets told differently.
+    settles: bool,
+    /// Once it holds so many entries it begins anew.
+    restart_after: Option<u32>,
+}
+
+impl Ways {
+    /// A day's that is given by a file: what packets tell differently is settled, and nothing begins anew.
+    pub(crate) fn of_day(connect_within: Option<u32>) -> Ways
+        ensures { result ≡ record { connect_within = connect_within; settles = true; restart_after = None } }
+    {
+        Ways {
+            connect_within,
+            settles: true,
+            restart_after: None,
+        }
+    }
+}
 
 /// What a run has once it is connected, before it has a sink.
 #[derive(Drop)]
@@ -45,7 +71,7 @@ fn ready<'a>(
 
 /// Connects, and makes the subscriber that holds nothing yet. It connects before it takes memory, so that a day that awaits it
 /// is not kept waiting where there is none.
-fn start<'a, R: Net<Listener = TcpListener, Stream = TcpStream>>(
+fn start<'a, R: Net<Listener = TcpListener, Stream = TcpStream> + Wait>(
     rt: &R,
     alloc: Global,
     listing: Listing,
@@ -53,15 +79,19 @@ fn start<'a, R: Net<Listener = TcpListener, Stream = TcpStream>>(
     matrix: Matrix,
     session: u64,
     sockets: &'a FollowSockets,
-) -> Result<Started<'a>, Fault>
+    connect_within: Option<u32>,
+) -> Result<Started<'a>, FollowFault>
     ensures listed { IfOk result (λ started. started.subscriber.tape.listing ≡ listing) }
     ensures by_matrix { IfOk result (λ started. started.subscriber.tape.matrix ≡ matrix) }
     ensures limited { IfOk result (λ started. started.subscriber.tape.limit ≡ limit) }
     ensures nothing { IfOk result (λ started. started.subscriber.tape.entries ≡ []) }
     ensures session { IfOk result (λ started. started.subscriber.window.session ≡ session) }
 {
-    let requester = Requester::new(rt, alloc, sockets.retransmission)?;
-    let subscriber = subscribe(alloc, listing, limit, matrix, session)?;
+    let requester = Requester::new(rt, alloc, sockets.retransmission, connect_within)?;
+    let subscriber = match subscribe(alloc, listing, limit, matrix, session) {
+        Ok(subscriber) => subscriber,
+        Err(fault) => return Err(FollowFault::Ended(fault)),
+    };
     match ready(alloc, sockets, &requester) {
         Ok(ready) => Ok(Started {
             requester,
@@ -70,15 +100,78 @@ fn start<'a, R: Net<Listener = TcpListener, Stream = TcpStream>>(
         }),
         Err(fault) => {
             drop(subscriber);
-            Err(fault)
+            Err(FollowFault::Ended(fault))
         }
     }
 }
 
-/// Follows the day under the name of its tape: reads both lines and asks for what they lack until all is held, and gives the sink each entry
-/// that comes to be. What is left is the subscriber that holds all, or the run's fault, and the sink. The connection is closed then.
+/// What is left where no run began.
 #[tactic(auto, using(crate::proofs::Rows::part_of_nothing))]
-fn follow<
+fn not_begun<S: EntrySink>(session: u64, fault: FollowFault, sink: S) -> Followed<S>
+    ensures subscriber { result.subscriber ≡ None }
+    ensures ended { result.ended ≡ Err (follow_fault fault) }
+    ensures sink { result.sink ≡ sink }
+{
+    Followed {
+        subscriber: None,
+        ended: Err(fault.fault()),
+        why: Some(fault),
+        account: FollowAccount::nothing(session),
+        sink,
+    }
+}
+
+/// Follows the day under the name of its tape: reads both lines and asks for what they lack until all is held, and gives the sink each entry
+/// that comes to be. Where it settles conflicts, it asks for each number of which packets told differently too. What is left is
+/// what it holds, how it ended, and the sink. The connection is closed then.
+#[tactic(auto, using(crate::proofs::Rows::part_of_nothing))]
+pub(crate) fn follow<
+    N: HeldName + Send,
+    S: EntrySink + Send,
+    R: Threads + Wait + Net<Listener = TcpListener, Stream = TcpStream> + Sync,
+>(
+    rt: &R,
+    alloc: Global,
+    listing: Listing,
+    limit: u32,
+    matrix: Matrix,
+    session: u64,
+    sockets: &FollowSockets,
+    ways: Ways,
+    sink: S,
+) -> Followed<S>
+    requires listing { listing ≡ N.listing }
+    requires matrix { matrix ≡ N.matrix }
+    requires limit { limit ≡ N.limit }
+    requires before { S.contents sink ≡ N.before }
+    ensures tape { IfSome result.subscriber (λ subscriber. IsTapeOf listing matrix limit subscriber.tape) }
+    ensures some { OnOk result.ended (IsSome result.subscriber) }
+    ensures given { OnOk result.ended (IfSome result.subscriber (λ subscriber. Appends (S.contents sink) (S.contents result.sink) (rows_of S.text subscriber.tape))) }
+    ensures part { GivesPart S.text listing matrix limit (S.contents sink) (S.contents result.sink) }
+    ensures whole { OnOk result.ended (IfSome result.subscriber HasAllOf) }
+    ensures settled { OnOk result.ended (result.account.unsettled ≡ 0) }
+{
+    let within = ways.connect_within;
+    let started = match start(rt, alloc, listing, limit, matrix, session, sockets, within) {
+        Ok(started) => started,
+        Err(fault) => return not_begun(session, fault, sink),
+    };
+    let follower: Follower<N, S> = Follower::new(
+        alloc,
+        started.subscriber,
+        session,
+        ways.restart_after,
+        ways.settles,
+        sink,
+    );
+    let run = Run::new(alloc, follower, started.ready);
+    follow_at_once(rt, &run, started.requester);
+    run.into_follower().into_followed()
+}
+
+/// Follows the day as its words in a row say: it tries to connect once, and drops packets that tell otherwise. What is left is the subscriber
+/// that holds all, or the run's fault, and the sink.
+fn follow_plainly<
     N: HeldName + Send,
     S: EntrySink + Send,
     R: Threads + Wait + Net<Listener = TcpListener, Stream = TcpStream> + Sync,
@@ -102,24 +195,19 @@ fn follow<
     ensures part { GivesPart S.text listing matrix limit (S.contents sink) (S.contents result.1) }
     ensures whole { IfOk result.0 HasAllOf }
 {
-    let started = match start(rt, alloc, listing, limit, matrix, session, sockets) {
-        Ok(started) => started,
-        Err(fault) => return (Err(fault), sink),
-    };
-    let follower: Follower<N, S> = Follower::new(
-        alloc,
-        started.subscriber,
-        session,
+    let ways = Ways {
+        connect_within: None,
+        settles: false,
         restart_after,
-        sink,
+    };
+    let followed = follow::<N, S, R>(
+        rt, alloc, listing, limit, matrix, session, sockets, ways, sink,
     );
-    let run = Run::new(alloc, follower, started.ready);
-    follow_at_once(rt, &run, started.requester);
-    run.into_follower().into_held()
+    followed.into_held()
 }
 
 /// Writes the report of what a subscriber holds.
-fn report<R: Threads + Sync, W: Write>(
+pub(crate) fn report<R: Threads + Sync, W: Write>(
     rt: &R,
     alloc: Global,
     subscriber: &Subscriber,
@@ -145,6 +233,52 @@ fn status_of(ended: Result<(), Fault>) -> u8
         Ok(()) => 0,
         Err(fault) => fault.status(),
     }
+}
+
+/// Follows a day as `follow_over` does, and tells by a type how it ended.
+///
+/// It ends well only where the report was written whole and flushed, and the sink was given each entry of the same tape. The fault is the one
+/// whose status `follow_over` gives.
+pub fn follow_ended<
+    R: Threads + Wait + Net<Listener = TcpListener, Stream = TcpStream> + Sync,
+    S: EntrySink + Send,
+    W: Write,
+>(
+    rt: &R,
+    alloc: Global,
+    listing: Listing,
+    limit: u32,
+    matrix: Matrix,
+    session: u64,
+    sockets: FollowSockets,
+    restart_after: Option<u32>,
+    sink: S,
+    writer: &mut W,
+) -> (Result<(), Fault>, S)
+    ensures report { OnOk result.0 (WritesOneReport (W.contents writer.old) (W.contents writer.new)) }
+    ensures listed { OnOk result.0 (WritesItsReport listing matrix limit (W.contents writer.old) (W.contents writer.new)) }
+    ensures given { OnOk result.0 (GivesItsReport S.text listing matrix limit (S.contents sink) (S.contents result.1) (W.contents writer.old) (W.contents writer.new)) }
+    ensures part { GivesPart S.text listing matrix limit (S.contents sink) (S.contents result.1) }
+    ensures unwritten { IfErr result.0 (λ fault. fault ≢ WriteFault → writer.new ≡ writer.old) }
+{
+    let (held, sink) = follow_plainly::<Brand, S, R>(
+        rt,
+        alloc,
+        listing,
+        limit,
+        matrix,
+        session,
+        &sockets,
+        restart_after,
+        sink,
+    );
+    let subscriber = match held {
+        Ok(subscriber) => subscriber,
+        Err(fault) => return (Err(fault), sink),
+    };
+    let written = report(rt, alloc, &subscriber, writer);
+    drop(subscriber);
+    (written, sink)
 }
 
 /// Follows a day over sockets until its end is known and all of it is held, and writes the report of what is held to `writer`. A
@@ -185,24 +319,19 @@ pub fn follow_over<
     ensures unwritten { result.0 ≢ 0 → result.0 ≢ 4 → writer.new ≡ writer.old }
     ensures status { (result.0 ≡ 0) ⊎ ((3 ≤ result.0) × (result.0 ≤ 7)) }
 {
-    let (held, sink) = follow::<Brand, S, R>(
+    let (ended, sink) = follow_ended(
         rt,
         alloc,
         listing,
         limit,
         matrix,
         session,
-        &sockets,
+        sockets,
         restart_after,
         sink,
+        writer,
     );
-    let subscriber = match held {
-        Ok(subscriber) => subscriber,
-        Err(fault) => return (fault.status(), sink),
-    };
-    let written = report(rt, alloc, &subscriber, writer);
-    drop(subscriber);
-    (status_of(written), sink)
+    (status_of(ended), sink)
 }
 
 /// Follows a day as `follow_over` does, without a report and without a restart: a sink is given each entry as soon as it is held, and comes
@@ -228,7 +357,7 @@ pub fn follow_tape_over<
     ensures part { GivesPart S.text listing matrix limit (S.contents sink) (S.contents result.1) }
     ensures status { (result.0 ≡ 0) ⊎ ((3 ≤ result.0) × (result.0 ≤ 7)) }
 {
-    let (held, sink) = follow::<Brand, S, R>(
+    let (held, sink) = follow_plainly::<Brand, S, R>(
         rt, alloc, listing, limit, matrix, session, &sockets, None, sink,
     );
     match held {

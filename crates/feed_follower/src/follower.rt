@@ -1,12 +1,22 @@
 //! What a follower comes to hold and gives to its sink, which its lines and its requester share.
-ghost use Rattle.std.specs.Prelude.{◌≡◌, ◌↔◌, ◌≤◌, ◌<◌, [], length, Err, Ok, None, Some, IfErr, IfOk, IfSome, IsOk, IsSome, IsSomeAnd, IsTrue, OnErr, OnOk, true, false};
+ghost use Rattle.std.specs.Prelude.{◌≡◌, ◌↔◌, ◌⊎◌, ◌+◌, ◌-◌, ◌≤◌, ◌<◌, ℕ, [], length, min, Err, Ok, None, Some, IfErr, IfOk, IfSome, IsOk, IsSome, IsSomeAnd, IsTrue, OnErr, OnOk, true, false};
 ghost use Rattle.std.specs.Io.KnownBytes.{Appends};
 ghost use Rattle.std.proofs.Props.{props};
-ghost use Rattle.tape_frames.specs.Headers.{header_number_of};
+ghost use Rattle.tape_types.specs.Ranges.{TAPE_MOST};
+ghost use Rattle.tape_frames.specs.Headers.{header_number_of, last_entry_of};
+ghost use Rattle.tape_frames.specs.Packets.{session_of};
 ghost use Rattle.tape_frames.specs.Spelling.{Spells};
 ghost use Rattle.tape_frames.specs.declared.packet.Packet.{Packet};
-ghost use Rattle.feed_follower.specs.Followers.{Comes, HasAllOf, KeepsTerms};
+ghost use Rattle.feed_follower.specs.Followers.{Comes, HasAllOf, HasCounts, IsDelivered, KeepsNews, KeepsTerms, heard_of};
+ghost use Rattle.subscriber.specs.Drains.{BringsHeld};
+ghost use Rattle.arbitration.specs.Counts.{brought_by};
+ghost use Rattle.arbitration.specs.declared.line.Line.TheVariants.{A, B, R};
+ghost use Rattle.feed_follower.specs.Accounts.{account_with, once_other};
+ghost use Rattle.feed_follower.specs.Conflicts.{IsIn, Shows};
+ghost use Rattle.feed_follower.specs.Hearing.{IsHeard, MeetsConflict, number_past, told_by};
 ghost use Rattle.feed_follower.specs.LinePositions.{IsBehind, once_noted};
+ghost use Rattle.feed_follower.specs.declared.requester.Answered.TheVariants.{Beyond};
+ghost use Rattle.feed_follower.specs.declared.follow_fault.FollowFault.TheVariants.{OtherEntry};
 ghost use Rattle.feed_follower.specs.Sinks.{GivesPart, HasAll, HasPart, IsTapeOf, rows_of};
 ghost use Rattle.feed_follower.specs.declared.silence.TheConstants.{SILENT_MOST};
 ghost use Rattle.feed_follower.specs.Nexts.{IsNext, ahead_of, asked_of};
@@ -14,20 +24,24 @@ ghost use Rattle.feed_follower.specs.declared.follower.Next.TheVariants.{Connect
 ghost use Rattle.feed_ends.specs.declared.fault.Fault.{Fault};
 ghost use Rattle.feed_ends.specs.declared.fault.Fault.TheVariants.{Disagrees, Read};
 
-use crate::EntrySink;
+use crate::conflicts::{Conflicts, Numbers};
+use crate::followed::Followed;
+use crate::heard::Heard;
 use crate::held_name::HeldName;
 use crate::line_positions::LinePositions;
 use crate::replaying::{begin_anew, replay};
+use crate::requester::Answered;
 use crate::silence::Silence;
-use arbitration::Line;
+use crate::{EntrySink, FollowAccount, FollowFault};
+use arbitration::{DeliverFault, Line};
 use feed_ends::{Fault, fault_of_tape};
 use sale_matrix::Matrix;
 use std::alloc::Global;
 use std::marker::PhantomData;
 use std::mem;
 use subscriber::{DeliveryFault, Subscriber};
-use tape_frames::{Request, header_number};
-use tape_types::Listing;
+use tape_frames::{Request, decode_packet, header_number, last_entry};
+use tape_types::{Listing, TAPE_MOST};
 
 /// What a run waits for, or what is to be done in it.
 #[derive(Clone, Copy)]
@@ -38,6 +52,8 @@ pub(crate) enum Next {
     Wait(u32),
     /// This is missing.
     Ask(Request),
+    /// Packets told differently of these numbers, and nothing is missing.
+    Settle(Request),
     /// The subscriber is a new one, which asks on a connection of its own.
     Connect,
     /// The run is over.
@@ -51,7 +67,7 @@ impl Next {
     {
         match self {
             Next::Ask(request) => Some(request.from),
-            Next::Read | Next::Wait(_) | Next::Connect | Next::End => None,
+            Next::Read | Next::Wait(_) | Next::Settle(_) | Next::Connect | Next::End => None,
         }
     }
 }
@@ -70,6 +86,10 @@ pub(crate) struct Follower<N: HeldName, S: EntrySink> {
     session: u64,
     restart_after: Option<u32>,
     has_restarted: bool,
+    conflicts: Conflicts,
+    account: FollowAccount,
+    /// What names the fault of the run, where it tells more than its status.
+    why: Option<FollowFault>,
     over: Option<Result<(), Fault>>,
     /// Whether the requester sleeps until it is rung.
     is_asleep: bool,
@@ -80,6 +100,7 @@ pub(crate) struct Follower<N: HeldName, S: EntrySink> {
     ghost given: { lacks ≡ None → HasAll (rows_of S.text subscriber.tape) N.before (S.contents sink) } by { Prim.hlevel props },
     ghost part: { HasPart (rows_of S.text subscriber.tape) N.before (S.contents sink) } by { Prim.hlevel props },
     ghost whole: { IfSome over (λ ended. OnOk ended (HasAllOf subscriber)) } by { Prim.hlevel props },
+    ghost settled: { IfSome over (λ ended. OnOk ended (conflicts.wanted.before ≤ conflicts.wanted.from)) } by { Prim.hlevel props },
 }
 
 /// A subscriber that holds nothing.
@@ -114,17 +135,80 @@ fn copy_of(alloc: Global, listing: &Listing) -> Result<Listing, Fault>
     }
 }
 
-/// Has the subscriber take what came by a line, and tells whether it did. Bytes that are no packet of the day are dropped.
-fn deliver_to(subscriber: &mut Subscriber, line: Line, bytes: &[u8]) -> Result<bool, Fault>
+/// What became of what came by a line that was refused for this. A subscriber that has failed disagrees.
+fn heard_of(fault: &DeliveryFault) -> Result<Heard, Fault>
+    ensures heard { result ≡ heard_of fault.now }
+    ensures number { IfOk result IsHeard }
+{
+    match fault {
+        DeliveryFault::NoPacket(_) => Ok(Heard::NoPacket),
+        DeliveryFault::Refused(DeliverFault::Foreign) => Ok(Heard::Foreign),
+        DeliveryFault::Refused(DeliverFault::Conflict(number)) => {
+            Ok(Heard::Conflict(number.value()))
+        }
+        DeliveryFault::Refused(DeliverFault::PastEnd) => Ok(Heard::PastEnd),
+        DeliveryFault::Failed => Err(Fault::Disagrees),
+    }
+}
+
+/// Has the subscriber take what came by a line, and tells what became of it. Bytes that are no packet of the day are dropped.
+#[tactic(auto, using(crate::proofs::Heards::came_of))]
+fn deliver_to(subscriber: &mut Subscriber, line: Line, bytes: &[u8]) -> Result<Heard, Fault>
     ensures tape { subscriber.new.tape ≡ subscriber.old.tape }
-    ensures came { IfOk result (λ is_taken. Comes line bytes.now is_taken subscriber.old subscriber.new) }
+    ensures came { IfOk result (λ heard. Comes line bytes.now heard subscriber.old subscriber.new) }
     ensures failed { subscriber.old.failed ≡ true → result ≡ Err Disagrees }
     ensures running { subscriber.old.failed ≡ false → IsOk result }
+    ensures number { IfOk result IsHeard }
 {
     match subscriber.deliver(line, bytes) {
-        Ok(_) => Ok(true),
-        Err(DeliveryFault::NoPacket(_) | DeliveryFault::Refused(_)) => Ok(false),
-        Err(DeliveryFault::Failed) => Err(Fault::Disagrees),
+        Ok(_) => Ok(Heard::Taken),
+        Err(fault) => heard_of(&fault),
+    }
+}
+
+/// The last number that a packet of the session tells of.
+fn last_told(session: u64, bytes: &[u8]) -> u32
+    ensures told { (packet : Packet) → Spells bytes.now packet → result ≡ min (told_by session packet) TAPE_MOST }
+    ensures within { result ≤ TAPE_MOST }
+{
+    let told = last_entry(session, bytes).unwrap_or(u64::from(header_number(bytes).unwrap_or(0)));
+    told.min(u64::from(TAPE_MOST)) as u32
+}
+
+/// How many entries a subscriber holds.
+pub(crate) fn held_count(subscriber: &Subscriber) -> u32
+    ensures { result ≡ length subscriber.now.tape.entries }
+{
+    // No more than the limit, which a `u32` holds.
+    let _limit = subscriber.tape().limit();
+    subscriber.held().len() as u32
+}
+
+/// The session of a packet.
+fn session_of(bytes: &[u8]) -> Option<u64>
+    ensures { (packet : Packet) → Spells bytes.now packet → result ≡ Some (session_of packet) }
+{
+    match decode_packet(bytes) {
+        Ok(packet) => Some(packet.session()),
+        Err(_) => None,
+    }
+}
+
+/// The numbers from one on that a packet of the session brings: `None` where it does not bring that one.
+fn numbers_from(session: u64, from: u32, bytes: &[u8]) -> Option<Numbers>
+    ensures from { IfSome result (λ numbers. (numbers.from ≡ from) × (from < numbers.before)) }
+    ensures brings { (packet : Packet) → Spells bytes.now packet → IfSome result (λ numbers.
+        (header_number_of packet ≤ from) × (last_entry_of session packet ≡ Some (numbers.before - 1))) }
+{
+    let first = header_number(bytes)?;
+    let last = u32::try_from(last_entry(session, bytes)?).ok()?;
+    if first <= from && from <= last && last < u32::MAX {
+        Some(Numbers {
+            from,
+            before: last + 1,
+        })
+    } else {
+        None
     }
 }
 
@@ -153,6 +237,7 @@ impl<N: HeldName, S: EntrySink> Follower<N, S> {
         subscriber: Subscriber,
         session: u64,
         restart_after: Option<u32>,
+        settles: bool,
         sink: S,
     ) -> Follower<N, S>
         requires listing { subscriber.tape.listing ≡ N.listing }
@@ -171,6 +256,9 @@ impl<N: HeldName, S: EntrySink> Follower<N, S> {
             session,
             restart_after,
             has_restarted: false,
+            conflicts: Conflicts::none(settles),
+            account: FollowAccount::nothing(session),
+            why: None,
             over: None,
             is_asleep: false,
             name: PhantomData,
@@ -183,24 +271,110 @@ impl<N: HeldName, S: EntrySink> Follower<N, S> {
             → self.new.positions ≡ once_noted line (header_number_of packet) self.old.positions }
         ensures going { self.new.over ≡ self.old.over }
         ensures same { self.new.subscriber ≡ self.old.subscriber }
+        ensures rest { (self.new.account ≡ self.old.account) × (self.new.conflicts ≡ self.old.conflicts) }
     {
         self.positions.note(line, header_number(bytes).unwrap_or(0));
         self.silence.broken();
     }
 
-    /// Takes what came by a line, and replays what is ready. Bytes that are no packet of the day are dropped, and so are, before
-    /// they are decoded, those of a packet that brings what is held.
+    /// Takes note that packets told differently of a number.
+    fn differ(&mut self, number: u32)
+        requires over { self.old.over ≡ None }
+        requires number { number ≤ TAPE_MOST + 1 }
+        ensures going { self.new.over ≡ None }
+        ensures same { self.new.subscriber ≡ self.old.subscriber }
+        ensures met { self.old.conflicts.are_settled ≡ true → IsIn number self.new.conflicts.wanted ⊎ IsIn number self.new.conflicts.found }
+        ensures kept { (n : ℕ) → IsIn n self.old.conflicts.wanted → IsIn n self.new.conflicts.wanted }
+        ensures found { self.new.conflicts.found ≡ self.old.conflicts.found }
+        ensures counts { HasCounts self.old.account self.new.account }
+        ensures positions { self.new.positions ≡ self.old.positions }
+    {
+        self.account.differ(number);
+        self.conflicts.meet(number);
+    }
+
+    /// Takes note of another session that was heard.
+    fn name_session(&mut self, bytes: &[u8])
+        ensures named { (packet : Packet) → Spells bytes.now packet → self.new.account ≡ once_other (session_of packet) self.old.account }
+        ensures going { self.new.over ≡ self.old.over }
+        ensures same { self.new.subscriber ≡ self.old.subscriber }
+        ensures conflicts { self.new.conflicts ≡ self.old.conflicts }
+        ensures counts { HasCounts self.old.account self.new.account }
+    {
+        if let Some(session) = session_of(bytes) {
+            self.account.name(session);
+        }
+    }
+
+    /// The number to ask for after a packet that did not fit what is known of the end: right above the lesser of the last number that it
+    /// told of and the last one that is known.
+    fn number_past(&self, bytes: &[u8]) -> u32
+        ensures told { (packet : Packet) → Spells bytes.now packet → result ≡ number_past self.now.subscriber (told_by self.now.session packet) }
+        ensures within { result ≤ TAPE_MOST + 1 }
+    {
+        let known = match self.subscriber.ended() {
+            Some(count) => count,
+            None => self.subscriber.announced(),
+        };
+        known.min(last_told(self.session, bytes)) + 1
+    }
+
+    /// Takes note of what became of what came by a line, but for the counts.
+    fn heed(&mut self, line: Line, bytes: &[u8], heard: Heard)
+        requires over { self.old.over ≡ None }
+        requires number { IsHeard heard }
+        ensures going { self.new.over ≡ None }
+        ensures same { self.new.subscriber ≡ self.old.subscriber }
+        ensures met { self.old.conflicts.are_settled ≡ true → MeetsConflict self.old.subscriber self.old.session bytes.now heard self.new.conflicts }
+        ensures kept { (n : ℕ) → IsIn n self.old.conflicts.wanted → IsIn n self.new.conflicts.wanted }
+        ensures counts { HasCounts self.old.account self.new.account }
+    {
+        match heard {
+            Heard::Taken => self.note(line, bytes),
+            Heard::NoPacket => {}
+            Heard::Foreign => self.name_session(bytes),
+            Heard::Conflict(number) => self.differ(number),
+            Heard::PastEnd => {
+                let number = self.number_past(bytes);
+                self.differ(number);
+            }
+        }
+    }
+
+    /// Takes note of what came by a line and what became of it. An empty datagram is the follower's own, which ends a read.
+    #[tactic(auto, using(crate::proofs::Counts::counts_with))]
+    fn hear(&mut self, line: Line, bytes: &[u8], heard: Heard)
+        requires over { self.old.over ≡ None }
+        requires number { IsHeard heard }
+        ensures going { self.new.over ≡ None }
+        ensures same { self.new.subscriber ≡ self.old.subscriber }
+        ensures met { self.old.conflicts.are_settled ≡ true → MeetsConflict self.old.subscriber self.old.session bytes.now heard self.new.conflicts }
+        ensures kept { (n : ℕ) → IsIn n self.old.conflicts.wanted → IsIn n self.new.conflicts.wanted }
+        ensures counted { 1 ≤ length bytes.now → HasCounts (account_with line heard self.old.account) self.new.account }
+    {
+        self.heed(line, bytes, heard);
+        if !bytes.is_empty() {
+            self.account.count(line, heard);
+        }
+    }
+
+    /// Takes what came by a line, and replays what is ready. Bytes that are no packet of the day are dropped. A packet that brings what is held
+    /// is dropped before it is decoded, unless packets that differ are settled: it may bring another entry.
     fn take(&mut self, line: Line, bytes: &[u8]) -> Result<(), Fault>
         requires { self.old.over ≡ None }
         ensures going { self.new.over ≡ None }
+        ensures heard { self.old.conflicts.are_settled ≡ true → self.old.subscriber.failed ≡ false
+            → IsDelivered line bytes.now self.old.subscriber self.new.subscriber self.old.account self.new.account }
+        ensures idle { self.old.conflicts.are_settled ≡ false → self.old.subscriber.failed ≡ false
+            → IsDelivered line bytes.now self.old.subscriber self.new.subscriber self.old.account self.new.account
+            ⊎ ((self.new.subscriber ≡ self.old.subscriber) × ((packet : Packet) → Spells bytes.now packet → BringsHeld self.old.subscriber packet)) }
     {
-        if self.subscriber.holds_all_of(bytes) {
-            self.note(line, bytes);
+        if !self.conflicts.are_settled() && self.subscriber.holds_all_of(bytes) {
+            self.hear(line, bytes, Heard::Taken);
             return Ok(());
         }
-        if deliver_to(&mut self.subscriber, line, bytes)? {
-            self.note(line, bytes);
-        }
+        let heard = deliver_to(&mut self.subscriber, line, bytes)?;
+        self.hear(line, bytes, heard);
         self.replay()
     }
 
@@ -209,6 +383,8 @@ impl<N: HeldName, S: EntrySink> Follower<N, S> {
     fn replay(&mut self) -> Result<(), Fault>
         requires { self.old.over ≡ None }
         ensures going { self.new.over ≡ None }
+        ensures news { KeepsNews self.old.subscriber self.new.subscriber }
+        ensures account { self.new.account ≡ self.old.account }
     {
         if let Some(fault) = self.lacks {
             return Err(fault);
@@ -233,7 +409,7 @@ impl<N: HeldName, S: EntrySink> Follower<N, S> {
             self.take(Line::R, packet)?;
         }
         if self.subscriber.held().len() < request.from as usize {
-            return Err(Fault::Disagrees);
+            return Err(self.other_entry(request.from));
         }
         Ok(())
     }
@@ -275,6 +451,7 @@ impl<N: HeldName, S: EntrySink> Follower<N, S> {
         }
         drop(mem::replace(&mut self.subscriber, next));
         self.positions = LinePositions::nothing();
+        self.conflicts = Conflicts::none(self.conflicts.are_settled());
         self.restart_after = None;
         self.has_restarted = true;
         Ok(())
@@ -290,18 +467,27 @@ impl<N: HeldName, S: EntrySink> Follower<N, S> {
         }
     }
 
-    /// Ends a run that is not over where what came was a fault, or where all is held. Whether to restart is looked at before that.
+    /// Whether all is held, and no packets told differently of a number that is still to be asked for.
+    fn is_done(&self) -> bool
+        ensures { IsTrue result ↔ (HasAllOf self.now.subscriber × (self.now.conflicts.wanted.before ≤ self.now.conflicts.wanted.from)) }
+    {
+        self.has_all() && self.conflicts.len() == 0
+    }
+
+    /// Ends a run that is not over where what came was a fault, or where all is held and no conflict is open. Whether to restart is looked at
+    /// before that.
     fn settle(&mut self, taken: Result<(), Fault>)
         requires { self.old.over ≡ None }
         ensures fault { IfErr taken (λ fault. self.new.over ≡ Some (Err fault)) }
         ensures whole { IfSome self.new.over (λ ended. OnOk ended (HasAllOf self.new.subscriber)) }
+        ensures settled { IfSome self.new.over (λ ended. OnOk ended (self.new.conflicts.wanted.before ≤ self.new.conflicts.wanted.from)) }
     {
         let settled = match taken {
             Ok(()) => self.restart(),
             Err(fault) => Err(fault),
         };
         self.over = match settled {
-            Ok(()) if !self.has_all() => None,
+            Ok(()) if !self.is_done() => None,
             ended => Some(ended),
         };
     }
@@ -328,27 +514,116 @@ impl<N: HeldName, S: EntrySink> Follower<N, S> {
         }
     }
 
-    /// Takes what a request brought, unless the run is over, or the subscriber that lacked it was given up meanwhile.
-    pub(crate) fn answer(&mut self, request: &Request, brought: Result<Vec<Vec<u8>>, Fault>)
+    /// Takes what a request brought, unless the run is over, or the subscriber that lacked it was given up meanwhile. The retransmission has to
+    /// have what is missing.
+    pub(crate) fn answer(&mut self, request: &Request, brought: Result<Answered, Fault>)
         ensures over { IsSome self.old.over → self.new ≡ self.old }
         ensures given_up { self.old.has_restarted ≡ true → self.new ≡ self.old }
         ensures fault { IfErr brought (λ fault. self.old.over ≡ None → self.old.has_restarted ≡ false → self.new.over ≡ Some (Err fault)) }
+        ensures beyond { brought ≡ Ok Beyond → self.old.over ≡ None → self.old.has_restarted ≡ false → self.new.over ≡ Some (Err Disagrees) }
     {
         if self.over.is_some() || self.has_restarted {
             return;
         }
+        self.account.ask();
         let taken = match brought {
-            Ok(packets) => self.take_all(request, &packets),
+            Ok(Answered::Packets(packets)) => self.take_all(request, &packets),
+            Ok(Answered::Beyond) => Err(self.other_entry(request.from)),
             Err(fault) => Err(fault),
         };
         self.settle(taken);
+    }
+
+    /// The fault of a run in which another entry is held than the retransmission has.
+    fn other_entry(&mut self, number: u32) -> Fault
+        requires { self.old.over ≡ None }
+        ensures fault { result ≡ Disagrees }
+        ensures named { self.new.why ≡ Some (OtherEntry number) }
+        ensures going { self.new.over ≡ None }
+    {
+        self.why = Some(FollowFault::OtherEntry(number));
+        Fault::Disagrees
+    }
+
+    /// Takes a packet of the retransmission, which has to bring numbers from one on, each as it is known: the number after them. A run in which
+    /// it brings another entry ends, and the number is named.
+    fn find(&mut self, from: u32, bytes: &[u8]) -> Result<u32, Fault>
+        requires { self.old.over ≡ None }
+        ensures going { self.new.over ≡ None }
+        ensures shows { IfOk result (λ before. (from < before) × (self.old.subscriber.window.session ≡ self.old.session → Shows self.old.subscriber bytes.now from before)) }
+    {
+        match deliver_to(&mut self.subscriber, Line::R, bytes)? {
+            Heard::Taken => {}
+            Heard::Conflict(number) => return Err(self.other_entry(number)),
+            Heard::NoPacket | Heard::Foreign | Heard::PastEnd => {
+                return Err(self.other_entry(from));
+            }
+        }
+        let Some(numbers) = numbers_from(self.session, from, bytes) else {
+            return Err(self.other_entry(from));
+        };
+        self.hear(Line::R, bytes, Heard::Taken);
+        self.conflicts.find(numbers);
+        Ok(numbers.before)
+    }
+
+    /// Takes packets that were asked for since others told differently, one after another.
+    fn find_all(&mut self, request: &Request, packets: &[Vec<u8>]) -> Result<(), Fault>
+        requires { self.old.over ≡ None }
+        ensures going { self.new.over ≡ None }
+    {
+        let mut from = request.from;
+        for packet in packets {
+            from = self.find(from, packet)?;
+        }
+        self.replay()
+    }
+
+    /// Takes note that the retransmission has no such number. It has to lie above the known end.
+    fn find_none(&mut self, number: u32) -> Result<(), Fault>
+        requires { self.old.over ≡ None }
+        ensures going { self.new.over ≡ None }
+        ensures past { OnOk result (IsSomeAnd self.old.subscriber.window.ended (λ count. count < number)) }
+        ensures named { OnErr result (self.new.why ≡ Some (OtherEntry number)) }
+        ensures fault { IfErr result (λ fault. fault ≡ Disagrees) }
+    {
+        match self.subscriber.ended() {
+            Some(count) if count < number => {
+                self.conflicts.find(Numbers {
+                    from: number,
+                    before: number.saturating_add(1),
+                });
+                Ok(())
+            }
+            _ => Err(self.other_entry(number)),
+        }
+    }
+
+    /// Takes what a request brought for numbers of which packets told differently, unless the run is over, or begun anew.
+    pub(crate) fn settle_by(&mut self, request: &Request, brought: Result<Answered, Fault>)
+        ensures over { IsSome self.old.over → self.new ≡ self.old }
+        ensures given_up { self.old.has_restarted ≡ true → self.new ≡ self.old }
+        ensures fault { IfErr brought (λ fault. self.old.over ≡ None → self.old.has_restarted ≡ false → self.new.over ≡ Some (Err fault)) }
+        ensures beyond { brought ≡ Ok Beyond → self.old.over ≡ None → self.old.has_restarted ≡ false
+            → ¬ (IsSomeAnd self.old.subscriber.window.ended (λ count. count < request.now.from)) → self.new.over ≡ Some (Err Disagrees) }
+    {
+        if self.over.is_some() || self.has_restarted {
+            return;
+        }
+        self.account.ask();
+        let found = match brought {
+            Ok(Answered::Packets(packets)) => self.find_all(request, &packets),
+            Ok(Answered::Beyond) => self.find_none(request.from),
+            Err(fault) => Err(fault),
+        };
+        self.settle(found);
     }
 
     /// What is next for the requester, which then sleeps until it is rung where nothing is missing. What it asks for was waited for in
     /// vain where a line has not come to it.
     pub(crate) fn next_to_ask(&mut self) -> Next
         ensures asleep { IsTrue self.new.is_asleep ↔ (result ≡ ReadOn) }
-        ensures going { self.old.has_restarted ≡ false → self.old.over ≡ None → IsNext self.old.subscriber self.old.positions result }
+        ensures going { self.old.has_restarted ≡ false → self.old.over ≡ None → IsNext self.old.subscriber self.old.positions self.old.conflicts self.old.session result }
         ensures late_a { IfSome (asked_of result) (λ n. IsBehind n self.old.positions.a → self.new.positions.a.awaited_from ≡ n) }
         ensures late_b { IfSome (asked_of result) (λ n. IsBehind n self.old.positions.b → self.new.positions.b.awaited_from ≡ n) }
     {
@@ -371,7 +646,7 @@ impl<N: HeldName, S: EntrySink> Follower<N, S> {
     fn next(&self) -> Next
         ensures connect { self.now.has_restarted ≡ true → result ≡ Connect }
         ensures end { self.now.has_restarted ≡ false → IsSome self.now.over → result ≡ End }
-        ensures going { self.now.has_restarted ≡ false → self.now.over ≡ None → IsNext self.now.subscriber self.now.positions result }
+        ensures going { self.now.has_restarted ≡ false → self.now.over ≡ None → IsNext self.now.subscriber self.now.positions self.now.conflicts self.now.session result }
     {
         if self.has_restarted {
             return Next::Connect;
@@ -385,7 +660,10 @@ impl<N: HeldName, S: EntrySink> Follower<N, S> {
                 Next::Wait(request.from)
             }
             Some(request) => Next::Ask(request),
-            None => Next::Read,
+            None => match self.conflicts.request(self.session) {
+                Some(request) => Next::Settle(request),
+                None => Next::Read,
+            },
         }
     }
 
@@ -432,23 +710,59 @@ impl<N: HeldName, S: EntrySink> Follower<N, S> {
         }
     }
 
-    /// The subscriber of a run that is over, or the fault that ended it, and the sink.
-    pub(crate) fn into_held(self) -> (Result<Subscriber, Fault>, S)
-        ensures tape { IfOk result.0 (λ subscriber. IsTapeOf N.listing N.matrix N.limit subscriber.tape) }
-        ensures given { IfOk result.0 (λ subscriber. Appends N.before (S.contents result.1) (rows_of S.text subscriber.tape)) }
-        ensures part { GivesPart S.text N.listing N.matrix N.limit N.before (S.contents result.1) }
-        ensures whole { IfOk result.0 HasAllOf }
-        ensures lacks { (fault : Fault) → self.lacks ≡ Some fault → result.0 ≡ Err fault }
-        ensures fault { (fault : Fault) → self.lacks ≡ None → self.over ≡ Some (Err fault) → result.0 ≡ Err fault }
-        ensures open { self.lacks ≡ None → self.over ≡ None → result.0 ≡ Err Read }
-        ensures well { self.lacks ≡ None → IsSomeAnd self.over (λ ended. OnErr ended ⊥) → result.0 ≡ Ok self.subscriber }
+    /// Takes note that the retransmission could not be reached, and why.
+    pub(crate) fn unreachable(&mut self, fault: FollowFault)
+        ensures over { self.new.over ≡ self.old.over }
+    {
+        if self.over.is_none() {
+            self.why = Some(fault);
+        }
+    }
+
+    /// The account of a run.
+    fn account(&self) -> FollowAccount
+        ensures unsettled { result.unsettled ≡ self.now.conflicts.wanted.before - self.now.conflicts.wanted.from }
+        ensures held { result.held ≡ length self.now.subscriber.tape.entries }
+        ensures brought { (result.a.entries ≡ brought_by self.now.subscriber.window.brought A) × (result.b.entries ≡ brought_by self.now.subscriber.window.brought B)
+            × (result.retransmission.entries ≡ brought_by self.now.subscriber.window.brought R) }
+        ensures conflict { result.conflict ≡ self.now.account.conflict }
+        ensures session { (result.session ≡ self.now.account.session) × (result.other_session ≡ self.now.account.other_session) }
+    {
+        let mut account = self.account;
+        account.a.entries = self.subscriber.brought(Line::A);
+        account.b.entries = self.subscriber.brought(Line::B);
+        account.retransmission.entries = self.subscriber.brought(Line::R);
+        account.unsettled = self.conflicts.len();
+        account.held = held_count(&self.subscriber);
+        account
+    }
+
+    /// What is left of a run: what is held and the sink, how it ended, and its account.
+    pub(crate) fn into_followed(self) -> Followed<S>
+        ensures tape { IfSome result.subscriber (λ subscriber. IsTapeOf N.listing N.matrix N.limit subscriber.tape) }
+        ensures some { result.subscriber ≡ Some self.subscriber }
+        ensures given { OnOk result.ended (IfSome result.subscriber (λ subscriber. Appends N.before (S.contents result.sink) (rows_of S.text subscriber.tape))) }
+        ensures part { GivesPart S.text N.listing N.matrix N.limit N.before (S.contents result.sink) }
+        ensures whole { OnOk result.ended (IfSome result.subscriber HasAllOf) }
+        ensures settled { OnOk result.ended (result.account.unsettled ≡ 0) }
+        ensures lacks { (fault : Fault) → self.lacks ≡ Some fault → result.ended ≡ Err fault }
+        ensures fault { (fault : Fault) → self.lacks ≡ None → self.over ≡ Some (Err fault) → result.ended ≡ Err fault }
+        ensures open { self.lacks ≡ None → self.over ≡ None → result.ended ≡ Err Read }
+        ensures well { self.lacks ≡ None → IsSomeAnd self.over (λ ended. OnErr ended ⊥) → IsOk result.ended }
     {
         // For the proof alone: by the clauses of this call what is held is a legal tape, whatever came.
         let _ = self.subscriber.held();
-        let over = match self.lacks {
+        let account = self.account();
+        let ended = match self.lacks {
             Some(fault) => Err(fault),
             None => self.over.unwrap_or(Err(Fault::Read)),
         };
-        (over.and(Ok(self.subscriber)), self.sink)
+        Followed {
+            subscriber: Some(self.subscriber),
+            ended,
+            why: self.why,
+            account,
+            sink: self.sink,
+        }
     }
 }

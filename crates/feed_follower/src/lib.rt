@@ -2,8 +2,16 @@
 //! that it comes to hold.
 #![tactic(auto)]
 
+mod account;
+mod account_lines;
+mod conflicts;
+mod day;
 mod follow;
+mod follow_end;
+mod follow_fault;
+mod followed;
 mod follower;
+mod heard;
 mod held_name;
 mod inbox;
 mod line_positions;
@@ -16,6 +24,11 @@ mod silence;
 mod sink;
 mod sockets;
 
-pub use follow::{follow_over, follow_tape_over};
+pub use account::{FollowAccount, LineCounts};
+pub use account_lines::account_text;
+pub use day::{follow_day, follow_tape_day};
+pub use follow::{follow_ended, follow_over, follow_tape_over};
+pub use follow_end::{FollowEnd, FollowTerms};
+pub use follow_fault::FollowFault;
 pub use sink::{EntrySink, NoSink, SinkFault};
 pub use sockets::FollowSockets;

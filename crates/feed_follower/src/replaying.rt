@@ -2,7 +2,7 @@
 ghost use Rattle.std.specs.Prelude.{◌≡◌, ◌≢◌, ℕ, List, Option, [], OnErr, OnOk};
 ghost use Rattle.std.specs.Io.KnownBytes.{Appends, Keeps};
 ghost use Rattle.row_reads.specs.Writing.{WritesPrefix};
-ghost use Rattle.feed_follower.specs.Followers.{KeepsTerms};
+ghost use Rattle.feed_follower.specs.Followers.{KeepsNews, KeepsTerms};
 ghost use Rattle.feed_follower.specs.Sinks.{GivesMore, GivesSome, HasAll, RowsGrow, figures_of, rows_of};
 ghost use Rattle.feed_ends.specs.declared.fault.Fault.TheVariants.{Disagrees, Memory};
 ghost use Rattle.subscriber.specs.declared.drain_fault.Stop.TheVariants.{Refused};
@@ -28,6 +28,7 @@ fn fault_of_drain(fault: DrainFault) -> Fault
 /// Has the subscriber replay what is ready.
 fn replay_all(subscriber: &mut Subscriber) -> Result<(), Fault>
     ensures names { KeepsTerms subscriber.old.tape subscriber.new.tape }
+    ensures news { KeepsNews subscriber.old subscriber.new }
     ensures grown { RowsGrow subscriber.old.tape subscriber.new.tape }
 {
     match subscriber.drain() {
@@ -54,9 +55,10 @@ fn give<S: EntrySink>(subscriber: &Subscriber, entry: &Entry, sink: &mut S) -> R
 }
 
 /// Has the subscriber replay the next entry, where one is ready, and gives it to a sink. Whether there was one.
-#[tactic(auto, using(crate::proofs::Rows::kept_at_next, crate::proofs::Rows::more_idle, crate::proofs::Rows::more_next, crate::proofs::Rows::some_next, crate::proofs::Rows::some_none))]
+#[tactic(auto, using(crate::proofs::Kept::news_at_next, crate::proofs::Rows::kept_at_next, crate::proofs::Rows::more_idle, crate::proofs::Rows::more_next, crate::proofs::Rows::some_next, crate::proofs::Rows::some_none))]
 fn replay_next<S: EntrySink>(subscriber: &mut Subscriber, sink: &mut S) -> Result<bool, Fault>
     ensures names { KeepsTerms subscriber.old.tape subscriber.new.tape }
+    ensures news { KeepsNews subscriber.old subscriber.new }
     ensures given { OnOk result (GivesMore S.text subscriber.old.tape subscriber.new.tape (S.contents sink.old) (S.contents sink.new)) }
     ensures part { OnErr result (GivesSome S.text subscriber.old.tape subscriber.new.tape (S.contents sink.old) (S.contents sink.new)) }
 {
@@ -74,6 +76,7 @@ fn replay_next<S: EntrySink>(subscriber: &mut Subscriber, sink: &mut S) -> Resul
 /// Has the subscriber replay what is ready, and gives each entry to a sink.
 fn replay_each<S: EntrySink>(subscriber: &mut Subscriber, sink: &mut S) -> Result<(), Fault>
     ensures names { KeepsTerms subscriber.old.tape subscriber.new.tape }
+    ensures news { KeepsNews subscriber.old subscriber.new }
     ensures given { OnOk result (GivesMore S.text subscriber.old.tape subscriber.new.tape (S.contents sink.old) (S.contents sink.new)) }
     ensures part { OnErr result (GivesSome S.text subscriber.old.tape subscriber.new.tape (S.contents sink.old) (S.contents sink.new)) }
 {
@@ -103,6 +106,7 @@ fn flush<S: EntrySink>(sink: &mut S) -> Result<(), Fault>
 #[tactic(auto, using(crate::proofs::Rows::more_kept, crate::proofs::Rows::more_unknown, crate::proofs::Rows::some_none, crate::proofs::Rows::some_of_more, crate::proofs::Rows::some_kept))]
 pub(crate) fn replay<S: EntrySink>(subscriber: &mut Subscriber, sink: &mut S) -> Result<(), Fault>
     ensures names { KeepsTerms subscriber.old.tape subscriber.new.tape }
+    ensures news { KeepsNews subscriber.old subscriber.new }
     ensures given { OnOk result (GivesMore S.text subscriber.old.tape subscriber.new.tape (S.contents sink.old) (S.contents sink.new)) }
     ensures part { OnErr result (GivesSome S.text subscriber.old.tape subscriber.new.tape (S.contents sink.old) (S.contents sink.new)) }
 {

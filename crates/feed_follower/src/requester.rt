@@ -1,23 +1,33 @@
 //! What asks for what a follower lacks, beside its lines.
-ghost use Rattle.std.specs.Prelude.{◌≡◌, ◌≢◌, ◌↔◌, ◌⊎◌, Err, IsTrue};
+ghost use Rattle.std.specs.Prelude.{◌≡◌, ◌≢◌, ◌↔◌, ◌⊎◌, ◌≤◌, Err, IfErr, IfOk, IsTrue, None, Ok};
 ghost use Rattle.feed_ends.specs.declared.fault.Fault.TheVariants.{Disagrees, Memory, Read, Write};
-ghost use Rattle.retransmit.specs.declared.ask_fault.AskFault.TheVariants.{OutOfMemory as AskOutOfMemory, ReadFault, WriteFault};
+ghost use Rattle.feed_follower.specs.Reported.{follow_fault};
+ghost use Rattle.feed_follower.specs.declared.requester.Answered.TheVariants.{Beyond, Packets};
+ghost use Rattle.retransmit.specs.declared.ask_fault.AskFault.TheVariants.{OutOfMemory as AskOutOfMemory, ReadFault, Refused, WriteFault};
+ghost use Rattle.retransmit.specs.declared.refusal.Refusal.TheVariants.{Beyond as RefusedBeyond};
 
-use crate::EntrySink;
 use crate::follower::Next;
 use crate::held_name::HeldName;
 use crate::run::Run;
+use crate::{EntrySink, FollowFault};
 use feed_ends::{Fault, here};
-use retransmit::{AskFault, ask};
+use retransmit::{AskFault, Refusal, ask};
 use std::alloc::Global;
 use std::io::ErrorKind;
 use std::net::{Net, TcpListener, TcpStream};
 use std::sync::Wait;
+use std::thread::Parker;
 use std::time::Duration;
 use tape_frames::Request;
 
 /// How long a turn is for which what a line may still bring is waited for, in milliseconds.
 const TURN: u64 = 1;
+
+/// How long it waits before it tries to connect again, in milliseconds.
+const TRY: u64 = 100;
+
+/// How often it tries to connect within a second.
+const TRIES: u32 = 10;
 
 /// How long the requester sleeps at most before it looks whether its connection was closed, in milliseconds.
 const LOOK: u64 = 1_000;
@@ -31,21 +41,75 @@ pub(crate) struct Requester {
     pub(crate) port: u16,
     /// Where memory comes from.
     pub(crate) alloc: Global,
-    /// Whether a request was answered on this connection.
-    has_answered: bool,
+    /// For how many seconds it tries to connect: `None` where it tries once.
+    connect_within: Option<u32>,
+    /// Whether another connection may be opened once this one has ended: a request was answered on it, or, where it tries for some
+    /// seconds, it was seen open.
+    has_served: bool,
 }
 
-/// Connects to the retransmission at a port of this machine.
+/// What is read of an answer.
+#[derive(Drop)]
+pub(crate) enum Answered {
+    /// The bytes of its packets.
+    Packets(Vec<Vec<u8>>),
+    /// There is no such number.
+    Beyond,
+}
+
+/// Connects to the retransmission at a port of this machine, or names why it can't.
 fn dial<R: Net<Listener = TcpListener, Stream = TcpStream>>(
     rt: &R,
     port: u16,
-) -> Result<TcpStream, Fault> {
-    let Ok(stream) = TcpStream::connect(rt, here(port)) else {
-        return Err(Fault::Read);
-    };
-    // Each request is one write, which need not wait for the one before to be acknowledged.
-    let _ = stream.set_nodelay(true);
-    Ok(stream)
+) -> Result<TcpStream, FollowFault>
+    ensures { IfErr result (λ fault. follow_fault fault ≡ Read) }
+{
+    match TcpStream::connect(rt, here(port)) {
+        Ok(stream) => {
+            // Each request is one write, which need not wait for the one before to be acknowledged.
+            let _ = stream.set_nodelay(true);
+            Ok(stream)
+        }
+        Err(error) => Err(FollowFault::Unreachable {
+            port,
+            kind: error.kind(),
+        }),
+    }
+}
+
+/// How often it tries to connect.
+fn tries(connect_within: Option<u32>) -> u32
+    ensures one { 1 ≤ result }
+    ensures once { connect_within ≡ None → result ≡ 1 }
+{
+    match connect_within {
+        Some(seconds) => seconds.saturating_mul(TRIES).max(1),
+        None => 1,
+    }
+}
+
+/// Waits before it tries to connect again.
+fn pause<R: Wait>(rt: &R) {
+    Parker::new().park_timeout(rt, Duration::from_millis(TRY));
+}
+
+/// Connects to the retransmission, for as long as it may try. The fault is that of the last try.
+fn dial_within<R: Net<Listener = TcpListener, Stream = TcpStream> + Wait>(
+    rt: &R,
+    port: u16,
+    connect_within: Option<u32>,
+) -> Result<TcpStream, FollowFault>
+    ensures { IfErr result (λ fault. follow_fault fault ≡ Read) }
+{
+    let mut dialed = dial(rt, port);
+    for _again in 1..tries(connect_within) {
+        if dialed.is_ok() {
+            break;
+        }
+        pause(rt);
+        dialed = dial(rt, port);
+    }
+    dialed
 }
 
 /// The run's fault for a request that brought no packets.
@@ -64,40 +128,56 @@ fn fault_of_ask(fault: AskFault) -> Fault
 }
 
 /// Whether a connection has ended on which a request brought this: it could not be read or written.
-fn has_ended(brought: &Result<Vec<Vec<u8>>, Fault>) -> bool
+fn has_ended(brought: &Result<Answered, Fault>) -> bool
     ensures { IsTrue result ↔ ((brought.now ≡ Err Read) ⊎ (brought.now ≡ Err Write)) }
 {
     matches!(brought, Err(Fault::Read | Fault::Write))
 }
 
+/// What a request brought, by what came of asking.
+fn read_answer(asked: Result<Vec<Vec<u8>>, AskFault>) -> Result<Answered, Fault>
+    ensures packets { IfOk asked (λ packets. result ≡ Ok (Packets packets)) }
+    ensures beyond { asked ≡ Err (Refused RefusedBeyond) → result ≡ Ok Beyond }
+    ensures read { asked ≡ Err ReadFault → result ≡ Err Read }
+    ensures write { asked ≡ Err WriteFault → result ≡ Err Write }
+    ensures memory { asked ≡ Err AskOutOfMemory → result ≡ Err Memory }
+    ensures only { result ≡ Ok Beyond → asked ≡ Err (Refused RefusedBeyond) }
+{
+    match asked {
+        Ok(packets) => Ok(Answered::Packets(packets)),
+        Err(AskFault::Refused(Refusal::Beyond)) => Ok(Answered::Beyond),
+        Err(fault) => Err(fault_of_ask(fault)),
+    }
+}
+
 impl Requester {
-    /// One that is connected.
-    pub(crate) fn new<R: Net<Listener = TcpListener, Stream = TcpStream>>(
+    /// One that is connected, for as long as it may try.
+    pub(crate) fn new<R: Net<Listener = TcpListener, Stream = TcpStream> + Wait>(
         rt: &R,
         alloc: Global,
         port: u16,
-    ) -> Result<Requester, Fault> {
-        let connection = dial(rt, port)?;
+        connect_within: Option<u32>,
+    ) -> Result<Requester, FollowFault>
+        ensures { IfErr result (λ fault. follow_fault fault ≡ Read) }
+    {
+        let connection = dial_within(rt, port, connect_within)?;
         Ok(Requester {
             connection,
             port,
             alloc,
-            has_answered: false,
+            connect_within,
+            has_served: connect_within.is_some(),
         })
     }
 
     /// What a request brings. The follower is not locked meanwhile, so its lines are read on.
-    fn bring(&self, request: &Request) -> Result<Vec<Vec<u8>>, Fault> {
-        let asked = ask(
+    fn bring(&self, request: &Request) -> Result<Answered, Fault> {
+        read_answer(ask(
             self.alloc,
             request,
             &mut &self.connection,
             &mut &self.connection,
-        );
-        match asked {
-            Ok(packets) => Ok(packets),
-            Err(fault) => Err(fault_of_ask(fault)),
-        }
+        ))
     }
 
     /// Another handle of the connection.
@@ -119,6 +199,23 @@ impl Requester {
         }
     }
 
+    /// Connects again, for as long as it may try and the run goes on.
+    fn dial_again<
+        N: HeldName,
+        S: EntrySink,
+        R: Net<Listener = TcpListener, Stream = TcpStream> + Wait,
+    >(&self, rt: &R, run: &Run<'_, N, S>) -> Result<TcpStream, FollowFault> {
+        let mut dialed = dial(rt, self.port);
+        for _again in 1..tries(self.connect_within) {
+            if dialed.is_ok() || !run.goes_on(rt) {
+                break;
+            }
+            pause(rt);
+            dialed = dial(rt, self.port);
+        }
+        dialed
+    }
+
     /// Connects anew for a new subscriber. The connection of the one that was given up is closed.
     fn reconnect<
         N: HeldName,
@@ -128,48 +225,103 @@ impl Requester {
         match dial(rt, self.port) {
             Ok(connection) => {
                 self.connection = connection;
-                self.has_answered = false;
+                self.has_served = false;
                 run.connected(rt, self.handle());
             }
-            Err(fault) => run.connected(rt, Err(fault)),
+            Err(fault) => run.connected(rt, Err(fault.fault())),
         }
     }
 
-    /// Connects anew after a connection that has ended, and tells whether that could be done.
+    /// Connects anew after a connection that has ended, and tells whether that could be done. Where it could not, the run keeps what names
+    /// the fault.
     fn connect_again<
         N: HeldName,
         S: EntrySink,
         R: Net<Listener = TcpListener, Stream = TcpStream> + Wait,
     >(&mut self, rt: &R, run: &Run<'_, N, S>) -> bool {
-        let Ok(connection) = dial(rt, self.port) else {
-            return false;
+        let connection = match self.dial_again(rt, run) {
+            Ok(connection) => connection,
+            Err(fault) => {
+                run.unreachable(rt, fault);
+                return false;
+            }
         };
         let Ok(handle) = connection.try_clone() else {
             return false;
         };
         self.connection = connection;
-        self.has_answered = false;
+        self.has_served = false;
         run.replace_connection(rt, handle);
         true
     }
 
-    /// Asks for what is missing. Where the connection has ended after a request was answered on it, the follower connects anew, and then
-    /// looks again at what is missing. So at most one connection is opened for each request that was answered. Where it cannot connect, or
-    /// nothing was answered, the run ends by the fault of the connection that has ended.
+    /// Asks for numbers: what a request brings, unless the connection has ended and another was opened. That is done where a request
+    /// was answered on it, or it may be tried for some seconds. Then it is looked again at what is to be asked for. So at most one connection is
+    /// opened for each request that was answered or look at an open connection. Where it cannot connect, or nothing was answered,
+    /// the run ends by the fault of the connection that has ended.
     fn ask_for<
         N: HeldName,
         S: EntrySink,
         R: Net<Listener = TcpListener, Stream = TcpStream> + Wait,
-    >(&mut self, rt: &R, run: &Run<'_, N, S>, request: &Request) {
+    >(
+        &mut self,
+        rt: &R,
+        run: &Run<'_, N, S>,
+        request: &Request,
+    ) -> Option<Result<Answered, Fault>> {
         let brought = self.bring(request);
-        let is_lost = self.has_answered && has_ended(&brought);
+        let is_lost = self.has_served && has_ended(&brought);
         if is_lost && run.goes_on(rt) && self.connect_again(rt, run) {
-            return;
+            return None;
         }
         if brought.is_ok() {
-            self.has_answered = true;
+            self.has_served = true;
         }
-        run.answer(rt, request, brought);
+        Some(brought)
+    }
+
+    /// Asks for what is missing.
+    fn ask_missing<
+        N: HeldName,
+        S: EntrySink,
+        R: Net<Listener = TcpListener, Stream = TcpStream> + Wait,
+    >(&mut self, rt: &R, run: &Run<'_, N, S>, request: &Request) {
+        if let Some(brought) = self.ask_for(rt, run, request) {
+            run.answer(rt, request, brought);
+        }
+    }
+
+    /// Asks for numbers of which packets told differently.
+    fn ask_again<
+        N: HeldName,
+        S: EntrySink,
+        R: Net<Listener = TcpListener, Stream = TcpStream> + Wait,
+    >(&mut self, rt: &R, run: &Run<'_, N, S>, request: &Request) {
+        if let Some(brought) = self.ask_for(rt, run, request) {
+            run.settle_by(rt, request, brought);
+        }
+    }
+
+    /// Looks at the connection. One that was closed is opened again where it may be tried for some seconds, and has served.
+    fn look<N: HeldName, S: EntrySink, R: Net<Listener = TcpListener, Stream = TcpStream> + Wait>(
+        &mut self,
+        rt: &R,
+        run: &Run<'_, N, S>,
+    ) {
+        let is_closed = self.is_closed();
+        let may_try = self.connect_within.is_some();
+        if is_closed
+            && may_try
+            && self.has_served
+            && run.goes_on(rt)
+            && self.connect_again(rt, run)
+        {
+            return;
+        }
+        if may_try && !is_closed {
+            self.has_served = true;
+        }
+        run.looked(rt, is_closed);
     }
 
     /// Asks for what is missing until the run is over, and sleeps while nothing is missing. What one line lost is waited for
@@ -185,13 +337,14 @@ impl Requester {
             match run.next_to_ask(rt) {
                 Next::Read => {
                     run.rest(rt, Duration::from_millis(LOOK));
-                    run.looked(rt, requester.is_closed());
+                    requester.look(rt, run);
                 }
                 Next::Wait(number) => {
                     run.rest(rt, Duration::from_millis(TURN));
                     run.waited(rt, number);
                 }
-                Next::Ask(request) => requester.ask_for(rt, run, &request),
+                Next::Ask(request) => requester.ask_missing(rt, run, &request),
+                Next::Settle(request) => requester.ask_again(rt, run, &request),
                 Next::Connect => requester.reconnect(rt, run),
                 Next::End => break,
             }

@@ -6,9 +6,9 @@ use crate::follower::{Follower, Next};
 use crate::held_name::HeldName;
 use crate::inbox::Inbox;
 use crate::lines::{FollowedLine, ROOM};
-use crate::requester::Requester;
+use crate::requester::{Answered, Requester};
 use crate::shared_follower::{Owed, SharedFollower, Turn};
-use crate::{EntrySink, FollowSockets};
+use crate::{EntrySink, FollowFault, FollowSockets};
 use arbitration::Line;
 use feed_ends::Fault;
 use std::alloc::Global;
@@ -92,7 +92,7 @@ impl<'a, N: HeldName, S: EntrySink> Run<'a, N, S> {
     {
         match next {
             Next::Read => false,
-            Next::Wait(_) | Next::Ask(_) | Next::Connect => {
+            Next::Wait(_) | Next::Ask(_) | Next::Settle(_) | Next::Connect => {
                 self.bell.unpark();
                 false
             }
@@ -212,10 +212,29 @@ impl<'a, N: HeldName, S: EntrySink> Run<'a, N, S> {
         &self,
         rt: &R,
         request: &Request,
-        brought: Result<Vec<Vec<u8>>, Fault>,
+        brought: Result<Answered, Fault>,
     ) {
         let mut turn = self.shared.turn(rt);
         turn.follower.answer(request, brought);
+        self.work_off(rt, turn.end());
+    }
+
+    /// Has the follower take what a request brought for numbers of which packets told differently.
+    pub(crate) fn settle_by<R: Wait>(
+        &self,
+        rt: &R,
+        request: &Request,
+        brought: Result<Answered, Fault>,
+    ) {
+        let mut turn = self.shared.turn(rt);
+        turn.follower.settle_by(request, brought);
+        self.work_off(rt, turn.end());
+    }
+
+    /// Takes note that the retransmission could not be reached, and why.
+    pub(crate) fn unreachable<R: Wait>(&self, rt: &R, fault: FollowFault) {
+        let mut turn = self.shared.turn(rt);
+        turn.follower.unreachable(fault);
         self.work_off(rt, turn.end());
     }
 

@@ -1,4 +1,4 @@
-use Rattle.feed_follower.specs.Followers.{KeepsTerms}
+use Rattle.feed_follower.specs.Followers.{KeepsNews, KeepsTerms}
 use Rattle.feed_follower.specs.Sinks.{GivesMore}
 use Rattle.feed_follower.proofs.replaying.replay_each.Given as goal
 
@@ -6,5 +6,6 @@ use Rattle.feed_follower.proofs.replaying.replay_each.Given as goal
 abbrev pub invariant-loop : goal.invariant-loop
 invariant-loop g l = record {
   names : KeepsTerms l.fn.subscriber.tape l.subscriber.tape;
+  news : KeepsNews l.fn.subscriber l.subscriber;
   given : GivesMore g.S.EntrySink.text l.fn.subscriber.tape l.subscriber.tape (g.S.EntrySink.contents l.fn.sink) (g.S.EntrySink.contents l.sink);
 }

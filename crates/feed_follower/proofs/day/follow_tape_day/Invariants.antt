@@ -1,4 +1,4 @@
-use Rattle.feed_follower.proofs.follow.follow_over.Given as goal
+use Rattle.feed_follower.proofs.day.follow_tape_day.Given as goal
 
 abbrev pub ghosts-follow : goal.ghosts-follow
 ghosts-follow g a = record { listing = a.listing; matrix = a.matrix; limit = a.limit; before = g.S.EntrySink.contents a.sink }

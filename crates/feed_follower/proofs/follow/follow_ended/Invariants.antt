@@ -1,0 +1,4 @@
+use Rattle.feed_follower.proofs.follow.follow_ended.Given as goal
+
+abbrev pub ghosts-follow_plainly : goal.ghosts-follow_plainly
+ghosts-follow_plainly g a = record { listing = a.listing; matrix = a.matrix; limit = a.limit; before = g.S.EntrySink.contents a.sink }

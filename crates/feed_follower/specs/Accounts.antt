@@ -1,0 +1,53 @@
+-- What a follower's account counts.
+use Rattle.std.specs.Prelude.{ℕ, ◌+◌, ◌-◌, ◌^◌, min, Option, None, Some}
+use Rattle.std.specs.Option.{option_or}
+use Rattle.arbitration.specs.declared.line.Line.{Line}
+use Rattle.arbitration.specs.declared.line.Line.TheVariants.{A, B, R}
+use Rattle.feed_follower.specs.declared.heard.Heard.{Heard}
+use Rattle.feed_follower.specs.declared.heard.Heard.TheVariants.{Taken, NoPacket, Foreign, Conflict, PastEnd}
+use Rattle.feed_follower.specs.declared.account.LineCounts.{LineCounts}
+use Rattle.feed_follower.specs.declared.account.FollowAccount.{FollowAccount}
+
+-- one more, up to the greatest number that a counter holds
+abbrev pub one_more : ℕ → ℕ
+one_more n = min (n + 1) (2 ^ 64 - 1)
+
+-- a line's counts once something more came by it
+abbrev pub counted : Heard → LineCounts → LineCounts
+counted Taken c = record c { packets = one_more c.packets }
+counted NoPacket c = record c { packets = one_more c.packets; no_packet = one_more c.no_packet }
+counted Foreign c = record c { packets = one_more c.packets; foreign = one_more c.foreign }
+counted (Conflict n) c = record c { packets = one_more c.packets; conflict = one_more c.conflict }
+counted PastEnd c = record c { packets = one_more c.packets; past_end = one_more c.past_end }
+
+-- how many packets were dropped
+abbrev pub dropped : LineCounts → ℕ
+dropped c = c.no_packet + c.foreign + c.conflict + c.past_end
+
+-- an account once something more came by a line
+abbrev pub account_with : Line → Heard → FollowAccount → FollowAccount
+account_with A heard a = record a { a = counted heard a.a }
+account_with B heard a = record a { b = counted heard a.b }
+account_with R heard a = record a { retransmission = counted heard a.retransmission }
+
+-- no line brought anything
+abbrev pub no_counts : LineCounts
+no_counts = record { packets = 0; no_packet = 0; foreign = 0; conflict = 0; past_end = 0; entries = 0 }
+
+-- the account of a follower that heard nothing
+abbrev pub new_account : ℕ → FollowAccount
+new_account session = record {
+  session = session;
+  a = no_counts;
+  b = no_counts;
+  retransmission = no_counts;
+  asked = 0;
+  other_session = None;
+  conflict = None;
+  unsettled = 0;
+  held = 0;
+}
+
+-- another session is named, unless one was
+abbrev pub once_other : ℕ → FollowAccount → FollowAccount
+once_other session a = record a { other_session = option_or a.other_session (Some session) }
