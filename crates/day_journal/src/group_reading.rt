@@ -1,0 +1,199 @@
+//! A group read from bytes.
+ghost use Rattle.std.specs.Prelude.{◌≡◌, ◌+◌, ◌≤◌, [], length, IfOk, OnOk};
+ghost use Rattle.tape_frames.specs.Limits.{LONGEST_PACKET};
+ghost use Rattle.tape_frames.specs.Reading.{packet_of};
+ghost use Rattle.tape_types.specs.Ranges.{TAPE_MOST};
+ghost use Rattle.day_journal.specs.GroupReading.{begins_with_packet, frame_length, group_at, is_end, is_next, is_packet, next_row, packets_at, tail_fault, told_at, told_count};
+ghost use Rattle.day_journal.specs.Reads.{GivesGroup, GivesPackets, GivesRow};
+
+use crate::GroupFault;
+use crate::group_putting::chained;
+use crate::limits::DIGEST_LENGTH;
+use reports::Unread;
+use tape_core::Entry;
+use tape_frames::{ENTRIES_MOST, EntryRow, LONGEST_PACKET, Packet, Version, decode_packet};
+
+/// Reads the group at the front, which follows so many entries and this digest, and answers its own digest. Its entries replace
+/// those of the vector.
+#[tactic(auto, unfolding(crate::specs::GroupReading::group_at))]
+pub(crate) fn read_group(
+    unread: &mut Unread<'_>,
+    session: u64,
+    held: u32,
+    before: &[u8; DIGEST_LENGTH],
+    entries: &mut Vec<Entry>,
+) -> Result<[u8; DIGEST_LENGTH], GroupFault>
+    requires { held ≤ TAPE_MOST }
+    ensures read { GivesGroup result entries.new.items unread.new.rest.now (group_at session held before.now unread.old.rest.now) }
+    ensures within { OnOk result (held + length entries.new.items ≤ TAPE_MOST) }
+{
+    let bytes = unread.rest;
+    entries.clear();
+    read_packets(unread, session, held, entries)?;
+    let count = unread.u32(GroupFault::Torn)?;
+    let body = &bytes[..bytes.len().saturating_sub(unread.rest.len())];
+    let digest: [u8; DIGEST_LENGTH] = unread.bytes(GroupFault::Torn)?;
+    if !is_end(before, body, entries.len(), count, &digest) {
+        return Err(GroupFault::Damaged);
+    }
+    Ok(digest)
+}
+
+/// Whether a group's end is that of so many entries and these bytes.
+fn is_end(
+    before: &[u8; DIGEST_LENGTH],
+    body: &[u8],
+    entries: usize,
+    count: u32,
+    digest: &[u8; DIGEST_LENGTH],
+) -> bool
+    ensures { result ≡ is_end before.now body.now entries count digest.now }
+{
+    entries > 0 && count as usize == entries && *digest == chained(before, body)
+}
+
+/// Reads the packets up to the mark, and takes it.
+fn read_packets(
+    unread: &mut Unread<'_>,
+    session: u64,
+    held: u32,
+    entries: &mut Vec<Entry>,
+) -> Result<(), GroupFault>
+    requires none { entries.old.items ≡ [] }
+    requires within { held ≤ TAPE_MOST }
+    ensures read { GivesPackets result entries.new.items unread.new.rest.now
+        (packets_at (length unread.old.rest.now) session held [] unread.old.rest.now) }
+    ensures within { OnOk result (held + length entries.new.items ≤ TAPE_MOST) }
+{
+    for place in 0..unread.rest.len() {
+        let len = frame_length(unread.rest)?;
+        if len == 0 {
+            unread.rest = &unread.rest[2..];
+            return Ok(());
+        }
+        // Only the last packet of a group has less than the most entries.
+        if entries.len() % ENTRIES_MOST != 0 {
+            return Err(GroupFault::Damaged);
+        }
+        let number = u64::from(held) + entries.len() as u64 + 1;
+        read_row(session, number, &unread.rest[2..2 + len], entries)?;
+        unread.rest = &unread.rest[2 + len..];
+    }
+    Err(GroupFault::Damaged)
+}
+
+/// How many bytes the packet has whose length stands at the front, which are all there; 0 at the mark.
+#[tactic(auto, unfolding(crate::specs::GroupReading::frame_length))]
+fn frame_length(bytes: &[u8]) -> Result<usize, GroupFault>
+    ensures exact { result ≡ frame_length bytes.now }
+    ensures there { IfOk result (λ len. 2 + len ≤ length bytes.now) }
+    ensures short { IfOk result (λ len. len ≤ LONGEST_PACKET) }
+{
+    let mut unread = Unread { rest: bytes };
+    let len = unread.u16(GroupFault::Torn)? as usize;
+    if len > LONGEST_PACKET {
+        return Err(GroupFault::Damaged);
+    }
+    if unread.rest.len() < len {
+        return Err(tail_fault(unread.rest));
+    }
+    Ok(len)
+}
+
+/// What is wrong where the bytes end before a packet does.
+fn tail_fault(bytes: &[u8]) -> GroupFault
+    ensures { result ≡ tail_fault bytes.now }
+{
+    if begins_with_packet(bytes) {
+        GroupFault::Damaged
+    } else {
+        GroupFault::Torn
+    }
+}
+
+/// Whether one of the fronts of the bytes, which are fewer than a packet may have, is a packet.
+fn begins_with_packet(bytes: &[u8]) -> bool
+    ensures { result ≡ begins_with_packet (length bytes.now + 1) bytes.now }
+{
+    let mut len = bytes.len() + 1;
+    while len > 0 {
+        len -= 1;
+        if is_packet(&bytes[..len]) {
+            return true;
+        }
+    }
+    false
+}
+
+/// Whether the bytes are a packet.
+fn is_packet(bytes: &[u8]) -> bool
+    ensures { result ≡ is_packet (packet_of bytes.now) }
+{
+    match decode_packet(bytes) {
+        Ok(_) => true,
+        Err(_) => false,
+    }
+}
+
+/// Appends the entries of the packet that the text is, if it is the next one.
+fn read_row(
+    session: u64,
+    number: u64,
+    text: &[u8],
+    entries: &mut Vec<Entry>,
+) -> Result<(), GroupFault>
+    ensures row { GivesRow result entries.old.items entries.new.items (next_row session number (packet_of text.now)) }
+    ensures within { OnOk result (number + length entries.new.items ≤ TAPE_MOST + 1 + length entries.old.items) }
+{
+    let Ok(
+        Packet::Data {
+            session: own,
+            entries: row,
+        },
+    ) = decode_packet(text)
+    else {
+        return Err(GroupFault::Damaged);
+    };
+    if !is_next(session, number, own, &row) {
+        return Err(GroupFault::Damaged);
+    }
+    match entries.extend_from_slice(row.entries()) {
+        Ok(()) => Ok(()),
+        Err(_) => Err(GroupFault::OutOfMemory),
+    }
+}
+
+/// Whether a packet of this session brings the entries from this number on, in the second version.
+fn is_next(session: u64, number: u64, own: u64, row: &EntryRow) -> bool
+    ensures { result ≡ is_next session number own row.now }
+{
+    let entries = row.entries();
+    let first = u64::from(entries[0].number.value());
+    own == session && row.version() == Version::Two && first == number
+}
+
+/// How many entries the group at the front of the bytes has by its own end.
+pub(crate) fn told_count(bytes: &[u8]) -> Option<u32>
+    ensures { result ≡ told_count bytes.now }
+{
+    match told(bytes) {
+        Ok(count) => Some(count),
+        Err(_) => None,
+    }
+}
+
+/// The number that the group's end tells, where the lengths of its packets lead there.
+fn told(bytes: &[u8]) -> Result<u32, GroupFault>
+    ensures { result ≡ told_at (length bytes.now) bytes.now }
+{
+    let mut rest = bytes;
+    for place in 0..bytes.len() {
+        let mut unread = Unread { rest };
+        let len = unread.u16(GroupFault::Damaged)? as usize;
+        if len == 0 {
+            return unread.u32(GroupFault::Damaged);
+        }
+        rest = &unread.rest[len.min(unread.rest.len())..];
+    }
+    Err(GroupFault::Damaged)
+}

@@ -1,0 +1,79 @@
+//! The header of a journal.
+ghost use Rattle.std.specs.Prelude.{◌≡◌, ◌≤◌, ◌++◌, IfOk, OnOk, length};
+ghost use Rattle.tape_types.specs.Ranges.{PARTICIPANTS_MOST, SYMBOLS_MOST};
+ghost use Rattle.day_journal.specs.Headers.{day_text, header_digest, header_text, matrix_byte, participants_text, symbols_text};
+
+use crate::limits::{DIGEST_LENGTH, MAGIC, VERSION};
+use sale_matrix::Matrix;
+use sha2::{Digest, Sha256};
+use std::alloc::AllocError;
+use tape_types::{Listing, Participant, Symbol};
+
+/// Replaces the text by the header of a journal with these terms, of which the limit is 1 to `TAPE_MOST`, and answers its
+/// digest, to which the first group is chained. Where memory runs out, the text may hold a part of it.
+pub fn put_header(
+    session: u64,
+    matrix: Matrix,
+    limit: u32,
+    listing: &Listing,
+    text: &mut Vec<u8>,
+) -> Result<[u8; DIGEST_LENGTH], AllocError>
+    ensures text { OnOk result (text.new.items
+        ≡ header_text (record { session = session; matrix = matrix; limit = limit; listing = listing.now })) }
+    ensures digest { IfOk result (λ d. d
+        ≡ header_digest (record { session = session; matrix = matrix; limit = limit; listing = listing.now })) }
+{
+    text.clear();
+    put_day(session, matrix, limit, text)?;
+    put_symbols(listing.symbols().as_slice(), text)?;
+    put_participants(listing.participants().as_slice(), text)?;
+    let digest = Sha256::digest(text.as_slice());
+    text.extend_from_slice(&digest)?;
+    Ok(digest)
+}
+
+/// Appends what stands before the listing.
+fn put_day(session: u64, matrix: Matrix, limit: u32, text: &mut Vec<u8>) -> Result<(), AllocError>
+    ensures { OnOk result (text.new.items ≡ text.old.items ++ day_text session matrix limit) }
+{
+    text.extend_from_slice(&MAGIC)?;
+    text.extend_from_slice(&VERSION.to_be_bytes())?;
+    text.extend_from_slice(&session.to_be_bytes())?;
+    text.extend_from_slice(&matrix_byte(matrix).to_be_bytes())?;
+    text.extend_from_slice(&limit.to_be_bytes())?;
+    Ok(())
+}
+
+/// A matrix as a byte.
+fn matrix_byte(matrix: Matrix) -> u8
+    ensures { result ≡ matrix_byte matrix }
+{
+    match matrix {
+        Matrix::One => 1,
+        Matrix::Two => 2,
+    }
+}
+
+/// Appends the symbols after their number.
+fn put_symbols(symbols: &[Symbol], text: &mut Vec<u8>) -> Result<(), AllocError>
+    requires { length symbols.now ≤ SYMBOLS_MOST }
+    ensures { OnOk result (text.new.items ≡ text.old.items ++ symbols_text symbols.now) }
+{
+    text.extend_from_slice(&(symbols.len() as u16).to_be_bytes())?;
+    for symbol in symbols {
+        text.extend_from_slice(&symbol.value())?;
+    }
+    Ok(())
+}
+
+/// Appends the participants after their number.
+fn put_participants(participants: &[Participant], text: &mut Vec<u8>) -> Result<(), AllocError>
+    requires { length participants.now ≤ PARTICIPANTS_MOST }
+    ensures { OnOk result (text.new.items ≡ text.old.items ++ participants_text participants.now) }
+{
+    text.extend_from_slice(&(participants.len() as u8).to_be_bytes())?;
+    for participant in participants {
+        text.extend_from_slice(&participant.value().to_be_bytes())?;
+    }
+    Ok(())
+}

@@ -1,0 +1,206 @@
+//! The header of a journal, read.
+ghost use Rattle.std.specs.Prelude.{◌≡◌, ◌≤◌, [], IfOk, length};
+ghost use Rattle.std.specs.Int.{w8};
+ghost use Rattle.reports.specs.Fields.{Reads};
+ghost use Rattle.day_journal.specs.Headers.{header_at, magic_at, matrix_at, matrix_of, participant_at, participants_at, symbol_at, symbols_at, terms_at, values_at, version_at};
+ghost use Rattle.day_journal.specs.HeaderReads.{GivesHeader, GivesListing, GivesTerms, GivesValues};
+
+use crate::HeaderFault;
+use crate::limits::{DIGEST_LENGTH, MAGIC, VERSION};
+use reports::Unread;
+use sale_matrix::Matrix;
+use sha2::{Digest, Sha256};
+use std::alloc::Global;
+use tape_types::{Listing, ListingFault, Participant, Symbol, TAPE_MOST};
+
+/// What the header of a journal says.
+#[derive(Drop)]
+pub struct Header {
+    /// The session under which the tape is sent.
+    pub session: u64,
+    /// The matrix that the day goes by.
+    pub matrix: Matrix,
+    /// The most entries that the tape takes, 1 to `TAPE_MOST`.
+    pub limit: u32,
+    /// The symbols and participants of the day.
+    pub listing: Listing,
+    /// The header's digest, to which the first group is chained.
+    pub digest: [u8; DIGEST_LENGTH],
+    /// How many bytes the header has.
+    pub len: usize,
+}
+
+/// The fields of a header, as they are read.
+#[derive(Drop)]
+struct Fields {
+    session: u64,
+    matrix: Matrix,
+    limit: u32,
+    symbols: Vec<Symbol>,
+    participants: Vec<Participant>,
+}
+
+/// The header at the front of a journal's bytes. Memory is taken for the listing.
+#[tactic(auto, unfolding(crate::specs::Headers::header_at))]
+pub fn read_header(alloc: Global, bytes: &[u8]) -> Result<Header, HeaderFault>
+    ensures exact { GivesHeader result bytes.now (header_at bytes.now) }
+    ensures within { IfOk result (λ h. h.len ≤ length bytes.now) }
+{
+    let mut unread = Unread { rest: bytes };
+    let fields = read_fields(alloc, &mut unread)?;
+    let body = &bytes[..bytes.len().saturating_sub(unread.rest.len())];
+    let digest: [u8; DIGEST_LENGTH] = unread.bytes(HeaderFault::Short)?;
+    if digest != Sha256::digest(body) {
+        return Err(HeaderFault::Damaged);
+    }
+    let listing = listed(
+        alloc,
+        fields.symbols.as_slice(),
+        fields.participants.as_slice(),
+    )?;
+    Ok(Header {
+        session: fields.session,
+        matrix: fields.matrix,
+        limit: fields.limit,
+        listing,
+        digest,
+        len: bytes.len().saturating_sub(unread.rest.len()),
+    })
+}
+
+/// The fields before the digest.
+#[tactic(auto, unfolding(crate::specs::Headers::terms_at, reports::specs::Fields::ranged_at))]
+fn read_fields(alloc: Global, unread: &mut Unread<'_>) -> Result<Fields, HeaderFault>
+    ensures terms { GivesTerms result unread.new.rest.now (terms_at unread.old.rest.now) }
+{
+    read_magic(unread)?;
+    read_version(unread)?;
+    let session = unread.u64(HeaderFault::Short)?;
+    let matrix = read_matrix(unread)?;
+    let limit = unread.tape_number(TAPE_MOST, HeaderFault::Short, HeaderFault::Damaged)?;
+    let symbols = read_symbols(alloc, unread)?;
+    let participants = read_participants(alloc, unread)?;
+    Ok(Fields {
+        session,
+        matrix,
+        limit: limit.value(),
+        symbols,
+        participants,
+    })
+}
+
+/// The first bytes, as every journal has them.
+#[tactic(auto, unfolding(crate::specs::Headers::magic_at))]
+fn read_magic(unread: &mut Unread<'_>) -> Result<[u8; 8], HeaderFault>
+    ensures { Reads result unread.new.rest.now (magic_at unread.old.rest.now) }
+{
+    let magic: [u8; 8] = unread.bytes(HeaderFault::NoJournal)?;
+    if magic != MAGIC {
+        return Err(HeaderFault::NoJournal);
+    }
+    Ok(magic)
+}
+
+/// The version, which is this one.
+#[tactic(auto, unfolding(crate::specs::Headers::version_at))]
+fn read_version(unread: &mut Unread<'_>) -> Result<u8, HeaderFault>
+    ensures { Reads result unread.new.rest.now (version_at unread.old.rest.now) }
+{
+    let version = unread.u8(HeaderFault::Short)?;
+    if version != VERSION {
+        return Err(HeaderFault::OtherVersion);
+    }
+    Ok(version)
+}
+
+/// The matrix.
+#[tactic(auto, unfolding(crate::specs::Headers::matrix_at))]
+fn read_matrix(unread: &mut Unread<'_>) -> Result<Matrix, HeaderFault>
+    ensures { Reads result unread.new.rest.now (matrix_at unread.old.rest.now) }
+{
+    let byte = unread.u8(HeaderFault::Short)?;
+    matrix_of(byte).ok_or(HeaderFault::Damaged)
+}
+
+/// The matrix of a byte.
+fn matrix_of(byte: u8) -> Option<Matrix>
+    ensures { result ≡ matrix_of byte }
+{
+    match byte {
+        1 => Some(Matrix::One),
+        2 => Some(Matrix::Two),
+        _ => None,
+    }
+}
+
+/// The symbols after their number.
+#[tactic(auto, unfolding(crate::specs::Headers::symbols_at))]
+fn read_symbols(alloc: Global, unread: &mut Unread<'_>) -> Result<Vec<Symbol>, HeaderFault>
+    ensures { GivesValues result unread.new.rest.now (symbols_at unread.old.rest.now) }
+{
+    let count = unread.u16(HeaderFault::Short)?;
+    read_symbol_list(alloc, unread, count)
+}
+
+/// As many symbols as the count.
+fn read_symbol_list(
+    alloc: Global,
+    unread: &mut Unread<'_>,
+    count: u16,
+) -> Result<Vec<Symbol>, HeaderFault>
+    ensures { GivesValues result unread.new.rest.now (values_at symbol_at count [] unread.old.rest.now) }
+{
+    let mut symbols = Vec::new(alloc);
+    for place in 0..count {
+        let symbol = unread.symbol(HeaderFault::Short, HeaderFault::Damaged)?;
+        let Ok(()) = symbols.push(symbol) else {
+            return Err(HeaderFault::OutOfMemory);
+        };
+    }
+    Ok(symbols)
+}
+
+/// The participants after their number.
+#[tactic(auto, unfolding(crate::specs::Headers::participants_at))]
+fn read_participants(
+    alloc: Global,
+    unread: &mut Unread<'_>,
+) -> Result<Vec<Participant>, HeaderFault>
+    ensures { GivesValues result unread.new.rest.now (participants_at unread.old.rest.now) }
+{
+    let count = unread.u8(HeaderFault::Short)?;
+    read_participant_list(alloc, unread, count)
+}
+
+/// As many participants as the count.
+fn read_participant_list(
+    alloc: Global,
+    unread: &mut Unread<'_>,
+    count: u8,
+) -> Result<Vec<Participant>, HeaderFault>
+    ensures { GivesValues result unread.new.rest.now (values_at participant_at count [] unread.old.rest.now) }
+{
+    let mut participants = Vec::new(alloc);
+    for place in 0..count {
+        let participant = unread.participant(HeaderFault::Short, HeaderFault::Damaged)?;
+        let Ok(()) = participants.push(participant) else {
+            return Err(HeaderFault::OutOfMemory);
+        };
+    }
+    Ok(participants)
+}
+
+/// The listing of the names.
+fn listed(
+    alloc: Global,
+    symbols: &[Symbol],
+    participants: &[Participant],
+) -> Result<Listing, HeaderFault>
+    ensures listing { GivesListing result symbols.now participants.now }
+{
+    match Listing::new(alloc, symbols, participants) {
+        Ok(listing) => Ok(listing),
+        Err(ListingFault::OutOfMemory) => Err(HeaderFault::OutOfMemory),
+        Err(_) => Err(HeaderFault::Damaged),
+    }
+}

@@ -1,0 +1,50 @@
+//! The entries of a journal, replayed.
+ghost use Rattle.std.specs.Prelude.{◌≡◌, ◌↔◌, IfErr, IsTrue, OnOk};
+ghost use Rattle.day_journal.specs.Replays.{StopsReplay, with_entries};
+
+use summaries::Store;
+use tape_core::{Entry, Refusal, Tape};
+
+/// Why a replay stopped: the first entry that is not the tape's next one.
+#[derive(Clone, Copy, Debug, PartialEq, Eq)]
+pub enum ReplayFault {
+    /// The tape refuses the entry of this number, as `Tape::replay` does. It has the entries before it.
+    Refused {
+        /// The number of the entry.
+        number: u32,
+        /// Why.
+        refusal: Refusal,
+    },
+    /// The tape makes another entry of the message: what the journal's entry carries is not what the tape gives. The tape has its own
+    /// entry then.
+    Differs {
+        /// The number of the entry.
+        number: u32,
+    },
+}
+
+/// Replays the entries of a group on a tape, one after the other. The tape has them then, and no others, at its end.
+pub fn replay_entries<S: Store>(tape: &mut Tape<S>, entries: &[Entry]) -> Result<(), ReplayFault>
+    ensures ok { OnOk result (tape.new ≡ with_entries tape.old entries.now) }
+    ensures stops { IfErr result (λ f. StopsReplay f tape.old entries.now tape.new) }
+{
+    for entry in entries {
+        let number = entry.number.value();
+        match tape.replay(entry.number, entry.message) {
+            Ok(own) => {
+                if !is_same(&own, entry) {
+                    return Err(ReplayFault::Differs { number });
+                }
+            }
+            Err(refusal) => return Err(ReplayFault::Refused { number, refusal }),
+        }
+    }
+    Ok(())
+}
+
+/// Whether two entries are the same.
+fn is_same(own: &Entry, entry: &Entry) -> bool
+    ensures { IsTrue result ↔ (own.now ≡ entry.now) }
+{
+    own == entry
+}
