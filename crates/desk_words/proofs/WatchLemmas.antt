@@ -1,5 +1,5 @@
 -- The rows of a followed tape, the line of the columns' names before them, and the statuses of a run.
-use Rattle.std.proofs.Common.{◌≡◌, ◌++◌, ◌∙◌, ◌∷◌, ◌+◌, ◌-◌, ◌≤◌, ◌⊎◌, IfSome, IsSome, inl, inr, arith, [], List, ℕ, Option, Some, None, ap, append-nil, drop, length, refl, subst, sym, take}
+use Rattle.std.proofs.Common.{◌≡◌, ◌++◌, ◌∙◌, ◌∷◌, ◌+◌, ◌-◌, ◌≤◌, ◌⊎◌, IfErr, IfSome, IsSome, OnOk, Result, Ok, Err, inl, inr, arith, [], List, ℕ, Option, Some, None, ap, append-nil, drop, length, refl, subst, sym, take}
 use Rattle.std.proofs.KnownBytes.{Appends-kept, Keeps-refl}
 use Rattle.std.proofs.Math.Seq.{take-append-add}
 use Rattle.std.proofs.lemmas.List.{take-append-drop}
@@ -10,6 +10,11 @@ use Rattle.sale_matrix.specs.declared.matrix.Matrix.{Matrix}
 use Rattle.tape_types.specs.Names.{Names}
 use Rattle.tape_core.specs.Tape.{IsLegal, empty_tape}
 use Rattle.tape_core.specs.declared.entry.Entry.{Entry}
+use Rattle.feed_ends.specs.Faults.{fault_status}
+use Rattle.feed_ends.specs.declared.fault.Fault.{Fault}
+use Rattle.feed_ends.specs.declared.fault.Fault.TheVariants.{Read, Write, Memory, Worker, Disagrees as DisagreesFault}
+use Rattle.feed_follower.specs.Reported.{follow_fault}
+use Rattle.feed_follower.specs.declared.follow_fault.FollowFault.{FollowFault}
 use Rattle.feed_follower.specs.Sinks.{GivesPart, GivesTape, HasPart, figures_of, rows_after}
 use Rattle.table_days.specs.TapeRows.{entry_rows, head_line, rows_text}
 use Rattle.program_words.specs.Statuses.{status_code, status_text}
@@ -144,3 +149,16 @@ watch_said status.WriteFault run = refl
 watch_said status.OutOfMemory run = refl
 watch_said NotStarted run = refl
 watch_said Disagrees run = refl
+
+-- a follower whose status is 0 has ended well
+pub ended_well : (ended : Result (Unit {0}) FollowFault) (code : ℕ) (P : Type 0) → code ≡ 0 → IfErr ended (λ fault. code ≡ fault_status (follow_fault fault))
+    → OnOk ended P → P
+ended_well (Ok done) code P zero fault holds = holds
+ended_well (Err why) code P zero fault holds = absurd (no_fault (follow_fault why) (sym fault ∙ zero))
+  where
+    no_fault : (fault : Fault) → fault_status fault ≡ 0 → ⊥
+    no_fault Read is = absurd (cc is)
+    no_fault Write is = absurd (cc is)
+    no_fault Memory is = absurd (cc is)
+    no_fault Worker is = absurd (cc is)
+    no_fault DisagreesFault is = absurd (cc is)

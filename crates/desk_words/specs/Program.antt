@@ -1,5 +1,5 @@
 -- What the program does for its arguments.
-use Rattle.std.specs.Prelude.{◌≡◌, ◌≢◌, ◌⊎◌, ◌&&◌, ℕ, Bool, true, false, List, [], Option, IfSome, Result, Ok, Err, IsOk, if◌then◌else◌}
+use Rattle.std.specs.Prelude.{◌≡◌, ◌≢◌, ◌⊎◌, ◌&&◌, ℕ, Bool, true, false, List, [], Option, IfOk, IfSome, Result, Ok, Err, IsOk, OnOk, if◌then◌else◌}
 use Rattle.std.specs.List.{list_any}
 use Rattle.std.specs.Option.{is_some}
 use Rattle.day_tables.specs.TableTexts.{table_text}
@@ -10,8 +10,8 @@ use Rattle.row_reads.specs.Writing.{WritesPrefix}
 use Rattle.table_days.specs.Checks.{IsCheckEnd, WritesCheck, WritesCheckPart}
 use Rattle.table_days.specs.Days.{day_text}
 use Rattle.table_days.specs.EndTexts.{end_status}
-use Rattle.table_days.specs.Refusals.{all_reasons, refused_for}
-use Rattle.table_days.specs.Strict.{strictly}
+use Rattle.table_days.specs.Refusals.{RefusesNone, all_reasons, refused_for}
+use Rattle.table_days.specs.Strict.{IsListed, strictly}
 use Rattle.table_days.specs.Explained.{explain_text}
 use Rattle.table_days.specs.TableEnds.{IsTableEnd, WritesTable, WritesTablePart}
 use Rattle.table_days.specs.TapeRows.{tape_text}
@@ -71,7 +71,8 @@ abbrev pub Comes : (Matrix → List Message → List ℕ) → Matrix → List �
 Comes text matrix input (Ok refusals) old new = WritesTable text matrix input refusals old new
 Comes text matrix input (Err end) old new = IsTableEnd input end
 
--- a text of a table was asked for, in which refused rows may be faults: the status and what is said are those of what it came to, and nothing else was written
+-- a text of a table was asked for, in which refused rows may be faults: the status and what is said are those of what it came to, and nothing else was
+-- written; nothing at all where rows were refused and that is a fault, whatever is known of the reader and the writer
 pub record RunsTable {W E : Type 0} (strict : Bool) (text : Matrix → List Message → List ℕ) (matrix : Matrix) (input old new : Option (List ℕ)) (status : ℕ)
     (writer_old writer_new : W) (errors_old errors_new : E) (said_old said_new : Option (List ℕ)) : Type 0 where
   pub run : Result Refusals TableEnd
@@ -80,6 +81,8 @@ pub record RunsTable {W E : Type 0} (strict : Bool) (text : Matrix → List Mess
   pub part : (run ≡ Err WriteFault) ⊎ (run ≡ Err OutOfMemory)
       → (writer_new ≡ writer_old) ⊎ IfSome input (λ bytes. WritesTablePart (text_by strict text) matrix bytes old new)
   pub silent : (end : TableEnd) → run ≡ Err end → end ≢ WriteFault → end ≢ OutOfMemory → writer_new ≡ writer_old
+  pub listed : strict ≡ true → IfSome input (λ bytes. OnOk run (IsListed bytes))
+  pub unwritten : strict ≡ true → IfOk run (λ refusals. RefusesNone refusals ⊎ (writer_new ≡ writer_old))
   pub quiet : run_text run ≡ [] → errors_new ≡ errors_old
   pub said : WritesPrefix (run_text run) said_old said_new
 

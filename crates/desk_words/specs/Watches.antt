@@ -7,8 +7,8 @@ use Rattle.scratch_fold.specs.declared.summary.Summary.{Summary}
 use Rattle.tape_types.specs.Names.{Names}
 use Rattle.tape_core.specs.Tape.{TapeState}
 use Rattle.tape_core.specs.declared.entry.Entry.{Entry}
-use Rattle.day_tables.specs.declared.table_write_fault.TableWriteFault.{TableWriteFault}
-use Rattle.day_tables.specs.declared.table_write_fault.TableWriteFault.TheVariants.{OutOfMemory, WriteFault}
+use Rattle.table_days.specs.declared.writing.WritingFault.{WritingFault}
+use Rattle.table_days.specs.declared.writing.WritingFault.TheVariants.{OutOfMemory, WriteFault}
 use Rattle.program_words.specs.Statuses.{status_text}
 use Rattle.program_words.specs.declared.status.Status.{Status}
 use Rattle.program_words.specs.declared.status.Status.TheVariants as status
@@ -65,6 +65,6 @@ abbrev pub IsWatchStatus : ℕ → Type 0
 IsWatchStatus status = (status ≡ 2) ⊎ IsRunStatus status
 
 -- what a row's fault is to the run
-abbrev pub row_fault : TableWriteFault → SinkFault
+abbrev pub row_fault : WritingFault → SinkFault
 row_fault OutOfMemory = sink.OutOfMemory
 row_fault WriteFault = sink.Write

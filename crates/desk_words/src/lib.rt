@@ -2,16 +2,23 @@
 //! a running day, as it comes.
 #![tactic(auto)]
 
+mod number_text;
+mod output;
 mod program;
 mod progress;
 mod refusal_lines;
 mod saying;
+mod telling;
 #[cfg(test)]
 mod tests;
 mod verdict_lines;
+mod watched_file;
 mod watching;
 
+pub use output::{Output, PipeWriter};
 pub use program::run_table;
 pub use progress::{ClearedWriter, ProgressLine, ToldReader, ToldWriter};
-pub use saying::{say, say_status};
+pub use saying::{say, say_ended, say_status};
+pub use telling::{say_followed, say_open_fault, say_told};
+pub use watched_file::watch_file;
 pub use watching::{watch, watch_row};

@@ -1,9 +1,11 @@
 //! The texts of a table, over its reader and the streams that they go to.
-ghost use Rattle.std.specs.Prelude.{◌≡◌, ◌≢◌, ◌⊎◌, Err, IfErr, IfOk, IfSome, OnErr};
+ghost use Rattle.std.specs.Prelude.{◌≡◌, ◌≢◌, ◌⊎◌, Err, IfErr, IfOk, IfSome, OnErr, OnOk, true};
 ghost use Rattle.day_tables.specs.TableTexts.{table_text};
 ghost use Rattle.day_tables.specs.Tables.{IsTable};
 ghost use Rattle.table_days.specs.Days.{day_text};
 ghost use Rattle.table_days.specs.Explained.{explain_text};
+ghost use Rattle.table_days.specs.Refusals.{RefusesNone};
+ghost use Rattle.table_days.specs.Strict.{IsListed};
 ghost use Rattle.table_days.specs.TableEnds.{IsTableEnd, WritesTable, WritesTablePart};
 ghost use Rattle.table_days.specs.TapeRows.{tape_text};
 ghost use Rattle.table_days.specs.declared.table_end.TableEnd.TheVariants.{OutOfMemory, WriteFault};
@@ -12,10 +14,12 @@ ghost use Rattle.table_texts.specs.EncodedTexts.{encoded_text};
 ghost use Rattle.table_texts.specs.Ends.{IsReadingEnd};
 ghost use Rattle.table_texts.specs.OwnBytes.{line_bytes};
 ghost use Rattle.program_words.specs.Statuses.{status_code};
+ghost use Rattle.desk_words.specs.Outputs.{IsQuietIfGone};
 ghost use Rattle.desk_words.specs.Program.{AnswersCommand, RunsCheck, RunsTable, text_by};
 ghost use Rattle.desk_words.specs.VerifyRuns.{RunsVerify};
 ghost use Rattle.desk_words.specs.TextRuns.{RunsText, table_ends, text_ends};
 
+use crate::Output;
 use crate::saying::{end_check, end_decoded, end_run, end_text, say_end};
 use crate::verdict_lines::write_verdict;
 use program_words::{Command, Status};
@@ -40,6 +44,8 @@ fn report_by<R: Read, W: Write>(
 ) -> Result<Refusals, TableEnd>
     ensures written { IfSome (R.remaining reader.old) (λ input. IfOk result (λ refusals.
         WritesTable (text_by strict day_text) matrix input refusals (W.contents writer.old) (W.contents writer.new))) }
+    ensures listed { strict ≡ true → IfSome (R.remaining reader.old) (λ input. OnOk result (IsListed input)) }
+    ensures unwritten { strict ≡ true → IfOk result (λ refusals. RefusesNone refusals ⊎ (writer.new ≡ writer.old)) }
     ensures end { IfSome (R.remaining reader.old) (λ input. IfErr result (IsTableEnd input)) }
     ensures silent { result ≢ Err WriteFault → OnErr result (writer.new ≡ writer.old) }
     ensures prefix { result ≡ Err WriteFault
@@ -53,7 +59,7 @@ fn report_by<R: Read, W: Write>(
 }
 
 /// Writes the report of a table, says what it refused or why there is none, and gives the status.
-fn run_report<R: Read, W: Write, E: Write>(
+fn run_report<R: Read, W: Output, E: Write>(
     alloc: Global,
     matrix: Matrix,
     strict: bool,
@@ -64,9 +70,10 @@ fn run_report<R: Read, W: Write, E: Write>(
     ensures memory { status_code result ≡ 5 → writer.new ≡ writer.old }
     ensures runs { RunsTable strict day_text matrix (R.remaining reader.old) (W.contents writer.old) (W.contents writer.new) (status_code result)
         writer.old writer.new errors.old errors.new (E.contents errors.old) (E.contents errors.new) }
+    ensures gone { IsQuietIfGone (W.reader_gone writer.new) result errors.old errors.new }
 {
     let run = report_by(alloc, matrix, strict, reader, writer);
-    end_run(alloc, errors, strict, run)
+    end_run(alloc, errors, strict, writer.reader_is_gone(), run)
 }
 
 /// Writes the readable tape of a table; of one with a refused row nothing where that is a fault.
@@ -79,6 +86,8 @@ fn tape_by<R: Read, W: Write>(
 ) -> Result<Refusals, TableEnd>
     ensures written { IfSome (R.remaining reader.old) (λ input. IfOk result (λ refusals.
         WritesTable (text_by strict tape_text) matrix input refusals (W.contents writer.old) (W.contents writer.new))) }
+    ensures listed { strict ≡ true → IfSome (R.remaining reader.old) (λ input. OnOk result (IsListed input)) }
+    ensures unwritten { strict ≡ true → IfOk result (λ refusals. RefusesNone refusals ⊎ (writer.new ≡ writer.old)) }
     ensures end { IfSome (R.remaining reader.old) (λ input. IfErr result (IsTableEnd input)) }
     ensures silent { result ≢ Err WriteFault → result ≢ Err OutOfMemory → OnErr result (writer.new ≡ writer.old) }
     ensures prefix { (result ≡ Err WriteFault) ⊎ (result ≡ Err OutOfMemory)
@@ -92,7 +101,7 @@ fn tape_by<R: Read, W: Write>(
 }
 
 /// Writes the readable tape of a table, says what it refused or why it is not whole, and gives the status.
-fn run_tape<R: Read, W: Write, E: Write>(
+fn run_tape<R: Read, W: Output, E: Write>(
     alloc: Global,
     matrix: Matrix,
     strict: bool,
@@ -100,11 +109,12 @@ fn run_tape<R: Read, W: Write, E: Write>(
     writer: &mut W,
     errors: &mut E,
 ) -> Status
-    ensures { RunsTable strict tape_text matrix (R.remaining reader.old) (W.contents writer.old) (W.contents writer.new) (status_code result)
+    ensures runs { RunsTable strict tape_text matrix (R.remaining reader.old) (W.contents writer.old) (W.contents writer.new) (status_code result)
         writer.old writer.new errors.old errors.new (E.contents errors.old) (E.contents errors.new) }
+    ensures gone { IsQuietIfGone (W.reader_gone writer.new) result errors.old errors.new }
 {
     let run = tape_by(alloc, matrix, strict, reader, writer);
-    end_run(alloc, errors, strict, run)
+    end_run(alloc, errors, strict, writer.reader_is_gone(), run)
 }
 
 /// Writes what became of the reports of a table; of one with a refused row nothing where that is a fault.
@@ -117,6 +127,8 @@ fn explain_by<R: Read, W: Write>(
 ) -> Result<Refusals, TableEnd>
     ensures written { IfSome (R.remaining reader.old) (λ input. IfOk result (λ refusals.
         WritesTable (text_by strict explain_text) matrix input refusals (W.contents writer.old) (W.contents writer.new))) }
+    ensures listed { strict ≡ true → IfSome (R.remaining reader.old) (λ input. OnOk result (IsListed input)) }
+    ensures unwritten { strict ≡ true → IfOk result (λ refusals. RefusesNone refusals ⊎ (writer.new ≡ writer.old)) }
     ensures end { IfSome (R.remaining reader.old) (λ input. IfErr result (IsTableEnd input)) }
     ensures silent { result ≢ Err WriteFault → result ≢ Err OutOfMemory → OnErr result (writer.new ≡ writer.old) }
     ensures prefix { (result ≡ Err WriteFault) ⊎ (result ≡ Err OutOfMemory)
@@ -130,7 +142,7 @@ fn explain_by<R: Read, W: Write>(
 }
 
 /// Writes what became of the reports of a table, says what the tape refused or why the text is not whole, and gives the status.
-fn run_explain<R: Read, W: Write, E: Write>(
+fn run_explain<R: Read, W: Output, E: Write>(
     alloc: Global,
     matrix: Matrix,
     strict: bool,
@@ -138,102 +150,109 @@ fn run_explain<R: Read, W: Write, E: Write>(
     writer: &mut W,
     errors: &mut E,
 ) -> Status
-    ensures { RunsTable strict explain_text matrix (R.remaining reader.old) (W.contents writer.old) (W.contents writer.new) (status_code result)
+    ensures runs { RunsTable strict explain_text matrix (R.remaining reader.old) (W.contents writer.old) (W.contents writer.new) (status_code result)
         writer.old writer.new errors.old errors.new (E.contents errors.old) (E.contents errors.new) }
+    ensures gone { IsQuietIfGone (W.reader_gone writer.new) result errors.old errors.new }
 {
     let run = explain_by(alloc, matrix, strict, reader, writer);
-    end_run(alloc, errors, strict, run)
+    end_run(alloc, errors, strict, writer.reader_is_gone(), run)
 }
 
 /// Writes every fault of a table, says why they are not all told, and gives the status.
-fn run_check<R: Read, W: Write, E: Write>(
+fn run_check<R: Read, W: Output, E: Write>(
     alloc: Global,
     reader: &mut R,
     writer: &mut W,
     errors: &mut E,
 ) -> Status
-    ensures { RunsCheck (R.remaining reader.old) (W.contents writer.old) (W.contents writer.new) (status_code result)
+    ensures runs { RunsCheck (R.remaining reader.old) (W.contents writer.old) (W.contents writer.new) (status_code result)
         writer.old writer.new errors.old errors.new (E.contents errors.old) (E.contents errors.new) }
+    ensures gone { IsQuietIfGone (W.reader_gone writer.new) result errors.old errors.new }
 {
     let run = check_over(alloc, reader, writer);
-    end_check(alloc, errors, run)
+    end_check(alloc, errors, writer.reader_is_gone(), run)
 }
 
 /// Writes what a recorded tape is found to be, or says why nothing is found, and gives the status.
-fn run_verify<R: Read, W: Write, E: Write>(
+fn run_verify<R: Read, W: Output, E: Write>(
     alloc: Global,
     matrix: Matrix,
     reader: &mut R,
     writer: &mut W,
     errors: &mut E,
 ) -> Status
-    ensures { RunsVerify matrix (R.remaining reader.old) (W.contents writer.old) (W.contents writer.new) (status_code result)
+    ensures runs { RunsVerify matrix (R.remaining reader.old) (W.contents writer.old) (W.contents writer.new) (status_code result)
         writer.old writer.new errors.old errors.new (E.contents errors.old) (E.contents errors.new) }
+    ensures gone { IsQuietIfGone (W.reader_gone writer.new) result errors.old errors.new }
 {
     match verify_over(alloc, matrix, reader) {
         Ok(verdict) => write_verdict(alloc, &verdict, writer, errors),
-        Err(end) => say_end(alloc, errors, &end),
+        Err(end) => say_end(alloc, errors, writer.reader_is_gone(), &end),
     }
 }
 
 /// Writes the text of a batch of a table, says why it is not whole, and gives the status.
-fn run_encode<R: Read, W: Write, E: Write>(
+fn run_encode<R: Read, W: Output, E: Write>(
     alloc: Global,
     reader: &mut R,
     writer: &mut W,
     errors: &mut E,
 ) -> Status
-    ensures { RunsText table_ends IsTable encoded_text IsTableEnd (R.remaining reader.old) (W.contents writer.old) (W.contents writer.new) (status_code result)
+    ensures runs { RunsText table_ends IsTable encoded_text IsTableEnd (R.remaining reader.old) (W.contents writer.old) (W.contents writer.new) (status_code result)
         writer.old writer.new errors.old errors.new (E.contents errors.old) (E.contents errors.new) }
+    ensures gone { IsQuietIfGone (W.reader_gone writer.new) result errors.old errors.new }
 {
     let run = encode_over(alloc, reader, writer);
-    end_text(alloc, errors, run)
+    end_text(alloc, errors, writer.reader_is_gone(), run)
 }
 
 /// Writes the table of a batch's text, says why it is not whole, and gives the status.
-fn run_decode<R: Read, W: Write, E: Write>(
+fn run_decode<R: Read, W: Output, E: Write>(
     alloc: Global,
     reader: &mut R,
     writer: &mut W,
     errors: &mut E,
 ) -> Status
-    ensures { RunsText text_ends IsText table_text IsTextEnd (R.remaining reader.old) (W.contents writer.old) (W.contents writer.new) (status_code result)
+    ensures runs { RunsText text_ends IsText table_text IsTextEnd (R.remaining reader.old) (W.contents writer.old) (W.contents writer.new) (status_code result)
         writer.old writer.new errors.old errors.new (E.contents errors.old) (E.contents errors.new) }
+    ensures gone { IsQuietIfGone (W.reader_gone writer.new) result errors.old errors.new }
 {
     let run = decode_over(alloc, reader, writer);
-    end_decoded(alloc, errors, run)
+    end_decoded(alloc, errors, writer.reader_is_gone(), run)
 }
 
 /// Writes the bytes of a participant's messages, says why they are not whole, and gives the status.
-fn run_line<R: Read, W: Write, E: Write>(
+fn run_line<R: Read, W: Output, E: Write>(
     alloc: Global,
     participant: Participant,
     reader: &mut R,
     writer: &mut W,
     errors: &mut E,
 ) -> Status
-    ensures { RunsText table_ends IsTable (line_bytes participant) IsReadingEnd (R.remaining reader.old) (W.contents writer.old) (W.contents writer.new) (status_code result)
+    ensures runs { RunsText table_ends IsTable (line_bytes participant) IsReadingEnd (R.remaining reader.old) (W.contents writer.old) (W.contents writer.new) (status_code result)
         writer.old writer.new errors.old errors.new (E.contents errors.old) (E.contents errors.new) }
+    ensures gone { IsQuietIfGone (W.reader_gone writer.new) result errors.old errors.new }
 {
     let run = line_over(alloc, participant, reader, writer);
-    end_text(alloc, errors, run)
+    end_text(alloc, errors, writer.reader_is_gone(), run)
 }
 
 /// Writes a text of a table to `writer` and returns how that ended. The table is read from `reader`, and `decode`'s text of a batch too.
 ///
 /// A report is the day's, a tape its readable tape, an explanation what became of its reports; a check writes every fault of the table, and a
 /// verification whether a recorded tape stands as it is written. `errors` has a line for each reason for which the first three refused rows,
-/// and one for what goes wrong. The status is `Done` where all is done, `Differs` where a tape is not as recorded, `Bad` for a bad table, also
+/// and one for what goes wrong, but none for a write fault if whoever read what was written is gone. The status is `Done` where all is done, `Differs` where a tape is not as recorded, `Bad` for a bad table, also
 /// one that is checked, or a bad text, `ReadFault`, `WriteFault`, and `OutOfMemory`.
-pub fn run_table<R: Read, W: Write, E: Write>(
+pub fn run_table<R: Read, W: Output, E: Write>(
     alloc: Global,
     command: Command,
     reader: &mut R,
     writer: &mut W,
     errors: &mut E,
 ) -> Status
-    ensures { AnswersCommand command (status_code result) (R.remaining reader.old) writer.old writer.new
+    ensures answers { AnswersCommand command (status_code result) (R.remaining reader.old) writer.old writer.new
         (W.contents writer.old) (W.contents writer.new) errors.old errors.new (E.contents errors.old) (E.contents errors.new) }
+    ensures gone { IsQuietIfGone (W.reader_gone writer.new) result errors.old errors.new }
 {
     match command {
         Command::Report(matrix, strict) => run_report(

@@ -1,5 +1,6 @@
 //! A line of progress on a terminal.
 
+use crate::Output;
 use std::cell::Cell;
 use std::io;
 use std::io::{IsTerminal, Read, Stderr, Write};
@@ -216,6 +217,14 @@ impl<W: Write, C: Clock> Write for ToldWriter<'_, W, C> {
 
     fn flush(&mut self) -> io::Result<()> {
         self.inner.flush()
+    }
+}
+
+impl<W: Output, C: Clock> Output for ToldWriter<'_, W, C> {
+    ghost reader_gone = { λ writer. W.reader_gone writer.inner };
+
+    fn reader_is_gone(&self) -> bool {
+        self.inner.reader_is_gone()
     }
 }
 

@@ -1,21 +1,13 @@
 //! The lines of refused rows.
-ghost use Rattle.std.specs.Prelude.{◌≡◌, ◌++◌, IfOk, OnOk, decimal};
+ghost use Rattle.std.specs.Prelude.{◌≡◌, ◌++◌, IfOk, OnOk};
 ghost use Rattle.std.specs.List.{flat_map};
 ghost use Rattle.desk_words.specs.RefusalLines.{advice, after_text, again_text, count_text, detail_text, reason_line, reason_text, refusal_lines, rows_word, stale_text, whose_text};
 
-use itoa::Buffer;
+use crate::number_text::push_number;
 use std::alloc::{AllocError, Global};
 use table_days::{ALL_REASONS, Refusals, StaleRow};
 use tape_core::Refusal;
 use tape_types::Participant;
-
-/// Adds a number in decimal.
-fn push_number(text: &mut Vec<u8>, number: u64) -> Result<(), AllocError>
-    ensures { OnOk result (text.new.items ≡ text.old.items ++ decimal number) }
-{
-    let mut digits = Buffer::new();
-    text.extend_from_slice(digits.format(number).as_bytes())
-}
 
 /// One row, or several.
 #[tactic(auto, unfolding(crate::specs::RefusalLines::rows_word))]
@@ -34,7 +26,7 @@ fn push_count(text: &mut Vec<u8>, count: u64) -> Result<(), AllocError>
     ensures { OnOk result (text.new.items ≡ text.old.items ++ count_text count) }
 {
     text.extend_from_slice(b"tapebox: ")?;
-    push_number(text, count)?;
+    push_number(text, u128::from(count))?;
     text.extend_from_slice(rows_word(count))
 }
 
@@ -42,11 +34,11 @@ fn push_count(text: &mut Vec<u8>, count: u64) -> Result<(), AllocError>
 fn push_reason(text: &mut Vec<u8>, reason: Refusal, first: u64) -> Result<(), AllocError>
     ensures { OnOk result (text.new.items ≡ text.old.items ++ reason_text reason first) }
 {
-    push_number(text, u64::from(reason.code()))?;
+    push_number(text, u128::from(reason.code()))?;
     text.extend_from_slice(b" ")?;
     text.extend_from_slice(reason.name().as_bytes())?;
     text.extend_from_slice(b", first at row ")?;
-    push_number(text, first)
+    push_number(text, u128::from(first))
 }
 
 /// Adds whose row it is.
@@ -72,7 +64,7 @@ fn push_after(text: &mut Vec<u8>, greatest: u32) -> Result<(), AllocError>
     ensures { OnOk result (text.new.items ≡ text.old.items ++ after_text greatest) }
 {
     text.extend_from_slice(b" after ")?;
-    push_number(text, u64::from(greatest))?;
+    push_number(text, u128::from(greatest))?;
     text.extend_from_slice(advice())
 }
 
@@ -99,7 +91,7 @@ fn push_stale(text: &mut Vec<u8>, row: StaleRow) -> Result<(), AllocError>
         ..
     } = row;
     push_whose(text, participant)?;
-    push_number(text, u64::from(number.value()))?;
+    push_number(text, u128::from(number.value()))?;
     push_again(text, row)
 }
 

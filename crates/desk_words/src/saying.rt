@@ -1,9 +1,11 @@
 //! What is said on standard error.
-ghost use Rattle.std.specs.Prelude.{◌≡◌, IsOk, Ok, []};
+ghost use Rattle.std.specs.Prelude.{◌≡◌, ◌≢◌, ◌↔◌, IsOk, IsTrue, Ok, [], true};
 ghost use Rattle.row_reads.specs.Writing.{WritesPrefix};
 ghost use Rattle.table_days.specs.EndTexts.{end_status, listing_fault_status, table_fault_status};
 ghost use Rattle.table_texts.specs.EndTexts as text;
 ghost use Rattle.program_words.specs.Statuses.{status_code, status_text};
+ghost use Rattle.program_words.specs.declared.status.Status.TheVariants.{WriteFault};
+ghost use Rattle.desk_words.specs.Outputs.{IsQuietIfGone};
 ghost use Rattle.desk_words.specs.Program.{check_line, check_status, checked_status, refuses_any, run_status, run_text};
 ghost use Rattle.desk_words.specs.RefusalLines.{refusal_lines};
 ghost use Rattle.desk_words.specs.TextRuns.{end_line, machine_status, table_ends, text_end_line, text_ends, text_line, text_machine_status, text_status};
@@ -35,6 +37,26 @@ pub fn say_status<E: Write>(errors: &mut E, status: Status)
     ensures said { WritesPrefix (status_text status) (E.contents errors.old) (E.contents errors.new) }
 {
     say(errors, status.text().as_bytes());
+}
+
+/// Whether nothing is said of a status: of a write fault if whoever read what was written is gone.
+fn is_quiet(status: Status, reader_gone: bool) -> bool
+    ensures { IsTrue result ↔ ((reader_gone ≡ true) × (status ≡ WriteFault)) }
+{
+    reader_gone && matches!(status, Status::WriteFault)
+}
+
+/// Says what there is to say of a status, but nothing of a write fault if whoever read what was written is gone.
+#[tactic(auto, using(crate::proofs::LineLemmas::nothing_said))]
+pub fn say_ended<E: Write>(errors: &mut E, status: Status, reader_gone: bool)
+    ensures quiet { status_text status ≡ [] → errors.new ≡ errors.old }
+    ensures gone { IsQuietIfGone reader_gone status errors.old errors.new }
+    ensures said { WritesPrefix (status_text status) (E.contents errors.old) (E.contents errors.new) }
+{
+    if is_quiet(status, reader_gone) {
+        return;
+    }
+    say_status(errors, status);
 }
 
 /// The status of a table's fault that has nothing to do with what the table says.
@@ -115,13 +137,19 @@ fn status_of(end: &TableEnd) -> Status
     }
 }
 
-/// Says why a table has no text, and gives the status.
-pub fn say_end<E: Write>(alloc: Global, errors: &mut E, end: &TableEnd) -> Status
+/// Says why a table has no text, but nothing of a write fault if whoever read it is gone, and gives the status.
+#[tactic(auto, using(crate::proofs::LineLemmas::nothing_said))]
+pub fn say_end<E: Write>(alloc: Global, errors: &mut E, reader_gone: bool, end: &TableEnd) -> Status
     ensures status { status_code result ≡ end_status end.now }
+    ensures gone { IsQuietIfGone reader_gone result errors.old errors.new }
     ensures said { WritesPrefix (end_line end.now) (E.contents errors.old) (E.contents errors.new) }
 {
+    let status = status_of(end);
+    if is_quiet(status, reader_gone) {
+        return status;
+    }
     say_why(alloc, errors, end);
-    status_of(end)
+    status
 }
 
 /// Says which rows were refused, unless there is no memory for the lines.
@@ -146,7 +174,8 @@ fn refuses_any(refusals: &Refusals) -> bool
 
 /// The status of a table whose text was written, unless refused rows are faults.
 fn refused_status(strict: bool, refusals: &Refusals) -> Status
-    ensures { status_code result ≡ run_status strict (Ok refusals.now) }
+    ensures code { status_code result ≡ run_status strict (Ok refusals.now) }
+    ensures no_fault { result ≢ WriteFault }
 {
     if strict && refuses_any(refusals) {
         Status::Bad
@@ -160,9 +189,11 @@ pub fn end_run<E: Write>(
     alloc: Global,
     errors: &mut E,
     strict: bool,
+    reader_gone: bool,
     run: Result<Refusals, TableEnd>,
 ) -> Status
     ensures status { status_code result ≡ run_status strict run }
+    ensures gone { IsQuietIfGone reader_gone result errors.old errors.new }
     ensures quiet { run_text run ≡ [] → errors.new ≡ errors.old }
     ensures said { WritesPrefix (run_text run) (E.contents errors.old) (E.contents errors.new) }
 {
@@ -171,7 +202,7 @@ pub fn end_run<E: Write>(
             say_refusals(alloc, errors, &refusals);
             refused_status(strict, &refusals)
         }
-        Err(end) => say_end(alloc, errors, &end),
+        Err(end) => say_end(alloc, errors, reader_gone, &end),
     }
 }
 
@@ -183,26 +214,38 @@ fn checked_status(faultless: bool) -> Status
 }
 
 /// Says why the faults of a table are not all told, or nothing where they are. It gives the status, which is 2 where there are any.
-pub fn end_check<E: Write>(alloc: Global, errors: &mut E, run: Result<bool, TableEnd>) -> Status
+pub fn end_check<E: Write>(
+    alloc: Global,
+    errors: &mut E,
+    reader_gone: bool,
+    run: Result<bool, TableEnd>,
+) -> Status
     ensures status { status_code result ≡ check_status run }
+    ensures gone { IsQuietIfGone reader_gone result errors.old errors.new }
     ensures quiet { IsOk run → errors.new ≡ errors.old }
     ensures said { WritesPrefix (check_line run) (E.contents errors.old) (E.contents errors.new) }
 {
     match run {
         Ok(faultless) => checked_status(faultless),
-        Err(end) => say_end(alloc, errors, &end),
+        Err(end) => say_end(alloc, errors, reader_gone, &end),
     }
 }
 
 /// Says why a text of a table was not written whole, or nothing where it was. It gives the status.
-pub fn end_text<E: Write>(alloc: Global, errors: &mut E, run: Result<(), TableEnd>) -> Status
+pub fn end_text<E: Write>(
+    alloc: Global,
+    errors: &mut E,
+    reader_gone: bool,
+    run: Result<(), TableEnd>,
+) -> Status
     ensures status { status_code result ≡ text_status table_ends run }
+    ensures gone { IsQuietIfGone reader_gone result errors.old errors.new }
     ensures quiet { IsOk run → errors.new ≡ errors.old }
     ensures said { WritesPrefix (text_line table_ends run) (E.contents errors.old) (E.contents errors.new) }
 {
     match run {
         Ok(()) => Status::Done,
-        Err(end) => say_end(alloc, errors, &end),
+        Err(end) => say_end(alloc, errors, reader_gone, &end),
     }
 }
 
@@ -226,7 +269,7 @@ fn text_status_of(end: &TextEnd) -> Status
 }
 
 /// Says why the text of a batch has no table. What the text says wrong is not said where there is no memory for the line.
-fn say_text_end<E: Write>(alloc: Global, errors: &mut E, end: &TextEnd)
+fn say_text_why<E: Write>(alloc: Global, errors: &mut E, end: &TextEnd)
     ensures { WritesPrefix (text_end_line end.now) (E.contents errors.old) (E.contents errors.new) }
 {
     if let Some(status) = text_machine_status(end) {
@@ -239,17 +282,35 @@ fn say_text_end<E: Write>(alloc: Global, errors: &mut E, end: &TextEnd)
     say(errors, line.as_bytes());
 }
 
+/// Says why the text of a batch has no table, but nothing of a write fault if whoever read it is gone, and gives the status.
+#[tactic(auto, using(crate::proofs::LineLemmas::nothing_said))]
+fn say_text_end<E: Write>(alloc: Global, errors: &mut E, reader_gone: bool, end: &TextEnd) -> Status
+    ensures status { status_code result ≡ text.end_status end.now }
+    ensures gone { IsQuietIfGone reader_gone result errors.old errors.new }
+    ensures said { WritesPrefix (text_end_line end.now) (E.contents errors.old) (E.contents errors.new) }
+{
+    let status = text_status_of(end);
+    if is_quiet(status, reader_gone) {
+        return status;
+    }
+    say_text_why(alloc, errors, end);
+    status
+}
+
 /// Says why the text of a batch was not written whole as a table, or nothing where it was. It gives the status.
-pub fn end_decoded<E: Write>(alloc: Global, errors: &mut E, run: Result<(), TextEnd>) -> Status
+pub fn end_decoded<E: Write>(
+    alloc: Global,
+    errors: &mut E,
+    reader_gone: bool,
+    run: Result<(), TextEnd>,
+) -> Status
     ensures status { status_code result ≡ text_status text_ends run }
+    ensures gone { IsQuietIfGone reader_gone result errors.old errors.new }
     ensures quiet { IsOk run → errors.new ≡ errors.old }
     ensures said { WritesPrefix (text_line text_ends run) (E.contents errors.old) (E.contents errors.new) }
 {
     match run {
         Ok(()) => Status::Done,
-        Err(end) => {
-            say_text_end(alloc, errors, &end);
-            text_status_of(&end)
-        }
+        Err(end) => say_text_end(alloc, errors, reader_gone, &end),
     }
 }

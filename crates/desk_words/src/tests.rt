@@ -1,6 +1,6 @@
 //! A day through each word, what is said of it, and readers and writers that fail.
 
-use crate::run_table;
+use crate::{PipeWriter, run_table};
 use program_words::{Command, Status};
 use sale_matrix::Matrix;
 use std::alloc::Global;
@@ -104,16 +104,20 @@ impl Read for CutShort<'_> {
     }
 }
 
-/// A writer with room for so many bytes, which may fail to flush.
+/// A writer with room for so many bytes, which fails with an error of this kind after them, or takes none. It may fail to flush.
 #[derive(Drop)]
 struct Room {
     taken: Vec<u8>,
     left: usize,
     flushes: bool,
+    full: Option<ErrorKind>,
 }
 
 impl Write for Room {
     fn write(&mut self, buf: &[u8]) -> io::Result<usize> {
+        if let (0, Some(full)) = (self.left, self.full) {
+            return Err(io::Error::from(full));
+        }
         let count = buf.len().min(self.left);
         match self.taken.extend_from_slice(&buf[..count]) {
             Ok(()) => {
@@ -128,7 +132,7 @@ impl Write for Room {
         if self.flushes {
             Ok(())
         } else {
-            Err(io::Error::from(ErrorKind::BrokenPipe))
+            Err(io::Error::from(self.full.unwrap_or(ErrorKind::Other)))
         }
     }
 }
@@ -359,7 +363,7 @@ fn a_read_that_fails_writes_nothing(rt: HostRuntime) {
     }
 }
 
-/// Asserts that a text over a writer with room for these bytes alone, which may fail to flush, writes them and tells of the fault.
+/// Asserts that a text over a writer with room for these bytes alone, which may fail to flush, writes them, and what it says.
 fn assert_write_fault<T: Abort>(
     rt: &T,
     alloc: Global,
@@ -367,22 +371,34 @@ fn assert_write_fault<T: Abort>(
     input: &[u8],
     taken: &[u8],
     flushes: bool,
+    full: Option<ErrorKind>,
 ) {
-    let mut writer = Room {
+    let mut writer = PipeWriter::new(Room {
         taken: Vec::new(alloc),
         left: taken.len(),
         flushes,
+        full,
+    });
+    let said: &[u8] = match full {
+        Some(ErrorKind::BrokenPipe) => b"",
+        _ => b"tapebox: write fault\n",
     };
     let mut errors = Vec::new(alloc);
     let ended = run_table(alloc, command, &mut { input }, &mut writer, &mut errors);
     assert!(rt; ended == Status::WriteFault);
-    assert_eq!(rt; writer.taken.as_slice(), taken);
-    assert_eq!(rt; errors.as_slice(), b"tapebox: write fault\n".as_slice());
+    assert_eq!(rt; writer.into_inner().taken.as_slice(), taken);
+    assert_eq!(rt; errors.as_slice(), said);
 }
 
 #[test]
-fn a_write_and_a_flush_that_fail_are_told(rt: HostRuntime) {
-    for (room, flushes) in [(0, true), (20, true), (usize::MAX, false)] {
+fn a_write_and_a_flush_that_fail_are_told_unless_nobody_reads(rt: HostRuntime) {
+    for (room, flushes, full) in [
+        (0, true, None),
+        (20, true, Some(ErrorKind::StorageFull)),
+        (usize::MAX, false, None),
+        (20, true, Some(ErrorKind::BrokenPipe)),
+        (usize::MAX, false, Some(ErrorKind::BrokenPipe)),
+    ] {
         for (command, input, text) in [
             (REPORT_OF, TABLE, REPORT),
             (TAPE_OF, TABLE, TAPE),
@@ -393,7 +409,7 @@ fn a_write_and_a_flush_that_fail_are_told(rt: HostRuntime) {
             (line_of(b'N'), TABLE, BYTES_OF_N),
         ] {
             let taken = &text[..text.len().min(room)];
-            assert_write_fault(&rt, rt.alloc(), command, input, taken, flushes);
+            assert_write_fault(&rt, rt.alloc(), command, input, taken, flushes, full);
         }
     }
 }

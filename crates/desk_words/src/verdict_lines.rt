@@ -1,13 +1,16 @@
 //! The line of what a recorded tape is found to be.
-ghost use Rattle.std.specs.Prelude.{◌≡◌, ◌⊎◌, ◌<◌, ◌^◌, ◌++◌, [], Err, IfOk, Ok, OnOk, decimal, get_or, length, string_bytes};
+ghost use Rattle.std.specs.Prelude.{◌≡◌, ◌≢◌, ◌⊎◌, ◌<◌, ◌^◌, ◌++◌, [], Err, IfOk, Ok, OnOk, get_or, length, string_bytes};
 ghost use Rattle.table_days.specs.TapeRows.{column_names};
 ghost use Rattle.desk_words.specs.VerdictLines.{counted, cut_line, cut_text, difference_line, recorded_line, refused_count, refused_for_any, rows_line, verdict_line, verdict_status};
 ghost use Rattle.program_words.specs.Statuses.{status_code};
+ghost use Rattle.program_words.specs.declared.status.Status.TheVariants.{WriteFault};
+ghost use Rattle.desk_words.specs.Outputs.{IsQuietIfGone};
 ghost use Rattle.desk_words.specs.VerifyRuns.{TellsVerdict};
 ghost use Rattle.table_days.specs.declared.table_end.TableEnd.TheVariants.{OutOfMemory};
 
+use crate::Output;
+use crate::number_text::push_number;
 use crate::saying::say_end;
-use itoa::Buffer;
 use program_words::Status;
 use recorded_tapes::{Difference, Rows, Verdict};
 use row_reads::write_text;
@@ -36,14 +39,6 @@ fn refused_for_any(refusals: &Refusals, reasons: &[Refusal]) -> u128
         refused += u128::from(refused_count(refusals, *reason));
     }
     refused
-}
-
-/// Adds a number in decimal.
-fn push_number(text: &mut Vec<u8>, number: u128) -> Result<(), AllocError>
-    ensures { OnOk result (text.new.items ≡ text.old.items ++ decimal number) }
-{
-    let mut digits = Buffer::new();
-    text.extend_from_slice(digits.format(number).as_bytes())
 }
 
 /// Adds so many of what has one name for one and another for more.
@@ -155,7 +150,8 @@ fn verdict_line(alloc: Global, verdict: &Verdict) -> Result<Vec<u8>, AllocError>
 
 /// The status of what a recorded tape is found to be.
 fn verdict_status(verdict: &Verdict) -> Status
-    ensures { status_code result ≡ verdict_status verdict.now }
+    ensures code { status_code result ≡ verdict_status verdict.now }
+    ensures no_fault { result ≢ WriteFault }
 {
     match verdict {
         Verdict::Recorded(_) => Status::Done,
@@ -164,22 +160,28 @@ fn verdict_status(verdict: &Verdict) -> Status
 }
 
 /// Writes the line of what a recorded tape is found to be, and gives the status. Where there is no memory for it that is said.
-pub fn write_verdict<W: Write, E: Write>(
+pub fn write_verdict<W: Output, E: Write>(
     alloc: Global,
     verdict: &Verdict,
     writer: &mut W,
     errors: &mut E,
 ) -> Status
-    ensures { TellsVerdict (Ok verdict.now) (status_code result) writer.old writer.new (W.contents writer.old) (W.contents writer.new)
+    ensures tells { TellsVerdict (Ok verdict.now) (status_code result) writer.old writer.new (W.contents writer.old) (W.contents writer.new)
         errors.old errors.new (E.contents errors.old) (E.contents errors.new)
         ⊎ TellsVerdict (Err OutOfMemory) (status_code result) writer.old writer.new (W.contents writer.old) (W.contents writer.new)
         errors.old errors.new (E.contents errors.old) (E.contents errors.new) }
+    ensures gone { IsQuietIfGone (W.reader_gone writer.new) result errors.old errors.new }
 {
     let Ok(line) = verdict_line(alloc, verdict) else {
-        return say_end(alloc, errors, &TableEnd::OutOfMemory);
+        return say_end(alloc, errors, false, &TableEnd::OutOfMemory);
     };
     match write_text(writer, &line) {
         Ok(()) => verdict_status(verdict),
-        Err(_) => say_end(alloc, errors, &TableEnd::WriteFault),
+        Err(_) => say_end(
+            alloc,
+            errors,
+            writer.reader_is_gone(),
+            &TableEnd::WriteFault,
+        ),
     }
 }

@@ -1,5 +1,5 @@
 //! The readable tape of a running day, as it comes.
-ghost use Rattle.std.specs.Prelude.{◌≡◌, ◌⊎◌, [], IfSome, IsSome, Some};
+ghost use Rattle.std.specs.Prelude.{◌≡◌, ◌≢◌, ◌⊎◌, [], IfSome, IsSome, Some};
 ghost use Rattle.std.specs.Io.Buffered.{writer_contents};
 ghost use Rattle.feed_words.specs.Days.{NameFollow};
 ghost use Rattle.feed_words.specs.Words.{words_of};
@@ -7,10 +7,11 @@ ghost use Rattle.program_words.specs.Statuses.{status_code, status_text};
 ghost use Rattle.program_words.specs.declared.status.Status.TheVariants.{Done};
 ghost use Rattle.std.specs.Io.KnownBytes.{Keeps};
 ghost use Rattle.row_reads.specs.Writing.{WritesPrefix};
+ghost use Rattle.desk_words.specs.Outputs.{IsQuietIfGone};
 ghost use Rattle.desk_words.specs.Watches.{IsRunStatus, IsWatchStatus, WritesPartOf, WritesSome, WritesTapeOf, WritesWhole, entry_line, row_fault, watch_text};
 
-use crate::saying::{say, say_status};
-use day_tables::TableWriteFault;
+use crate::Output;
+use crate::saying::{say, say_ended};
 use feed_ends::{Fault, here};
 use feed_follower::{EntrySink, FollowSockets, SinkFault, follow_tape_over};
 use feed_words::{FollowWords, WordsFault};
@@ -22,23 +23,23 @@ use std::io::{BufWriter, Write};
 use std::net::{Net, TcpListener, TcpStream, UdpSocket};
 use std::sync::Wait;
 use std::thread::Threads;
-use table_days::{EntryRows, write_head};
+use table_days::{EntryRows, WritingFault, write_head};
 use tape_core::Entry;
 
 /// The rows of a tape that is followed, and where they are written.
 #[derive(Drop)]
-struct RowSink<W: Write + Drop> {
-    rows: EntryRows,
-    writer: W,
+pub(crate) struct RowSink<W: Write + Drop> {
+    pub(crate) rows: EntryRows,
+    pub(crate) writer: W,
 }
 
 /// A fault of a row as a sink tells it.
-fn sink_fault(fault: TableWriteFault) -> SinkFault
+pub(crate) fn sink_fault(fault: WritingFault) -> SinkFault
     ensures { result ≡ row_fault fault }
 {
     match fault {
-        TableWriteFault::OutOfMemory => SinkFault::OutOfMemory,
-        TableWriteFault::WriteFault => SinkFault::Write,
+        WritingFault::OutOfMemory => SinkFault::OutOfMemory,
+        WritingFault::WriteFault => SinkFault::Write,
     }
 }
 
@@ -84,17 +85,26 @@ fn open_sockets<T: Net<Listener = TcpListener, Stream = TcpStream>>(
     })
 }
 
+/// The status of a run whose last flush failed: that of a write fault if all else was well.
+fn unflushed_status(status: u8) -> u8
+    ensures either { (result ≡ status) ⊎ (result ≡ 4) }
+    ensures fault { result ≢ 0 }
+{
+    match status {
+        0 => Fault::Write.status(),
+        _ => status,
+    }
+}
+
 /// Flushes what a run has written, and gives its status.
-fn flushed<W: Write>(status: u8, writer: &mut W) -> u8
+pub(crate) fn flushed<W: Write>(status: u8, writer: &mut W) -> u8
     ensures kept { Keeps (W.contents writer.old) (W.contents writer.new) }
     ensures status { (result ≡ status) ⊎ (result ≡ 4) }
     ensures done { result ≡ 0 → status ≡ 0 }
 {
-    let flushed = writer.flush();
-    if status == 0 && flushed.is_err() {
-        Fault::Write.status()
-    } else {
-        status
+    match writer.flush() {
+        Ok(()) => status,
+        Err(_) => unflushed_status(status),
     }
 }
 
@@ -155,31 +165,56 @@ fn say_watched<E: Write>(errors: &mut E, status: Status)
     say(errors, watch_text(status).as_bytes());
 }
 
-/// The writer of a buffer that is flushed, and the status, which is a write fault if all was well but the flush.
-fn unbuffered<W: Write + Drop>(code: u8, writer: BufWriter<W>) -> (u8, Option<W>)
-    ensures kept { IfSome result.1 (λ inner. Keeps (writer_contents W.contents writer) (W.contents inner)) }
-    ensures some { result.0 ≡ 0 → IsSome result.1 }
-    ensures status { (result.0 ≡ code) ⊎ (result.0 ≡ 4) }
-    ensures done { result.0 ≡ 0 → code ≡ 0 }
+/// How a day that was watched with a buffer before its writer ended.
+#[derive(Drop)]
+pub(crate) struct Watched<W> {
+    /// The status.
+    pub(crate) code: u8,
+    /// Whether whoever read the rows is gone.
+    pub(crate) reader_gone: bool,
+    /// The writer, unless what the buffer held could not be written, or there was no memory for the buffer.
+    pub(crate) writer: Option<W>,
+}
+
+/// Takes the buffer off a writer. If all was well but the flush, the status is that of a write fault.
+pub(crate) fn unbuffered<W: Output + Drop>(code: u8, buffer: BufWriter<W>) -> Watched<W>
+    ensures kept { IfSome result.writer (λ inner. Keeps (writer_contents W.contents buffer) (W.contents inner)) }
+    ensures some { result.code ≡ 0 → IsSome result.writer }
+    ensures status { (result.code ≡ code) ⊎ (result.code ≡ 4) }
+    ensures done { result.code ≡ 0 → code ≡ 0 }
+    ensures gone { IfSome result.writer (λ inner. result.reader_gone ≡ W.reader_gone inner) }
 {
-    match writer.into_inner() {
-        Ok(inner) => (code, Some(inner)),
-        Err(_) if code == 0 => (Fault::Write.status(), None),
-        Err(_) => (code, None),
+    let is_gone = buffer.get_ref().reader_is_gone();
+    match buffer.into_inner() {
+        Ok(inner) => Watched {
+            code,
+            reader_gone: inner.reader_is_gone(),
+            writer: Some(inner),
+        },
+        Err(_) => Watched {
+            code: unflushed_status(code),
+            reader_gone: is_gone,
+            writer: None,
+        },
     }
 }
 
 /// Watches a day with a buffer before the writer.
-fn watch_buffered<T, W>(rt: &T, alloc: Global, words: FollowWords, writer: W) -> (u8, Option<W>)
+fn watch_buffered<T, W>(rt: &T, alloc: Global, words: FollowWords, writer: W) -> Watched<W>
 where
     T: Threads + Wait + Net<Listener = TcpListener, Stream = TcpStream> + Sync,
-    W: Write + Send + Drop,
-    ensures whole { result.0 ≡ 0 → WritesWhole W.contents words.listing words.matrix words.limit writer result.1 }
-    ensures part { WritesSome W.contents words.listing words.matrix words.limit writer result.1 }
-    ensures status { IsRunStatus result.0 }
+    W: Output + Send + Drop,
+    ensures whole { result.code ≡ 0 → WritesWhole W.contents words.listing words.matrix words.limit writer result.writer }
+    ensures part { WritesSome W.contents words.listing words.matrix words.limit writer result.writer }
+    ensures status { IsRunStatus result.code }
+    ensures gone { IfSome result.writer (λ inner. result.reader_gone ≡ W.reader_gone inner) }
 {
     let Ok(buffer) = BufWriter::new(alloc, writer) else {
-        return (Fault::Memory.status(), None);
+        return Watched {
+            code: Fault::Memory.status(),
+            reader_gone: false,
+            writer: None,
+        };
     };
     let (code, buffer) = watch_day(rt, alloc, words, buffer);
     unbuffered(code, buffer)
@@ -187,7 +222,7 @@ where
 
 /// Watches a running day as a follower, and writes the readable tape of its entries as they come to a writer, which comes back with the status.
 /// A buffer stands before it, which is flushed whenever no entry more is ready. Where memory runs out for the buffer, or what it holds can't be
-/// written at the end, no writer comes back. What goes wrong is said on `errors` in one line. The status is `Done` where the whole tape was
+/// written at the end, no writer comes back. What goes wrong is said on `errors` in one line, but not that whoever read the rows is gone. The status is `Done` where the whole tape was
 /// written, `ReadFault` for a read fault or a socket that cannot be opened, `WriteFault`, `OutOfMemory`, `NotStarted` where no thread was
 /// started, and `Disagrees` where the tape disagrees.
 #[tactic(auto, using(crate::proofs::WatchLemmas::run_within))]
@@ -200,17 +235,22 @@ pub fn watch<T, W, E>(
 ) -> (Status, Option<W>)
 where
     T: Threads + Wait + Net<Listener = TcpListener, Stream = TcpStream> + Sync,
-    W: Write + Send + Drop,
+    W: Output + Send + Drop,
     E: Write,
     ensures known { IsRunStatus (status_code result.0) }
     ensures whole { result.0 ≡ Done → WritesWhole W.contents words.listing words.matrix words.limit writer result.1 }
     ensures part { WritesSome W.contents words.listing words.matrix words.limit writer result.1 }
     ensures quiet { result.0 ≡ Done → errors.new ≡ errors.old }
+    ensures gone { IfSome result.1 (λ back. IsQuietIfGone (W.reader_gone back) result.0 errors.old errors.new) }
     ensures said { WritesPrefix (status_text result.0) (E.contents errors.old) (E.contents errors.new) }
 {
-    let (code, writer) = watch_buffered(rt, alloc, words, writer);
+    let Watched {
+        code,
+        reader_gone,
+        writer,
+    } = watch_buffered(rt, alloc, words, writer);
     let status = Status::of_code(code);
-    say_status(errors, status);
+    say_ended(errors, status, reader_gone);
     (status, writer)
 }
 
@@ -225,12 +265,13 @@ pub fn watch_row<T, W, E>(
 ) -> (Status, Option<W>)
 where
     T: Threads + Wait + Net<Listener = TcpListener, Stream = TcpStream> + Sync,
-    W: Write + Send + Drop,
+    W: Output + Send + Drop,
     E: Write,
     ensures known { IsWatchStatus (status_code result.0) }
     ensures whole { result.0 ≡ Done → (day : FollowWords) × NameFollow (words_of words.now) day × WritesWhole W.contents day.listing day.matrix day.limit writer result.1 }
     ensures part { (result.1 ≡ Some writer) ⊎ ((day : FollowWords) × NameFollow (words_of words.now) day × WritesSome W.contents day.listing day.matrix day.limit writer result.1) }
     ensures quiet { result.0 ≡ Done → errors.new ≡ errors.old }
+    ensures gone { IfSome result.1 (λ back. IsQuietIfGone (W.reader_gone back) result.0 errors.old errors.new) }
     ensures said { WritesPrefix (watch_text result.0) (E.contents errors.old) (E.contents errors.new) }
 {
     match FollowWords::read(alloc, words) {

@@ -1,5 +1,6 @@
 //! A recorded tape in, and whether it stands as it is written.
-ghost use Rattle.std.specs.Prelude.{◌≡◌, ◌⊎◌, List, IfErr, IfOk, IfSome};
+ghost use Rattle.std.specs.Prelude.{◌≡◌, ◌≢◌, ◌⊎◌, List, IfErr, IfOk, IfSome};
+ghost use Rattle.std.specs.IoError.{error_kind};
 ghost use Rattle.sale_matrix.specs.declared.matrix.Matrix.{Matrix};
 ghost use Rattle.reports.specs.declared.message.Message.{Message};
 ghost use Rattle.day_tables.specs.Tables.{IsTable};
@@ -17,8 +18,20 @@ use crate::{Difference, Rows, Verdict};
 use day_tables::{TableFault, read_table};
 use sale_matrix::Matrix;
 use std::alloc::Global;
-use std::io::{ErrorKind, Read};
+use std::io::{Error, ErrorKind, Read};
 use table_days::{TableEnd, write_tape};
+
+/// The end that a failed read brings.
+fn failed_read(error: &Error) -> TableEnd
+    ensures one { (result ≡ OutOfMemory) ⊎ (result ≡ Table ReadFault) }
+    ensures memory { error_kind error.now ≡ ErrorKind.OutOfMemory → result ≡ OutOfMemory }
+    ensures fault { error_kind error.now ≢ ErrorKind.OutOfMemory → result ≡ Table ReadFault }
+{
+    match error.kind() {
+        ErrorKind::OutOfMemory => TableEnd::OutOfMemory,
+        _ => TableEnd::Table(TableFault::ReadFault),
+    }
+}
 
 /// All that a reader has left.
 fn read_all<R: Read>(alloc: Global, reader: &mut R) -> Result<Vec<u8>, TableEnd>
@@ -28,10 +41,7 @@ fn read_all<R: Read>(alloc: Global, reader: &mut R) -> Result<Vec<u8>, TableEnd>
     let mut text = Vec::new(alloc);
     match reader.read_to_end(&mut text) {
         Ok(_) => Ok(text),
-        Err(error) => match error.kind() {
-            ErrorKind::OutOfMemory => Err(TableEnd::OutOfMemory),
-            _ => Err(TableEnd::Table(TableFault::ReadFault)),
-        },
+        Err(error) => Err(failed_read(&error)),
     }
 }
 
@@ -55,10 +65,7 @@ fn replay(alloc: Global, matrix: Matrix, lines: &[u8]) -> Result<Result<Rows, Di
     ensures replay { IfOk result (IsReplay matrix lines.now) }
     ensures end { IfErr result (IsTableEnd lines.now) }
 {
-    let messages = match read_table(alloc, lines) {
-        Ok(messages) => messages,
-        Err(fault) => return Err(TableEnd::Table(fault)),
-    };
+    let messages = read_table(alloc, lines)?;
     let mut beside = Beside::new(alloc, lines);
     match write_tape(alloc, matrix, &messages, &mut beside) {
         // What a writer holds is all that its contract says. That these are still its lines takes a look at them.
@@ -100,9 +107,6 @@ pub fn verify_over<R: Read + Drop>(
     ensures verdict { IfSome (R.remaining reader) (λ input. IfOk result (IsVerdict matrix input)) }
     ensures end { IfSome (R.remaining reader) (λ input. IfErr result (IsVerifyEnd input)) }
 {
-    let text = match read_all(alloc, &mut reader) {
-        Ok(text) => text,
-        Err(end) => return Err(end),
-    };
+    let text = read_all(alloc, &mut reader)?;
     verdict_on(alloc, matrix, &text)
 }

@@ -1,7 +1,7 @@
 -- The rows of the messages that a tape admits, and the last change of each of its reports.
-use Rattle.std.proofs.Common.{◌≡◌, ◌≢◌, ◌⊎◌, ◌<◌, ◌≤◌, ◌+◌, ◌*◌, ◌-◌, ◌==◌, ◌∷◌, ◌++◌, ◌∙◌, [], ℕ, suc, Bool, true, false, cond, drop, nat_le, not, List, Option, Result, Some, None, Ok, Err, if◌then◌else◌}
-use Rattle.std.proofs.Common.{ap, append-nil, append_assoc, arith, eq-eqb, filter, fold, get_or, inl, inr, is_some, length, length-append, map, refl, set, slice_get, subst, sym, take, true≢false, unwrap_or}
-use Rattle.std.specs.List.{filter_map, flat_map, last_or, position}
+use Rattle.std.proofs.Common.{◌≡◌, ◌⊎◌, ◌<◌, ◌≤◌, ◌+◌, ◌*◌, ◌==◌, ◌∷◌, ◌++◌, ◌∙◌, [], ℕ, suc, Bool, true, false, cond, drop, nat_le, not, List, Option, Result, Some, None, Ok, Err, if◌then◌else◌}
+use Rattle.std.proofs.Common.{ap, append-nil, arith, filter, fold, get_or, inl, inr, length, length-append, map, refl, slice_get, subst, sym, take, unwrap_or}
+use Rattle.std.specs.List.{last_or, position}
 use Rattle.std.specs.Option.{option_map}
 use Rattle.std.proofs.Math.Seq.{get_or-append_seam}
 use Rattle.std.proofs.lemmas.Bool.{cases_lt, not-false}

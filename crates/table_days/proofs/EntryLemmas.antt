@@ -8,7 +8,7 @@ use Rattle.tape_core.specs.declared.entry.Entry.{Entry}
 use Rattle.tape_core.specs.declared.refusal.Refusal.{Refusal}
 use Rattle.table_days.specs.Answers.{answer, answer_by, tape_after, tape_by}
 use Rattle.table_days.specs.Laws.{RowsOfEntries, is_numbered}
-use Rattle.table_days.specs.TapeRows.{TapeRow, entry_row, entry_rows, figures_after, tape_row, tape_rows}
+use Rattle.table_days.specs.TapeRows.{TapeRow, entry_rows, figures_after, tape_row, tape_rows}
 
 -- the entry of a message that a tape refuses so, or not at all
 abbrev entry_by : TapeState → Message → Option Refusal → List Entry

@@ -1,5 +1,5 @@
 -- The text that tells of a tape's reports, entry by entry and piece by piece.
-use Rattle.std.proofs.Common.{◌≡◌, ◌≢◌, ◌<◌, ◌≤◌, ◌+◌, ◌-◌, ◌∷◌, ◌++◌, ◌∙◌, [], ℕ, Bool, true, false, List, Option, Some, None, IfSome, suc, if◌then◌else◌}
+use Rattle.std.proofs.Common.{◌≡◌, ◌<◌, ◌≤◌, ◌+◌, ◌-◌, ◌∷◌, ◌++◌, ◌∙◌, [], ℕ, Bool, true, false, List, Option, Some, None, suc, if◌then◌else◌}
 use Rattle.std.proofs.Common.{ap, append-nil, append_assoc, arith, get_or, is_some, drop, length, refl, slice_get, subst, sym, take, unwrap_or}
 use Rattle.std.specs.Io.KnownBytes.{Appends}
 use Rattle.std.specs.List.{cons_option, filter_map, flat_map}

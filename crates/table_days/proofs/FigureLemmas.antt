@@ -1,5 +1,5 @@
 -- The rows that tell of a tape's reports: whose they are, which figures they set, and that each figure has one.
-use Rattle.std.proofs.Common.{◌≡◌, ◌≢◌, ◌⊎◌, ◌<◌, ◌+◌, ◌==◌, ◌&&◌, ◌∷◌, ◌++◌, ◌∙◌, [], ℕ, suc, Bool, true, false, cond, not, List, Option, Some, None, IfSome, if◌then◌else◌}
+use Rattle.std.proofs.Common.{◌≡◌, ◌≢◌, ◌<◌, ◌+◌, ◌==◌, ◌&&◌, ◌∷◌, ◌++◌, ◌∙◌, [], ℕ, Bool, true, false, cond, not, List, Option, Some, None, IfSome, if◌then◌else◌}
 use Rattle.std.proofs.Common.{inl, inr, ap, arith, drop, eq-eqb, filter, fold, get_or, is_none, is_some, length, map, refl, slice_get, subst, sym, take, true≢false, unwrap_or}
 use Rattle.std.specs.List.{All, cons_option, filter_map}
 use Rattle.std.specs.Option.{option_map}
@@ -18,7 +18,6 @@ use Rattle.reports.specs.declared.message.Message.{Message}
 use Rattle.scratch_fold.specs.Fold.{PlacedEffect, becomes_last, empty_summary, is_higher, is_lower, mark_of, step, summary_of}
 use Rattle.scratch_fold.specs.declared.summary.Mark.{Mark}
 use Rattle.scratch_fold.specs.declared.summary.Summary.{Summary}
-use Rattle.corrections.specs.declared.target.Standing.{Standing as State}
 use Rattle.corrections.specs.declared.target.Standing.TheVariants.{Standing, Cancelled}
 use Rattle.tape_core.specs.Books.{latest_content, no_content}
 use Rattle.tape_core.specs.Lemmas.LegalNext.{IsLegal-with_message}

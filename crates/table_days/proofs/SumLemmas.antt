@@ -1,11 +1,11 @@
 -- The rows of a symbol add up to its volume and its trades.
-use Rattle.std.proofs.Common.{◌≡◌, ◌≢◌, ◌<◌, ◌+◌, ◌==◌, ◌&&◌, ◌∷◌, ◌++◌, ◌∙◌, [], ℕ, suc, Bool, true, false, cond, not, List, Option, Some, None, IsSome, IfSome, if◌then◌else◌}
-use Rattle.std.proofs.Common.{ap, arith, drop, filter, fold, get_or, is_some, length, map, refl, slice_get, subst, sym, take, unwrap_or}
+use Rattle.std.proofs.Common.{◌≡◌, ◌<◌, ◌+◌, ◌==◌, ◌&&◌, ◌∷◌, ◌++◌, ◌∙◌, [], ℕ, Bool, true, false, cond, not, List, Option, Some, None, IsSome, if◌then◌else◌}
+use Rattle.std.proofs.Common.{ap, arith, drop, filter, fold, is_some, length, map, refl, slice_get, subst, sym, take, unwrap_or}
 use Rattle.std.specs.List.{All, cons_option, filter_map, last_or}
 use Rattle.std.specs.Option.{option_map}
 use Rattle.std.proofs.lemmas.Bool.Decides.{nat_tests}
 use Rattle.std.proofs.lemmas.List.{drop_more, map-append, take-append-drop}
-use Rattle.std.proofs.lemmas.List.Elements.{All-head, All-tail, filter_map-append}
+use Rattle.std.proofs.lemmas.List.Elements.{All-head, All-tail}
 use Rattle.std.proofs.lemmas.Option.{get_or_from_slice_get, slice_get-get_or, slice_get_within}
 use Rattle.tape_types.specs.Names.{symbol_eq}
 use Rattle.sale_matrix.specs.Matrix.{cells_of}
@@ -23,7 +23,6 @@ use Rattle.tape_core.specs.Books.{no_content}
 use Rattle.tape_core.specs.Standing.{NumberedMessage, StandingReport, content_from, is_cancelled, placed_consolidated, standing_content, standing_report}
 use Rattle.tape_core.specs.Tape.{TapeState, messages_of, numbered_message}
 use Rattle.tape_core.specs.declared.entry.Entry.{Entry}
-use Rattle.table_days.specs.Answers.{tape_after}
 use Rattle.table_days.specs.Days.{first_tape, tape_of}
 use Rattle.table_days.specs.Explained.{explained, explained_entry, rows_of}
 use Rattle.table_days.specs.ExplainedLaws.{AddUp, RowsAddUp, counted_shares, is_row_of, is_standing}

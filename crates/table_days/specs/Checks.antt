@@ -123,6 +123,10 @@ pub record AreTold (faults : List TableFault) (count : ℕ) (lines : List ℕ) (
   pub by_lines : lines ≡ flat_map told_text told
   pub others : AreCounts (drop FAULTS_TOLD faults) more
 
+-- a fault was told, with the line of the file in which its row begins, unless enough are told
+abbrev pub Tells : TableCheck → TableCheck → ToldFault → Type 0
+Tells old new told = old.told < FAULTS_TOLD → new.lines.items ≡ old.lines.items ++ told_text told
+
 -- how many rows stand below the header row
 abbrev pub row_count : List (List (List ℕ)) → ℕ
 row_count [] = 0

@@ -1,6 +1,6 @@
 -- Why the figures of a day are what they are: a row for each report that the tape admitted.
-use Rattle.std.specs.Prelude.{◌≡◌, ◌+◌, ◌-◌, ◌<◌, ◌==◌, ◌++◌, ◌∷◌, ℕ, Bool, true, false, List, [], Option, Some, None, Result, Ok, Err, if◌then◌else◌}
-use Rattle.std.specs.Prelude.{codes, decimal, filter, is_some, length, map, slice_get, slice_index, take, unwrap_or}
+use Rattle.std.specs.Prelude.{◌+◌, ◌-◌, ◌==◌, ◌++◌, ◌∷◌, ℕ, Bool, true, false, List, [], Option, Some, None, Result, Ok, Err, if◌then◌else◌}
+use Rattle.std.specs.Prelude.{codes, decimal, filter, is_some, map, slice_get, slice_index, take, unwrap_or}
 use Rattle.std.specs.List.{filter_map, flat_map, last_or}
 use Rattle.std.specs.Option.{option_map}
 use Rattle.csv.specs.Writing.{default_writer, row_text}

@@ -1,5 +1,5 @@
 -- What is true of every text that tells of a table's reports.
-use Rattle.std.specs.Prelude.{◌≡◌, ◌⊎◌, ◌==◌, ◌&&◌, ◌∷◌, ℕ, Bool, true, false, List, [], All, Option, Some, count_by, filter, if◌then◌else◌, is_some, map, sum_by}
+use Rattle.std.specs.Prelude.{◌≡◌, ◌⊎◌, ◌==◌, ◌&&◌, ◌∷◌, ℕ, Bool, true, false, List, [], All, Some, count_by, filter, if◌then◌else◌, is_some, map, sum_by}
 use Rattle.tape_types.specs.Names.{symbol_eq}
 use Rattle.sale_matrix.specs.declared.matrix.Matrix.{Matrix}
 use Rattle.reports.specs.Messages.{header_of, reported_content}

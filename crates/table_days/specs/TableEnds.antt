@@ -12,6 +12,8 @@ use Rattle.table_days.specs.StaleRows.{first_stale}
 use Rattle.table_days.specs.declared.refusals.Refusals.{Refusals}
 use Rattle.table_days.specs.declared.table_end.TableEnd.{TableEnd}
 use Rattle.table_days.specs.declared.table_end.TableEnd.TheVariants.{Table, Listing, OutOfMemory, WriteFault}
+use Rattle.table_days.specs.declared.writing.WritingFault.{WritingFault}
+use Rattle.table_days.specs.declared.writing.WritingFault.TheVariants as fault
 
 -- a text of a whole table was written, and these are the rows that its tape refused, with the first stale one
 pub record WritesTable (text : Matrix → List Message → List ℕ) (matrix : Matrix) (input : List ℕ) (refusals : Refusals)
@@ -27,6 +29,11 @@ pub record WritesTablePart (text : Matrix → List Message → List ℕ) (matrix
   pub messages : List Message
   pub table : IsTable input messages
   pub written : WritesPrefix (text matrix messages) old new
+
+-- the end of a table whose text was not written whole
+abbrev pub write_end : WritingFault → TableEnd
+write_end fault.OutOfMemory = OutOfMemory
+write_end fault.WriteFault = WriteFault
 
 -- why messages have no text: their names make no listing; or memory ran out, or a write failed
 abbrev pub IsMessagesEnd : List Message → TableEnd → Type 0

@@ -145,25 +145,16 @@ impl Account {
         ensures account { IfOk result IsAccount }
         ensures end { IfErr result (λ end. (end ≢ WriteFault) × IsMessagesEnd messages.now end) }
     {
-        let mut day = match Day::of_names(alloc, matrix, messages) {
-            Ok(day) => day,
-            Err(end) => return Err(end),
-        };
-        let Ok(rows) = admitted_rows(alloc, &mut day, messages) else {
-            return Err(TableEnd::OutOfMemory);
-        };
-        let Ok(changes) = changes_of(alloc, &day.tape) else {
-            return Err(TableEnd::OutOfMemory);
-        };
-        match own_summaries(alloc, &day.tape) {
-            Ok(own) => Ok(Account {
-                day,
-                rows,
-                changes,
-                own,
-            }),
-            Err(_) => Err(TableEnd::OutOfMemory),
-        }
+        let mut day = Day::of_names(alloc, matrix, messages)?;
+        let rows = admitted_rows(alloc, &mut day, messages)?;
+        let changes = changes_of(alloc, &day.tape)?;
+        let own = own_summaries(alloc, &day.tape)?;
+        Ok(Account {
+            day,
+            rows,
+            changes,
+            own,
+        })
     }
 
     /// What is told of the report at an index of the tape's entries; `None` where another message is there.

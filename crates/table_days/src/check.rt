@@ -1,16 +1,15 @@
 //! A table in, every fault of it out.
 ghost use Rattle.std.specs.Prelude.{◌≡◌, ◌≢◌, ◌==◌, ◌&&◌, ◌++◌, [], Err, IfErr, IfOk, IfSome, OnErr, OnOk, is_some, not};
-ghost use Rattle.std.specs.Io.KnownBytes.{Keeps};
 ghost use Rattle.std.specs.List.{flat_map};
 ghost use Rattle.std.specs.Option.{option_map_or};
 ghost use Rattle.table_days.specs.Checks.{IsCheckEnd, WritesCheck, WritesCheckPart, all_kinds, check_text, faults_text, fine_text, fine_words, more_text, names_text};
-ghost use Rattle.table_days.specs.declared.table_end.TableEnd.TheVariants.{WriteFault as TableWriteFault};
+ghost use Rattle.table_days.specs.declared.table_end.TableEnd.TheVariants.{WriteFault};
 
 use crate::TableEnd;
 use crate::fault_counts::FaultCounts;
 use crate::fault_kind::{FAULT_KINDS, FaultKind};
 use crate::table_check::TableCheck;
-use crate::tape::write_part;
+use crate::writing::{flush, write_part};
 use day_tables::Column;
 use std::alloc::{AllocError, Global};
 use std::io::{Read, Write};
@@ -152,17 +151,6 @@ fn check_text(
     }
 }
 
-/// Flushes what was written.
-fn flush<W: Write>(writer: &mut W) -> Result<(), TableEnd>
-    ensures kept { Keeps (W.contents writer.old) (W.contents writer.new) }
-    ensures end { IfErr result (λ end. end ≡ TableWriteFault) }
-{
-    match writer.flush() {
-        Ok(()) => Ok(()),
-        Err(_) => Err(TableEnd::WriteFault),
-    }
-}
-
 /// Reads a table to its end and writes every fault of it: a line for each of the first `FAULTS_TOLD` rows that are no messages, then
 /// how many more there are of each kind, and then whether its names are too many. It gives whether there is no fault, of which a line
 /// tells with the number of rows. A fault of the header row is the only one, since no row can be read under it. What was written is
@@ -177,22 +165,13 @@ pub fn check_over<R: Read + Drop, W: Write>(
 ) -> Result<bool, TableEnd>
     ensures written { IfSome (R.remaining reader) (λ input. IfOk result (λ faultless. WritesCheck input faultless (W.contents writer.old) (W.contents writer.new))) }
     ensures end { IfErr result IsCheckEnd }
-    ensures silent { result ≢ Err TableWriteFault → OnErr result (writer.new ≡ writer.old) }
-    ensures prefix { result ≡ Err TableWriteFault → IfSome (R.remaining reader) (λ input. WritesCheckPart input (W.contents writer.old) (W.contents writer.new)) }
+    ensures silent { result ≢ Err WriteFault → OnErr result (writer.new ≡ writer.old) }
+    ensures prefix { result ≡ Err WriteFault → IfSome (R.remaining reader) (λ input. WritesCheckPart input (W.contents writer.old) (W.contents writer.new)) }
 {
-    let check = match TableCheck::of_table(alloc, reader) {
-        Ok(check) => check,
-        Err(fault) => return Err(TableEnd::Table(fault)),
-    };
-    let Ok(names) = check.names.wrong(alloc) else {
-        return Err(TableEnd::OutOfMemory);
-    };
-    let Ok(text) = check_text(alloc, &check, names) else {
-        return Err(TableEnd::OutOfMemory);
-    };
+    let check = TableCheck::of_table(alloc, reader)?;
+    let names = check.names.wrong(alloc)?;
+    let text = check_text(alloc, &check, names)?;
     write_part(writer, &text)?;
-    match flush(writer) {
-        Ok(()) => Ok(is_fine(&check, names)),
-        Err(end) => Err(end),
-    }
+    flush(writer)?;
+    Ok(is_fine(&check, names))
 }

@@ -1,47 +1,33 @@
 //! The rows of the readable tape for the entries of a tape.
 ghost use Rattle.std.specs.Prelude.{◌≡◌, Err, OnErr, OnOk};
 ghost use Rattle.std.specs.Io.KnownBytes.{Appends};
-ghost use Rattle.day_tables.specs.declared.table_write_fault.TableWriteFault.TheVariants.{OutOfMemory, WriteFault};
+ghost use Rattle.table_days.specs.declared.writing.WritingFault.TheVariants.{OutOfMemory, WriteFault};
 ghost use Rattle.row_reads.specs.Writing.{WritesPrefix};
 ghost use Rattle.table_days.specs.Laws.{RowsOfEntries};
 ghost use Rattle.table_days.specs.TapeRows.{entry_row, head_line, row_line};
 
+use crate::WritingFault;
 use crate::lines::{into_text, lines_in};
 use crate::tape_row::{head_text, put_row};
+use crate::writing::write_part;
 use csv::ByteRecord;
-use day_tables::TableWriteFault;
-use row_reads::write_text;
 use scratch_fold::Summary;
 use std::alloc::{AllocError, Global};
 use std::io::Write;
 use std::mem;
 use tape_core::Entry;
 
-/// Writes a text, and tells where a write failed.
-fn write_line<W: Write>(writer: &mut W, line: &[u8]) -> Result<(), TableWriteFault>
-    ensures written { OnOk result (Appends (W.contents writer.old) (W.contents writer.new) line.now) }
-    ensures prefix { WritesPrefix line.now (W.contents writer.old) (W.contents writer.new) }
-    ensures fault { OnErr result (result ≡ Err WriteFault) }
-{
-    match write_text(writer, line) {
-        Ok(()) => Ok(()),
-        Err(_) => Err(TableWriteFault::WriteFault),
-    }
-}
-
 /// Writes the line of the columns' names, with which a readable tape begins.
 ///
 /// Refused: `OutOfMemory` before anything is written, and `WriteFault` where a write fails or takes no byte, when a prefix of the
 /// line has been written and nothing else. The writer is not flushed.
-pub fn write_head<W: Write>(alloc: Global, writer: &mut W) -> Result<(), TableWriteFault>
+pub fn write_head<W: Write>(alloc: Global, writer: &mut W) -> Result<(), WritingFault>
     ensures written { OnOk result (Appends (W.contents writer.old) (W.contents writer.new) head_line) }
     ensures memory { result ≡ Err OutOfMemory → writer.new ≡ writer.old }
     ensures prefix { OnErr result (WritesPrefix head_line (W.contents writer.old) (W.contents writer.new)) }
 {
-    match head_text(alloc) {
-        Ok(head) => write_line(writer, &head),
-        Err(_) => Err(TableWriteFault::OutOfMemory),
-    }
+    let head = head_text(alloc)?;
+    write_part(writer, &head)
 }
 
 /// What the rows of a tape's entries are made with: memory that is used again for each.
@@ -89,15 +75,13 @@ impl EntryRows {
         entry: &Entry,
         figures: &Summary,
         writer: &mut W,
-    ) -> Result<(), TableWriteFault>
+    ) -> Result<(), WritingFault>
         ensures written { OnOk result (Appends (W.contents writer.old) (W.contents writer.new) (row_line (entry_row entry.now figures.now))) }
         ensures memory { result ≡ Err OutOfMemory → writer.new ≡ writer.old }
         ensures prefix { OnErr result (WritesPrefix (row_line (entry_row entry.now figures.now)) (W.contents writer.old) (W.contents writer.new)) }
     {
-        match self.make(entry, figures) {
-            Ok(()) => write_line(writer, &self.text),
-            Err(_) => Err(TableWriteFault::OutOfMemory),
-        }
+        self.make(entry, figures)?;
+        write_part(writer, &self.text)
     }
 }
 

@@ -13,14 +13,14 @@ ghost use Rattle.table_days.specs.ExplainedLaws.{CancelledSetNothing, RowsAddUp,
 ghost use Rattle.table_days.specs.Refusals.{AreRefusals};
 ghost use Rattle.table_days.specs.StaleRows.{first_stale};
 ghost use Rattle.table_days.specs.TableEnds.{IsMessagesEnd, IsTableEnd, WritesTable, WritesTablePart};
-ghost use Rattle.table_days.specs.declared.table_end.TableEnd.TheVariants.{OutOfMemory, WriteFault as TableWriteFault};
+ghost use Rattle.table_days.specs.declared.table_end.TableEnd.TheVariants.{OutOfMemory, WriteFault};
 
 use crate::account::Account;
 use crate::explained::{explained_head, put_explained};
 use crate::lines::{into_text, lines_in};
 use crate::table_end::flushed;
-use crate::tape::write_part;
-use crate::{Refusals, TableEnd};
+use crate::writing::write_part;
+use crate::{Refusals, TableEnd, WritingFault};
 use csv::{ByteRecord, Writer};
 use day_tables::read_table;
 use reports::Message;
@@ -80,7 +80,7 @@ fn next_lines<W: Write>(
     from: usize,
     to: usize,
     writer: &mut W,
-) -> Result<Vec<u8>, TableEnd>
+) -> Result<Vec<u8>, WritingFault>
     requires order { from ≤ to }
     requires within { to ≤ length account.now.day.tape.entries }
     requires account { IsAccount account.now }
@@ -88,16 +88,9 @@ fn next_lines<W: Write>(
         ≡ explained_to account.now.day.tape account.now.rows.items from ++ lines.items) }
     ensures written { OnOk result (Appends (W.contents writer.old) (W.contents writer.new) text.items) }
     ensures prefix { OnErr result (WritesPrefix text.items (W.contents writer.old) (W.contents writer.new)) }
-    ensures ends { IfErr result (λ end. (end ≡ OutOfMemory) ⊎ (end ≡ TableWriteFault)) }
 {
-    match write_part(writer, &text) {
-        Ok(()) => {}
-        Err(end) => return Err(end),
-    }
-    match lines_of(account, fields, text, from, to) {
-        Ok(lines) => Ok(lines),
-        Err(_) => Err(TableEnd::OutOfMemory),
-    }
+    write_part(writer, &text)?;
+    Ok(lines_of(account, fields, text, from, to)?)
 }
 
 /// Writes the line of the columns' names, and then the rows of the reports of a tape, many at once.
@@ -106,14 +99,13 @@ fn write_rows<W: Write>(
     account: &Account,
     head: Vec<u8>,
     writer: &mut W,
-) -> Result<(), TableEnd>
+) -> Result<(), WritingFault>
     requires head { head.items ≡ row_text default_writer explained_names }
     requires account { IsAccount account.now }
     ensures written { OnOk result (Appends (W.contents writer.old) (W.contents writer.new)
         (explained_text (explained_rows account.now.day.tape account.now.rows.items))) }
     ensures prefix { OnErr result (WritesPrefix
         (explained_text (explained_rows account.now.day.tape account.now.rows.items)) (W.contents writer.old) (W.contents writer.new)) }
-    ensures ends { IfErr result (λ end. (end ≡ OutOfMemory) ⊎ (end ≡ TableWriteFault)) }
 {
     let count = account.day.tape.entries().len();
     let mut fields = ByteRecord::new(alloc);
@@ -121,10 +113,7 @@ fn write_rows<W: Write>(
     let mut from = 0;
     while from < count {
         let to = from + (count - from).min(ENTRIES_AT_ONCE);
-        text = match next_lines(account, &mut fields, text, from, to, writer) {
-            Ok(lines) => lines,
-            Err(end) => return Err(end),
-        };
+        text = next_lines(account, &mut fields, text, from, to, writer)?;
         from = to;
     }
     write_part(writer, &text)
@@ -146,21 +135,14 @@ pub fn write_explained<W: Write>(
     ensures stale { IfOk result (λ refusals. refusals.stale ≡ first_stale (first_tape matrix messages.now) messages.now) }
     ensures written { OnOk result (Appends (W.contents writer.old) (W.contents writer.new) (explain_text matrix messages.now)) }
     ensures end { IfErr result (IsMessagesEnd messages.now) }
-    ensures silent { result ≢ Err TableWriteFault → result ≢ Err OutOfMemory → OnErr result (writer.new ≡ writer.old) }
-    ensures prefix { (result ≡ Err TableWriteFault) ⊎ (result ≡ Err OutOfMemory)
+    ensures silent { result ≢ Err WriteFault → result ≢ Err OutOfMemory → OnErr result (writer.new ≡ writer.old) }
+    ensures prefix { (result ≡ Err WriteFault) ⊎ (result ≡ Err OutOfMemory)
         → WritesPrefix (explain_text matrix messages.now) (W.contents writer.old) (W.contents writer.new) }
 {
-    let account = match Account::of_messages(alloc, matrix, messages) {
-        Ok(account) => account,
-        Err(end) => return Err(end),
-    };
-    let Ok(head) = explained_head(alloc) else {
-        return Err(TableEnd::OutOfMemory);
-    };
-    match write_rows(alloc, &account, head, writer) {
-        Ok(()) => flushed(writer, &account.day.refusals),
-        Err(end) => Err(end),
-    }
+    let account = Account::of_messages(alloc, matrix, messages)?;
+    let head = explained_head(alloc)?;
+    write_rows(alloc, &account, head, writer)?;
+    flushed(writer, &account.day.refusals)
 }
 
 /// Reads a table whole, answers its messages in order by a tape of the names in it, in the order in which they first appear, and
@@ -181,14 +163,12 @@ pub fn explain_over<R: Read + Drop, W: Write>(
     ensures end { IfSome (R.remaining reader) (λ input. IfErr result (IsTableEnd input)) }
 
     // Whatever the reader: nothing is written at another end than these two, at which a part from the front may be.
-    ensures silent { result ≢ Err TableWriteFault → result ≢ Err OutOfMemory → OnErr result (writer.new ≡ writer.old) }
-    ensures prefix { (result ≡ Err TableWriteFault) ⊎ (result ≡ Err OutOfMemory)
+    ensures silent { result ≢ Err WriteFault → result ≢ Err OutOfMemory → OnErr result (writer.new ≡ writer.old) }
+    ensures prefix { (result ≡ Err WriteFault) ⊎ (result ≡ Err OutOfMemory)
         → IfSome (R.remaining reader) (λ input. WritesTablePart explain_text matrix input (W.contents writer.old) (W.contents writer.new)) }
 {
-    match read_table(alloc, reader) {
-        Ok(messages) => write_explained(alloc, matrix, &messages, writer),
-        Err(fault) => Err(TableEnd::Table(fault)),
-    }
+    let messages = read_table(alloc, reader)?;
+    write_explained(alloc, matrix, &messages, writer)
 }
 
 /// The rows that tell of a symbol's reports are those that the tape admitted, each once, by rising place.

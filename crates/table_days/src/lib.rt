@@ -27,6 +27,7 @@ mod table_end;
 mod tape;
 mod tape_row;
 mod told_fault;
+mod writing;
 
 pub use answering::{Answer, TableTape};
 pub use check::check_over;
@@ -41,3 +42,4 @@ pub use stale_row::StaleRow;
 pub use strict::{explain_strict_over, report_strict_over, tape_strict_over};
 pub use table_end::TableEnd;
 pub use tape::{tape_over, write_tape};
+pub use writing::{WritingFault, flush, write_part};

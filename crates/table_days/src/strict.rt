@@ -93,10 +93,7 @@ fn write_tape_if_admitted<W: Write>(
     ensures prefix { (result ≡ Err TableWriteFault) ⊎ (result ≡ Err OutOfMemory)
         → WritesPrefix (strictly tape_text matrix messages.now) (W.contents writer.old) (W.contents writer.new) }
 {
-    let refused = match refusals_of(alloc, matrix, messages) {
-        Ok(refused) => refused,
-        Err(end) => return Err(end),
-    };
+    let refused = refusals_of(alloc, matrix, messages)?;
     if refused.is_empty() {
         write_tape(alloc, matrix, messages, writer)
     } else {
@@ -120,10 +117,7 @@ fn write_explained_if_admitted<W: Write>(
     ensures prefix { (result ≡ Err TableWriteFault) ⊎ (result ≡ Err OutOfMemory)
         → WritesPrefix (strictly explain_text matrix messages.now) (W.contents writer.old) (W.contents writer.new) }
 {
-    let told = match refusals_of(alloc, matrix, messages) {
-        Ok(told) => told,
-        Err(end) => return Err(end),
-    };
+    let told = refusals_of(alloc, matrix, messages)?;
     if told.is_empty() {
         write_explained(alloc, matrix, messages, writer)
     } else {
@@ -175,10 +169,8 @@ pub fn tape_strict_over<R: Read + Drop, W: Write>(
     ensures prefix { (result ≡ Err TableWriteFault) ⊎ (result ≡ Err OutOfMemory)
         → IfSome (R.remaining reader) (λ input. WritesTablePart (strictly tape_text) matrix input (W.contents writer.old) (W.contents writer.new)) }
 {
-    match read_table(alloc, reader) {
-        Ok(messages) => write_tape_if_admitted(alloc, matrix, &messages, writer),
-        Err(fault) => Err(TableEnd::Table(fault)),
-    }
+    let messages = read_table(alloc, reader)?;
+    write_tape_if_admitted(alloc, matrix, &messages, writer)
 }
 
 /// Does what `explain_over` does if the tape refuses no row of the table. If it refuses one, nothing is written, and what it refuses is
@@ -200,8 +192,6 @@ pub fn explain_strict_over<R: Read + Drop, W: Write>(
     ensures prefix { (result ≡ Err TableWriteFault) ⊎ (result ≡ Err OutOfMemory)
         → IfSome (R.remaining reader) (λ input. WritesTablePart (strictly explain_text) matrix input (W.contents writer.old) (W.contents writer.new)) }
 {
-    match read_table(alloc, reader) {
-        Ok(messages) => write_explained_if_admitted(alloc, matrix, &messages, writer),
-        Err(fault) => Err(TableEnd::Table(fault)),
-    }
+    let messages = read_table(alloc, reader)?;
+    write_explained_if_admitted(alloc, matrix, &messages, writer)
 }

@@ -3,7 +3,7 @@ ghost use Rattle.std.specs.Prelude.{◌≡◌, ◌↔◌, ◌⊎◌, ◌+◌, �
 ghost use Rattle.day_tables.specs.Checks.{ReadsRows};
 ghost use Rattle.day_tables.specs.declared.table_fault.TableFault.{TableFault as Fault};
 ghost use Rattle.day_tables.specs.declared.table_fault.TableFault.TheVariants.{OutOfMemory, ReadFault, Row};
-ghost use Rattle.table_days.specs.Checks.{AreTold, HasSeen, IsCheckOfText, NotesAll, NotesEnd, NotesNone, NotesRow, told_text};
+ghost use Rattle.table_days.specs.Checks.{AreTold, HasSeen, IsCheckOfText, NotesAll, NotesEnd, NotesNone, NotesRow, Tells, told_text};
 
 use crate::fault_counts::FaultCounts;
 use crate::seen_names::SeenNames;
@@ -78,6 +78,7 @@ impl TableCheck {
     ) -> Result<(), AllocError>
         ensures told { OnOk result ((faults : List Fault) → length faults + 1 < 2 ^ 64 → AreTold faults self.old.told self.old.lines.items self.old.more
             → AreTold (faults ++ Row number fault ∷ []) self.new.told self.new.lines.items self.new.more) }
+        ensures line { OnOk result (Tells self.old self.new (record { fault = Row number fault; line = line })) }
         ensures names { self.new.names ≡ self.old.names }
     {
         if self.told >= FAULTS_TOLD {
@@ -97,7 +98,7 @@ impl TableCheck {
         self.tell(alloc, ToldFault { fault, line: 0 })
     }
 
-    /// Notes what the row of this number is.
+    /// Notes what the row of this number is, which begins in this line of the file.
     fn add_row(
         &mut self,
         alloc: Global,
@@ -105,7 +106,8 @@ impl TableCheck {
         row: Result<Message, RowFault>,
         line: u64,
     ) -> Result<(), AllocError>
-        ensures { OnOk result (NotesRow self.old self.new number row) }
+        ensures notes { OnOk result (NotesRow self.old self.new number row) }
+        ensures line { OnOk result (IfErr row (λ fault. Tells self.old self.new (record { fault = Row number fault; line = line }))) }
     {
         match row {
             Ok(message) => self.names.add(&message),

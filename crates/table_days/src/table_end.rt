@@ -1,11 +1,14 @@
 //! How a table's day ended.
 ghost use Rattle.table_days.specs.EndTexts.{end_status, listing_fault_status, table_fault_status};
+ghost use Rattle.table_days.specs.TableEnds.{write_end};
 ghost use Rattle.std.specs.Io.KnownBytes.{Keeps};
 ghost use Rattle.std.specs.Prelude.{◌≡◌, Err, IfErr, IfOk};
-ghost use Rattle.table_days.specs.declared.table_end.TableEnd.TheVariants.{WriteFault};
+ghost use Rattle.table_days.specs.declared.table_end.TableEnd.TheVariants.{OutOfMemory, Table, WriteFault};
 
-use crate::Refusals;
+use crate::writing::flush;
+use crate::{Refusals, WritingFault};
 use day_tables::TableFault;
+use std::alloc::AllocError;
 use std::io::Write;
 use tape_types::ListingFault;
 
@@ -57,14 +60,45 @@ impl TableEnd {
     }
 }
 
+impl From<AllocError> for TableEnd {
+    ghost use Rattle.std.specs.Prelude.{◌≡◌};
+
+    ghost from_gives = { λ _ end. end ≡ OutOfMemory };
+
+    fn from(_error: AllocError) -> TableEnd {
+        TableEnd::OutOfMemory
+    }
+}
+
+impl From<TableFault> for TableEnd {
+    ghost use Rattle.std.specs.Prelude.{◌≡◌};
+
+    ghost from_gives = { λ fault end. end ≡ Table fault };
+
+    fn from(fault: TableFault) -> TableEnd {
+        TableEnd::Table(fault)
+    }
+}
+
+impl From<WritingFault> for TableEnd {
+    ghost use Rattle.std.specs.Prelude.{◌≡◌};
+
+    ghost from_gives = { λ fault end. end ≡ write_end fault };
+
+    fn from(fault: WritingFault) -> TableEnd {
+        match fault {
+            WritingFault::OutOfMemory => TableEnd::OutOfMemory,
+            WritingFault::WriteFault => TableEnd::WriteFault,
+        }
+    }
+}
+
 /// What was refused, once what was written is flushed.
 pub fn flushed<W: Write>(writer: &mut W, refusals: &Refusals) -> Result<Refusals, TableEnd>
     ensures kept { Keeps (W.contents writer.old) (W.contents writer.new) }
     ensures ok { IfOk result (λ flushed. flushed ≡ refusals.now) }
     ensures err { IfErr result (λ end. end ≡ WriteFault) }
 {
-    match writer.flush() {
-        Ok(()) => Ok(*refusals),
-        Err(_) => Err(TableEnd::WriteFault),
-    }
+    flush(writer)?;
+    Ok(*refusals)
 }

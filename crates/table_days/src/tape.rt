@@ -10,17 +10,17 @@ ghost use Rattle.table_days.specs.Refusals.{AreRefusals};
 ghost use Rattle.table_days.specs.StaleRows.{first_stale};
 ghost use Rattle.table_days.specs.TableEnds.{IsMessagesEnd, IsTableEnd, WritesTable, WritesTablePart};
 ghost use Rattle.table_days.specs.TapeRows.{column_names, rows_text, tape_rows, tape_text, text_from};
-ghost use Rattle.table_days.specs.declared.table_end.TableEnd.TheVariants.{OutOfMemory, WriteFault as TableWriteFault};
+ghost use Rattle.table_days.specs.declared.table_end.TableEnd.TheVariants.{OutOfMemory, WriteFault};
 
 use crate::day::Day;
 use crate::lines::{into_text, lines_in};
 use crate::table_end::flushed;
 use crate::tape_row::{head_text, put_next};
-use crate::{Refusals, TableEnd};
+use crate::writing::write_part;
+use crate::{Refusals, TableEnd, WritingFault};
 use csv::ByteRecord;
 use day_tables::read_table;
 use reports::Message;
-use row_reads::write_text;
 use sale_matrix::Matrix;
 use std::alloc::{AllocError, Global};
 use std::io::{Read, Write};
@@ -47,18 +47,6 @@ fn lines_of(
     into_text(writer)
 }
 
-/// Writes a part of the text.
-pub fn write_part<W: Write>(writer: &mut W, text: &[u8]) -> Result<(), TableEnd>
-    ensures written { OnOk result (Appends (W.contents writer.old) (W.contents writer.new) text.now) }
-    ensures prefix { WritesPrefix text.now (W.contents writer.old) (W.contents writer.new) }
-    ensures ends { IfErr result (λ end. end ≡ TableWriteFault) }
-{
-    match write_text(writer, text) {
-        Ok(()) => Ok(()),
-        Err(_) => Err(TableEnd::WriteFault),
-    }
-}
-
 /// Writes a part of the text, and makes the lines of a day's next rows in its memory.
 #[tactic(auto, using(crate::proofs::TapeLemmas::written_prefix))]
 fn next_lines<W: Write>(
@@ -67,23 +55,16 @@ fn next_lines<W: Write>(
     text: Vec<u8>,
     messages: &[Message],
     writer: &mut W,
-) -> Result<Vec<u8>, TableEnd>
+) -> Result<Vec<u8>, WritingFault>
     requires few { day.old.row + length messages.now < 2 ^ 64 }
     requires listed { lists_all day.old.tape messages.now ≡ true }
     ensures text { IfOk result (λ lines. lines.items ≡ rows_text (tape_rows day.old.tape messages.now)) }
     ensures more { OnOk result (AnswersMore day.old day.new messages.now) }
     ensures written { OnOk result (Appends (W.contents writer.old) (W.contents writer.new) text.items) }
     ensures prefix { OnErr result (WritesPrefix text.items (W.contents writer.old) (W.contents writer.new)) }
-    ensures ends { IfErr result (λ end. (end ≡ OutOfMemory) ⊎ (end ≡ TableWriteFault)) }
 {
-    match write_part(writer, &text) {
-        Ok(()) => {}
-        Err(end) => return Err(end),
-    }
-    match lines_of(day, fields, text, messages) {
-        Ok(lines) => Ok(lines),
-        Err(_) => Err(TableEnd::OutOfMemory),
-    }
+    write_part(writer, &text)?;
+    Ok(lines_of(day, fields, text, messages)?)
 }
 
 /// Writes the line of the columns' names, and then the rows of messages as a day answers them, many at once.
@@ -93,7 +74,7 @@ fn write_rows<W: Write>(
     head: Vec<u8>,
     messages: &[Message],
     writer: &mut W,
-) -> Result<(), TableEnd>
+) -> Result<(), WritingFault>
     requires head { head.items ≡ row_text default_writer column_names }
     requires fresh { HasAnswered day.old.tape [] day.old }
     requires listed { lists_all day.old.tape messages.now ≡ true }
@@ -102,17 +83,13 @@ fn write_rows<W: Write>(
     ensures stale { OnOk result (day.new.refusals.stale ≡ first_stale day.old.tape messages.now) }
     ensures written { OnOk result (Appends (W.contents writer.old) (W.contents writer.new) (text_from day.old.tape messages.now)) }
     ensures prefix { OnErr result (WritesPrefix (text_from day.old.tape messages.now) (W.contents writer.old) (W.contents writer.new)) }
-    ensures ends { IfErr result (λ end. (end ≡ OutOfMemory) ⊎ (end ≡ TableWriteFault)) }
 {
     let mut fields = ByteRecord::new(alloc);
     let mut text = head;
     let mut rest = messages;
     while !rest.is_empty() {
         let (next, behind) = rest.split_at(rest.len().min(ROWS_AT_ONCE));
-        text = match next_lines(day, &mut fields, text, next, writer) {
-            Ok(lines) => lines,
-            Err(end) => return Err(end),
-        };
+        text = next_lines(day, &mut fields, text, next, writer)?;
         rest = behind;
     }
     write_part(writer, &text)
@@ -134,21 +111,14 @@ pub fn write_tape<W: Write>(
     ensures stale { IfOk result (λ refusals. refusals.stale ≡ first_stale (first_tape matrix messages.now) messages.now) }
     ensures written { OnOk result (Appends (W.contents writer.old) (W.contents writer.new) (tape_text matrix messages.now)) }
     ensures end { IfErr result (IsMessagesEnd messages.now) }
-    ensures silent { result ≢ Err TableWriteFault → result ≢ Err OutOfMemory → OnErr result (writer.new ≡ writer.old) }
-    ensures prefix { (result ≡ Err TableWriteFault) ⊎ (result ≡ Err OutOfMemory)
+    ensures silent { result ≢ Err WriteFault → result ≢ Err OutOfMemory → OnErr result (writer.new ≡ writer.old) }
+    ensures prefix { (result ≡ Err WriteFault) ⊎ (result ≡ Err OutOfMemory)
         → WritesPrefix (tape_text matrix messages.now) (W.contents writer.old) (W.contents writer.new) }
 {
-    let mut day = match Day::of_names(alloc, matrix, messages) {
-        Ok(day) => day,
-        Err(end) => return Err(end),
-    };
-    let Ok(head) = head_text(alloc) else {
-        return Err(TableEnd::OutOfMemory);
-    };
-    match write_rows(alloc, &mut day, head, messages, writer) {
-        Ok(()) => flushed(writer, &day.refusals),
-        Err(end) => Err(end),
-    }
+    let mut day = Day::of_names(alloc, matrix, messages)?;
+    let head = head_text(alloc)?;
+    write_rows(alloc, &mut day, head, messages, writer)?;
+    flushed(writer, &day.refusals)
 }
 
 /// Reads a table whole, answers its messages in order by a tape of the names in it, in the order in which they first appear, and
@@ -168,12 +138,10 @@ pub fn tape_over<R: Read + Drop, W: Write>(
     ensures end { IfSome (R.remaining reader) (λ input. IfErr result (IsTableEnd input)) }
 
     // Whatever the reader: nothing is written at another end than these two, at which a part from the front may be.
-    ensures silent { result ≢ Err TableWriteFault → result ≢ Err OutOfMemory → OnErr result (writer.new ≡ writer.old) }
-    ensures prefix { (result ≡ Err TableWriteFault) ⊎ (result ≡ Err OutOfMemory)
+    ensures silent { result ≢ Err WriteFault → result ≢ Err OutOfMemory → OnErr result (writer.new ≡ writer.old) }
+    ensures prefix { (result ≡ Err WriteFault) ⊎ (result ≡ Err OutOfMemory)
         → IfSome (R.remaining reader) (λ input. WritesTablePart tape_text matrix input (W.contents writer.old) (W.contents writer.new)) }
 {
-    match read_table(alloc, reader) {
-        Ok(messages) => write_tape(alloc, matrix, &messages, writer),
-        Err(fault) => Err(TableEnd::Table(fault)),
-    }
+    let messages = read_table(alloc, reader)?;
+    write_tape(alloc, matrix, &messages, writer)
 }

@@ -6,6 +6,10 @@ use Rattle.reports.specs.declared.message.Message.{Message}
 use Rattle.row_reads.specs.Writing.{WritesPrefix}
 use Rattle.table_days.specs.declared.table_end.TableEnd.{TableEnd}
 use Rattle.table_days.specs.declared.table_end.TableEnd.TheVariants.{Table, Listing, OutOfMemory, WriteFault}
+use Rattle.table_days.specs.declared.writing.WritingFault.{WritingFault}
+use Rattle.table_days.specs.declared.writing.WritingFault.TheVariants as fault
+use Rattle.table_texts.specs.declared.text_end.TextEnd.{TextEnd}
+use Rattle.table_texts.specs.declared.text_end.TextEnd.TheVariants as text_end
 
 -- a text of messages that are so was written
 pub record WritesText (Are : List Message → Type 0) (text : List Message → List ℕ) (old new : Option (List ℕ)) : Type 0 where
@@ -18,6 +22,11 @@ pub record WritesTextPart (Are : List Message → Type 0) (text : List Message �
   pub messages : List Message
   pub are : Are messages
   pub written : WritesPrefix (text messages) old new
+
+-- the end of a batch's text whose table was not written whole
+abbrev pub write_end : WritingFault → TextEnd
+write_end fault.OutOfMemory = text_end.OutOfMemory
+write_end fault.WriteFault = text_end.WriteFault
 
 -- why a table has no bytes: it is no table; or memory ran out, or a write failed
 abbrev pub IsReadingEnd : List ℕ → TableEnd → Type 0

@@ -4,6 +4,5 @@ pub mod EndTexts
 pub mod Ends
 pub mod Laws
 pub mod OwnBytes
-pub mod Stops
 pub mod TableLines
 pub mod TextLines

@@ -61,8 +61,6 @@ pub fn encode_over<R: Read + Drop, W: Write>(
     ensures prefix { (result ≡ Err WriteFault) ⊎ (result ≡ Err OutOfMemory) → IfSome (R.remaining reader) (λ input.
         WritesTextPart (IsTable input) encoded_text (W.contents writer.old) (W.contents writer.new)) }
 {
-    match read_table(alloc, reader) {
-        Ok(messages) => write_encoded(alloc, &messages, writer),
-        Err(fault) => Err(TableEnd::Table(fault)),
-    }
+    let messages = read_table(alloc, reader)?;
+    write_encoded(alloc, &messages, writer)
 }

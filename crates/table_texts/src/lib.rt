@@ -9,7 +9,6 @@ mod header_text;
 mod laws;
 mod line;
 mod line_fault;
-mod stop;
 #[cfg(test)]
 mod tests;
 mod text_end;

@@ -53,8 +53,6 @@ pub fn line_over<R: Read + Drop, W: Write>(
     ensures prefix { (result ≡ Err WriteFault) ⊎ (result ≡ Err OutOfMemory) → IfSome (R.remaining reader) (λ input.
         WritesTextPart (IsTable input) (line_bytes participant) (W.contents writer.old) (W.contents writer.new)) }
 {
-    match read_table(alloc, reader) {
-        Ok(messages) => write_line(alloc, participant, &messages, writer),
-        Err(fault) => Err(TableEnd::Table(fault)),
-    }
+    let messages = read_table(alloc, reader)?;
+    write_line(alloc, participant, &messages, writer)
 }

@@ -1,9 +1,11 @@
 //! Why a batch's text was not decoded.
 ghost use Rattle.std.specs.Prelude.{◌≡◌, Some};
 ghost use Rattle.table_texts.specs.EndTexts.{end_status, end_text};
+ghost use Rattle.table_texts.specs.Ends.{write_end};
 
 use crate::LineFault;
 use std::fmt;
+use table_days::WritingFault;
 use thiserror::Error;
 
 /// Why a batch's text was not written as a table.
@@ -29,6 +31,19 @@ impl TextEnd {
             TextEnd::ReadFault => 3,
             TextEnd::WriteFault => 4,
             TextEnd::OutOfMemory => 5,
+        }
+    }
+}
+
+impl From<WritingFault> for TextEnd {
+    ghost use Rattle.std.specs.Prelude.{◌≡◌};
+
+    ghost from_gives = { λ fault end. end ≡ write_end fault };
+
+    fn from(fault: WritingFault) -> TextEnd {
+        match fault {
+            WritingFault::OutOfMemory => TextEnd::OutOfMemory,
+            WritingFault::WriteFault => TextEnd::WriteFault,
         }
     }
 }

@@ -1,39 +1,16 @@
 //! Messages written in a form, many at once.
-ghost use Rattle.std.specs.Prelude.{◌≡◌, ◌++◌, IfErr, IfOk, OnErr, OnOk};
-ghost use Rattle.std.specs.Io.KnownBytes.{Appends, Keeps};
+ghost use Rattle.std.specs.Prelude.{◌≡◌, ◌++◌, IfOk, OnOk};
+ghost use Rattle.std.specs.Io.KnownBytes.{Appends};
 ghost use Rattle.std.specs.List.{flat_map};
 ghost use Rattle.row_reads.specs.Writing.{WritesPrefix};
-ghost use Rattle.table_texts.specs.declared.stop.Stop.TheVariants.{WriteFault};
 
 use crate::form::Form;
-use crate::stop::Stop;
 use reports::Message;
-use row_reads::write_text;
 use std::io::Write;
+use table_days::{WritingFault, flush, write_part};
 
 /// How many messages are written at once.
 const MESSAGES_AT_ONCE: usize = 512;
-
-/// Writes a part of the text.
-fn write_part<W: Write>(writer: &mut W, text: &[u8]) -> Result<(), Stop>
-    ensures written { OnOk result (Appends (W.contents writer.old) (W.contents writer.new) text.now) }
-    ensures prefix { WritesPrefix text.now (W.contents writer.old) (W.contents writer.new) }
-    ensures fault { IfErr result (λ stop. stop ≡ WriteFault) }
-{
-    write_text(writer, text)?;
-    Ok(())
-}
-
-/// Flushes what was written.
-fn flush<W: Write>(writer: &mut W) -> Result<(), Stop>
-    ensures kept { Keeps (W.contents writer.old) (W.contents writer.new) }
-    ensures fault { IfErr result (λ stop. stop ≡ WriteFault) }
-{
-    match writer.flush() {
-        Ok(()) => Ok(()),
-        Err(_) => Err(Stop::WriteFault),
-    }
-}
 
 /// Writes a part of the text, and makes the text of the next messages in its memory.
 fn next_text<F: Form, W: Write>(
@@ -41,7 +18,7 @@ fn next_text<F: Form, W: Write>(
     text: Vec<u8>,
     messages: &[Message],
     writer: &mut W,
-) -> Result<Vec<u8>, Stop>
+) -> Result<Vec<u8>, WritingFault>
     ensures text { IfOk result (λ made. made.items ≡ flat_map (F.text form.now) messages.now) }
     ensures written { OnOk result (Appends (W.contents writer.old) (W.contents writer.new) text.items) }
     ensures prefix { WritesPrefix text.items (W.contents writer.old) (W.contents writer.new) }
@@ -56,7 +33,7 @@ fn write_pieces<F: Form, W: Write>(
     head: Vec<u8>,
     messages: &[Message],
     writer: &mut W,
-) -> Result<(), Stop>
+) -> Result<(), WritingFault>
     ensures written { OnOk result (Appends (W.contents writer.old) (W.contents writer.new) (head.items ++ flat_map (F.text form.now) messages.now)) }
     ensures prefix { WritesPrefix (head.items ++ flat_map (F.text form.now) messages.now) (W.contents writer.old) (W.contents writer.new) }
 {
@@ -64,10 +41,7 @@ fn write_pieces<F: Form, W: Write>(
     let mut rest = messages;
     while !rest.is_empty() {
         let (next, behind) = rest.split_at(rest.len().min(MESSAGES_AT_ONCE));
-        text = match next_text(form, text, next, writer) {
-            Ok(made) => made,
-            Err(stop) => return Err(stop),
-        };
+        text = next_text(form, text, next, writer)?;
         rest = behind;
     }
     write_part(writer, &text)
@@ -80,7 +54,7 @@ pub fn write_messages<F: Form, W: Write>(
     head: Vec<u8>,
     messages: &[Message],
     writer: &mut W,
-) -> Result<(), Stop>
+) -> Result<(), WritingFault>
     ensures written { OnOk result (Appends (W.contents writer.old) (W.contents writer.new) (head.items ++ flat_map (F.text form.now) messages.now)) }
     ensures prefix { WritesPrefix (head.items ++ flat_map (F.text form.now) messages.now) (W.contents writer.old) (W.contents writer.new) }
 {

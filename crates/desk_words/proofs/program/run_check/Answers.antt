@@ -1,8 +1,8 @@
 use Rattle.desk_words.proofs.RunLemmas.{check_comes, silent_check}
 use Rattle.desk_words.proofs.program.run_check.Goals as goal
 
-pub returns : goal.returns
-returns g c = record {
+pub returns-clause-runs : goal.returns-clause-runs
+returns-clause-runs g c = record {
   run = c.check_over-run.result;
   status_is = c.end_check.ensures.status;
   comes = check_comes (g.R.Read.remaining c.args.reader.now) (g.W.Write.contents c.args.writer.now) (g.W.Write.contents c.check_over-run.new.writer)

@@ -2,8 +2,8 @@ use Rattle.table_texts.specs.declared.text_end.TextEnd.TheVariants.{OutOfMemory,
 use Rattle.desk_words.proofs.RunLemmas.{part_decoded, silent_else}
 use Rattle.desk_words.proofs.program.run_decode.Goals as goal
 
-pub returns : goal.returns
-returns g c = record {
+pub returns-clause-runs : goal.returns-clause-runs
+returns-clause-runs g c = record {
   run = c.decode_over-run.result;
   status_is = c.end_decoded.ensures.status;
   written = c.decode_over-run.ensures.written;

@@ -2,8 +2,8 @@ use Rattle.table_days.specs.declared.table_end.TableEnd.TheVariants.{OutOfMemory
 use Rattle.desk_words.proofs.RunLemmas.{part_known, silent_else}
 use Rattle.desk_words.proofs.program.run_encode.Goals as goal
 
-pub returns : goal.returns
-returns g c = record {
+pub returns-clause-runs : goal.returns-clause-runs
+returns-clause-runs g c = record {
   run = c.encode_over-run.result;
   status_is = c.end_text.ensures.status;
   written = c.encode_over-run.ensures.written;

@@ -15,6 +15,8 @@ returns-clause-runs g c = record {
       (g.W.Write.contents c.report_by-run.new.writer) c.report_by-run.result c.report_by-run.ensures.written c.report_by-run.ensures.end;
   part = part_report c.report_by-run.result _ _ c.report_by-run.ensures.silent c.report_by-run.ensures.prefix;
   silent = silent_report c.report_by-run.result _ c.report_by-run.ensures.silent;
+  listed = c.report_by-run.ensures.listed;
+  unwritten = c.report_by-run.ensures.unwritten;
   quiet = c.end_run.ensures.quiet;
   said = c.end_run.ensures.said;
 }

@@ -1,5 +1,5 @@
 use Rattle.std.proofs.Common.{inr, refl}
 use Rattle.desk_words.proofs.verdict_lines.write_verdict.Goals as goal
 
-pub returns-in_default : goal.returns-in_default
-returns-in_default g c = inr (c.say_end.ensures.status, refl, c.say_end.ensures.said)
+pub returns-in_default-clause-tells : goal.returns-in_default-clause-tells
+returns-in_default-clause-tells g c = inr (c.say_end.ensures.status, refl, c.say_end.ensures.said)

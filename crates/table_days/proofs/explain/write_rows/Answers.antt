@@ -9,18 +9,19 @@ loop-from-init g c = record {
   pending = text-none c.args.account.now.day.tape c.args.account.now.rows.items c.args.head.items (g.W.Write.contents c.args.writer.now) c.requires.head;
 }
 
-pub returns-in-Err-clause-prefix : goal.returns-in-Err-clause-prefix
-returns-in-Err-clause-prefix g c =
-    text-fault c.args.account.now.day.tape c.args.account.now.rows.items c.loop-from.from c.loop-from.text.items
-    (g.W.Write.contents c.args.writer.now) (g.W.Write.contents c.loop-from.writer) (g.W.Write.contents c.next_lines.new.writer) c.in-Err.ensures.prefix
-    c.loop-from.invariant.pending
+pub returns-in_err-text-clause-prefix : goal.returns-in_err-text-clause-prefix
+returns-in_err-text-clause-prefix g c =
+    any_error c.from_residual.result _
+    (text-fault c.args.account.now.day.tape c.args.account.now.rows.items c.loop-from.from c.loop-from.text.items
+    (g.W.Write.contents c.args.writer.now) (g.W.Write.contents c.loop-from.writer) (g.W.Write.contents c.next_lines.new.writer) c.in_err-text.ensures.prefix
+    c.loop-from.invariant.pending)
 
 pub loop-from-preserved : goal.loop-from-preserved
 loop-from-preserved g c = record {
   within = omega arith;
-  pending = text-next c.args.account.now.day.tape c.args.account.now.rows.items c.loop-from.from _ c.loop-from.text.items c.in-Ok.lines.items
-      (g.W.Write.contents c.args.writer.now) (g.W.Write.contents c.loop-from.writer) (g.W.Write.contents c.next_lines.new.writer) c.in-Ok.ensures.lines
-      c.in-Ok.ensures.written c.loop-from.invariant.pending;
+  pending = text-next c.args.account.now.day.tape c.args.account.now.rows.items c.loop-from.from _ c.loop-from.text.items c.in_ok-text.text.items
+      (g.W.Write.contents c.args.writer.now) (g.W.Write.contents c.loop-from.writer) (g.W.Write.contents c.next_lines.new.writer) c.in_ok-text.ensures.lines
+      c.in_ok-text.ensures.written c.loop-from.invariant.pending;
 }
 
 pub returns-clause-written : goal.returns-clause-written

@@ -1,4 +1,4 @@
-use Rattle.std.proofs.Common.{◌≤◌, ◌-◌, length}
+use Rattle.std.proofs.Common.{◌≤◌, ◌-◌}
 use Rattle.row_reads.specs.Writing.{WritesUpTo}
 use Rattle.table_days.specs.Explained.{explained_to}
 use Rattle.table_days.proofs.explain.write_rows.Given as goal

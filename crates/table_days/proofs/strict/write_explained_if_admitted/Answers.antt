@@ -10,33 +10,33 @@ use Rattle.table_days.proofs.StrictLemmas.{none_by, strictly-all, strictly-some,
 use Rattle.table_days.proofs.TapeLemmas.{nothing_written}
 use Rattle.table_days.proofs.strict.write_explained_if_admitted.Goals as goal
 
-pub returns-in-Err-clause-prefix : goal.returns-in-Err-clause-prefix
-returns-in-Err-clause-prefix g c = λ _. nothing_written _ (g.W.Write.contents c.args.writer.now)
+pub returns-in_err-told-clause-prefix : goal.returns-in_err-told-clause-prefix
+returns-in_err-told-clause-prefix g c = λ _. nothing_written _ (g.W.Write.contents c.args.writer.now)
 
 pub returns-then-is_empty-clause-told : goal.returns-then-is_empty-clause-told
 returns-then-is_empty-clause-told g c =
-    told_by c.args.matrix c.args.messages.now c.write_explained.result c.in-Ok.ensures.told.listed c.write_explained.ensures.refused c.write_explained.ensures.stale
+    told_by c.args.matrix c.args.messages.now c.write_explained.result c.in_ok-told.ensures.told.listed c.write_explained.ensures.refused c.write_explained.ensures.stale
 
 pub returns-then-is_empty-clause-written : goal.returns-then-is_empty-clause-written
 returns-then-is_empty-clause-written g c =
     subst (λ (l : List ℕ). OnOk c.write_explained.result (Appends (g.W.Write.contents c.args.writer.now) (g.W.Write.contents c.write_explained.new.writer) l))
-    (sym (strictly-all explain_text c.args.matrix c.args.messages.now c.in-Ok.told c.in-Ok.ensures.told.refused (c.is_empty.ensures.empty.0 c.if-is_empty.true)))
+    (sym (strictly-all explain_text c.args.matrix c.args.messages.now c.in_ok-told.told c.in_ok-told.ensures.told.refused (c.is_empty.ensures.empty.0 c.if-is_empty.true)))
     c.write_explained.ensures.written
 
 pub returns-then-is_empty-clause-unwritten : goal.returns-then-is_empty-clause-unwritten
 returns-then-is_empty-clause-unwritten g c =
-    none_by (answers (first_tape c.args.matrix c.args.messages.now) c.args.messages.now) c.in-Ok.told c.write_explained.result _ c.in-Ok.ensures.told.refused
+    none_by (answers (first_tape c.args.matrix c.args.messages.now) c.args.messages.now) c.in_ok-told.told c.write_explained.result _ c.in_ok-told.ensures.told.refused
     (c.is_empty.ensures.empty.0 c.if-is_empty.true) c.write_explained.ensures.refused
 
 pub returns-then-is_empty-clause-prefix : goal.returns-then-is_empty-clause-prefix
 returns-then-is_empty-clause-prefix g c = λ ended.
     subst (λ (l : List ℕ). WritesPrefix l (g.W.Write.contents c.args.writer.now) (g.W.Write.contents c.write_explained.new.writer))
-    (sym (strictly-all explain_text c.args.matrix c.args.messages.now c.in-Ok.told c.in-Ok.ensures.told.refused (c.is_empty.ensures.empty.0 c.if-is_empty.true)))
+    (sym (strictly-all explain_text c.args.matrix c.args.messages.now c.in_ok-told.told c.in_ok-told.ensures.told.refused (c.is_empty.ensures.empty.0 c.if-is_empty.true)))
     (c.write_explained.ensures.prefix ended)
 
 pub returns-else-is_empty-clause-written : goal.returns-else-is_empty-clause-written
 returns-else-is_empty-clause-written g c =
-    let some : RefusesNone c.in-Ok.told → ⊥ = λ none. absurd (cc (c.is_empty.ensures.empty.1 none, c.if-is_empty.false)) in
+    let some : RefusesNone c.in_ok-told.told → ⊥ = λ none. absurd (cc (c.is_empty.ensures.empty.1 none, c.if-is_empty.false)) in
     subst (Appends (g.W.Write.contents c.args.writer.now) (g.W.Write.contents c.args.writer.now))
-    (sym (strictly-some explain_text c.args.matrix c.args.messages.now c.in-Ok.told c.in-Ok.ensures.told.refused some))
+    (sym (strictly-some explain_text c.args.matrix c.args.messages.now c.in_ok-told.told c.in_ok-told.ensures.told.refused some))
     (appends-none (g.W.Write.contents c.args.writer.now))

@@ -25,15 +25,16 @@ next_lines-requires g c =
 pub loop-rest-preserved : goal.loop-rest-preserved
 loop-rest-preserved g c =
     WrittenSome-next c.args.day.now.tape c.loop-rest.day c.next_lines.new.day c.args.messages.now c.loop-rest.rest.now c.split_at.result.0.now
-    c.split_at.result.1.now c.loop-rest.text.items c.in-Ok.lines.items _ (g.W.Write.contents c.loop-rest.writer) (g.W.Write.contents c.next_lines.new.writer)
-    (two_parts _ _ _ _ c.split_at.ensures.front c.split_at.ensures.back) c.in-Ok.ensures.text c.in-Ok.ensures.more c.in-Ok.ensures.written
+    c.split_at.result.1.now c.loop-rest.text.items c.in_ok-text.text.items _ (g.W.Write.contents c.loop-rest.writer) (g.W.Write.contents c.next_lines.new.writer)
+    (two_parts _ _ _ _ c.split_at.ensures.front c.split_at.ensures.back) c.in_ok-text.ensures.text c.in_ok-text.ensures.more c.in_ok-text.ensures.written
     c.loop-rest.invariant
 
-pub returns-in-Err-clause-prefix : goal.returns-in-Err-clause-prefix
-returns-in-Err-clause-prefix g c =
-    WrittenSome-fault c.args.day.now.tape c.loop-rest.day c.args.messages.now c.loop-rest.rest.now c.loop-rest.text.items
+pub returns-in_err-text-clause-prefix : goal.returns-in_err-text-clause-prefix
+returns-in_err-text-clause-prefix g c =
+    any_error c.from_residual.result _
+    (WrittenSome-fault c.args.day.now.tape c.loop-rest.day c.args.messages.now c.loop-rest.rest.now c.loop-rest.text.items
     (g.W.Write.contents c.args.writer.now) (g.W.Write.contents c.loop-rest.writer) (g.W.Write.contents c.next_lines.new.writer) c.loop-rest.invariant
-    c.in-Err.ensures.prefix
+    c.in_err-text.ensures.prefix)
 
 pub returns-clause-refused : goal.returns-clause-refused
 returns-clause-refused g c =

@@ -8,10 +8,10 @@ loop-rest-init g c = WritesUpTo-none _ (g.W.Write.contents c.args.writer.now)
 
 pub loop-rest-preserved : goal.loop-rest-preserved
 loop-rest-preserved g c =
-    next_made (g.F.Form.text c.args.form.now) _ c.loop-rest.text.items c.in-Ok.made.items c.loop-rest.rest.now c.split_at.result.0.now
+    next_made (g.F.Form.text c.args.form.now) _ c.loop-rest.text.items c.in_ok-text.text.items c.loop-rest.rest.now c.split_at.result.0.now
     c.split_at.result.1.now _ (g.W.Write.contents c.loop-rest.writer) (g.W.Write.contents c.next_text.new.writer)
-    (two_parts _ _ _ _ c.split_at.ensures.front c.split_at.ensures.back) c.in-Ok.ensures.text c.loop-rest.invariant
-    c.in-Ok.ensures.written
+    (two_parts _ _ _ _ c.split_at.ensures.front c.split_at.ensures.back) c.in_ok-text.ensures.text c.loop-rest.invariant
+    c.in_ok-text.ensures.written
 
 pub returns-clause-written : goal.returns-clause-written
 returns-clause-written g c =
@@ -27,7 +27,7 @@ returns-clause-prefix g c =
     piece_begun _ c.loop-rest.text.items _ (g.W.Write.contents c.args.writer.now) (g.W.Write.contents c.loop-rest.writer)
     (g.W.Write.contents c.write_part.new.writer) c.loop-rest.invariant (rw c.deref.ensures.value at c.write_part.ensures.prefix)
 
-pub returns-in-Err-clause-prefix : goal.returns-in-Err-clause-prefix
-returns-in-Err-clause-prefix g c =
+pub returns-in_err-text-clause-prefix : goal.returns-in_err-text-clause-prefix
+returns-in_err-text-clause-prefix g c =
     piece_begun _ c.loop-rest.text.items _ (g.W.Write.contents c.args.writer.now) (g.W.Write.contents c.loop-rest.writer)
     (g.W.Write.contents c.next_text.new.writer) c.loop-rest.invariant c.next_text.ensures.prefix

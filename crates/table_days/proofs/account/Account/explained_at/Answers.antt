@@ -1,10 +1,8 @@
-use Rattle.std.proofs.Common.{◌≡◌, ◌<◌, ◌∙◌, List, Some, ap, arith, get_or, length, slice_get, sym}
+use Rattle.std.proofs.Common.{◌<◌, ◌∙◌, ap, arith, length}
 use Rattle.std.proofs.lemmas.List.{get_or_read, length-map}
-use Rattle.std.proofs.lemmas.Option.{slice_get-get_or}
 use Rattle.sale_matrix.specs.Matrix.{cells_of}
 use Rattle.sale_matrix.specs.declared.matrix.Matrix.{Matrix}
-use Rattle.tape_core.specs.Tape.{TapeState, numbered_message}
-use Rattle.tape_core.specs.declared.entry.Entry.{Entry}
+use Rattle.tape_core.specs.Tape.{numbered_message}
 use Rattle.table_days.proofs.AccountLemmas.{legal-lists}
 use Rattle.table_days.proofs.ExplainLemmas.{entry-there, explained_at-some}
 use Rattle.table_days.proofs.account.Account.explained_at.Goals as goal

@@ -15,7 +15,7 @@ returns-in-Ok-clause-check g c = λ input start.
 pub loop-number-preserved : goal.loop-number-preserved
 loop-number-preserved g c =
     let good : is_ok c.add_row.result ≡ true = search rules in
-    let notes = on-ok c.add_row.result _ good c.add_row.ensures in
+    let notes = on-ok c.add_row.result _ good c.add_row.ensures.notes in
     let next = rw c.in-Some.is at c.in_ok-row.ensures.row in
     record {
       reads = c.in_ok-row.ensures.reads;

@@ -1,0 +1,54 @@
+//! What is told of a running day that its file gives.
+ghost use Rattle.std.specs.Prelude.{◌≡◌, IfOk, IsTrue, OnOk};
+ghost use Rattle.feed_ends.specs.OpenFaults.{open_fault_text};
+ghost use Rattle.row_reads.specs.Writing.{WritesPrefix};
+ghost use Rattle.desk_words.specs.Tellings.{told_line};
+
+use crate::saying::say;
+use feed_ends::{OpenFault, Place};
+use feed_follower::{FollowEnd, FollowFault, account_text};
+use std::alloc::{AllocError, Global};
+use std::io::Write;
+
+/// A line of the program's own.
+fn told_line(alloc: Global, what: &[u8]) -> Result<Vec<u8>, AllocError>
+    ensures { IfOk result (λ line. line.items ≡ told_line what.now) }
+{
+    let mut line = Vec::from_slice(alloc, b"tapebox: ")?;
+    line.extend_from_slice(what)?;
+    line.extend_from_slice(b"\n")?;
+    Ok(line)
+}
+
+/// Says something in a line, unless there is no memory for it.
+pub fn say_told<E: Write>(alloc: Global, errors: &mut E, what: &[u8])
+    ensures { WritesPrefix (told_line what.now) (E.contents errors.old) (E.contents errors.new) }
+{
+    if let Ok(line) = told_line(alloc, what) {
+        say(errors, &line);
+    }
+}
+
+/// Says which socket could not be opened, unless there is no memory for the line.
+pub fn say_open_fault<E: Write>(alloc: Global, errors: &mut E, fault: OpenFault)
+    ensures { WritesPrefix (told_line (open_fault_text fault)) (E.contents errors.old) (E.contents errors.new) }
+{
+    if let Ok(text) = fault.text(alloc) {
+        say_told(alloc, errors, &text);
+    }
+}
+
+/// Says what was heard of a day, unless there is no memory for it, and which socket its end is the fault of. Tells whether the fault was named so.
+pub fn say_followed<E: Write>(alloc: Global, errors: &mut E, end: &FollowEnd) -> bool
+    ensures { OnOk end.now.ended (IsTrue result → ⊥) }
+{
+    if let Ok(account) = account_text(alloc, end) {
+        say(errors, &account);
+    }
+    let Err(FollowFault::Unreachable { port, kind }) = end.ended else {
+        return false;
+    };
+    let fault = OpenFault::new(Place::Retransmission, port, kind);
+    say_open_fault(alloc, errors, fault);
+    true
+}

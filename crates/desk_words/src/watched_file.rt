@@ -1,0 +1,113 @@
+//! The readable tape of a running day that its file gives, as it comes.
+ghost use Rattle.std.specs.Prelude.{◌≡◌, ◌⊎◌};
+ghost use Rattle.program_words.specs.Statuses.{status_code};
+ghost use Rattle.program_words.specs.declared.status.Status.TheVariants.{Done};
+ghost use Rattle.desk_words.specs.Watches.{IsRunStatus, WritesPartOf, WritesSome, WritesTapeOf, WritesWhole};
+
+use crate::Output;
+use crate::saying::{say_ended, say_status};
+use crate::telling::say_followed;
+use crate::watching::{RowSink, Watched, flushed, sink_fault, unbuffered};
+use feed_follower::{FollowEnd, FollowSockets, FollowTerms, follow_tape_day};
+use program_words::Status;
+use std::alloc::Global;
+use std::io::{BufWriter, Write};
+use std::net::{Net, TcpListener, TcpStream};
+use std::sync::Wait;
+use std::thread::Threads;
+use table_days::{EntryRows, write_head};
+
+/// How a day whose rows were written ended.
+struct Rows<W> {
+    /// How it was followed, unless the names of the columns could not be written.
+    end: Option<FollowEnd>,
+    /// The status.
+    code: u8,
+    writer: W,
+}
+
+/// Follows a day, and writes the rows of its tape as they come to a writer, which comes back.
+#[tactic(auto, using(crate::proofs::WatchLemmas::head_part, crate::proofs::WatchLemmas::flushed_status))]
+fn watch_rows<T, W>(
+    rt: &T,
+    alloc: Global,
+    terms: FollowTerms,
+    sockets: FollowSockets,
+    writer: W,
+) -> Rows<W>
+where
+    T: Threads + Wait + Net<Listener = TcpListener, Stream = TcpStream> + Sync,
+    W: Write + Send + Drop,
+    ensures whole { result.code ≡ 0 → WritesTapeOf terms.listing terms.matrix terms.limit (W.contents writer) (W.contents result.writer) }
+    ensures part { (result.writer ≡ writer) ⊎ WritesPartOf terms.listing terms.matrix terms.limit (W.contents writer) (W.contents result.writer) }
+    ensures status { IsRunStatus result.code }
+{
+    let mut writer = writer;
+    if let Err(fault) = write_head(alloc, &mut writer) {
+        return Rows {
+            end: None,
+            code: sink_fault(fault).fault().status(),
+            writer,
+        };
+    }
+    let sink = RowSink {
+        rows: EntryRows::new(alloc),
+        writer,
+    };
+    let (end, sink) = follow_tape_day(rt, alloc, terms, sockets, sink);
+    let RowSink {
+        rows: _,
+        mut writer,
+    } = sink;
+    let code = flushed(end.status(), &mut writer);
+    Rows {
+        end: Some(end),
+        code,
+        writer,
+    }
+}
+
+/// Watches the day that a file gives as a follower: it writes the readable tape of its entries as they come to a writer, which comes back with the
+/// status. The writer, its buffer and the statuses are as in `watch`. What was heard of the day is said on `errors`, line by line, whatever the
+/// status.
+#[tactic(auto, using(crate::proofs::WatchLemmas::run_within))]
+pub fn watch_file<T, W, E>(
+    rt: &T,
+    alloc: Global,
+    terms: FollowTerms,
+    sockets: FollowSockets,
+    writer: W,
+    errors: &mut E,
+) -> (Status, Option<W>)
+where
+    T: Threads + Wait + Net<Listener = TcpListener, Stream = TcpStream> + Sync,
+    W: Output + Send + Drop,
+    E: Write,
+    ensures known { IsRunStatus (status_code result.0) }
+    ensures whole { result.0 ≡ Done → WritesWhole W.contents terms.listing terms.matrix terms.limit writer result.1 }
+    ensures part { WritesSome W.contents terms.listing terms.matrix terms.limit writer result.1 }
+{
+    let Ok(buffer) = BufWriter::new(alloc, writer) else {
+        say_status(errors, Status::OutOfMemory);
+        return (Status::OutOfMemory, None);
+    };
+    let Rows {
+        end,
+        code,
+        writer: buffer,
+    } = watch_rows(rt, alloc, terms, sockets, buffer);
+    let Watched {
+        code,
+        reader_gone,
+        writer,
+    } = unbuffered(code, buffer);
+    let status = Status::of_code(code);
+    let is_named = match &end {
+        Some(end) => say_followed(alloc, errors, end),
+        None => false,
+    };
+    if !is_named {
+        say_ended(errors, status, reader_gone);
+    }
+    (status, writer)
+}
