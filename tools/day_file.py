@@ -27,10 +27,18 @@ SYMBOLS_MOST = 4_096
 PARTICIPANTS_MOST = 26
 PORTS = 65_536
 # The numbers of a key, and how they are told.
-RANGES = {"followers": (0, 65_535), "session": (0, 2**63 - 1), "matrix": (1, 2), "limit": (1, 16_777_216)}
+RANGES = {
+    "followers": (0, 65_535),
+    "session": (0, 2**63 - 1),
+    "matrix": (1, 2),
+    "limit": (1, 16_777_216),
+    "connect_within": (1, 86_400),
+    "followers_wait": (0, 86_400),
+}
 PORT = (1, 65_535)
 SYMBOL_TEXT = "1 to 8 of A to Z, 0 to 9 and ."
 LETTER_TEXT = "one letter A to Z"
+CONTROL_TEXT = "1 to 65535 or a path"
 
 
 class Fault(Exception):
@@ -39,7 +47,8 @@ class Fault(Exception):
 
 @dataclasses.dataclass(frozen=True)
 class Day:
-    """What a day's file says, in the order of its keys. `symbols` are names, also if they stand in a file of their own."""
+    """What a day's file says, in the order of its keys. `symbols` are names, also if they stand in a file of their own, and `control` is a
+    port, or a path from the current folder."""
 
     symbols: list[str]
     participants: list[str]
@@ -51,6 +60,9 @@ class Day:
     session: int
     matrix: int = 1
     limit: int = 1_048_576
+    connect_within: int | None = None
+    followers_wait: int | None = None
+    control: int | str | None = None
 
     def preferences(self):
         """The ports, as the preferences of tools/tapebox.lua have them."""
@@ -63,6 +75,7 @@ class Day:
 
 
 KEYS = [field.name for field in dataclasses.fields(Day)]
+REQUIRED = {field.name for field in dataclasses.fields(Day) if field.default is dataclasses.MISSING}
 
 
 def kind(value):
@@ -117,8 +130,19 @@ def listed_symbols(value):
     return entries("symbols", value, lambda place, item: symbol(place, of_kind(place, item, "a string")))
 
 
+def control(value):
+    """Where the control socket is: a port, or a path."""
+    if kind(value) not in ("a string", "a number"):
+        raise Fault(f"control: {kind(value)}, not a number or a path")
+    if value == "" or isinstance(value, int) and not PORT[0] <= value <= PORT[1]:
+        raise Fault(f"control: not {CONTROL_TEXT}")
+    return value
+
+
 def value_of(key, value):
     """The value at a key of a day."""
+    if key == "control":
+        return control(value)
     if key == "symbols":
         return listed_symbols(value)
     if key == "participants":
@@ -146,7 +170,7 @@ def values_of(table):
     for key in KEYS:
         if key in table:
             values[key] = value_of(key, table[key])
-        elif key not in ("matrix", "limit"):
+        elif key in REQUIRED:
             raise Fault(f"{key}: missing")
     if len(values["b"]) != len(values["a"]):
         raise Fault("b: not as many ports as a")
@@ -186,6 +210,8 @@ def read(path):
     if isinstance(values["symbols"], str):
         values["symbols"] = file_symbols(symbols_text(path.parent / values["symbols"]))
     judge_names(values["symbols"], values["participants"])
+    if isinstance(values.get("control"), str):
+        values["control"] = str(path.parent / values["control"])
     return Day(**values)
 
 

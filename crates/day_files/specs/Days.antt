@@ -1,14 +1,17 @@
 -- What a day's file says.
-use Rattle.std.specs.Prelude.{◌+◌, ◌==◌, ℕ, suc, zero, List, length, Option, Some, None, Result, Ok, Err, nat_le, if◌then◌else◌, string_bytes}
+use Rattle.std.specs.Prelude.{◌+◌, ◌==◌, ℕ, suc, zero, List, [], ◌∷◌, length, Option, Some, None, Result, Ok, Err, nat_le, if◌then◌else◌, string_bytes}
+use Rattle.std.specs.Option.{option_map}
 use Rattle.sale_matrix.specs.declared.matrix.Matrix.{Matrix}
 use Rattle.sale_matrix.specs.declared.matrix.Matrix.TheVariants.{One, Two}
 use Rattle.toml.specs.Data.{Data, Members, string, get_member}
 use Rattle.feed_words.specs.Limits.{LIMIT_LEFT_OUT}
 use Rattle.day_files.specs.Entries.{entries_at, participant_at, port_at, symbol_at}
-use Rattle.day_files.specs.Faults.{Fault, ◌>>=◌, port_past_last, uneven}
+use Rattle.day_files.specs.Faults.{Fault, ◌>>=◌, out_of_range, port_past_last, uneven}
 use Rattle.day_files.specs.Keys.{key_text}
 use Rattle.day_files.specs.Numbers.{number_at}
 use Rattle.day_files.specs.Tables.{known_keys, required, table_of}
+use Rattle.day_files.specs.declared.day_file.DayControl.{DayControl}
+use Rattle.day_files.specs.declared.day_file.DayControl.TheVariants as control
 use Rattle.day_files.specs.declared.day_file.DayFile.{DayFile}
 use Rattle.day_files.specs.declared.day_file.DaySymbols.{DaySymbols}
 use Rattle.day_files.specs.declared.day_file.DaySymbols.TheVariants as read
@@ -20,6 +23,11 @@ use Rattle.day_files.specs.declared.place.Place.TheVariants.{At}
 pub data NamedSymbols : Type 0 where
   listed : List (List ℕ) → NamedSymbols
   in_file : List ℕ → NamedSymbols
+
+-- where a control socket is: at a port, or at a path
+pub data ControlPlace : Type 0 where
+  at_port : ℕ → ControlPlace
+  at_path : List ℕ → ControlPlace
 
 -- a day, as its file gives it
 pub record Day : Type 0 where
@@ -33,11 +41,19 @@ pub record Day : Type 0 where
   pub session : ℕ
   pub matrix : Matrix
   pub limit : ℕ
+  pub connect_within : Option ℕ
+  pub followers_wait : Option ℕ
+  pub control : Option ControlPlace
 
 -- the symbols of what was read
 abbrev pub symbols_view : DaySymbols → NamedSymbols
 symbols_view (read.Listed symbols) = listed symbols.items
 symbols_view (read.InFile name) = in_file (string_bytes name)
+
+-- the control socket of what was read
+abbrev pub control_view : DayControl → ControlPlace
+control_view (control.Port port) = at_port port
+control_view (control.Path path) = at_path (string_bytes path)
 
 -- the day of what was read
 abbrev pub day_view : DayFile → Day
@@ -52,6 +68,9 @@ day_view day = record {
   session = day.session;
   matrix = day.matrix;
   limit = day.limit;
+  connect_within = day.connect_within;
+  followers_wait = day.followers_wait;
+  control = option_map control_view day.control;
 }
 
 -- a string is a file's name
@@ -93,6 +112,29 @@ matrix_in table = do
 unfoldable pub limit_in : Members → Result ℕ Fault
 limit_in table = number_or LIMIT_LEFT_OUT keys.Limit (get_member (key_text keys.Limit) table)
 
+-- what stands at a key that may be left out
+abbrev pub if_there : {A : Type 0} → (Data → Result A Fault) → Option Data → Result (Option A) Fault
+if_there read None = Ok None
+if_there read (Some value) = do
+  said ← read value
+  Ok (Some said)
+
+-- a number of seconds that may be left out
+unfoldable pub seconds_in : DayKey → Members → Result (Option ℕ) Fault
+seconds_in key table = if_there (number_at key (At key)) (get_member (key_text key) table)
+
+-- where a control socket is: a string is a path, which is not empty
+unfoldable pub control_at : Data → Result ControlPlace Fault
+control_at (string []) = Err (out_of_range (At keys.Control))
+control_at (string (byte ∷ path)) = Ok (at_path (byte ∷ path))
+control_at value = do
+  port ← number_at keys.Control (At keys.Control) value
+  Ok (at_port port)
+
+-- where the control socket is, if there is one
+unfoldable pub control_in : Members → Result (Option ControlPlace) Fault
+control_in table = if_there control_at (get_member (key_text keys.Control) table)
+
 -- what two keys say together: as many ports for line B as for A, and a port for each participant
 abbrev pub agreed : Day → Result Day Fault
 agreed day =
@@ -115,6 +157,9 @@ day_in table = do
   session ← number_in keys.Session table
   matrix ← matrix_in table
   limit ← limit_in table
+  connect_within ← seconds_in keys.ConnectWithin table
+  followers_wait ← seconds_in keys.FollowersWait table
+  control ← control_in table
   agreed (record {
     symbols = symbols;
     participants = participants;
@@ -126,6 +171,9 @@ day_in table = do
     session = session;
     matrix = matrix;
     limit = limit;
+    connect_within = connect_within;
+    followers_wait = followers_wait;
+    control = control;
   })
 
 -- the day that a text says, or the first thing wrong with it

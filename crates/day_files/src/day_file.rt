@@ -13,6 +13,15 @@ pub enum DaySymbols {
     InFile(String),
 }
 
+/// Where the control socket of a day is.
+#[derive(Drop)]
+pub enum DayControl {
+    /// At this port on 127.0.0.1, 1 to 65,535.
+    Port(u16),
+    /// At this path, a UNIX socket. A path that is not absolute starts at the folder of the day's file.
+    Path(String),
+}
+
 /// What a day's file says.
 #[derive(Drop)]
 pub struct DayFile {
@@ -36,6 +45,13 @@ pub struct DayFile {
     pub matrix: Matrix,
     /// The limit of the tape, in entries.
     pub limit: TapeNumber,
+    /// For how many seconds a peer that is not there yet is waited for, 1 to 86,400. If nothing is said, `live` waits for its participants
+    /// forever, and a follower for no `live`.
+    pub connect_within: Option<u32>,
+    /// For how many seconds after the day's end followers may still ask, 0 to 86,400. If nothing is said, all of them are waited for.
+    pub followers_wait: Option<u32>,
+    /// Where the control socket is, if there is one.
+    pub control: Option<DayControl>,
     /// Each participant has a port.
     pub ghost ports: { port + length participants.items ≤ 2 ^ 16 },
 }

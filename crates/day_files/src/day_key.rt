@@ -28,10 +28,19 @@ pub enum DayKey {
     Matrix,
     /// `limit`: the limit of the tape in entries, 1 to 16,777,216.
     Limit,
+    /// `connect_within`: for how many seconds a peer that is not there yet is waited for, 1 to 86,400.
+    ConnectWithin,
+    /// `followers_wait`: for how many seconds after the end followers may still ask, 0 to 86,400.
+    FollowersWait,
+    /// `control`: where the control socket is: a port of this machine, 1 to 65,535, or the path of a UNIX socket.
+    Control,
 }
 
+/// How many seconds a day's file may say at most: those of one day.
+const SECONDS_MOST: u64 = 86_400;
+
 /// All keys.
-const KEYS: [DayKey; 10] = [
+const KEYS: [DayKey; 13] = [
     DayKey::Symbols,
     DayKey::Participants,
     DayKey::Port,
@@ -42,6 +51,9 @@ const KEYS: [DayKey; 10] = [
     DayKey::Session,
     DayKey::Matrix,
     DayKey::Limit,
+    DayKey::ConnectWithin,
+    DayKey::FollowersWait,
+    DayKey::Control,
 ];
 
 impl DayKey {
@@ -60,6 +72,9 @@ impl DayKey {
             DayKey::Session => "session",
             DayKey::Matrix => "matrix",
             DayKey::Limit => "limit",
+            DayKey::ConnectWithin => "connect_within",
+            DayKey::FollowersWait => "followers_wait",
+            DayKey::Control => "control",
         }
     }
 
@@ -73,6 +88,8 @@ impl DayKey {
             DayKey::Session => (0, 9_223_372_036_854_775_807),
             DayKey::Matrix => (1, 2),
             DayKey::Limit => (1, u64::from(TAPE_MOST)),
+            DayKey::ConnectWithin => (1, SECONDS_MOST),
+            DayKey::FollowersWait => (0, SECONDS_MOST),
             _ => (1, 65_535),
         }
     }
@@ -86,6 +103,9 @@ impl DayKey {
             DayKey::Session => "0 to 9223372036854775807",
             DayKey::Matrix => "1 or 2",
             DayKey::Limit => "1 to 16777216",
+            DayKey::ConnectWithin => "1 to 86400",
+            DayKey::FollowersWait => "0 to 86400",
+            DayKey::Control => "1 to 65535 or a path",
             _ => "1 to 65535",
         }
     }

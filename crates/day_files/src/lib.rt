@@ -18,7 +18,7 @@ mod table;
 mod tests;
 
 pub use day_fault::DayFault;
-pub use day_file::{DayFile, DaySymbols};
+pub use day_file::{DayControl, DayFile, DaySymbols};
 pub use day_key::DayKey;
 pub use kind::Kind;
 pub use place::Place;

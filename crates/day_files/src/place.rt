@@ -27,6 +27,7 @@ impl Place {
     pub(crate) fn kind_text(self) -> &'static str {
         match self {
             Place::At(DayKey::Symbols) => "a list or a file's name",
+            Place::At(DayKey::Control) => "a number or a path",
             Place::At(DayKey::Participants | DayKey::A | DayKey::B) => "a list",
             Place::Entry(DayKey::Symbols | DayKey::Participants, _) | Place::Line(_) => "a string",
             Place::At(_) | Place::Entry(_, _) => "a number",

@@ -1,7 +1,7 @@
 //! A day's file, read key by key.
-ghost use Rattle.std.specs.Prelude.{◌≡◌, ◌≤◌, Err, IfErr};
+ghost use Rattle.std.specs.Prelude.{◌≡◌, ◌<◌, ◌≤◌, ◌^◌, Err, IfErr, option_map};
 ghost use Rattle.toml.specs.View.{table_view, view};
-ghost use Rattle.day_files.specs.Days.{day_in, day_of, day_view, limit_in, matrix_in, number_in, ports_in, symbols_at, symbols_view};
+ghost use Rattle.day_files.specs.Days.{control_at, control_in, control_view, day_in, day_of, day_view, limit_in, matrix_in, number_in, ports_in, seconds_in, symbols_at, symbols_view};
 ghost use Rattle.day_files.specs.Faults.{Gives, syntax};
 ghost use Rattle.day_files.specs.Keys.{key_most};
 ghost use Rattle.day_files.specs.Places.{IsPlaced};
@@ -10,7 +10,7 @@ ghost use Rattle.day_files.specs.Tables.{table_of};
 use crate::entry::entries_of;
 use crate::number::{number_of, short_of};
 use crate::table::{judge_keys, required_of, table_of, value_of};
-use crate::{DayFault, DayFile, DayKey, DaySymbols, Place};
+use crate::{DayControl, DayFault, DayFile, DayKey, DaySymbols, Place};
 use sale_matrix::Matrix;
 use std::alloc::Global;
 use tape_types::TapeNumber;
@@ -89,6 +89,42 @@ fn limit_in(table: &Table) -> Result<TapeNumber, DayFault>
     TapeNumber::try_new(limit).ok_or(DayFault::OutOfRange(Place::At(DayKey::Limit)))
 }
 
+/// A number of seconds, if the table has its key.
+#[tactic(auto, unfolding(crate::specs::Days::seconds_in))]
+fn seconds_in(table: &Table, key: DayKey) -> Result<Option<u32>, DayFault>
+    requires short { key_most key < 2 ^ 32 }
+    ensures { Gives (λ seconds. seconds) result (seconds_in key (table_view table.now)) }
+{
+    match value_of(table, key) {
+        Some(value) => Ok(Some(number_of(key, Place::At(key), value)? as u32)),
+        None => Ok(None),
+    }
+}
+
+/// Where the control socket is, at its key.
+#[tactic(auto, unfolding(crate::specs::Days::control_at))]
+fn control_at(alloc: Global, value: &Value) -> Result<DayControl, DayFault>
+    ensures { Gives control_view result (control_at (view value.now)) }
+{
+    let place = Place::At(DayKey::Control);
+    match value.as_str() {
+        Some("") => Err(DayFault::OutOfRange(place)),
+        Some(path) => Ok(DayControl::Path(String::from_str(alloc, path)?)),
+        None => Ok(DayControl::Port(short_of(DayKey::Control, place, value)?)),
+    }
+}
+
+/// Where the control socket is, if the table has its key.
+#[tactic(auto, unfolding(crate::specs::Days::control_in))]
+fn control_in(alloc: Global, table: &Table) -> Result<Option<DayControl>, DayFault>
+    ensures { Gives (λ control. option_map control_view control) result (control_in (table_view table.now)) }
+{
+    match value_of(table, DayKey::Control) {
+        Some(value) => Ok(Some(control_at(alloc, value)?)),
+        None => Ok(None),
+    }
+}
+
 /// The day of a table of known keys.
 #[tactic(auto, unfolding(crate::specs::Days::day_in))]
 fn day_in(alloc: Global, table: &Table) -> Result<DayFile, DayFault>
@@ -108,6 +144,9 @@ fn day_in(alloc: Global, table: &Table) -> Result<DayFile, DayFault>
     let session = session_in(table)?;
     let matrix = matrix_in(table)?;
     let limit = limit_in(table)?;
+    let connect_within = seconds_in(table, DayKey::ConnectWithin)?;
+    let followers_wait = seconds_in(table, DayKey::FollowersWait)?;
+    let control = control_in(alloc, table)?;
     if b.len() != a.len() {
         return Err(DayFault::Uneven);
     }
@@ -125,6 +164,9 @@ fn day_in(alloc: Global, table: &Table) -> Result<DayFile, DayFault>
         session,
         matrix,
         limit,
+        connect_within,
+        followers_wait,
+        control,
     })
 }
 

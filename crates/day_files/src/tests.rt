@@ -1,6 +1,6 @@
 //! What no clause sees: the texts of faults, and that each good file is read.
 
-use crate::{DayFault, read_day};
+use crate::{DayControl, DayFault, read_day};
 use feed_words::{FollowWords, LiveWords};
 use sale_matrix::Matrix;
 use std::alloc::Global;
@@ -10,7 +10,7 @@ use tape_types::Listing;
 /// A day of two followers with all its keys.
 const DAY: &str =
     "# a day\nsymbols = [\"AB\", \"CD\"]\nparticipants = [\"N\", \"Q\"]\nport = 9000\na = [9101, 9111]\nb = [9102, 9112]\n\
-    retransmission = 9200\nfollowers = 2\nsession = 7\nmatrix = 2\nlimit = 16777216\n";
+    retransmission = 9200\nfollowers = 2\nsession = 7\nmatrix = 2\nlimit = 16777216\nconnect_within = 86400\nfollowers_wait = 0\ncontrol = \"day.control\"\n";
 
 /// A day of one follower without the keys that may be left out, whose symbols stand in a file.
 const SHORT_DAY: &[u8] =
@@ -33,7 +33,7 @@ fn follow(
 }
 
 /// A text in a day's file, another that stands in its place, and the fault of the file then.
-const FAULTS: [(&str, &str, &str); 30] = [
+const FAULTS: [(&str, &str, &str); 35] = [
     (
         "port = 9000",
         "port == 9000",
@@ -42,9 +42,9 @@ const FAULTS: [(&str, &str, &str); 30] = [
     ("session = 7", "sesion = 7", "unknown key \"sesion\""),
     ("port = 9000\n", "", "port: missing"),
     (
-        "limit = 16777216\n",
-        "[limit]\n",
-        "limit: a table, not a number",
+        "control = \"day.control\"\n",
+        "[control]\n",
+        "control: a table, not a number or a path",
     ),
     (
         "port = 9000",
@@ -110,6 +110,31 @@ const FAULTS: [(&str, &str, &str); 30] = [
         "limit = 16777216",
         "limit = 16777217",
         "limit: not 1 to 16777216",
+    ),
+    (
+        "connect_within = 86400",
+        "connect_within = 0",
+        "connect_within: not 1 to 86400",
+    ),
+    (
+        "followers_wait = 0",
+        "followers_wait = 86401",
+        "followers_wait: not 0 to 86400",
+    ),
+    (
+        "\"day.control\"",
+        "true",
+        "control: a boolean, not a number or a path",
+    ),
+    (
+        "\"day.control\"",
+        "65536",
+        "control: not 1 to 65535 or a path",
+    ),
+    (
+        "\"day.control\"",
+        "\"\"",
+        "control: not 1 to 65535 or a path",
     ),
     (
         "[\"AB\", \"CD\"]",
@@ -200,6 +225,32 @@ fn each_key_is_its_word(rt: HostRuntime) {
     let numbers = [words.first_port, words.retransmission, words.serves];
     assert!(rt; numbers == [9000, 9200, 2] && words.session == 7);
     assert!(rt; words.matrix == Matrix::Two && words.limit == 16_777_216);
+}
+
+/// Whether a control socket is the one at this path.
+fn is_at(control: Option<&DayControl>, path: &str) -> bool {
+    matches!(control, Some(DayControl::Path(name)) if name.as_str() == path)
+}
+
+#[test]
+fn a_days_end_and_its_control_socket_are_read(rt: HostRuntime) {
+    let Ok(day) = read_day(rt.alloc(), DAY.as_bytes()) else {
+        panic!(rt; "refused");
+    };
+    assert!(rt; day.connect_within == Some(86_400) && day.followers_wait == Some(0));
+    assert!(rt; is_at(day.control.as_ref(), "day.control"));
+    let Ok(day) = read_day(rt.alloc(), SHORT_DAY) else {
+        panic!(rt; "refused");
+    };
+    assert!(rt; day.connect_within.is_none() && day.followers_wait.is_none());
+    assert!(rt; day.control.is_none());
+    let Ok(text) = DAY.replace(rt.alloc(), "\"day.control\"", "9300") else {
+        panic!(rt; "no memory");
+    };
+    let Ok(day) = read_day(rt.alloc(), text.as_bytes()) else {
+        panic!(rt; "refused");
+    };
+    assert!(rt; matches!(day.control, Some(DayControl::Port(9300))));
 }
 
 #[test]
