@@ -2,7 +2,7 @@
 use Rattle.std.proofs.Common.{◌≡◌, Some, refl}
 use Rattle.program_words.specs.Words.{word_name, word_of}
 use Rattle.program_words.specs.declared.word.Word.{Word}
-use Rattle.program_words.specs.declared.word.Word.TheVariants.{Report, Tape, Explain, Check, Verify, Encode, Decode, Line, Batch, Live, Follow, Watch}
+use Rattle.program_words.specs.declared.word.Word.TheVariants.{Report, Tape, Explain, Check, Verify, Encode, Decode, Line, Batch, Live, Follow, Watch, Status, End}
 
 -- the word of a word's name is that word
 pub word_of-name : (word : Word) → word_of (word_name word) ≡ Some word
@@ -18,3 +18,5 @@ word_of-name Batch = refl
 word_of-name Live = refl
 word_of-name Follow = refl
 word_of-name Watch = refl
+word_of-name Status = refl
+word_of-name End = refl

@@ -21,13 +21,14 @@ use Rattle.program_words.specs.declared.word.Word.TheVariants as word
 
 -- ## Arguments in a row
 
--- whether the arguments of a running day stand in a row: not where there is one alone, or up to three of which one is an option
+-- whether the arguments of a running day stand in a row: not where there is one alone, or up to four of which one is an option
 abbrev pub day_in_a_row : List (List ℕ) → Bool
 day_in_a_row [] = true
 day_in_a_row (a ∷ []) = false
 day_in_a_row (a ∷ b ∷ []) = not (is_option a || is_option b)
 day_in_a_row (a ∷ b ∷ c ∷ []) = not (is_option a || is_option b || is_option c)
-day_in_a_row (a ∷ b ∷ c ∷ d ∷ rest) = true
+day_in_a_row (a ∷ b ∷ c ∷ d ∷ []) = not (is_option a || is_option b || is_option c || is_option d)
+day_in_a_row (a ∷ b ∷ c ∷ d ∷ e ∷ rest) = true
 
 -- whether the arguments of a batch stand in a row: unless help is asked for
 abbrev pub batch_in_a_row : List (List ℕ) → Bool
@@ -49,6 +50,8 @@ in_a_row word.Batch rest = batch_in_a_row rest
 in_a_row word.Live rest = day_in_a_row rest
 in_a_row word.Follow rest = day_in_a_row rest
 in_a_row word.Watch rest = day_in_a_row rest
+in_a_row word.Status rest = false
+in_a_row word.End rest = false
 
 -- ## What is asked for
 
@@ -76,8 +79,10 @@ asked_by word.Decode given = table command.Decode given
 asked_by word.Line given = option_map_or (λ participant. table (command.Line participant) given) given.participant (Err wrong.NoParticipant)
 asked_by word.Batch given = Ok (asked.HelpOn word.Batch)
 asked_by word.Live given = option_map_or (λ file. Ok (asked.Live file)) given.file (Err wrong.NoDay)
-asked_by word.Follow given = option_map_or (λ file. Ok (asked.Follow (follower_given given) file)) given.file (Err wrong.NoDay)
+asked_by word.Follow given = option_map_or (λ file. Ok (asked.Follow (follower_given given) given.partial file)) given.file (Err wrong.NoDay)
 asked_by word.Watch given = option_map_or (λ file. Ok (asked.Watch (follower_given given) file)) given.file (Err wrong.NoDay)
+asked_by word.Status given = option_map_or (λ file. Ok (asked.Status file)) given.file (Err wrong.NoDay)
+asked_by word.End given = option_map_or (λ file. Ok (asked.End file)) given.file (Err wrong.NoDay)
 
 -- what a word asks for with what is given
 abbrev pub asked_with : Word → Given → Result Asked Wrong

@@ -54,13 +54,14 @@ follower_named value = if is_follower value then Some (digits_value 10 value) el
 
 -- nothing is given
 abbrev pub nothing_given : Given
-nothing_given = record { matrix = None; strict = false; follower = None; help = false; participant = None; file = None; awaits = None }
+nothing_given = record { matrix = None; strict = false; follower = None; partial = false; help = false; participant = None; file = None; awaits = None }
 
 -- whether an option was given
 abbrev pub is_given : Given → Flag → Bool
 is_given given flag.Matrix = is_some given.matrix
 is_given given flag.Strict = given.strict
 is_given given flag.Follower = is_some given.follower
+is_given given flag.Partial = given.partial
 is_given given flag.Help = given.help
 
 -- with an option's value, which stands in the argument at this place
@@ -70,6 +71,7 @@ with_value given flag.Matrix place value =
 with_value given flag.Strict place value = Err (wrong.Unexpected place)
 with_value given flag.Follower place value =
     option_map_or (λ follower. Ok (record given { follower = Some follower; awaits = None })) (follower_named value) (Err (wrong.Value flag.Follower place))
+with_value given flag.Partial place value = Err (wrong.Unexpected place)
 with_value given flag.Help place value = Err (wrong.Unexpected place)
 
 -- with an option whose argument has no value: its value is the next argument, if it takes one
@@ -77,6 +79,7 @@ abbrev pub without_value : Given → Flag → Given
 without_value given flag.Matrix = record given { awaits = Some flag.Matrix }
 without_value given flag.Strict = record given { strict = true }
 without_value given flag.Follower = record given { awaits = Some flag.Follower }
+without_value given flag.Partial = record given { partial = true }
 without_value given flag.Help = record given { help = true }
 
 -- with an option that a word takes, which may be given once

@@ -2,9 +2,9 @@
 use Rattle.std.specs.Prelude.{◌∷◌, ℕ, List, [], Option, Bool, true, false, codes, find}
 use Rattle.std.specs.Str.{bytes_eq}
 use Rattle.program_words.specs.declared.flag.Flag.{Flag}
-use Rattle.program_words.specs.declared.flag.Flag.TheVariants.{Matrix, Strict, Follower, Help}
+use Rattle.program_words.specs.declared.flag.Flag.TheVariants.{Matrix, Strict, Follower, Partial, Help}
 use Rattle.program_words.specs.declared.word.Word.{Word}
-use Rattle.program_words.specs.declared.word.Word.TheVariants.{Report, Tape, Explain, Check, Verify, Encode, Decode, Line, Batch, Live, Follow, Watch}
+use Rattle.program_words.specs.declared.word.Word.TheVariants.{Report, Tape, Explain, Check, Verify, Encode, Decode, Line, Batch, Live, Follow, Watch, Status, End}
 
 -- ## Words
 
@@ -22,10 +22,12 @@ word_name Batch = codes "batch"
 word_name Live = codes "live"
 word_name Follow = codes "follow"
 word_name Watch = codes "watch"
+word_name Status = codes "status"
+word_name End = codes "end"
 
 -- every word, in the order in which help lists them
 abbrev pub all_words : List Word
-all_words = Report ∷ Tape ∷ Explain ∷ Check ∷ Verify ∷ Encode ∷ Decode ∷ Line ∷ Batch ∷ Live ∷ Follow ∷ Watch ∷ []
+all_words = Report ∷ Tape ∷ Explain ∷ Check ∷ Verify ∷ Encode ∷ Decode ∷ Line ∷ Batch ∷ Live ∷ Follow ∷ Watch ∷ Status ∷ End ∷ []
 
 -- the word of a name
 abbrev pub word_of : List ℕ → Option Word
@@ -45,6 +47,8 @@ takes_file Batch = false
 takes_file Live = true
 takes_file Follow = true
 takes_file Watch = true
+takes_file Status = true
+takes_file End = true
 
 -- whether a word takes a participant
 abbrev pub takes_participant : Word → Bool
@@ -60,6 +64,8 @@ takes_participant Batch = false
 takes_participant Live = false
 takes_participant Follow = false
 takes_participant Watch = false
+takes_participant Status = false
+takes_participant End = false
 
 -- whether a word may have arguments in a row, each known by its place
 abbrev pub is_row_word : Word → Bool
@@ -75,6 +81,8 @@ is_row_word Batch = true
 is_row_word Live = true
 is_row_word Follow = true
 is_row_word Watch = true
+is_row_word Status = false
+is_row_word End = false
 
 -- ## Options
 
@@ -83,6 +91,7 @@ abbrev pub flag_name : Flag → List ℕ
 flag_name Matrix = codes "--matrix"
 flag_name Strict = codes "--strict"
 flag_name Follower = codes "--follower"
+flag_name Partial = codes "--partial"
 flag_name Help = codes "--help"
 
 -- the values that an option takes, or nothing for one that takes none
@@ -90,6 +99,7 @@ abbrev pub flag_values : Flag → List ℕ
 flag_values Matrix = codes "1 or 2"
 flag_values Strict = []
 flag_values Follower = codes "1 to 65535"
+flag_values Partial = []
 flag_values Help = []
 
 -- the options that a word takes
@@ -104,8 +114,10 @@ flags_of Decode = Help ∷ []
 flags_of Line = Help ∷ []
 flags_of Batch = Help ∷ []
 flags_of Live = Help ∷ []
-flags_of Follow = Follower ∷ Help ∷ []
+flags_of Follow = Follower ∷ Partial ∷ Help ∷ []
 flags_of Watch = Follower ∷ Help ∷ []
+flags_of Status = Help ∷ []
+flags_of End = Help ∷ []
 
 -- the option of a name that a word takes
 abbrev pub flag_named : Word → List ℕ → Option Flag
@@ -125,8 +137,10 @@ word_form Decode = codes "decode [FILE]"
 word_form Line = codes "line PARTICIPANT [FILE]"
 word_form Batch = codes "batch [1|2]"
 word_form Live = codes "live DAY.toml | SYMBOLS PARTICIPANTS PORT A B RETRANS SERVES SESSION [MATRIX [LIMIT]]"
-word_form Follow = codes "follow [--follower N] DAY.toml | SYMBOLS PARTICIPANTS A B RETRANS SESSION [MATRIX [LIMIT]]"
+word_form Follow = codes "follow [--follower N] [--partial] DAY.toml | SYMBOLS PARTICIPANTS A B RETRANS SESSION [MATRIX [LIMIT]]"
 word_form Watch = codes "watch [--follower N] DAY.toml | SYMBOLS PARTICIPANTS A B RETRANS SESSION [MATRIX [LIMIT]]"
+word_form Status = codes "status DAY.toml"
+word_form End = codes "end DAY.toml"
 
 -- what a word does, in one sentence
 abbrev pub word_does : Word → List ℕ
@@ -140,5 +154,7 @@ word_does Decode = codes "Writes the messages of a batch's text as a table."
 word_does Line = codes "Writes the bytes of a table's messages of a participant, A to Z, as its line sends them on a running day."
 word_does Batch = codes "Reads the text of a batch from standard input, and writes the answer to each message and the report, by Matrix One or 2."
 word_does Live = codes "Runs a day: takes its participants' messages, sends its tape on both lines, and writes the report."
-word_does Follow = codes "Follows a running day by the ports of a follower's place, the first unless N is given, and writes the report."
+word_does Follow = codes "Follows a running day by the ports of a follower's place, the first unless N is given, and writes the report; with --partial also that of what it holds if no end comes."
 word_does Watch = codes "Follows a running day as follow does, and writes each entry of its tape as it comes, with its symbol's figures after it."
+word_does Status = codes "Says how a running day stands, and what its end waits for."
+word_does End = codes "Ends a running day as if each participant's line had ended now."

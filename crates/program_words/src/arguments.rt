@@ -43,7 +43,7 @@ pub fn argument_at(bytes: &[u8], place: usize) -> &[u8]
 }
 
 /// Whether the arguments after a word stand in a row, each known by its place, and are not a file with its options: those of a batch unless
-/// help is asked for, and those of a running day unless there is one alone, or up to three of which one is an option.
+/// help is asked for, and those of a running day unless there is one alone, or up to four of which one is an option.
 pub(crate) fn are_in_a_row(word: Word, bytes: &[u8]) -> bool
     ensures { result ≡ in_a_row word (words_of bytes.now) }
 {
@@ -59,9 +59,12 @@ pub(crate) fn are_in_a_row(word: Word, bytes: &[u8]) -> bool
     let Some((third, rest)) = first_argument(rest) else {
         return word == Word::Batch || !(is_option(first) || is_option(second));
     };
+    let Some((fourth, rest)) = first_argument(rest) else {
+        return word == Word::Batch || !(is_option(first) || is_option(second) || is_option(third));
+    };
     word == Word::Batch
         || first_argument(rest).is_some()
-        || !(is_option(first) || is_option(second) || is_option(third))
+        || !(is_option(first) || is_option(second) || is_option(third) || is_option(fourth))
 }
 
 /// What the arguments after a word give, or the first that is wrong.

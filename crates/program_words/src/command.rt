@@ -50,10 +50,15 @@ pub enum Asked {
     Table(Request),
     /// A running day, and which argument is the name of its file.
     Live(usize),
-    /// The report of a running day at a follower's place, from 1, and which argument is the name of its file.
-    Follow(u16, usize),
+    /// The report of a running day at a follower's place, from 1, whether what is held is reported where no end comes, and which argument is
+    /// the name of its file.
+    Follow(u16, bool, usize),
     /// The readable tape of a running day at a follower's place, from 1, and which argument is the name of its file.
     Watch(u16, usize),
+    /// How a running day stands, and which argument is the name of its file.
+    Status(usize),
+    /// The end of a running day, and which argument is the name of its file.
+    End(usize),
     /// What the program does.
     Help,
     /// What a word does.
@@ -96,11 +101,14 @@ fn asked_by(word: Word, given: &Given) -> Result<Asked, Wrong>
         Word::Batch => return Ok(Asked::HelpOn(word)),
         Word::Live => return Ok(Asked::Live(given.file.ok_or(Wrong::NoDay)?)),
         Word::Follow => {
-            return Ok(Asked::Follow(given.follower(), given.file.ok_or(Wrong::NoDay)?));
+            let file = given.file.ok_or(Wrong::NoDay)?;
+            return Ok(Asked::Follow(given.follower(), given.partial, file));
         }
         Word::Watch => {
             return Ok(Asked::Watch(given.follower(), given.file.ok_or(Wrong::NoDay)?));
         }
+        Word::Status => return Ok(Asked::Status(given.file.ok_or(Wrong::NoDay)?)),
+        Word::End => return Ok(Asked::End(given.file.ok_or(Wrong::NoDay)?)),
     };
     Ok(Asked::Table(Request {
         command,

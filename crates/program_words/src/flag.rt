@@ -11,6 +11,8 @@ pub enum Flag {
     Strict,
     /// The place of a follower, from 1.
     Follower,
+    /// What was held is reported, where the day's end did not come.
+    Partial,
     /// What the word does.
     Help,
 }
@@ -24,6 +26,7 @@ impl Flag {
             Flag::Matrix => b"--matrix",
             Flag::Strict => b"--strict",
             Flag::Follower => b"--follower",
+            Flag::Partial => b"--partial",
             Flag::Help => b"--help",
         }
     }
@@ -35,7 +38,7 @@ impl Flag {
         match self {
             Flag::Matrix => b"1 or 2",
             Flag::Follower => b"1 to 65535",
-            Flag::Strict | Flag::Help => b"",
+            Flag::Strict | Flag::Partial | Flag::Help => b"",
         }
     }
 }

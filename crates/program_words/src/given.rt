@@ -21,6 +21,8 @@ pub(crate) struct Given {
     pub strict: bool,
     /// The place of a follower.
     pub follower: Option<u16>,
+    /// Whether what was held is reported, where the day's end did not come.
+    pub partial: bool,
     /// Whether help is asked for.
     pub help: bool,
     /// The participant.
@@ -134,6 +136,7 @@ impl Given {
         matrix: None,
         strict: false,
         follower: None,
+        partial: false,
         help: false,
         participant: None,
         file: None,
@@ -148,6 +151,7 @@ impl Given {
             Flag::Matrix => self.matrix.is_some(),
             Flag::Strict => self.strict,
             Flag::Follower => self.follower.is_some(),
+            Flag::Partial => self.partial,
             Flag::Help => self.help,
         }
     }
@@ -173,7 +177,7 @@ impl Given {
                     ..self
                 })
             }
-            Flag::Strict | Flag::Help => Err(Wrong::Unexpected(place)),
+            Flag::Strict | Flag::Partial | Flag::Help => Err(Wrong::Unexpected(place)),
         }
     }
 
@@ -188,6 +192,10 @@ impl Given {
             },
             Flag::Strict => Given {
                 strict: true,
+                ..self
+            },
+            Flag::Partial => Given {
+                partial: true,
                 ..self
             },
             Flag::Help => Given { help: true, ..self },

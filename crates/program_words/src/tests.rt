@@ -35,7 +35,13 @@ fn options_stand_in_any_order_beside_a_file(rt: HostRuntime) {
 #[test]
 fn a_day_is_asked_for_by_its_file(rt: HostRuntime) {
     assert!(rt; read_arguments(b"live\0day.toml\0") == Some(Asked::Live(0)));
-    assert!(rt; read_arguments(b"follow\0day.toml\0") == Some(Asked::Follow(1, 0)));
+    assert!(rt; read_arguments(b"follow\0day.toml\0") == Some(Asked::Follow(1, false, 0)));
+    assert!(rt;
+        read_arguments(b"follow\0--follower\x002\0--partial\0day.toml\0")
+            == Some(Asked::Follow(2, true, 3))
+    );
+    assert!(rt; read_arguments(b"status\0day.toml\0") == Some(Asked::Status(0)));
+    assert!(rt; read_arguments(b"end\0day.toml\0") == Some(Asked::End(0)));
     assert!(rt;
         read_arguments(b"watch\0--follower\x0065535\0day.toml\0") == Some(Asked::Watch(65_535, 2))
     );
@@ -112,6 +118,10 @@ fn a_wrong_argument_is_named(rt: HostRuntime) {
         ),
         (b"line\0", b"tapebox: no PARTICIPANT\n"),
         (b"watch\0--follower=2\0", b"tapebox: no DAY.toml\n"),
+        (
+            b"end\0",
+            b"tapebox: no DAY.toml\nusage: tapebox end DAY.toml\n",
+        ),
     ] {
         assert_said(&rt, rt.alloc(), words, line);
     }
@@ -123,6 +133,6 @@ fn help_is_asked_for_anywhere_and_lists_every_word(rt: HostRuntime) -> Result<()
     assert!(rt; read_arguments(b"tape\0day.csv\0--help\0") == Some(Asked::HelpOn(Word::Tape)));
     assert!(rt; read_arguments(b"batch\0--help\0") == Some(Asked::HelpOn(Word::Batch)));
     let text = help_text(rt.alloc())?;
-    assert!(rt; text.iter().filter(|byte| **byte == b'\n').count() == 27);
+    assert!(rt; text.iter().filter(|byte| **byte == b'\n').count() == 31);
     Ok(())
 }

@@ -31,10 +31,14 @@ pub enum Word {
     Follow,
     /// The readable tape of a running day as it comes.
     Watch,
+    /// How a running day stands.
+    Status,
+    /// The end of a running day.
+    End,
 }
 
 /// Every word, in the order in which help lists them.
-pub const ALL_WORDS: [Word; 12] = [
+pub const ALL_WORDS: [Word; 14] = [
     Word::Report,
     Word::Tape,
     Word::Explain,
@@ -47,6 +51,8 @@ pub const ALL_WORDS: [Word; 12] = [
     Word::Live,
     Word::Follow,
     Word::Watch,
+    Word::Status,
+    Word::End,
 ];
 
 /// The first word of this name.
@@ -74,6 +80,8 @@ impl Word {
             Word::Live => b"live",
             Word::Follow => b"follow",
             Word::Watch => b"watch",
+            Word::Status => b"status",
+            Word::End => b"end",
         }
     }
 
@@ -92,10 +100,16 @@ impl Word {
         match self {
             Word::Report | Word::Tape | Word::Explain => &[Flag::Matrix, Flag::Strict, Flag::Help],
             Word::Verify => &[Flag::Matrix, Flag::Help],
-            Word::Follow | Word::Watch => &[Flag::Follower, Flag::Help],
-            Word::Check | Word::Encode | Word::Decode | Word::Line | Word::Batch | Word::Live => &[
-                Flag::Help,
-            ],
+            Word::Follow => &[Flag::Follower, Flag::Partial, Flag::Help],
+            Word::Watch => &[Flag::Follower, Flag::Help],
+            Word::Check
+            | Word::Encode
+            | Word::Decode
+            | Word::Line
+            | Word::Batch
+            | Word::Live
+            | Word::Status
+            | Word::End => &[Flag::Help],
         }
     }
 
@@ -141,11 +155,13 @@ impl Word {
                 b"live DAY.toml | SYMBOLS PARTICIPANTS PORT A B RETRANS SERVES SESSION [MATRIX [LIMIT]]"
             }
             Word::Follow => {
-                b"follow [--follower N] DAY.toml | SYMBOLS PARTICIPANTS A B RETRANS SESSION [MATRIX [LIMIT]]"
+                b"follow [--follower N] [--partial] DAY.toml | SYMBOLS PARTICIPANTS A B RETRANS SESSION [MATRIX [LIMIT]]"
             }
             Word::Watch => {
                 b"watch [--follower N] DAY.toml | SYMBOLS PARTICIPANTS A B RETRANS SESSION [MATRIX [LIMIT]]"
             }
+            Word::Status => b"status DAY.toml",
+            Word::End => b"end DAY.toml",
         }
     }
 
@@ -183,11 +199,13 @@ impl Word {
                 b"Runs a day: takes its participants' messages, sends its tape on both lines, and writes the report."
             }
             Word::Follow => {
-                b"Follows a running day by the ports of a follower's place, the first unless N is given, and writes the report."
+                b"Follows a running day by the ports of a follower's place, the first unless N is given, and writes the report; with --partial also that of what it holds if no end comes."
             }
             Word::Watch => {
                 b"Follows a running day as follow does, and writes each entry of its tape as it comes, with its symbol's figures after it."
             }
+            Word::Status => b"Says how a running day stands, and what its end waits for.",
+            Word::End => b"Ends a running day as if each participant's line had ended now.",
         }
     }
 }
