@@ -1,11 +1,17 @@
 //! The program over the process's streams, files and sockets.
+ghost use Rattle.std.specs.Prelude.{◌≡◌};
+ghost use Rattle.std.specs.Str.{IsUtf8};
+ghost use Rattle.tapebox.specs.Files.{argument_in, has_rows};
 
-use crate::day::{follow_day, live_day};
-use crate::feeds::{run_follow, run_live};
+use crate::asking::ask_day;
+use crate::day::{control_file, follow_file, live_file};
 use crate::files::{open_file, say_unread};
+use crate::following::{run_follow_file, run_watch_file};
+use crate::operated::run_live_file;
 use crate::program::{run, write_own};
 use crate::version::version_text;
-use desk_words::{ClearedWriter, ProgressLine, ToldReader, ToldWriter, watch, watch_row};
+use day_control::Command as Order;
+use desk_words::{ClearedWriter, PipeWriter, ProgressLine, ToldReader, ToldWriter, watch_row};
 use program_words::{
     Asked, Command, Request, STANDARD_INPUT, Status, Word, argument_at, first_argument,
     read_arguments,
@@ -20,7 +26,9 @@ use std::sync::Wait;
 use std::thread::Threads;
 
 /// Whether a text has a row of each message or of each report, so that a line may tell how many were written where nobody sees them scroll by.
-fn has_rows(request: &Request) -> bool {
+fn has_rows(request: &Request) -> bool
+    ensures { result ≡ has_rows request.now.command }
+{
     matches!(
         request.command,
         Command::Tape(_, _) | Command::Explain(_, _)
@@ -28,7 +36,9 @@ fn has_rows(request: &Request) -> bool {
 }
 
 /// The argument after the word at a place, counted from 0. All arguments are text.
-fn argument_text(words: &[u8], place: usize) -> &str {
+fn argument_text(words: &[u8], place: usize) -> &str
+    ensures { IsUtf8 (argument_in words.now place) → result.now ≡ argument_in words.now place }
+{
     let argument = match first_argument(words) {
         Some((_, rest)) => argument_at(rest, place),
         None => b"",
@@ -81,7 +91,7 @@ where
             self.alloc,
             words,
             &mut ToldReader::new(reader, told, length),
-            &mut ToldWriter::new(self.stdout, told_rows),
+            &mut ToldWriter::new(PipeWriter::new(self.stdout), told_rows),
             &mut ClearedWriter::new(self.stderr, told),
         );
         if let Some(progress) = told {
@@ -111,28 +121,41 @@ where
     }
 
     /// Runs a day by its file.
-    fn run_live_file(&self, name: &str) -> Status {
+    fn run_live(&self, name: &str) -> Status {
         let (mut stdout, mut stderr) = (self.stdout, self.stderr);
-        match live_day(self.rt, self.alloc, name, &mut stderr) {
-            Ok(day) => run_live(self.rt, self.alloc, day, &mut stdout, &mut stderr),
+        match live_file(self.rt, self.alloc, name, &mut stderr) {
+            Ok(day) => run_live_file(self.rt, self.alloc, day, &mut stdout, &mut stderr),
             Err(status) => status,
         }
     }
 
     /// Follows a day by its file.
-    fn run_follow_file(&self, name: &str, follower: u16) -> Status {
+    fn run_follow(&self, name: &str, follower: u16, is_partial: bool) -> Status {
+        let (rt, alloc) = (self.rt, self.alloc);
         let (mut stdout, mut stderr) = (self.stdout, self.stderr);
-        match follow_day(self.rt, self.alloc, name, follower, &mut stderr) {
-            Ok(day) => run_follow(self.rt, self.alloc, day, &mut stdout, &mut stderr),
+        match follow_file(rt, alloc, name, follower, &mut stderr) {
+            Ok(day) => run_follow_file(rt, alloc, day, is_partial, &mut stdout, &mut stderr),
             Err(status) => status,
         }
     }
 
     /// Watches a day by its file.
-    fn run_watch_file(&self, name: &str, follower: u16) -> Status {
-        let mut stderr = self.stderr;
-        match follow_day(self.rt, self.alloc, name, follower, &mut stderr) {
-            Ok(day) => watch(self.rt, self.alloc, day, self.stdout, &mut stderr).0,
+    fn run_watch(&self, name: &str, follower: u16) -> Status {
+        let (rt, alloc, mut stderr) = (self.rt, self.alloc, self.stderr);
+        match follow_file(rt, alloc, name, follower, &mut stderr) {
+            Ok(day) => {
+                let stdout = PipeWriter::new(self.stdout);
+                run_watch_file(rt, alloc, day, stdout, &mut stderr).0
+            }
+            Err(status) => status,
+        }
+    }
+
+    /// Asks a day by its file, at its control socket.
+    fn run_order(&self, name: &str, order: Order) -> Status {
+        let (mut stdout, mut stderr) = (self.stdout, self.stderr);
+        match control_file(self.rt, self.alloc, name, &mut stderr) {
+            Ok(place) => ask_day(self.rt, self.alloc, &place, order, &mut stdout, &mut stderr),
             Err(status) => status,
         }
     }
@@ -144,7 +167,8 @@ where
             return None;
         }
         let mut stderr = self.stderr;
-        Some(watch_row(self.rt, self.alloc, rest, self.stdout, &mut stderr).0)
+        let stdout = PipeWriter::new(self.stdout);
+        Some(watch_row(self.rt, self.alloc, rest, stdout, &mut stderr).0)
     }
 
     /// Does what arguments ask for, each ended by a zero byte.
@@ -152,13 +176,15 @@ where
         let (mut stdout, mut stderr) = (self.stdout, self.stderr);
         match read_arguments(words) {
             Some(Asked::Table(request)) => self.run_request(words, &request),
-            Some(Asked::Live(file)) => self.run_live_file(argument_text(words, file)),
-            Some(Asked::Follow(follower, file)) => {
-                self.run_follow_file(argument_text(words, file), follower)
+            Some(Asked::Live(file)) => self.run_live(argument_text(words, file)),
+            Some(Asked::Follow(follower, is_partial, file)) => {
+                self.run_follow(argument_text(words, file), follower, is_partial)
             }
             Some(Asked::Watch(follower, file)) => {
-                self.run_watch_file(argument_text(words, file), follower)
+                self.run_watch(argument_text(words, file), follower)
             }
+            Some(Asked::Status(file)) => self.run_order(argument_text(words, file), Order::Status),
+            Some(Asked::End(file)) => self.run_order(argument_text(words, file), Order::End),
             Some(Asked::Version) => write_own(version_text(self.rt), &mut stdout, &mut stderr),
             Some(Asked::Help | Asked::HelpOn(_) | Asked::Wrong(_, _)) => self.run_streams(words),
             None => match self.run_watch_row(words) {

@@ -1,0 +1,36 @@
+-- What the program says of a day's file, and with which status.
+use Rattle.std.specs.Prelude.{◌≡◌, ◌⊎◌, ℕ, List, Option, string_bytes}
+use Rattle.program_words.specs.Statuses.{status_text}
+use Rattle.program_words.specs.declared.status.Status.{Status}
+use Rattle.program_words.specs.declared.status.Status.TheVariants as status
+use Rattle.row_reads.specs.Writing.{WritesPrefix}
+use Rattle.day_files.specs.Days.{ControlPlace, at_path, at_port}
+use Rattle.day_files.specs.declared.day_fault.DayFault.{DayFault}
+use Rattle.day_files.specs.declared.day_fault.DayFault.TheVariants.{OutOfMemory}
+use Rattle.day_control.specs.declared.place.ControlPlace.{ControlPlace as Place}
+use Rattle.day_control.specs.declared.place.ControlPlace.TheVariants as place
+use Rattle.tapebox.specs.Files.{SaysOf, beside_path}
+
+-- the status of a day's file with a fault: it is bad, unless memory ran out
+abbrev pub day_fault_status : DayFault → Status
+day_fault_status OutOfMemory = status.OutOfMemory
+day_fault_status _ = status.Bad
+
+-- what is said of a day's file with a fault: a line with its name, unless memory ran out
+abbrev pub SaysFault : List ℕ → DayFault → Option (List ℕ) → Option (List ℕ) → Type 0
+SaysFault name OutOfMemory old new = WritesPrefix (status_text status.OutOfMemory) old new
+SaysFault name _ old new = SaysOf name old new
+
+-- the status of a day that its file, or that of its symbols, does not give
+abbrev pub IsUnreadStatus : Status → Type 0
+IsUnreadStatus s = (s ≡ status.Bad) ⊎ (s ≡ status.ReadFault) ⊎ (s ≡ status.OutOfMemory)
+
+-- the control socket that a day's file of this name gives: a path starts at the file's folder
+abbrev pub control_by : List ℕ → ControlPlace → ControlPlace
+control_by file (at_port port) = at_port port
+control_by file (at_path path) = at_path (beside_path path file)
+
+-- the control socket, as it is opened
+abbrev pub place_view : Place → ControlPlace
+place_view (place.Port port) = at_port port
+place_view (place.Path path) = at_path (string_bytes path)

@@ -1,0 +1,118 @@
+//! A running day that its file gives, followed: its end says what was heard of it.
+ghost use Rattle.std.specs.Prelude.{◌≡◌, IfErr, IfOk, OnOk};
+ghost use Rattle.desk_words.specs.Watches.{IsRunStatus, WritesSome, WritesWhole};
+ghost use Rattle.program_words.specs.Statuses.{status_code};
+ghost use Rattle.program_words.specs.declared.status.Status.TheVariants.{Done, ReadFault};
+ghost use Rattle.tapebox.specs.Feeds.{FollowsDay, follow_status};
+
+use crate::day::FollowFile;
+use crate::sayings::{ended_status, say_unopened};
+use crate::sockets::open_follow;
+use desk_words::{Output, say_followed, say_status, watch_file};
+use feed_follower::{FollowEnd, FollowSockets, FollowTerms, NoSink, follow_day};
+use program_words::Status;
+use std::alloc::Global;
+use std::io::Write;
+use std::net::{Net, TcpListener, TcpStream};
+use std::sync::Wait;
+use std::thread::Threads;
+
+/// A day that is to be followed.
+struct Ready {
+    terms: FollowTerms,
+    sockets: FollowSockets,
+}
+
+/// Opens the sockets of a follower, or says which could not be opened and gives the status.
+fn ready_day<T, E>(rt: &T, alloc: Global, day: FollowFile, errors: &mut E) -> Result<Ready, Status>
+where
+    T: Net<Listener = TcpListener, Stream = TcpStream>,
+    E: Write,
+    ensures quiet { OnOk result (errors.new ≡ errors.old) }
+    ensures status { IfErr result (λ status. status ≡ ReadFault) }
+    ensures listing { IfOk result (λ ready. ready.terms.listing ≡ day.words.listing) }
+    ensures matrix { IfOk result (λ ready. ready.terms.matrix ≡ day.words.matrix) }
+    ensures limit { IfOk result (λ ready. ready.terms.limit ≡ day.words.limit) }
+    ensures session { IfOk result (λ ready. ready.terms.session ≡ day.words.session) }
+    ensures connect_within { IfOk result (λ ready. ready.terms.connect_within ≡ day.connect_within) }
+{
+    let FollowFile {
+        words,
+        connect_within,
+    } = day;
+    let sockets = match open_follow(rt, &words) {
+        Ok(sockets) => sockets,
+        Err(fault) => return Err(say_unopened(alloc, errors, fault)),
+    };
+    let terms = FollowTerms {
+        listing: words.listing,
+        limit: words.limit,
+        matrix: words.matrix,
+        session: words.session,
+        connect_within,
+    };
+    Ok(Ready { terms, sockets })
+}
+
+/// Says what was heard of a day, unless there is no memory for it, and then how it ended; gives the status.
+fn say_follow_end<E: Write>(alloc: Global, errors: &mut E, end: &FollowEnd) -> Status
+    ensures { result ≡ follow_status end.now.ended }
+{
+    let ended = match end.ended {
+        Ok(()) => Ok(()),
+        Err(fault) => Err(fault.fault()),
+    };
+    let status = ended_status(ended);
+    if !say_followed(alloc, errors, end) {
+        say_status(errors, status);
+    }
+    status
+}
+
+/// Follows the day that a file gives, and returns the status: the report of its tape is written to `writer`, and where the day's end did not
+/// come that of what is held, if `is_partial`. What was heard is said, line by line, whatever the status.
+pub fn run_follow_file<T, W, E>(
+    rt: &T,
+    alloc: Global,
+    day: FollowFile,
+    is_partial: bool,
+    writer: &mut W,
+    errors: &mut E,
+) -> Status
+where
+    T: Threads + Wait + Net<Listener = TcpListener, Stream = TcpStream> + Sync,
+    W: Write,
+    E: Write,
+    ensures { FollowsDay day.words.listing day.words.matrix day.words.limit is_partial result writer.old writer.new (W.contents writer.old) (W.contents writer.new) }
+{
+    match ready_day(rt, alloc, day, errors) {
+        Ok(Ready { terms, sockets }) => {
+            let (end, _sink) = follow_day(rt, alloc, terms, sockets, is_partial, NoSink, writer);
+            say_follow_end(alloc, errors, &end)
+        }
+        Err(status) => status,
+    }
+}
+
+/// Watches the day that a file gives, and returns the status, with the writer if there is one: the readable tape is written to it as it comes.
+/// What was heard is said, line by line, whatever the status.
+pub fn run_watch_file<T, W, E>(
+    rt: &T,
+    alloc: Global,
+    day: FollowFile,
+    writer: W,
+    errors: &mut E,
+) -> (Status, Option<W>)
+where
+    T: Threads + Wait + Net<Listener = TcpListener, Stream = TcpStream> + Sync,
+    W: Output + Send + Drop,
+    E: Write,
+    ensures known { IsRunStatus (status_code result.0) }
+    ensures whole { result.0 ≡ Done → WritesWhole W.contents day.words.listing day.words.matrix day.words.limit writer result.1 }
+    ensures part { WritesSome W.contents day.words.listing day.words.matrix day.words.limit writer result.1 }
+{
+    match ready_day(rt, alloc, day, errors) {
+        Ok(Ready { terms, sockets }) => watch_file(rt, alloc, terms, sockets, writer, errors),
+        Err(status) => (status, Some(writer)),
+    }
+}

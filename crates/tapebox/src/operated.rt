@@ -1,0 +1,222 @@
+//! A running day that its file gives: it is operated by a control socket, and its end says what became of it.
+ghost use Rattle.std.specs.Prelude.{◌≡◌, ◌⊎◌, IfErr, IfOk, IfSome, IsSome, None, OnOk};
+ghost use Rattle.std.specs.Thread.{IsSync};
+ghost use Rattle.feed_ends.specs.Reports.{WritesItsReport};
+ghost use Rattle.program_words.specs.declared.status.Status.TheVariants.{OutOfMemory, ReadFault};
+ghost use Rattle.tapebox.specs.Feeds.{EndsDay, RunsDay};
+
+use crate::asking::say_control_fault;
+use crate::day::LiveFile;
+use crate::sayings::{say_day_end, say_unopened};
+use crate::sockets::{Unopened, open_live};
+use day_control::{ControlListener, Operated, open_control, remove_control, serve_control};
+use desk_words::say;
+use feed_ends::Fault;
+use live_feed::{LiveEnd, LiveSockets, LiveTerms, NoLoss, Operation, live_day};
+use program_words::Status;
+use std::alloc::{AllocError, Global};
+use std::fs::Files;
+use std::io::Write;
+use std::net::{Net, TcpListener, TcpStream};
+use std::rt::Clock;
+use std::sync::Wait;
+use std::thread::{Threads, join_mut};
+
+/// A day that waits to run.
+#[derive(Drop)]
+struct Ready {
+    terms: LiveTerms,
+    sockets: LiveSockets,
+    operation: Operation,
+}
+
+/// The day that a control socket operates.
+#[derive(Drop)]
+struct OperatedDay<'a> {
+    operation: &'a Operation,
+}
+
+impl Operated for OperatedDay<'_> {
+    fn put_status<R: Wait + Clock>(&self, rt: &R, text: &mut Vec<u8>) -> Result<(), AllocError> {
+        self.operation.put_status(rt, text)
+    }
+
+    fn end<R: Wait>(&self, _rt: &R) -> bool {
+        self.operation.end()
+    }
+}
+
+/// What a day has before it runs.
+#[derive(Drop)]
+struct Parts {
+    terms: LiveTerms,
+    sockets: LiveSockets,
+}
+
+/// Runs the day whose parts wait, which are taken out, and then ends its control socket.
+fn run_parts<T, W>(
+    rt: &T,
+    alloc: Global,
+    parts: &mut Option<Parts>,
+    operation: &Operation,
+    listener: &ControlListener,
+    writer: &mut W,
+) -> Option<LiveEnd>
+where
+    T: Threads + Wait + Clock + Sync,
+    W: Write,
+    requires { IsSome parts.old }
+    ensures taken { parts.new ≡ None }
+    ensures some { IsSome result }
+    ensures end { IfSome parts.old (λ parts. IfSome result (EndsDay parts.terms.listing parts.terms.matrix parts.terms.limit
+        writer.old writer.new (W.contents writer.old) (W.contents writer.new))) }
+{
+    let end = match parts.take() {
+        Some(Parts { terms, sockets }) => Some(live_day(
+            rt, alloc, terms, sockets, &NoLoss, operation, writer,
+        )),
+        None => None,
+    };
+    listener.close();
+    end
+}
+
+/// Runs a day beside its control socket, which ends with it. If no thread can be started, the day runs without it.
+fn run_controlled<T, W>(
+    rt: &T,
+    alloc: Global,
+    parts: Parts,
+    operation: &Operation,
+    listener: &ControlListener,
+    writer: &mut W,
+) -> LiveEnd
+where
+    T: Threads + Wait + Clock + Sync,
+    W: Write,
+    ensures { EndsDay parts.terms.listing parts.terms.matrix parts.terms.limit writer.old writer.new (W.contents writer.old) (W.contents writer.new) result }
+{
+    let mut waiting = Some(parts);
+    let operated = OperatedDay { operation };
+    let ((), end) = join_mut(
+        rt,
+        &mut || serve_control(rt, alloc, listener, &operated),
+        &mut || -> Option<LiveEnd>
+            requires { IsSync T.row × IsSome waiting }
+            ensures { (waiting.exit ≡ None) × IsSome result
+                × IfSome waiting.entry (λ day. IfSome result (EndsDay day.terms.listing day.terms.matrix day.terms.limit
+                writer.entry.now writer.exit.now (W.contents writer.entry.now) (W.contents writer.exit.now))) }
+        { run_parts(rt, alloc, &mut waiting, operation, listener, writer) },
+    );
+    match (waiting, end) {
+        (None, Some(end)) => end,
+        _ => unreachable!(),
+    }
+}
+
+/// Opens the sockets of a day, or says which could not be opened and gives the status.
+fn ready_day<T, E>(rt: &T, alloc: Global, day: LiveFile, errors: &mut E) -> Result<Ready, Status>
+where
+    T: Clock + Net<Listener = TcpListener, Stream = TcpStream>,
+    E: Write,
+    ensures quiet { OnOk result (errors.new ≡ errors.old) }
+    ensures status { IfErr result (λ status. (status ≡ ReadFault) ⊎ (status ≡ OutOfMemory)) }
+    ensures listing { IfOk result (λ ready. ready.terms.listing ≡ day.words.listing) }
+    ensures matrix { IfOk result (λ ready. ready.terms.matrix ≡ day.words.matrix) }
+    ensures limit { IfOk result (λ ready. ready.terms.limit ≡ day.words.limit) }
+    ensures session { IfOk result (λ ready. ready.terms.session ≡ day.words.session) }
+    ensures serves { IfOk result (λ ready. ready.terms.serves ≡ day.words.serves) }
+    ensures connect_within { IfOk result (λ ready. ready.terms.connect_within ≡ day.connect_within) }
+    ensures followers_wait { IfOk result (λ ready. ready.terms.followers_wait ≡ day.followers_wait) }
+{
+    let LiveFile {
+        words,
+        connect_within,
+        followers_wait,
+        control: _,
+    } = day;
+    let sockets = match open_live(rt, alloc, &words) {
+        Ok(sockets) => sockets,
+        Err(Unopened::Socket(fault)) => return Err(say_unopened(alloc, errors, fault)),
+        Err(Unopened::Memory) => return Err(say_day_end(errors, Err(Fault::Memory))),
+    };
+    let Ok(operation) = Operation::new(rt, alloc, &words.listing) else {
+        return Err(say_day_end(errors, Err(Fault::Memory)));
+    };
+    let terms = LiveTerms {
+        listing: words.listing,
+        limit: words.limit,
+        matrix: words.matrix,
+        session: words.session,
+        serves: words.serves,
+        connect_within,
+        followers_wait,
+    };
+    Ok(Ready {
+        terms,
+        sockets,
+        operation,
+    })
+}
+
+/// Runs a day, beside its control socket if it has one, and says what became of it.
+fn run_day<T, W, E>(
+    rt: &T,
+    alloc: Global,
+    day: LiveFile,
+    listener: Option<&ControlListener>,
+    writer: &mut W,
+    errors: &mut E,
+) -> Status
+where
+    T: Threads + Wait + Clock + Net<Listener = TcpListener, Stream = TcpStream> + Sync,
+    W: Write,
+    E: Write,
+    ensures { RunsDay (WritesItsReport day.words.listing day.words.matrix day.words.limit) result writer.old writer.new (W.contents writer.old) (W.contents writer.new) }
+{
+    let Ready {
+        terms,
+        sockets,
+        operation,
+    } = match ready_day(rt, alloc, day, errors) {
+        Ok(ready) => ready,
+        Err(status) => return status,
+    };
+    let end = match listener {
+        Some(listener) => {
+            let parts = Parts { terms, sockets };
+            run_controlled(rt, alloc, parts, &operation, listener, writer)
+        }
+        None => live_day(rt, alloc, terms, sockets, &NoLoss, &operation, writer),
+    };
+    say(errors, &end.account);
+    say_day_end(errors, end.result)
+}
+
+/// Runs the day that a file gives, and returns its status: the report is written to `writer`, and what became of the day is said, line by line,
+/// whatever the status. Its control socket is opened before all others, and gone once the day has ended.
+pub fn run_live_file<T, W, E>(
+    rt: &T,
+    alloc: Global,
+    day: LiveFile,
+    writer: &mut W,
+    errors: &mut E,
+) -> Status
+where
+    T: Threads + Wait + Clock + Files + Net<Listener = TcpListener, Stream = TcpStream> + Sync,
+    W: Write,
+    E: Write,
+    ensures { RunsDay (WritesItsReport day.words.listing day.words.matrix day.words.limit) result writer.old writer.new (W.contents writer.old) (W.contents writer.new) }
+{
+    let mut day = day;
+    let Some(place) = day.control.take() else {
+        return run_day(rt, alloc, day, None, writer, errors);
+    };
+    match open_control(rt, &place) {
+        Ok(listener) => {
+            let status = run_day(rt, alloc, day, Some(&listener), writer, errors);
+            remove_control(rt, &place);
+            status
+        }
+        Err(fault) => say_control_fault(alloc, errors, &place, fault),
+    }
+}
