@@ -30,10 +30,14 @@ from array import array
 from http.server import BaseHTTPRequestHandler, ThreadingHTTPServer
 from pathlib import Path
 
+# Nothing is written beside an installed tool.
+sys.dont_write_bytecode = True
+
+from program import program
+
 HOST = "127.0.0.1"
 PORT = 8080
-ROOT = Path(__file__).resolve().parent.parent
-WEB = ROOT / "web"
+WEB = Path(__file__).resolve().parent.parent / "web"
 COLUMNS = "tape,refused,kind,participant,number,moment,symbol,target,price,size,condition,open,high,low,last,volume,trades".split(",")
 TAPE, REFUSED, KIND, WHO, NUMBER, SYMBOL, TARGET, PRICE, SIZE, CONDITION, FIGURES = 0, 1, 2, 3, 4, 6, 7, 8, 9, 10, 11
 LAST = FIGURES + 3
@@ -269,12 +273,6 @@ class Server(ThreadingHTTPServer):
 def fail(text):
     """Says what is wrong, and ends the script."""
     sys.exit(f"board.py: {text}")
-
-
-def program():
-    """The command that runs the program."""
-    run = ROOT / "run"
-    return os.environ.get("TAPEBOX") or (str(run) if run.exists() else "tapebox")
 
 
 def started(words):

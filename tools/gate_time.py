@@ -114,12 +114,12 @@ def print_table(seconds, total, elapsed):
 def read_budgets(file):
     """The budgets in processor minutes, by crate and kind. A ValueError names a line that is none."""
     budgets = {}
-    for line in file.read_text(encoding="utf-8").splitlines():
+    for at, line in enumerate(file.read_text(encoding="utf-8").splitlines(), 1):
         words = re.fullmatch(r"(\S+) (\S+) (\d+(?:\.\d+)?)", line)
         if words and words[2] in KINDS:
             budgets[words[1], words[2]] = float(words[3])
         elif line and not line.startswith("#"):
-            raise ValueError(f"not a crate, a kind and minutes: {line}")
+            raise ValueError(f"{file}, line {at}: not a crate, a kind and minutes: {line}")
     return budgets
 
 
@@ -139,7 +139,7 @@ def main():
         budgets = read_budgets(words.budget) if words.budget else {}
         status, seconds = watched(words.command)
     except (OSError, ValueError) as fault:
-        parser.error(str(fault))
+        parser.error(f"{fault.filename}: {fault.strerror}" if isinstance(fault, OSError) else str(fault))
     used = resource.getrusage(resource.RUSAGE_CHILDREN)
     print_table(seconds, used.ru_utime + used.ru_stime, time.monotonic() - began)
     for line in over_budget(seconds, budgets):

@@ -14,32 +14,38 @@ Messages leave in the order of the rows, but participants' lines run at once: wi
 have another order between participants. Connecting is tried for ten seconds. After the last row the lines end, and it waits until
 `live` has closed them, for ten seconds at most: whether a message was admitted is not told by a line.
 
-    TAPEBOX   the program (the one that ./run finds)
+    TAPEBOX   the program (the one that ./run finds, or else the installed one)
 
 Statuses: 0 if all was sent, or printed; 1 if the table can't be read, at its first bad row, or the day's file, at its first fault, and
-then nothing is sent, if nothing listens, or if a line was closed at the other end before all of its messages were sent and read: the
-participant is named then, and how many were sent; 2 if the words are others.
+then nothing is sent, or if nothing listens; 2 if the words are others; 3 if a line was closed at the other end before all of its messages
+were sent and read: the participant is named then with the row and the number of its first message that wasn't sent, and how many were.
+docs/OPERATING.md, "A participant whose line is over", says what that means.
 """
 
 import argparse
 import collections
 import contextlib
-import os
 import socket
 import subprocess
 import sys
 import time
-from pathlib import Path
+
+# Nothing is written beside an installed tool.
+sys.dont_write_bytecode = True
 
 import day_file
+from program import program
 
-RUN = Path(__file__).resolve().parent.parent / "run"
 HOST = "127.0.0.1"
 CONNECTING_SECONDS = 10
 # How long the other ends are waited for after the last row.
 CLOSING_SECONDS = 10
 # The number of the row of the first message, as tapebox counts rows: the header row is the first.
 FIRST_ROW = 2
+# Where a message has its number: after its length, its kind and its participant.
+NUMBER = slice(4, 8)
+# The status of a line that was closed at the other end too soon.
+CLOSED = 3
 
 
 def parse_batch(text):
@@ -56,7 +62,7 @@ def read_day(path):
     except OSError as fault:
         sys.exit(f"send_day.py: {path}: {fault.strerror}")
     with table:
-        done = subprocess.run([os.environ.get("TAPEBOX", RUN), "encode"], stdin=table, capture_output=True, check=False)
+        done = subprocess.run([program(), "encode"], stdin=table, capture_output=True, check=False)
     if done.returncode:
         why = done.stderr.decode(errors="replace").strip().splitlines()[-1:]
         sys.exit(f"send_day.py: {path}: {''.join(why).removeprefix('tapebox: ')}")
@@ -135,11 +141,15 @@ def send(path, messages, connections, pause):
     counts, totals = collections.Counter(), collections.Counter(letter for letter, _ in messages)
 
     def fail(letter, place, when):
-        sys.exit(f"send_day.py: {path}{place}: participant {letter}'s line was closed at the other end{when}; messages sent: {counts[letter]} of {totals[letter]}")
+        print(
+            f"send_day.py: {path}{place}: participant {letter}'s line was closed at the other end{when}; messages sent: {counts[letter]} of {totals[letter]}",
+            file=sys.stderr,
+        )
+        sys.exit(CLOSED)
 
     for row, (letter, message) in enumerate(messages, FIRST_ROW):
         if not sent(connections[letter], message):
-            fail(letter, f", row {row}", "")
+            fail(letter, f", row {row}", f" before message {int.from_bytes(message[NUMBER], 'big')}")
         counts[letter] += 1
         time.sleep(pause)
     for letter in end_lines(connections):

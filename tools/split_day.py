@@ -11,7 +11,7 @@ has the table's columns but its remarks, and first the column `#row`: the number
 table is read twice and never held. Its fields are read by `tapebox`, of each part. With FOLDER nothing is run: the parts are written there,
 part-1.csv to part-N.csv.
 
-    TAPEBOX   the program (the proved one or its draft, as ./run has it)
+    TAPEBOX   the program (the proved one or its draft, as ./run has it, or else the installed one)
     MATRIX    the matrix, 1 or 2 (1)
     PARALLEL  options of parallel, as "--sshlogin HOST1,HOST2" for several machines; docs/SCALE.md says what each needs
     PARALLEL_SSH  how they are called (ssh, which asks for no password and gives a host up that is silent for 15 seconds)
@@ -33,7 +33,11 @@ import sys
 import tempfile
 from pathlib import Path
 
-RUN = Path(__file__).resolve().parent.parent / "run"
+# Nothing is written beside an installed tool.
+sys.dont_write_bytecode = True
+
+from program import RUN, program
+
 # The number of the row below the header row.
 FIRST_ROW = 2
 SSH = "ssh -o BatchMode=yes -o ConnectTimeout=10 -o ServerAliveInterval=5 -o ServerAliveCountMax=3"
@@ -157,10 +161,10 @@ def split(path, parts):
     return symbols, participants
 
 
-def program():
-    """The program that reports a part."""
-    if "TAPEBOX" in os.environ:
-        return os.environ["TAPEBOX"]
+def found():
+    """The program that reports a part: not ./run, which would look for it at each."""
+    if program() != str(RUN):
+        return program()
     done = subprocess.run([RUN, "--which", "tapebox"], stdout=subprocess.PIPE, text=True, check=False)
     if done.returncode:
         raise Fault("there is no tapebox")
@@ -222,7 +226,7 @@ def report(path, count):
         symbols, participants = split(path, parts)
         if not shutil.which("parallel"):
             raise Fault("there is no GNU parallel")
-        run_parts(f'"{program()}" report --matrix {os.environ.get("MATRIX", "1")}', parts, Path(folder))
+        run_parts(f'"{found()}" report --matrix {os.environ.get("MATRIX", "1")}', parts, Path(folder))
         refused = sum(part.refused() for part in parts)
         if refused:
             print(f"split_day.py: {refused} messages were refused", file=sys.stderr)

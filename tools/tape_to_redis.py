@@ -20,19 +20,21 @@ are lacking; 3 to 7 as `watch`, if it ended so; 2 if the words are others.
 import argparse
 import collections
 import itertools
-import os
 import subprocess
 import sys
 import time
 import tomllib
-from pathlib import Path
 
 try:
     import redis
 except ImportError:
     redis = None
 
-ROOT = Path(__file__).resolve().parent.parent
+# Nothing is written beside an installed tool.
+sys.dont_write_bytecode = True
+
+from program import program
+
 HEAD = "tape,refused,kind,participant,number,moment,symbol,target,price,size,condition,open,high,low,last,volume,trades"
 URL = "redis://127.0.0.1:6379/0"
 # How many rows are added by one command, and how many bytes are read at once at most.
@@ -152,12 +154,6 @@ class Stream:
             self.server.set(f"{self.name}:end", self.last)
 
         self.patiently(note)
-
-
-def program():
-    """The command that runs the program."""
-    run = ROOT / "run"
-    return os.environ.get("TAPEBOX") or (str(run) if run.exists() else "tapebox")
 
 
 def started(words):
