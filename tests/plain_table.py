@@ -23,6 +23,10 @@ RULES = {
 }
 # The codes of each position of a condition, by either matrix.
 POSITIONS = ["@CNR", "_FO56479", "_LZTU", "_ABDSXY1HIVWPGMQ23"]
+# Conditions that days are drawn from, the plain one more often: each way in which a code changes figures, and two codes in one. Then those of
+# Matrix Two alone.
+CONDITIONS = ["@___", "@___", "@___", "@F__", "@_Z_", "@_L_", "@__I", "C___", "@4__", "@__M", "@9__", "@__Q", "@FTI"]
+CONDITIONS_TWO = ["@__2", "@__3"]
 # The number of the row below the header row, and how many bytes of a field a fault shows.
 FIRST_ROW = 2
 SHOWN = 40

@@ -111,6 +111,16 @@ class Case(unittest.TestCase):
         """The program ended by a fault, its status and its text, and wrote nothing."""
         self.assertEqual(ended, Ended(fault[0], b"", fault[1]))
 
+    def assert_traded(self, written, trades, volume=None, symbol="AB"):
+        """A report has so many trades of a symbol, and so many shares, or a hundred a trade."""
+        self.assertEqual(traded(written, symbol), (trades, 100 * trades if volume is None else volume))
+
+    def assert_accounts(self, ended, written=None):
+        """A peer of a file's day ended well, said its account alone, a line each, and wrote this if it is given."""
+        self.assertEqual(ended.status, 0)
+        self.assertRegex(ended.said, rb"\A(?:tapebox: [^\n]+\n)*\Z")
+        self.assertEqual(ended.written, ended.written if written is None else written)
+
     def assert_writes(self, ended, written):
         """The program ended well, wrote this and said nothing."""
         self.assertEqual((ended.status, ended.said), (0, b""))
@@ -272,6 +282,18 @@ def message(**row):
 def report(who, number, symbol="AB", price="10.00"):
     """A report of 100 shares as bytes."""
     return message(kind="report", participant=who, number=number, symbol=symbol, price=price, size=100, condition="@___")
+
+
+def report_rows(written):
+    """The rows of a report by their columns. A batch's answers may stand before it; where there is no report there are none."""
+    lines = written.decode().splitlines()
+    return [*csv.DictReader(lines[lines.index(HEADINGS) :])] if HEADINGS in lines else []
+
+
+def traded(written, symbol="AB", who="ALL"):
+    """How many trades and shares a report has in the row of a symbol, of all or of a participant, or None without such a row."""
+    found = [row for row in report_rows(written) if (row["symbol"], row["who"]) == (symbol, who)]
+    return (int(found[0]["trades"]), int(found[0]["volume"])) if len(found) == 1 else None
 
 
 def reports(who, count):

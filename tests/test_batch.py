@@ -6,6 +6,7 @@ import string
 import unittest
 from pathlib import Path
 
+import stored_outputs
 from support import HEADINGS, READ_FAULT, SAMPLES, STORED_DAYS, WRITE_FAULT, Case, batch_line, batch_of, report, run
 
 SYMBOLS = ["AB", *(f"S{at}" for at in range(1, 4_096))]
@@ -13,6 +14,12 @@ PARTICIPANTS = string.ascii_uppercase
 
 
 class Samples(Case):
+    def test_stored_outputs(self):
+        """tests/stored_outputs.py: what is stored is what the plain programs make of its input."""
+        for path, text in stored_outputs.outputs():
+            with self.subTest(path.name):
+                self.assertEqual(path.read_bytes(), text)
+
     def test_stored_days(self):
         """FORMATS, "A batch": the stored days have the stored answers and reports."""
         for day in STORED_DAYS:

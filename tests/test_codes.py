@@ -9,6 +9,8 @@ import plain_table
 import plain_tape
 from support import BENCH, CRATES, ROOT, TESTS, TOOLS, Case, desk, table_of
 
+import from_taq
+
 DEFINITIONS = CRATES / "sale_matrix" / "specs" / "Matrix.antt"
 # The matrices by their names in code.
 MATRICES = {"One": "1", "Two": "2"}
@@ -32,12 +34,12 @@ LETTERS = {"Always": "Y", "SameMarket": "S", "FirstOnly": "F", "Never": "N", "tr
 # The columns of an explanation, in the order of RULES, and their words.
 COLUMNS = ["high_low", "last", "own_high_low", "own_last", "volume"]
 WORDS = {"no": "N", "if first": "F", "same market": "S", "yes": "Y"}
-# A list of conditions from which a day is drawn, or of codes by position, in Python or Rust.
-MADE = re.compile(r"(?i)\b(conditions\w*)(?:: [^=\n]+)? = \[(.*?)\]", re.DOTALL)
+# A list of conditions from which a day is drawn, in Python, Rust or C, or of codes by position.
+MADE = re.compile(r"(?i)\b(conditions\w*)(?:(?:: [^=\n]+)? = \[|\[\] = \{)(.*?)[\]}]", re.DOTALL)
 MADE_CODES = re.compile(r"const CODES: \[&\[u8\]; 4\] = \[(.*?)\];")
 QUOTED = re.compile('"([^"\n]*)"')
 # Files that are known to have such a list, so that none is looked for in vain.
-MAKERS = {"plain_orders.py", "test_tables.py", "test_twin.py", "long_day.py", "make_day.rs", "batches.rs"}
+MAKERS = {"plain_table.py", "plain_orders.py", "long_day.py", "make_day.rs", "batches.rs", "calls.c"}
 
 
 def text_of(path):
@@ -137,6 +139,7 @@ def explained(matrix, conditions):
 def made():
     """The lists of conditions that days are made of: for each its file's and its own name, and its conditions."""
     files = [path for folder in (TESTS, BENCH) for path in sorted(folder.glob("*.py"))] + sorted(BENCH.glob("src/**/*.rs")) + sorted(BENCH.glob("tests/*.rs"))
+    files += sorted((ROOT / "clib" / "fuzz").glob("*.c"))
     for path in files:
         for name, listed in MADE.findall(text_of(path)):
             yield path.name, name, [condition.replace(" ", "_") for condition in QUOTED.findall(listed)]
@@ -176,6 +179,17 @@ class Codes(Case):
         """RULES: the plain reader of tables has its codes, and the plain tape their cells."""
         self.assert_positions(plain_table.POSITIONS)
         self.assertEqual(of_plain_tape(), self.rules)
+
+    def test_drawn_conditions(self):
+        """tests/plain_table.py: a seeded day is drawn from conditions of each way in which a code of a matrix changes figures."""
+        listed = {"1": plain_table.CONDITIONS, "2": plain_table.CONDITIONS + plain_table.CONDITIONS_TWO}
+        for matrix, of in self.rules.items():
+            drawn = {plain_tape.listed_cells(matrix, condition) for condition in listed[matrix]}
+            self.assertLessEqual(set(of.values()), drawn, matrix)
+
+    def test_import(self):
+        """IMPORT: the reader of a vendor's file has the codes of each position."""
+        self.assert_positions(from_taq.CODES)
 
     def test_dissector(self):
         """WIRESHARK: the dissector has a meaning for each code but the blank."""

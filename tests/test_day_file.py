@@ -18,13 +18,16 @@ followers = 2
 session = 7
 matrix = 2
 limit = 16777216
+connect_within = 86400
+followers_wait = 0
+control = "day.control"
 """
 # A text of the file, what stands in its place, and the fault.
 FAULTS = [
     ("session = 7", "sesion = 7", 'unknown key "sesion"'),
     ("a = [9101, 9111]", "Z = 1\ne = 1", 'unknown key "Z"'),
     ("port = 9000\n", "", "port: missing"),
-    ("limit = 16777216\n", "[limit]\n", "limit: a table, not a number"),
+    ('control = "day.control"\n', "[control]\n", "control: a table, not a number or a path"),
     ("port = 9000", 'port = "9000"', "port: a string, not a number"),
     ("port = 9000", "port = 9000.0", "port: a fraction, not a number"),
     ("port = 9000", "port = true", "port: a boolean, not a number"),
@@ -47,6 +50,13 @@ FAULTS = [
     ("matrix = 2", "matrix = 0", "matrix: not 1 or 2"),
     ("limit = 16777216", "limit = 16777217", "limit: not 1 to 16777216"),
     ("limit = 16777216", "limit = 0", "limit: not 1 to 16777216"),
+    ("connect_within = 86400", "connect_within = 86401", "connect_within: not 1 to 86400"),
+    ("connect_within = 86400", "connect_within = 0", "connect_within: not 1 to 86400"),
+    ("followers_wait = 0", "followers_wait = 86401", "followers_wait: not 0 to 86400"),
+    ("followers_wait = 0", "followers_wait = -1", "followers_wait: not 0 to 86400"),
+    ('control = "day.control"', 'control = ""', "control: not 1 to 65535 or a path"),
+    ('control = "day.control"', "control = 0", "control: not 1 to 65535 or a path"),
+    ('control = "day.control"', "control = [9300]", "control: a list, not a number or a path"),
     ('["AB", "CD"]', "7", "symbols: a number, not a list or a file's name"),
     ('["AB", "CD"]', "[]", "symbols: empty"),
     ('["AB", "CD"]', '["AB", 7]', "symbols, entry 2: a number, not a string"),
@@ -95,9 +105,12 @@ class DayFiles(Case):
         """FORMATS, "A day's file": the defaults, and a file of symbols beside the day's own."""
         day = day_file.read(self.file(DAY))
         self.assertEqual((day.symbols, day.participants, day.matrix, day.limit), (["AB", "CD"], ["N", "Q"], 2, 16_777_216))
+        self.assertEqual((day.connect_within, day.followers_wait, day.control), (86_400, 0, str(self.folder / "day.control")))
         self.assertEqual(day_file.read(self.changed('["AB", "CD"]', '"good.txt"')), day)
+        self.assertEqual(day_file.read(self.changed('"day.control"', "9300")).control, 9_300)
         sample = day_file.read(SAMPLES / "day.toml")
         self.assertEqual((sample.matrix, sample.limit, sample.a, sample.b), (1, 1_048_576, [9_101], [9_102]))
+        self.assertEqual((sample.connect_within, sample.followers_wait, sample.control), (None, None, None))
 
     def test_the_tools_name_a_fault(self):
         """FORMATS, "A day's file": each fault has its text."""
@@ -115,7 +128,7 @@ class DayFiles(Case):
     def test_the_program_says_where_it_is_no_toml(self):
         """FORMATS, "A day's file": a fault of syntax has a line and a column, which counts characters."""
         path = self.changed("port = 9000", '"é" = 9000')
-        for text, place in [(path.read_text() + "limit = 1\n", "line 12, column 1: "), (DAY.replace("= 7", "= = 7"), "line 9, column 11: ")]:
+        for text, place in [(path.read_text() + "limit = 1\n", "line 15, column 1: "), (DAY.replace("= 7", "= = 7"), "line 9, column 11: ")]:
             with self.subTest(place):
                 end = run(["follow", self.file(text)])
                 self.assertEqual((end.status, end.written), (2, b""))

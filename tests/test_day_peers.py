@@ -6,16 +6,14 @@ import tempfile
 from contextlib import ExitStack
 from pathlib import Path
 
-from support import LIMIT, ROOT, SAMPLES, TAPEBOX, TOOLS, Case, desk, ended, listens, ports, run, started, wait_bound, wait_for
+from support import LIMIT, ROOT, SAMPLES, TAPEBOX, TOOLS, Case, desk, ended, listens, ports, report_rows, run, started, wait_bound, wait_for
 
 CORRECTIONS = SAMPLES / "corrections.csv"
-# A row of a report: its symbol, who, each figure with its place, the volume and the number of trades.
-FIGURES = [0, 1, 2, 4, 6, 8, 10, 11]
 
 
 def figures_of(report):
     """The rows of a report without the places, which depend on how the lines' messages came."""
-    return [[row.split(",")[at] for at in FIGURES] for row in report.splitlines()]
+    return [{column: value for column, value in row.items() if not column.endswith("_at")} for row in report_rows(report)]
 
 
 class DayFile(Case):
@@ -58,10 +56,10 @@ class DayFile(Case):
         shown = "".join(re.findall(r"(?m)^    ((?:symbol|AB),.*\n)", page))
         day, retransmission, [bound] = self.day()
         live, follow = self.play(day, retransmission, [(["follow"], bound)])
-        self.assert_writes(live, live.written)
-        self.assertEqual(follow, live)
-        batch = desk("report", given=CORRECTIONS.read_bytes()).written.decode()
-        self.assertEqual([figures_of(text) for text in (shown, live.written.decode())], [figures_of(batch)] * 2)
+        self.assert_accounts(live)
+        self.assert_accounts(follow, live.written)
+        batch = desk("report", given=CORRECTIONS.read_bytes()).written
+        self.assertEqual([figures_of(text) for text in (shown.encode(), live.written)], [figures_of(batch)] * 2)
 
     def test_the_sample(self):
         """README, "A running day": the sample differs from the day of these cases in its ports alone."""
@@ -75,9 +73,9 @@ class DayFile(Case):
         day, retransmission, bound = self.day(3)
         words = [["follow"], ["follow", "--follower", 2], ["watch", "--follower", 3]]
         live, first, second, watch = self.play(day, retransmission, list(zip(words, bound)))
-        self.assert_writes(live, live.written)
-        self.assertEqual([first, second], [live, live])
-        self.assertEqual((watch.status, watch.said), (0, b""))
+        for follow in (live, first, second):
+            self.assert_accounts(follow, live.written)
+        self.assert_accounts(watch)
         self.assertEqual(desk("report", given=watch.written).written, live.written)
         self.assertEqual(run(["verify"], watch.written).status, 0)
 
@@ -88,7 +86,7 @@ class DayFile(Case):
         live, watch = self.play(day, retransmission, [(["watch"], bound)])
         self.assertEqual([live.status, watch.status], [0, 0])
         self.assertEqual(watch.written.count(b"\n"), 3)
-        self.assertEqual([row.split(b",")[0] for row in live.written.splitlines()[1:]].count(b"CD"), 1)
+        self.assertEqual([row["symbol"] for row in report_rows(live.written)].count("CD"), 1)
 
     def test_files_that_name_no_day(self):
         """OPERATING, "Statuses", 2 and 3: a file that names no day, or is not there, ends each peer at once, as does a follower that it has no ports for."""

@@ -122,6 +122,49 @@ class FailingCalls(Rising):
                 os.close(folder)
 
 
+class GoneReaders(Rising):
+    """A pipe that nobody reads to its end."""
+
+    # Rows of far more text than a pipe holds.
+    ROWS = 20_000
+
+    def texts(self):
+        """Each word for a table, as it is asked for, on what it is given."""
+        table = self.table(self.ROWS)
+        for word in (*WORDS, "check", "encode"):
+            yield [word], table
+        yield ["decode"], desk("encode", given=table).written
+        yield ["line", "N"], table
+        yield ["verify"], desk("tape", given=table).written
+
+    def assert_ends_quietly(self, words, given, first):
+        """Asserts the status of a word whose reader is gone after so many lines, and that nothing is said."""
+        reader, writer = os.pipe()
+        with tempfile.TemporaryFile() as table, open(reader, "rb", buffering=0) as lines:
+            table.write(given)
+            table.seek(0)
+            if first == 0:
+                lines.close()
+            with started(words, stdin=table, stdout=writer) as running:
+                os.close(writer)
+                for _ in range(first):
+                    self.assertTrue(lines.readline().endswith(b"\n"))
+                lines.close()
+                self.assertEqual((running.communicate(timeout=SOON)[1], running.returncode), (b"", WRITE_FAULT[0]))
+
+    def test_each_word(self):
+        """OPERATING, "Statuses", 4: a word for a table whose output nobody reads any more ends at its next write, with status 4, and says nothing."""
+        for words, given in self.texts():
+            with self.subTest(words):
+                self.assert_ends_quietly(words, given, 0)
+
+    def test_after_a_line(self):
+        """The same where the first line was read, as by `head -1`."""
+        for word in ("tape", "explain", "encode"):
+            with self.subTest(word):
+                self.assert_ends_quietly([word], self.table(self.ROWS), 1)
+
+
 class RefusedMemory(Case):
     """Each request for memory refused in turn."""
 

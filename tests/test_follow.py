@@ -490,8 +490,7 @@ class HeldUp(Case):
         ends = [ended(program) for program in programs]
         self.assertEqual({(end.status, end.said) for end in ends}, {(0, b"")})
         self.assertEqual(len({end.written for end in ends}), 1)
-        row = next(row for row in ends[0].written.splitlines() if row.startswith(b"AB,ALL,"))
-        self.assertTrue(row.endswith(f",{100 * self.REPORTS},{self.REPORTS}".encode()), row)
+        self.assert_traded(ends[0].written, self.REPORTS)
 
     def test_stopped_for_a_while(self):
         """OPERATING, "What you see": a follower that a signal stops for 400 milliseconds before the first
@@ -663,12 +662,12 @@ class Gone(Case):
 class LossyDays(Case):
     """The table's day over sockets, through a relay that loses, doubles, reorders and garbles packets."""
 
-    def assert_day(self, *table, figures="250,2", **options):
-        """The script ends well, and prints the report of the table's day, with this volume and so many trades."""
+    def assert_day(self, *table, trades=2, volume=250, **options):
+        """The script ends well, and prints the report of the table's day, with so many trades and this volume."""
         environment = os.environ | {"TAPEBOX": str(TAPEBOX)} | options
-        done = subprocess.run([LOSSY_DAY, *table], env=environment, capture_output=True, text=True, timeout=2 * LIMIT, check=False)
+        done = subprocess.run([LOSSY_DAY, *table], env=environment, capture_output=True, timeout=2 * LIMIT, check=False)
         self.assertEqual(done.returncode, 0, done.stderr)
-        self.assertRegex(done.stdout, rf"(?m)^AB,ALL,.*,{figures}$")
+        self.assert_traded(done.stdout, trades, volume)
 
     def test_lossy_lines(self):
         """README, "A running day": both reports are equal where packets of both lines are lost, and where all of line A or B is."""
@@ -681,7 +680,7 @@ class LossyDays(Case):
         with tempfile.NamedTemporaryFile(suffix=".csv") as table:
             table.write((SAMPLES / "corrections.csv").read_bytes() + b"reinstate,Q,3,AB,1,,,\n")
             table.flush()
-            self.assert_day(table.name, figures="450,3", LOSE="30")
+            self.assert_day(table.name, trades=3, volume=450, LOSE="30")
 
     def test_nobody_follows(self):
         """OPERATING: with SERVES 0 no retransmission is awaited."""

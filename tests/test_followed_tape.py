@@ -95,13 +95,13 @@ class FollowedTape(Case):
             self.day(case, stdout=full)
 
     def test_a_closed_pipe(self):
-        """OPERATING: a pipe whose other end is closed ends it so too."""
+        """OPERATING: a pipe whose other end is closed ends it so too, and nothing is said."""
 
         def case(live, watch, participant):
             watch.stdout.close()
             self.send(participant, ROWS)
             watch.wait(LIMIT)
-            self.assertEqual((watch.returncode, watch.stderr.read()), WRITE_FAULT)
+            self.assertEqual((watch.returncode, watch.stderr.read()), (WRITE_FAULT[0], b""))
             participant.close()
             self.assertEqual(ended(live).status, 0)
 

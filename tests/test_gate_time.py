@@ -28,7 +28,12 @@ class GateTime(Case):
 
     def test_bad_budget_or_command(self):
         """A file that is no budget, and a command that is not there, end it with 2 before anything runs."""
-        for budget, command in [("lower proof\n", "true"), ("lower naming 1\n", "true"), ("", Path("no-such-command"))]:
+        for budget, command, fault in [
+            ("# a remark\nlower proof\n", "true", ", line 2: not a crate, a kind and minutes: lower proof"),
+            ("lower naming 1\n", "true", ", line 1: not a crate, a kind and minutes: lower naming 1"),
+            ("", Path("no-such-command"), "error: no-such-command: No such file or directory"),
+        ]:
             with self.subTest(budget=budget, command=command):
                 ended = self.ran(budget, command)
                 self.assertEqual((ended.status, ended.written), (2, b""))
+                self.assertTrue(ended.said.decode().endswith(f"{fault}\n"), ended.said)

@@ -45,7 +45,7 @@ class Limits(Case):
     def assert_counts(self, end, count):
         """A program ended well, and its report counts so many trades of 100 shares."""
         self.assertEqual((end.status, end.said), (0, b""))
-        self.assertRegex(end.written, f"(?m)^AB,ALL,.*,{100 * count},{count}$".encode())
+        self.assert_traded(end.written, count)
 
     def test_a_day_with_more_messages(self):
         """OPERATING: a message past LIMIT is refused, whoever sends it, and a follower whose LIMIT the day fills holds all of it."""

@@ -14,7 +14,7 @@ from pathlib import Path
 
 from preloaded import CALL_FAILED, EVER, failing, preloading
 from support import BAD_ARGUMENTS, HOST, LIMIT, READ_FAULT, SAMPLES, WRITE_FAULT, Case
-from support import connect, ended, free_ports, is_refused, message, ports, report, reports, run, started, tried, wait_bound
+from support import connect, ended, free_ports, is_refused, message, ports, report, report_rows, reports, run, started, tried, wait_bound
 
 # Asks Linux for the time at which each packet was taken, by the same number that its answer has.
 SO_TIMESTAMPNS = 35
@@ -231,8 +231,6 @@ class QuietDays(Listeners):
 
 class Peers(Case):
     SESSION = 7
-    # The sizes and the trades of four reports.
-    WANTED = b",400,4"
     OTHER_SESSION = bytes([71])
 
     def send_lines(self, port):
@@ -266,9 +264,7 @@ class Peers(Case):
             self.ask(port + 5)
             end = ended(day)
         self.assertEqual((end.status, end.said), (0, b""))
-        row = next(line for line in end.written.splitlines() if line.startswith(b"AB,ALL,"))
-        self.assertTrue(row.endswith(self.WANTED), row)
-
+        self.assert_traded(end.written, 4)
 
     def test_a_stray_connection(self):
         """OPERATING, "What you see": the first connection to a participant's port is that participant's, whoever it is: where it
@@ -281,7 +277,7 @@ class Peers(Case):
                 q.sendall(report("Q", 1))
             end = ended(day)
         self.assertEqual((end.status, end.said), (0, b""))
-        self.assertEqual(end.written.splitlines()[1:], [b"AB,ALL,100000,1,100000,1,100000,1,100000,1,100,1", b"AB,Q,100000,1,100000,1,100000,1,100000,1,100,1"])
+        self.assertEqual([(row["who"], row["last"], row["trades"]) for row in report_rows(end.written)], [("ALL", "100000", "1"), ("Q", "100000", "1")])
 
 
 class ManyRequests(Case):
@@ -308,7 +304,7 @@ class ManyRequests(Case):
             participant.close()
             end = ended(day)
         self.assertEqual((end.status, end.said), (0, b""))
-        self.assertRegex(end.written, rb"(?m)^AB,ALL,.*,100,1$")
+        self.assert_traded(end.written, 1)
 
 
 class LongDay(Case):
@@ -357,7 +353,7 @@ class Terms(Case):
                 ends = [ended(live), ended(follow)]
         self.assertEqual(ends[0], ends[1])
         self.assertEqual((ends[0].status, ends[0].said), (0, b""))
-        self.assertRegex(ends[0].written, rb"(?m)^AB,ALL,.*,100,1$")
+        self.assert_traded(ends[0].written, 1)
 
 
 class Names(Case):
@@ -420,7 +416,7 @@ class Workers(Case):
         own = self.threads("A")
         self.assertEqual(self.threads(self.SYMBOLS) - own, 3)
         whole = self.day(self.SYMBOLS, None)
-        self.assertRegex(whole.written, rb"(?m)^A,ALL,.*,100,1$")
+        self.assert_traded(whole.written, 1, symbol="A")
         for first in range(own, own + 4):
             end = self.day(self.SYMBOLS, failing(("pthread_create", first, EVER, errno.EAGAIN)))
             with self.subTest(first):
@@ -449,7 +445,7 @@ class FailedSends(Case):
         self.assertEqual([end.status for end in ends], [0, 0])
         self.assertEqual([end.said for end in ends], [3 * CALL_FAILED, b""])
         self.assertEqual(ends[0].written, ends[1].written)
-        self.assertRegex(ends[0].written, f"(?m)^AB,ALL,.*,{100 * self.REPORTS},{self.REPORTS}$".encode())
+        self.assert_traded(ends[0].written, self.REPORTS)
 
 
 class Sockets(Case):

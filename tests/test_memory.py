@@ -90,7 +90,7 @@ class FewFiles(Case):
                 self.assertEqual(subscriber.recv(1), self.ANSWERED)
             end = ended(day)
         self.assertEqual((end.status, end.said), (0, b""))
-        self.assertRegex(end.written, rb"(?m)^AB,ALL,.*,100,1$")
+        self.assert_traded(end.written, 1)
 
 
 class Connections(Case):
@@ -111,7 +111,7 @@ class Connections(Case):
                 ends = [ended(day), ended(follow)]
         self.assertEqual(ends[0].said, len(self.FOR_NOW) * CALL_FAILED)
         self.assertEqual([(end.status, end.written) for end in ends], [(0, ends[1].written)] * 2)
-        self.assertRegex(ends[0].written, rb"(?m)^AB,ALL,.*,100,1$")
+        self.assert_traded(ends[0].written, 1)
 
     def end_without_listener(self, **output):
         """How a day of one report ends whose listener of the retransmission is gone."""
@@ -173,7 +173,7 @@ class FewThreads(Case):
         with ThreadPoolExecutor(self.MOST) as pool:
             *ends, whole = pool.map(lambda at: self.end_of_day(every[4 * at : 4 * at + 4], "N", self.lacking(at + 1)), range(self.MOST))
         self.assertEqual((whole.status, whole.said), (0, b""))
-        self.assertRegex(whole.written, rb"(?m)^AB,ALL,.*,100,1$")
+        self.assert_traded(whole.written, 1)
         for first, end in enumerate(ends, 1):
             with self.subTest(first):
                 if end != whole:

@@ -15,7 +15,7 @@ from typing import Optional
 from preloaded import built
 from refused import HEAP, Sweeps, end_of_batch, refusing, run_refused, without_told
 from support import CRATES, HOST, NO_WORKER, OUT_OF_MEMORY, READ_FAULT, WRITE_FAULT, Case, Ended
-from support import batch_line, ended, listens, ports, report, reports, run, started, wait_bound
+from support import batch_line, ended, listens, ports, report, reports, run, started, traded, wait_bound
 
 # How many of a program's requests are refused in turn at most.
 MOST = 1_000
@@ -158,8 +158,8 @@ class RunningDays(Case):
     LANES = 32
     PORTS = 5
     REPORTS = 20
-    # How the consolidated row of the whole day ends: with the sizes and the trades of both participants.
-    WHOLE = b",4000,40"
+    # The trades and the shares of both participants in the whole day.
+    WHOLE = 40, 4_000
     # The session, the matrix and the limit.
     TERMS = [7, 1, 100]
     # Seconds in which a line that takes all that was sent is not closed.
@@ -261,7 +261,7 @@ class RunningDays(Case):
 
     def is_whole(self, report):
         """Whether the report is that of the whole day."""
-        return any(row.startswith(b"AB,ALL,") and row.endswith(self.WHOLE) for row in report.splitlines())
+        return traded(report) == self.WHOLE
 
     def assert_lacks(self, end):
         """The program ended for want of memory, or of a thread, for which there was none."""

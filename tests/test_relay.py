@@ -97,7 +97,7 @@ class Relay(Case):
             ends = [ended(program) for program in (live, *follows)]
         self.assertEqual({(end.status, end.said) for end in ends}, {(0, b"")})
         self.assertEqual({end.written for end in ends}, {ends[0].written})
-        self.assertRegex(ends[0].written, rb"(?m)^AB,ALL,.*,800000,8000$")
+        self.assert_traded(ends[0].written, 8_000)
         counts = [[int(number) for number in re.findall(r"(\d+) (?:came|found|sent|not)", written)] for _, [written] in relays]
         for came, _, *sent in counts:
             self.assertGreater(came, 0)

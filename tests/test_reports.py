@@ -12,6 +12,7 @@ from dataclasses import astuple, dataclass
 from pathlib import Path
 
 import plain_table
+from plain_table import CONDITIONS
 from plain_tape import Refused, Report, Tape, fold
 from support import ROOT, SAMPLES, TAPEBOX, TOOLS, Case, run, table_of, transcripts
 
@@ -157,7 +158,6 @@ class SeededTable:
     """A table of a few participants and symbols, whose prices rise and fall, with cancels, corrections and reinstatements of each."""
 
     HEAD = ["kind", "participant", "number", "symbol", "target", "price", "size", "condition"]
-    CONDITIONS = ["@___", "@___", "@___", "@F__", "@_Z_", "@_L_", "@_L_", "@__I", "C___"]
 
     def __init__(self, seed, count):
         self.random, self.sent = random.Random(seed), []
@@ -166,7 +166,7 @@ class SeededTable:
     def row(self, number):
         """The next row, each with a number above all before it."""
         kind = self.random.choice(["report", "report", "cancel", "correct", "reinstate"]) if self.sent else "report"
-        content = [f"10.{self.random.randrange(30):02}", self.random.randrange(1, 1_000), self.random.choice(self.CONDITIONS)]
+        content = [f"10.{self.random.randrange(30):02}", self.random.randrange(1, 1_000), self.random.choice(CONDITIONS)]
         if kind == "report":
             who, symbol, target = self.random.choice("NPQ"), self.random.choice(["AB", "CD", "EF"]), ""
             self.sent.append((who, symbol, number))

@@ -1,15 +1,16 @@
 """What each script says of itself, of words that it does not take, and of files at fault."""
 
 import os
+import re
 import shutil
 import tempfile
 import unittest
 
-from support import BENCH, ROOT, SAMPLES, TAPEBOX, TESTS, TOOLS, Case, run
+from support import BENCH, ROOT, SAMPLES, TAPEBOX, TESTS, TOOLS, Case, report_rows, run
 
 MISSING = "no-such-file"
 # What works without words and is not to be run here: it builds, installs, writes a page, measures or runs a day.
-WITHOUT_WORDS = {"run", "gate", "build", "set_up", "mark_built.py", "cases.py", "definitions.py", "lossy_day.sh"}
+WITHOUT_WORDS = {"run", "gate", "build", "set_up", "mark_built.py", "cases.py", "definitions.py", "lossy_day.sh", "package.sh", "stored_outputs.py"}
 WITHOUT_WORDS |= {"picture", "all.py", "latency.py", "live_load.py", "long_day.py", "measure.py", "tables.py"}
 READS_INPUT = {"plot_day.py"}
 # Scripts that read a table, by the words after its path.
@@ -50,6 +51,15 @@ class Scripts(Case):
                     self.assertRegex(ended.written.decode(), r"[Ss]tatuses")
                     self.assertIn(script.name, ended.written.decode())
 
+    def test_listed(self):
+        """TOOLS: the page, which README's list has, names each script once, and each module and dissector of tools/."""
+        page = (ROOT / "docs" / "TOOLS.md").read_text(encoding="utf-8")
+        self.assertIn("(docs/TOOLS.md)", (ROOT / "README.md").read_text(encoding="utf-8"))
+        others = [path for path in TOOLS.iterdir() if path.is_file() and path not in scripts()]
+        named = re.findall(r"`([\w./]+)`", " ".join(line.split(" | ")[0] for line in page.splitlines() if line.startswith(("| `", "`tools/"))))
+        listed = [name for name in named if (ROOT / name).is_file()]
+        self.assertEqual(sorted(listed), sorted(str(path.relative_to(ROOT)) for path in [*scripts(), *others]))
+
     def test_no_words(self):
         """Without the words that it needs a script shows them and ends with 2. One that reads standard input instead says that there is nothing in it."""
         for script in scripts():
@@ -73,7 +83,7 @@ class Scripts(Case):
 
     def test_missing_file(self):
         """A file that is not there ends a script with 1, and is named."""
-        for script, more in [*READERS, (TOOLS / "plot_day.py", []), (TOOLS / "from_taq.py", [])]:
+        for script, more in [*READERS, *((TOOLS / name, []) for name in ("plot_day.py", "from_taq.py", "day_file.py", "run_day.sh"))]:
             with self.subTest(script.name):
                 self.assert_names(self.ran(script, MISSING, *more), MISSING)
 
@@ -98,5 +108,5 @@ class Scripts(Case):
             table.flush()
             ended = self.ran(TOOLS / "split_day.py", table.name, 2)
         self.assertEqual((ended.status, ended.said), (0, b"split_day.py: 4 messages were refused\n"))
-        figures = [row.split(b",")[:2] + row.split(b",")[-2:] for row in ended.written.splitlines()[1:]]
-        self.assertEqual(figures, [[symbol, who, b"100", b"1"] for symbol in (b"AB", b"CD") for who in (b"ALL", b"N")])
+        figures = [(row["symbol"], row["who"], row["trades"]) for row in report_rows(ended.written)]
+        self.assertEqual(figures, [(symbol, who, "1") for symbol in ("AB", "CD") for who in ("ALL", "N")])

@@ -56,9 +56,9 @@ class Closed(Case):
                 lines[-1].settimeout(LIMIT)
             yield lines, lambda: ended(script), table.name
 
-    def assert_fails(self, end, fault):
-        """It ended with status 1, and one line says why."""
-        self.assertEqual(end, Ended(1, b"", f"send_day.py: {fault}\n".encode()))
+    def assert_fails(self, end, fault, status=3):
+        """It ended with this status, and one line says why."""
+        self.assertEqual(end, Ended(status, b"", f"send_day.py: {fault}\n".encode()))
 
     def test_all_is_read(self):
         """send_day.py, 0: each line is read to its end, and closed then; or it has no rows left and is closed before."""
@@ -82,20 +82,20 @@ class Closed(Case):
                     day.write(DAY.format(port=9_000).replace(old, new))
                     day.flush()
                     end = run([table.name, day.name], program=TOOLS / "send_day.py", env=os.environ | {"TAPEBOX": str(TAPEBOX)})
-                    self.assert_fails(end, fault.format(day=day.name, table=table.name))
+                    self.assert_fails(end, fault.format(day=day.name, table=table.name), status=1)
 
     def test_closed_between_two_messages(self):
-        """send_day.py, 1: a line that is closed, or reset, after some of its messages is named with how many were sent, before any more are."""
+        """send_day.py, 3: a line that is closed, or reset, after some of its messages is named with the first one not sent, before any more are."""
         for how in ("closed", "reset"):
             with self.subTest(how), self.sending("--pause", "0.3") as ((n, q), end, table):
                 read(q, 2)
                 if how == "reset":
                     q.setsockopt(socket.SOL_SOCKET, socket.SO_LINGER, RESET)
                 q.close()
-                self.assert_fails(end(), f"{table}, row 7: participant Q's line was closed at the other end; messages sent: 2 of 3")
+                self.assert_fails(end(), f"{table}, row 7: participant Q's line was closed at the other end before message 3; messages sent: 2 of 3")
 
     def test_closed_before_all_was_read(self):
-        """send_day.py, 1: so is a line whose messages were all sent, and which is closed with some of them unread."""
+        """send_day.py, 3: so is a line whose messages were all sent, and which is closed with some of them unread."""
         with self.sending() as ((n, q), end, table):
             read(q, 4)
             q.close()
@@ -106,7 +106,7 @@ class Closed(Case):
             self.assert_fails(end(), f"{table}: participant N's line was closed at the other end before all was read; messages sent: 3 of 3")
 
     def test_closed_while_the_last_was_sent(self):
-        """send_day.py, 1: what leaves just as a line is closed, all of which was read before, was not read."""
+        """send_day.py, 3: what leaves just as a line is closed, all of which was read before, was not read."""
         for more, unread in [(b"", []), (report("N", 2), ["N"])]:
             with self.subTest(unread), socket.create_server((HOST, 0)) as server, socket.create_connection(server.getsockname()) as line:
                 line.sendall(report("N", 1))
@@ -117,7 +117,7 @@ class Closed(Case):
                 self.assertEqual(send_day.end_lines({"N": line}), unread)
 
     def test_a_day_that_is_gone(self):
-        """send_day.py, 1: so is a line of a `live` that is killed."""
+        """send_day.py, 3: so is a line of a `live` that is killed."""
         line, a, b, retransmission = ports(4)
         rows = [["N", number, "AB", "10.00", 100, "@___"] for number in range(1, 1_001)]
         with tempfile.NamedTemporaryFile(suffix=".csv") as table, started(["live", "AB", "N", line, a, b, retransmission, 0, 7]) as live:
@@ -130,5 +130,5 @@ class Closed(Case):
                     heard.recv(1)
                 live.kill()
                 end = ended(script)
-        self.assertEqual((end.status, end.written), (1, b""))
-        self.assertRegex(end.said.decode(), rf"\Asend_day\.py: {table.name}, row \d+: participant N's line was closed at the other end; messages sent: \d+ of 1000\n\Z")
+        self.assertEqual((end.status, end.written), (3, b""))
+        self.assertRegex(end.said.decode(), rf"\Asend_day\.py: {table.name}, row \d+: participant N's line was closed at the other end before message \d+; messages sent: \d+ of 1000\n\Z")

@@ -7,7 +7,7 @@ from collections import Counter
 
 import plain_explain
 import plain_table
-from plain_table import COLUMNS, FIRST_ROW, TableFault
+from plain_table import COLUMNS, CONDITIONS, CONDITIONS_TWO, FIRST_ROW, TableFault
 from support import HEADINGS, SAMPLES, STORED_DAYS, TAPE_COLUMNS, Case, desk, run, table_of
 
 WORDS = ("report", "tape", "explain")
@@ -106,7 +106,6 @@ class SeededDay:
     HEAD = ["#", "kind", "target", "participant", "number", "moment", "symbol", "size", "#", "price", "condition"]
     PARTICIPANTS = "NQZ"
     SYMBOLS = ["A", "BRK.B", "ABCDEFG8"]
-    CONDITIONS = ["@___", "@___", "@_Z_", "@_L_", "@__I", "C___", "@F__", "@4__", "@__M", "@9__", "@__Q", "@__2", "@__3"]
 
     def __init__(self, seed):
         self.random = random.Random(seed)
@@ -150,7 +149,7 @@ class SeededDay:
     def content(self):
         """A price, a size and a condition, in one of the ways to write them."""
         price = self.random.choice(["10", "10.5", "010.25", "9.9999", "99999999.9999", "0.0001", "10.00", "10.1000"])
-        return price, self.random.choice([1, 100, "007", 99_999_999]), self.random.choice(self.CONDITIONS)
+        return price, self.random.choice([1, 100, "007", 99_999_999]), self.random.choice(CONDITIONS + CONDITIONS_TWO)
 
 
 class Faults(Case):

@@ -13,7 +13,7 @@ import unittest
 from dataclasses import replace
 from pathlib import Path
 
-from plain_table import COLUMNS
+from plain_table import COLUMNS, CONDITIONS
 from support import BENCH, FEED_SPEED, SAMPLES, TAPEBOX, TOOLS, Case, Program, batch_line, batch_of, desk, report, run
 
 sys.path.append(str(BENCH))
@@ -146,7 +146,6 @@ class Maker:
 
     SYMBOLS = [f"SYM{number}" for number in range(12)]
     PARTICIPANTS = "NPQZ"
-    CONDITIONS = ["@___", "@___", "@F__", "@__I", "@_Z_", "@_L_", "@4__", "@__M", "@9__", "@FTI", "@__Q"]
 
     def __init__(self, seed):
         self.random = random.Random(seed)
@@ -180,7 +179,7 @@ class Maker:
     def content(self):
         """A price, a size and a condition."""
         price = 100_000 + 100 * self.random.randrange(40)
-        return [f"{price // 10_000}.{price % 10_000:04}", self.random.randrange(1, 1_000), self.random.choice(self.CONDITIONS)]
+        return [f"{price // 10_000}.{price % 10_000:04}", self.random.randrange(1, 1_000), self.random.choice(CONDITIONS)]
 
     def next_number(self, participant):
         """The participant's next number, with gaps."""

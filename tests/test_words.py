@@ -70,6 +70,13 @@ WRONG = [
     ("follow --follower 0 day.toml", "0"),
     ("watch --follower day.toml", "day.toml"),
     ("live --follower 1 day.toml", "--follower"),
+    ("live --partial day.toml", "--partial"),
+    ("watch --partial day.toml", "--partial"),
+    ("follow --partial=1 day.toml", "--partial=1"),
+    ("follow --partial --follower=2 --partial day.toml", "--partial"),
+    ("status --follower 1 day.toml", "--follower"),
+    ("status", "DAY.toml"),
+    ("end day.toml next.toml", "next.toml"),
 ]
 
 
@@ -172,7 +179,7 @@ class Help(Case):
         self.assertEqual(whole, Ended(0, whole.written, b""))
         forms = re.findall(rb"(?m)^ *(tapebox [a-z]+ .*|tapebox [a-z]+)$", whole.written)
         words = sorted({form.split()[1] for form in forms})
-        self.assertEqual(words, sorted(b"report tape explain check verify encode decode line batch live follow watch".split()))
+        self.assertEqual(words, sorted(b"report tape explain check verify encode decode line batch live follow watch status end".split()))
         for word in words:
             with self.subTest(word):
                 ended = run([word, "--help"])
