@@ -133,7 +133,7 @@ class Ends(Case):
             with sent(it.port, reports("N", 3)), sent(it.next_port, b""):
                 it.wait_status(live, "tape number 3,")
                 self.assertEqual(run(["end", it.path]).written, b"ending\n")
-                it.wait_status(live, "waits for")
+                it.wait_status(live, "all lines have ended")
                 self.assertIsNone(live.poll())
                 self.assertEqual(run(["end", it.path]).written, b"ending without waiting for followers\n")
                 over = ended(live)
