@@ -75,14 +75,14 @@ fi
 live=$!
 [ -z "$called" ] || call_end &
 
-# A signal ends a wait with a status that is not live's. One that comes just after live's end leaves nothing to wait for (127).
+# A signal ends a wait with a status that is not live's, and so may one whose trap has run: live is waited for until it is gone. What a
+# wait finds no more leaves the status as it is (127).
 status=127
 while
-    called=
     wait "$live"
     seen=$?
     [ "$seen" -eq 127 ] || status=$seen
-    [ -n "$called" ]
+    kill -0 "$live" 2> /dev/null
 do :; done
 trap '' TERM HUP INT
 # For the calls that were not heard any more.
