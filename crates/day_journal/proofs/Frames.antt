@@ -1,20 +1,20 @@
 -- A packet after its length: read again, and cut.
-use Rattle.std.proofs.Common.{◌≡◌, ℕ, zero, suc, ◌+◌, ◌-◌, ◌<◌, ◌≤◌, Bool, true, false, ltb, List, [], ◌∷◌, ◌++◌, length, take, drop, Result, Ok, Err}
-use Rattle.std.proofs.Common.{append-nil, append_assoc, refl, sym, ap, subst, ◌∙◌, arith, inl, inr}
+use Rattle.std.proofs.Common.{◌≡◌, ℕ, zero, suc, ◌+◌, ◌-◌, ◌<◌, ◌≤◌, true, false, ltb, List, [], ◌++◌, length, take, drop, Result, Ok, Err}
+use Rattle.std.proofs.Common.{append-nil, append_assoc, refl, sym, ap, ◌∙◌, arith, inl, inr}
 use Rattle.std.specs.Int.{w16, to_be_bytes}
 use Rattle.std.proofs.lemmas.Bool.{cases_lt, lt-ltb, le-ltb}
-use Rattle.std.proofs.lemmas.List.{length-append, length-take, take-append-drop, take-append-le, take-take, take_at, drop_at}
-use Rattle.reports.specs.Fields.{number_at}
-use Rattle.reports.specs.Lemmas.Fields.{AreBytes, AreBytes-drop, AreBytes-take, number_reader, wide16}
+use Rattle.std.proofs.lemmas.List.{length-append, length-take, take-append-drop, take-append-le, take-take, take_all, take_at}
+use Rattle.std.proofs.lemmas.Slice.Eq.{bytes_eq-Decides}
+use Rattle.reports.specs.Lemmas.Fields.{AreBytes, AreBytes-take, number_reader, wide16}
 use Rattle.tape_frames.specs.Limits.{LONGEST_PACKET}
 use Rattle.tape_frames.specs.declared.packet.Packet.{Packet}
 use Rattle.tape_frames.specs.declared.packet_fault.PacketFault.{PacketFault}
 use Rattle.tape_frames.specs.Spelling.{IsPacket, Spells, packet_text}
 use Rattle.tape_frames.specs.Reading.{packet_of}
 use Rattle.tape_frames.specs.Lemmas.Packets.{one_packet_spelling, packet_of-Ok}
-use Rattle.day_journal.specs.declared.group_fault.GroupFault.TheVariants.{Torn, Damaged}
+use Rattle.day_journal.specs.declared.group_fault.GroupFault.TheVariants.{Torn}
 use Rattle.day_journal.specs.Groups.{frame_text}
-use Rattle.day_journal.specs.GroupReading.{begins_with_packet, frame_length, is_packet, tail_fault}
+use Rattle.day_journal.specs.GroupReading.{begins_next, begins_with_packet, frame_length, is_packet, packet_front, tail_fault}
 use Rattle.day_journal.proofs.Lists.{short_length, take_past}
 
 -- a front of a packet that is shorter is none
@@ -41,51 +41,75 @@ none_begins q (suc count) len valid fits short within =
     ∙ not_packet q count (packet_of (take count (packet_text q))) valid fits (omega (arith, within, short)) refl in
     rw none (none_begins q count len valid fits short (omega (arith, within)))
 
--- so it is torn
-tail_torn : (q : Packet) (len : ℕ) → IsPacket q → AreBytes (packet_text q) → len < length (packet_text q) → tail_fault (take len (packet_text q)) ≡ Torn
-tail_torn q len valid fits short =
+-- what begins as the next packet does still does if it is cut
+begins_cut : (session number : ℕ) (text rest : List ℕ) (len : ℕ) → text ≡ packet_front session number ++ rest → len ≤ length text
+    → begins_next session number (take len text) ≡ true
+begins_cut session number text rest len is within =
+    let front = packet_front session number in
+    let cut = take len text in
+    let size : length cut ≡ len = omega (arith, length-take len text, within) in
+    let same : take (length front) cut ≡ take (length cut) front =
+    elim (cases_lt (length front) len) [
+      | inl low ↦
+          take-take (length front) len text (omega (arith, low)) ∙ ap (λ (t : List ℕ). take (length front) t) is ∙ take_at front rest (length front) refl
+          ∙ sym (take_all (length cut) front (omega (arith, size, low)))
+      | inr high ↦
+          take_all (length front) cut (omega (arith, size, high)) ∙ ap (λ (t : List ℕ). take len t) is ∙ take-append-le len front rest high
+          ∙ ap (λ (n : ℕ). take n front) (sym size)
+    ] in
+    (bytes_eq-Decides (take (length front) cut) (take (length cut) front)).1 same
+
+-- so a packet that was cut is torn, where it is the next one
+tail_torn : (session number : ℕ) (q : Packet) (rest : List ℕ) (len : ℕ) → IsPacket q → AreBytes (packet_text q)
+    → packet_text q ≡ packet_front session number ++ rest → len < length (packet_text q) → tail_fault session number (take len (packet_text q)) ≡ Torn
+tail_torn session number q rest len valid fits next short =
     let text = take len (packet_text q) in
-    rw (none_begins q (length text + 1) len valid fits short (omega (arith, length-take len (packet_text q)))) refl
+    let none = none_begins q (length text + 1) len valid fits short (omega (arith, length-take len (packet_text q))) in
+    let begins = begins_cut session number (packet_text q) rest len next (omega (arith, short)) in
+    rw (none, begins) refl
 
 -- the length of a text that is there
-pub frame_again : (text more : List ℕ) → length text ≤ LONGEST_PACKET → frame_length (frame_text text ++ more) ≡ Ok (length text)
+pub frame_again : (session number : ℕ) (text more : List ℕ) → length text ≤ LONGEST_PACKET
+    → frame_length session number (frame_text text ++ more) ≡ Ok (length text)
 unfolding frame_length
-frame_again text more few =
+frame_again session number text more few =
     let regrouped : frame_text text ++ more ≡ to_be_bytes w16 (length text) ++ (text ++ more) = append_assoc (to_be_bytes w16 (length text)) text more in
     let read = (number_reader Torn wide16).again (length text) (text ++ more) (omega (arith, few)) in
     let low : ltb LONGEST_PACKET (length text) ≡ false = le-ltb LONGEST_PACKET (length text) few in
     let there : ltb (length (text ++ more)) (length text) ≡ false = le-ltb (length (text ++ more)) (length text) (omega (arith, length-append text more)) in
-    ap frame_length regrouped ∙ rw (read, low, there) refl
+    ap (frame_length session number) regrouped ∙ rw (read, low, there) refl
 
 -- a length of which not both bytes are there is torn
-pub length_torn : (bytes : List ℕ) → length bytes < 2 → frame_length bytes ≡ Err Torn
+pub length_torn : (session number : ℕ) (bytes : List ℕ) → length bytes < 2 → frame_length session number bytes ≡ Err Torn
 unfolding frame_length
-length_torn bytes short = rw (short_length bytes short) refl
+length_torn session number bytes short = rw (short_length bytes short) refl
 
 -- a packet that ends before its length says
-body_torn : (q : Packet) (len : ℕ) → IsPacket q → AreBytes (packet_text q) → length (packet_text q) ≤ LONGEST_PACKET → len < length (packet_text q)
-    → frame_length (to_be_bytes w16 (length (packet_text q)) ++ take len (packet_text q)) ≡ Err Torn
+body_torn : (session number : ℕ) (q : Packet) (rest : List ℕ) (len : ℕ) → IsPacket q → AreBytes (packet_text q)
+    → packet_text q ≡ packet_front session number ++ rest → length (packet_text q) ≤ LONGEST_PACKET → len < length (packet_text q)
+    → frame_length session number (to_be_bytes w16 (length (packet_text q)) ++ take len (packet_text q)) ≡ Err Torn
 unfolding frame_length
-body_torn q len valid fits few short =
+body_torn session number q rest len valid fits next few short =
     let text = packet_text q in
     let body = take len text in
     let read = (number_reader Torn wide16).again (length text) body (omega (arith, few)) in
     let low : ltb LONGEST_PACKET (length text) ≡ false = le-ltb LONGEST_PACKET (length text) few in
     let ends : ltb (length body) (length text) ≡ true = lt-ltb (length body) (length text) (omega (arith, length-take len text, short)) in
-    rw (read, low, ends, tail_torn q len valid fits short) refl
+    rw (read, low, ends, tail_torn session number q rest len valid fits next short) refl
 
--- a packet after its length that was cut is torn
-pub frame_torn : (q : Packet) (len : ℕ) → IsPacket q → AreBytes (packet_text q) → length (packet_text q) ≤ LONGEST_PACKET
-    → len < length (frame_text (packet_text q)) → frame_length (take len (frame_text (packet_text q))) ≡ Err Torn
-frame_torn q len valid fits few short =
+-- the next packet after its length, if it was cut, is torn
+pub frame_torn : (session number : ℕ) (q : Packet) (rest : List ℕ) (len : ℕ) → IsPacket q → AreBytes (packet_text q)
+    → packet_text q ≡ packet_front session number ++ rest → length (packet_text q) ≤ LONGEST_PACKET
+    → len < length (frame_text (packet_text q)) → frame_length session number (take len (frame_text (packet_text q))) ≡ Err Torn
+frame_torn session number q rest len valid fits next few short =
     let text = packet_text q in
     let size = to_be_bytes w16 (length text) in
     elim (cases_lt len 2) [
-      | inl low ↦ length_torn (take len (frame_text text)) (omega (arith, length-take len (frame_text text), low))
+      | inl low ↦ length_torn session number (take len (frame_text text)) (omega (arith, length-take len (frame_text text), low))
       | inr high ↦
           let is : len ≡ length size + (len - 2) = omega (arith, high, wide16.len (length text)) in
           let parts : take len (frame_text text) ≡ size ++ take (len - 2) text =
           ap (λ (n : ℕ). take n (frame_text text)) is ∙ take_past size text (len - 2) in
-          ap frame_length parts
-          ∙ body_torn q (len - 2) valid fits few (omega (arith, short, high, length-append size text, wide16.len (length text)))
+          ap (frame_length session number) parts
+          ∙ body_torn session number q rest (len - 2) valid fits next few (omega (arith, short, high, length-append size text, wide16.len (length text)))
     ]

@@ -1,29 +1,26 @@
 -- A group read again, and cut.
-use Rattle.std.proofs.Common.{◌≡◌, ℕ, zero, suc, ◌+◌, ◌-◌, ◌*◌, ◌/◌, ◌%◌, ◌<◌, ◌≤◌, ◌==◌, Bool, true, false, List, [], ◌∷◌, ◌++◌, length, take, drop}
-use Rattle.std.proofs.Common.{Result, Ok, Err, append-nil, append_assoc, refl, sym, ap, subst, ◌∙◌, arith, inl, inr}
-use Rattle.std.specs.Prelude.{nat_lt, bytes_eq, ◌&&◌}
-use Rattle.std.specs.Int.{w16, w32, to_be_bytes}
+use Rattle.std.proofs.Common.{◌≡◌, ℕ, zero, suc, ◌+◌, ◌-◌, ◌%◌, ◌<◌, ◌≤◌, ◌==◌, true, false, List, [], ◌∷◌, ◌++◌, length, take, drop}
+use Rattle.std.proofs.Common.{Ok, Err, append-nil, append_assoc, refl, sym, ap, subst, ◌∙◌, arith, inl, inr}
+use Rattle.std.specs.Prelude.{nat_lt, bytes_eq, flat_map}
+use Rattle.std.specs.Int.{w8, w16, w32, to_be_bytes}
 use Rattle.std.proofs.lemmas.Bool.{cases_lt, lt-ltb}
 use Rattle.std.proofs.lemmas.Bool.Decides.{Decides-eqb}
 use Rattle.std.proofs.lemmas.Slice.Eq.{bytes_eq-Decides}
-use Rattle.std.proofs.lemmas.List.{length-append, length-take, length-drop, take-append-drop, take-append-le, take_at, drop_at, drop-drop, take_all}
-use Rattle.reports.specs.Fields.{◌>>=◌, number_at, bytes_at}
+use Rattle.std.proofs.lemmas.List.{length-append, length-take, length-drop, take-append-drop, take-append-le, take_at, drop_at}
+use Rattle.reports.specs.Fields.{number_at}
 use Rattle.reports.specs.Lemmas.Fields.{AreBytes, AreBytes-drop, AreBytes-take, number_reader, wide16, wide32}
-use Rattle.sha2.specs.Sha256.{sha256}
 use Rattle.sha2.proofs.Facts256.{length-sha256}
 use Rattle.tape_core.specs.declared.entry.Entry.{Entry}
 use Rattle.tape_frames.specs.EntryRows.{IsNumberedFrom, first_number}
 use Rattle.tape_frames.specs.Limits.{ENTRIES_MOST, HEADER_LENGTH, LONGEST_PACKET}
-use Rattle.tape_frames.specs.Spelling.{IsPacket, packet_text}
+use Rattle.tape_frames.specs.Spelling.{IsPacket, entry_text, packet_text}
 use Rattle.tape_frames.specs.Reading.{packet_of}
 use Rattle.tape_frames.specs.Lemmas.Lengths.{packet_lengths}
 use Rattle.tape_frames.specs.Lemmas.Numbers.{IsNumberedFrom-append}
 use Rattle.tape_frames.specs.Lemmas.Packets.{packet_again}
-use Rattle.tape_types.specs.Ranges.{TAPE_MOST}
-use Rattle.day_journal.specs.declared.group_fault.GroupFault.{GroupFault}
-use Rattle.day_journal.specs.declared.group_fault.GroupFault.TheVariants.{Torn, Damaged}
+use Rattle.day_journal.specs.declared.group_fault.GroupFault.TheVariants.{Torn}
 use Rattle.day_journal.specs.Groups.{ArePackets, IsGroup, first_packet, frame_text, group_body, group_digest, group_text, packet_count, packets_text}
-use Rattle.day_journal.specs.GroupReading.{Read, frame_length, group_at, is_end, next_row, packets_at}
+use Rattle.day_journal.specs.GroupReading.{group_at, is_end, next_row, packet_front, packets_at}
 use Rattle.day_journal.proofs.Frames.{frame_again, frame_torn, length_torn}
 use Rattle.day_journal.proofs.Lists.{bytes_there, short_bytes, short_number, take_past}
 
@@ -37,6 +34,18 @@ first_text session es = packet_text (first_packet session es)
 first_is : (number : ℕ) (es : List Entry) → IsNumberedFrom number es → 1 ≤ length (take ENTRIES_MOST es) → first_number (take ENTRIES_MOST es) ≡ number
 first_is number [] numbered some = absurd (omega (arith, some))
 first_is number (e ∷ es) numbered some = numbered.0
+
+-- what follows the front of the first packet: how many entries it has, and they
+abbrev after_front : List Entry → List ℕ
+after_front es = to_be_bytes w8 (length (take ENTRIES_MOST es)) ++ flat_map entry_text (take ENTRIES_MOST es)
+
+-- the first packet begins as the next one does
+first_begins : (session number : ℕ) (es : List Entry) → IsPacket (first_packet session es) → IsNumberedFrom number es
+    → first_text session es ≡ packet_front session number ++ after_front es
+first_begins session number es valid numbered =
+    let own = first_number (take ENTRIES_MOST es) in
+    let regrouped : first_text session es ≡ packet_front session own ++ after_front es = simp append_assoc in
+    regrouped ∙ ap (λ (n : ℕ). packet_front session n ++ after_front es) (first_is number es numbered valid.1.0.some)
 
 -- a packet is as long as packets may be
 short_text : (session : ℕ) (es : List Entry) → IsPacket (first_packet session es)
@@ -63,7 +72,7 @@ one_packet fuel session held acc es more valid full numbered =
     let text = first_text session es in
     let short = short_text session es valid in
     let size = to_be_bytes w16 (length text) in
-    let len = frame_again text more short.1 in
+    let len = frame_again session (held + length acc + 1) text more short.1 in
     let some : (length text == 0) ≡ false = search (arith, short) in
     let whole : (length acc % ENTRIES_MOST == 0) ≡ true = (Decides-eqb (length acc % ENTRIES_MOST) 0).1 full in
     let regrouped : frame_text text ++ more ≡ size ++ (text ++ more) = append_assoc size text more in
@@ -78,7 +87,7 @@ one_packet fuel session held acc es more valid full numbered =
 -- the mark ends the packets
 mark_again : (fuel session held : ℕ) (acc : List Entry) (rest : List ℕ) → packets_at (suc fuel) session held acc (to_be_bytes w16 0 ++ rest) ≡ Ok (acc, rest)
 unfolding packets_at
-mark_again fuel session held acc rest = rw (frame_again [] rest (omega arith)) refl
+mark_again fuel session held acc rest = rw (frame_again session (held + length acc + 1) [] rest (omega arith)) refl
 
 -- ---- the packets of a group
 
@@ -145,7 +154,7 @@ unfolding packets_text ArePackets packets_at
 packets_torn count zero session held acc es rest len some enough full numbered are fits short = absurd (omega (arith, some))
 packets_torn zero (suc fuel) session held acc es rest len some enough full numbered are fits short =
     let bytes = take len (to_be_bytes w16 0 ++ rest) in
-    rw (length_torn bytes (omega (arith, length-take len (to_be_bytes w16 0 ++ rest), short))) refl
+    rw (length_torn session (held + length acc + 1) bytes (omega (arith, length-take len (to_be_bytes w16 0 ++ rest), short))) refl
 packets_torn (suc count) (suc fuel) session held acc es rest len some enough full numbered are fits short =
     let text = first_text session es in
     let frame = frame_text text in
@@ -163,7 +172,9 @@ packets_torn (suc count) (suc fuel) session held acc es rest len some enough ful
     elim (cases_lt len (length frame)) [
       | inl low ↦
           let cut : take len ((frame ++ others) ++ tail) ≡ take len frame = regrouped ∙ take-append-le len frame (others ++ tail) (omega (arith, low)) in
-          let torn = frame_torn (first_packet session es) len are.0 text_fits (short_text session es are.0).1 low in
+          let number = held + length acc + 1 in
+          let torn = frame_torn session number (first_packet session es) (after_front es) len are.0 text_fits
+          (first_begins session number es are.0 numbered) (short_text session es are.0).1 low in
           rw (cut, torn) refl
       | inr high ↦
           let left = len - length frame in

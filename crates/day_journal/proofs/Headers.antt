@@ -1,6 +1,6 @@
 -- A header read again.
-use Rattle.std.proofs.Common.{◌≡◌, ℕ, zero, suc, ◌+◌, ◌-◌, ◌<◌, ◌≤◌, ◌^◌, Bool, true, false, cond, Option, List, [], ◌∷◌, ◌++◌, length, take, drop, lit<}
-use Rattle.std.proofs.Common.{Result, Ok, Err, Some, None, append-nil, append_assoc, refl, sym, ap, subst, ◌∙◌, arith}
+use Rattle.std.proofs.Common.{◌≡◌, ℕ, suc, ◌+◌, ◌-◌, ◌<◌, ◌≤◌, ◌^◌, Bool, true, false, cond, Option, List, [], ◌∷◌, ◌++◌, length, take, lit<}
+use Rattle.std.proofs.Common.{Result, Ok, Err, Some, None, append-nil, append_assoc, refl, sym, ap, ◌∙◌, arith}
 use Rattle.std.specs.Prelude.{All, flat_map, bytes_eq, nat_lt, ◌||◌}
 use Rattle.std.proofs.lemmas.Bool.{ltb-false, or_parts}
 use Rattle.std.specs.Int.{w8, w16, w32, w64, to_be_bytes}
@@ -8,20 +8,18 @@ use Rattle.std.specs.Option.{ok_or}
 use Rattle.std.proofs.lemmas.List.{length-append, take_at}
 use Rattle.std.proofs.lemmas.List.Elements.{All-head, All-tail}
 use Rattle.std.proofs.lemmas.Slice.Eq.{bytes_eq-Decides}
-use Rattle.reports.specs.Fields.{◌>>=◌, bytes_at, number_at, ranged_at, text_at}
 use Rattle.reports.specs.Lemmas.Fields.{number_reader, ranged_reader, text_reader, wide8, wide16, wide32, wide64}
 use Rattle.reports.specs.Lemmas.Texts.{symbol_decided}
 use Rattle.reports.specs.Texts.{is_symbol}
 use Rattle.sale_matrix.specs.declared.matrix.Matrix.{Matrix}
 use Rattle.sale_matrix.specs.declared.matrix.Matrix.TheVariants as matrix
-use Rattle.sha2.specs.Sha256.{sha256}
 use Rattle.sha2.proofs.Facts256.{length-sha256}
-use Rattle.tape_types.specs.Names.{Names, is_nil, names_fault}
+use Rattle.tape_types.specs.Names.{is_nil, names_fault}
 use Rattle.tape_types.specs.declared.listing_fault.ListingFault.{ListingFault}
 use Rattle.tape_types.specs.Ranges.{FIRST_PARTICIPANT, LAST_PARTICIPANT, IsParticipant, IsSymbol, PARTICIPANTS_MOST, SYMBOLS_MOST, TAPE_MOST}
 use Rattle.day_journal.specs.declared.header_fault.HeaderFault.{HeaderFault}
-use Rattle.day_journal.specs.declared.header_fault.HeaderFault.TheVariants.{NoJournal, OtherVersion, Short, Damaged}
-use Rattle.day_journal.specs.Headers.{AreTerms, HeadersAreRead, JOURNAL_VERSION, MAGIC, Terms, header_at, header_digest, header_text, is_digest}
+use Rattle.day_journal.specs.declared.header_fault.HeaderFault.TheVariants.{NoJournal, Short, Damaged}
+use Rattle.day_journal.specs.Headers.{AreTerms, HeadersAreRead, JOURNAL_VERSION, MAGIC, Terms, header_at, header_digest}
 use Rattle.day_journal.specs.Headers.{magic_at, matrix_at, matrix_byte, matrix_of, participant_at, participants_at, participants_text, symbol_at}
 use Rattle.day_journal.specs.Headers.{symbols_at, symbols_text, terms_at, terms_text, values_at, version_at}
 use Rattle.day_journal.proofs.Lists.{bytes_there}

@@ -1,20 +1,17 @@
 -- A journal's groups read again, and cut.
-use Rattle.std.proofs.Common.{◌≡◌, ℕ, zero, suc, ◌+◌, ◌-◌, ◌<◌, ◌≤◌, ◌==◌, Bool, true, false, cond, List, [], ◌∷◌, ◌++◌, length, take, drop}
-use Rattle.std.proofs.Common.{Result, Ok, Err, append-nil, append_assoc, refl, sym, ap, subst, ◌∙◌, arith, inl, inr}
+use Rattle.std.proofs.Common.{◌≡◌, ℕ, zero, suc, ◌+◌, ◌-◌, ◌<◌, ◌≤◌, ◌==◌, true, false, List, [], ◌∷◌, ◌++◌, length, take}
+use Rattle.std.proofs.Common.{refl, sym, ap, subst, ◌∙◌, arith, inl, inr}
 use Rattle.std.specs.Prelude.{nat_le}
 use Rattle.std.proofs.lemmas.Bool.{cases_Bool, cases_lt, eqb-false, eqb-true, le-leb, lt-leb, ne_eqb}
 use Rattle.std.proofs.lemmas.Bool.Decides.{Decides-eqb}
-use Rattle.std.proofs.lemmas.List.{length-append, length-take, take_at, drop_at, take-append-le, take_all}
+use Rattle.std.proofs.lemmas.List.{length-append, length-take, take_at, drop_at, take-append-le}
 use Rattle.reports.specs.Lemmas.Fields.{AreBytes, AreBytes-drop, AreBytes-take}
 use Rattle.tape_core.specs.declared.entry.Entry.{Entry}
-use Rattle.day_journal.specs.declared.group_fault.GroupFault.{GroupFault}
-use Rattle.day_journal.specs.declared.group_fault.GroupFault.TheVariants as fault
 use Rattle.day_journal.specs.declared.journal_end.JournalEnd.{JournalEnd}
-use Rattle.day_journal.specs.declared.journal_end.JournalEnd.TheVariants.{Whole, Torn}
+use Rattle.day_journal.specs.declared.journal_end.JournalEnd.TheVariants.{Whole}
 use Rattle.day_journal.specs.Groups.{IsGroup, group_digest, group_text}
-use Rattle.day_journal.specs.GroupReading.{Read, group_at}
-use Rattle.day_journal.specs.Journals.{AreGroups, CutJournals, Journal, OneSpelling, ReaderState, after_group, all_groups, cut_end, either, end_at}
-use Rattle.day_journal.specs.Journals.{groups_at, groups_text, read_next, reader_at, whole_groups, with_group}
+use Rattle.day_journal.specs.Journals.{AreGroups, CutJournals, Journal, OneSpelling, ReaderState, cut_end}
+use Rattle.day_journal.specs.Journals.{groups_at, groups_text, whole_groups, with_group}
 use Rattle.day_journal.proofs.Groups.{group_again, group_torn, length-group_text}
 use Rattle.day_journal.proofs.Lists.{take_past}
 

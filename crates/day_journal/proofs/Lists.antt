@@ -1,11 +1,10 @@
 -- Fronts of lists, and fields that are short.
-use Rattle.std.proofs.Common.{◌≡◌, ℕ, zero, suc, ◌+◌, ◌<◌, ◌≤◌, List, [], ◌∷◌, ◌++◌, append_assoc, get_or, length, take, drop, Ok, Err, refl, sym, ap, ◌∙◌, arith}
+use Rattle.std.proofs.Common.{◌≡◌, ℕ, suc, ◌+◌, ◌<◌, List, [], ◌∷◌, ◌++◌, append_assoc, get_or, length, take, Ok, Err, refl, sym, ap, ◌∙◌, arith}
 use Rattle.std.specs.Prelude.{flat_map}
 use Rattle.std.specs.Int.{w16, w32}
 use Rattle.std.proofs.lemmas.Bool.{lt-ltb, le-ltb}
 use Rattle.std.proofs.lemmas.List.{flat_map_more, length-append, take_at, take_more, drop_at}
 use Rattle.reports.specs.Fields.{bytes_at, number_at}
-use Rattle.day_journal.specs.declared.group_fault.GroupFault.{GroupFault}
 use Rattle.day_journal.specs.declared.group_fault.GroupFault.TheVariants.{Torn}
 
 -- a front that is longer than the first list

@@ -1,6 +1,6 @@
 -- The steps by which a group is read.
-use Rattle.std.proofs.Common.{◌≡◌, ℕ, zero, suc, ◌+◌, ◌-◌, ◌%◌, ◌<◌, ◌≤◌, ◌==◌, true, false, List, ◌++◌, length, take, drop, Result, Ok, Err, refl, sym, ap, ◌∙◌, arith, inl, inr}
-use Rattle.std.specs.Int.{w16, w32, byte_len, from_be_bytes}
+use Rattle.std.proofs.Common.{◌≡◌, ℕ, suc, ◌+◌, ◌-◌, ◌%◌, ◌<◌, ◌≤◌, ◌==◌, true, false, List, ◌++◌, length, take, drop, Result, Ok, Err, refl, sym, ap, ◌∙◌, arith, inl, inr}
+use Rattle.std.specs.Int.{w16, w32, from_be_bytes}
 use Rattle.std.proofs.lemmas.Bool.{cases_lt, le-ltb}
 use Rattle.std.proofs.lemmas.List.{length-drop}
 use Rattle.reports.specs.Fields.{◌>>=◌, Reads, bytes_at, number_at}
@@ -87,7 +87,7 @@ number_alone (Err f) rest read is = rw is refl
 -- ---- packets
 
 -- the mark
-pub packets_mark : (count place session held : ℕ) (es : List Entry) (bytes : List ℕ) (len : ℕ) → place < count → frame_length bytes ≡ Ok len → (len == 0) ≡ true
+pub packets_mark : (count place session held : ℕ) (es : List Entry) (bytes : List ℕ) (len : ℕ) → place < count → frame_length session (held + length es + 1) bytes ≡ Ok len → (len == 0) ≡ true
     → packets_at (count - place) session held es bytes ≡ Ok (es, drop 2 bytes)
 unfolding packets_at
 packets_mark count place session held es bytes len more read none =
@@ -95,7 +95,7 @@ packets_mark count place session held es bytes len more read none =
     rw (one, read, none) refl
 
 -- a length that is not there, or wrong
-pub packets_stop : (count place session held : ℕ) (es : List Entry) (bytes : List ℕ) (f : GroupFault) → place < count → frame_length bytes ≡ Err f
+pub packets_stop : (count place session held : ℕ) (es : List Entry) (bytes : List ℕ) (f : GroupFault) → place < count → frame_length session (held + length es + 1) bytes ≡ Err f
     → packets_at (count - place) session held es bytes ≡ Err f
 unfolding packets_at
 packets_stop count place session held es bytes f more read =
@@ -103,7 +103,7 @@ packets_stop count place session held es bytes f more read =
     rw (one, read) refl
 
 -- a packet after one that is not full
-pub packets_not_full : (count place session held : ℕ) (es : List Entry) (bytes : List ℕ) (len : ℕ) → place < count → frame_length bytes ≡ Ok len → (len == 0) ≡ false
+pub packets_not_full : (count place session held : ℕ) (es : List Entry) (bytes : List ℕ) (len : ℕ) → place < count → frame_length session (held + length es + 1) bytes ≡ Ok len → (len == 0) ≡ false
     → (length es % ENTRIES_MOST == 0) ≡ false → packets_at (count - place) session held es bytes ≡ Err Damaged
 unfolding packets_at
 packets_not_full count place session held es bytes len more read some full =
@@ -111,7 +111,7 @@ packets_not_full count place session held es bytes len more read some full =
     rw (one, read, some, full) refl
 
 -- a packet that is not the next one
-pub packets_other : (count place session held : ℕ) (es : List Entry) (bytes : List ℕ) (len : ℕ) (f : GroupFault) → place < count → frame_length bytes ≡ Ok len
+pub packets_other : (count place session held : ℕ) (es : List Entry) (bytes : List ℕ) (len : ℕ) (f : GroupFault) → place < count → frame_length session (held + length es + 1) bytes ≡ Ok len
     → (len == 0) ≡ false → (length es % ENTRIES_MOST == 0) ≡ true → next_row session (held + length es + 1) (packet_of (take len (drop 2 bytes))) ≡ Err f
     → packets_at (count - place) session held es bytes ≡ Err f
 unfolding packets_at
@@ -120,7 +120,7 @@ packets_other count place session held es bytes len f more read some full row =
     rw (one, read, some, full, row) refl
 
 -- the next packet
-pub packets_next : (count place session held : ℕ) (es row : List Entry) (bytes : List ℕ) (len : ℕ) → place < count → frame_length bytes ≡ Ok len
+pub packets_next : (count place session held : ℕ) (es row : List Entry) (bytes : List ℕ) (len : ℕ) → place < count → frame_length session (held + length es + 1) bytes ≡ Ok len
     → (len == 0) ≡ false → (length es % ENTRIES_MOST == 0) ≡ true → next_row session (held + length es + 1) (packet_of (take len (drop 2 bytes))) ≡ Ok row
     → packets_at (count - (place + 1)) session held (es ++ row) (drop (2 + len) bytes) ≡ packets_at (count - place) session held es bytes
 unfolding packets_at

@@ -1,7 +1,7 @@
 -- A group read from the front of bytes, packet after packet.
-use Rattle.std.specs.Prelude.{◌≡◌, ◌++◌, ◌+◌, ◌-◌, ◌%◌, ◌==◌, ◌&&◌, ℕ, zero, suc, Bool, true, false, List, [], length, take, drop}
-use Rattle.std.specs.Prelude.{Result, Ok, Err, Option, Some, None, nat_lt, nat_le, bytes_eq, if◌then◌else◌}
-use Rattle.std.specs.Int.{w16, w32}
+use Rattle.std.specs.Prelude.{◌++◌, ◌+◌, ◌-◌, ◌%◌, ◌==◌, ◌&&◌, ℕ, zero, suc, Bool, true, false, List, [], length, take, drop}
+use Rattle.std.specs.Prelude.{Result, Ok, Err, Option, Some, None, nat_lt, bytes_eq, if◌then◌else◌}
+use Rattle.std.specs.Int.{w8, w16, w32, w64, to_be_bytes}
 use Rattle.reports.specs.Fields.{◌>>=◌, bytes_at, number_at}
 use Rattle.sha2.specs.Sha256.{sha256}
 use Rattle.tape_core.specs.declared.entry.Entry.{Entry}
@@ -11,8 +11,10 @@ use Rattle.tape_frames.specs.declared.packet_fault.PacketFault.{PacketFault}
 use Rattle.tape_frames.specs.declared.version.Version.{Version}
 use Rattle.tape_frames.specs.declared.version.Version.TheVariants.{One, Two}
 use Rattle.tape_frames.specs.EntryRows.{RowState, first_number}
+use Rattle.tape_frames.specs.Kinds.{DATA}
 use Rattle.tape_frames.specs.Limits.{ENTRIES_MOST, LONGEST_PACKET}
 use Rattle.tape_frames.specs.Reading.{packet_of}
+use Rattle.tape_frames.specs.Versions.{version_byte}
 use Rattle.day_journal.specs.declared.group_fault.GroupFault.{GroupFault}
 use Rattle.day_journal.specs.declared.group_fault.GroupFault.TheVariants.{Torn, Damaged}
 
@@ -28,15 +30,28 @@ unfoldable pub begins_with_packet : ℕ → List ℕ → Bool
 begins_with_packet zero bytes = false
 begins_with_packet (suc len) bytes = if is_packet (packet_of (take len bytes)) then true else begins_with_packet len bytes
 
--- what is wrong where the bytes end before a packet does: it is torn, unless a whole packet is there, and so its length is wrong
-abbrev pub tail_fault : List ℕ → GroupFault
-tail_fault bytes = if begins_with_packet (length bytes + 1) bytes then Damaged else Torn
+-- how the packet of a session begins that brings the entries from this number on: version, kind, session and number
+abbrev pub packet_front : ℕ → ℕ → List ℕ
+packet_front session number =
+    to_be_bytes w8 (version_byte Two) ++ (to_be_bytes w8 DATA ++ (to_be_bytes w64 session ++ to_be_bytes w32 number))
 
--- how many bytes the packet has whose length stands at the front, which are all there; 0 at the mark
-unfoldable pub frame_length : List ℕ → Result ℕ GroupFault
-frame_length bytes = do
+-- whether bytes begin as that packet does, as far as they go
+abbrev pub begins_next : ℕ → ℕ → List ℕ → Bool
+begins_next session number bytes =
+    let front = packet_front session number in bytes_eq (take (length front) bytes) (take (length bytes) front)
+
+-- what is wrong where the bytes end before a packet does: it is torn, unless a whole packet is there, and so its length is wrong, or
+-- it is not the next one, and so what stands there is no length
+abbrev pub tail_fault : ℕ → ℕ → List ℕ → GroupFault
+tail_fault session number bytes =
+    if begins_with_packet (length bytes + 1) bytes then Damaged else if begins_next session number bytes then Torn else Damaged
+
+-- how many bytes the packet has whose length stands at the front, which are all there, where the packet of a session with this number
+-- is the next one; 0 at the mark
+unfoldable pub frame_length : ℕ → ℕ → List ℕ → Result ℕ GroupFault
+frame_length session number bytes = do
   len ← number_at Torn w16 bytes
-  if nat_lt LONGEST_PACKET len.0 then Err Damaged else if nat_lt (length len.1) len.0 then Err (tail_fault len.1) else Ok len.0
+  if nat_lt LONGEST_PACKET len.0 then Err Damaged else if nat_lt (length len.1) len.0 then Err (tail_fault session number len.1) else Ok len.0
 
 -- whether a version is the second
 abbrev pub is_second : Version → Bool
@@ -66,7 +81,7 @@ packet_at more session held es len bytes =
 unfoldable pub packets_at : ℕ → ℕ → ℕ → List Entry → List ℕ → Result (List Entry × List ℕ) GroupFault
 packets_at zero session held es bytes = Err Damaged
 packets_at (suc fuel) session held es bytes = do
-  len ← frame_length bytes
+  len ← frame_length session (held + length es + 1) bytes
   if len == 0 then Ok (es, drop 2 bytes) else packet_at (packets_at fuel) session held es len bytes
 
 -- whether a group's end is that of so many entries and these bytes

@@ -1,5 +1,5 @@
 -- A journal's groups, one after the other: their text, and what is read of any text.
-use Rattle.std.specs.Prelude.{◌≡◌, ◌≤◌, ◌+◌, ◌-◌, ◌*◌, ◌==◌, ℕ, zero, suc, List, [], ◌∷◌, ◌++◌, length, take, nat_le, Option, None, Result, Ok, Err, if◌then◌else◌}
+use Rattle.std.specs.Prelude.{◌≡◌, ◌≤◌, ◌+◌, ◌-◌, ◌==◌, ℕ, zero, suc, List, [], ◌∷◌, ◌++◌, length, take, nat_le, Result, Ok, Err, if◌then◌else◌}
 use Rattle.reports.specs.Lemmas.Fields.{AreBytes}
 use Rattle.tape_core.specs.declared.entry.Entry.{Entry}
 use Rattle.day_journal.specs.declared.group_fault.GroupFault.{GroupFault}

@@ -3,13 +3,13 @@ ghost use Rattle.std.specs.Prelude.{◌≡◌, ◌+◌, ◌≤◌, [], length, I
 ghost use Rattle.tape_frames.specs.Limits.{LONGEST_PACKET};
 ghost use Rattle.tape_frames.specs.Reading.{packet_of};
 ghost use Rattle.tape_types.specs.Ranges.{TAPE_MOST};
-ghost use Rattle.day_journal.specs.GroupReading.{begins_with_packet, frame_length, group_at, is_end, is_next, is_packet, next_row, packets_at, tail_fault, told_at, told_count};
+ghost use Rattle.day_journal.specs.GroupReading.{begins_next, begins_with_packet, frame_length, group_at, is_end, is_next, is_packet, next_row, packet_front, packets_at, tail_fault, told_at, told_count};
 ghost use Rattle.day_journal.specs.Reads.{GivesGroup, GivesPackets, GivesRow};
 
 use crate::GroupFault;
 use crate::group_putting::chained;
-use crate::limits::DIGEST_LENGTH;
-use reports::Unread;
+use crate::limits::{DATA, DIGEST_LENGTH, PACKET_FRONT_LENGTH};
+use reports::{Unread, put};
 use tape_core::Entry;
 use tape_frames::{ENTRIES_MOST, EntryRow, LONGEST_PACKET, Packet, Version, decode_packet};
 
@@ -66,7 +66,8 @@ fn read_packets(
     ensures within { OnOk result (held + length entries.new.items ≤ TAPE_MOST) }
 {
     for place in 0..unread.rest.len() {
-        let len = frame_length(unread.rest)?;
+        let number = held + entries.len() as u32 + 1;
+        let len = frame_length(session, number, unread.rest)?;
         if len == 0 {
             unread.rest = &unread.rest[2..];
             return Ok(());
@@ -75,17 +76,17 @@ fn read_packets(
         if entries.len() % ENTRIES_MOST != 0 {
             return Err(GroupFault::Damaged);
         }
-        let number = u64::from(held) + entries.len() as u64 + 1;
         read_row(session, number, &unread.rest[2..2 + len], entries)?;
         unread.rest = &unread.rest[2 + len..];
     }
     Err(GroupFault::Damaged)
 }
 
-/// How many bytes the packet has whose length stands at the front, which are all there; 0 at the mark.
+/// How many bytes the packet has whose length stands at the front, which are all there, where the packet of this session with this
+/// number is the next one; 0 at the mark.
 #[tactic(auto, unfolding(crate::specs::GroupReading::frame_length))]
-fn frame_length(bytes: &[u8]) -> Result<usize, GroupFault>
-    ensures exact { result ≡ frame_length bytes.now }
+fn frame_length(session: u64, number: u32, bytes: &[u8]) -> Result<usize, GroupFault>
+    ensures exact { result ≡ frame_length session number bytes.now }
     ensures there { IfOk result (λ len. 2 + len ≤ length bytes.now) }
     ensures short { IfOk result (λ len. len ≤ LONGEST_PACKET) }
 {
@@ -95,20 +96,43 @@ fn frame_length(bytes: &[u8]) -> Result<usize, GroupFault>
         return Err(GroupFault::Damaged);
     }
     if unread.rest.len() < len {
-        return Err(tail_fault(unread.rest));
+        return Err(tail_fault(session, number, unread.rest));
     }
     Ok(len)
 }
 
-/// What is wrong where the bytes end before a packet does.
-fn tail_fault(bytes: &[u8]) -> GroupFault
-    ensures { result ≡ tail_fault bytes.now }
+/// What is wrong where the bytes after a length end before a packet does. Only the front of the next packet is torn: a mark that was
+/// changed has other bytes behind it, and a length that was changed may have a whole packet there.
+fn tail_fault(session: u64, number: u32, bytes: &[u8]) -> GroupFault
+    ensures { result ≡ tail_fault session number bytes.now }
 {
     if begins_with_packet(bytes) {
         GroupFault::Damaged
-    } else {
+    } else if begins_next(session, number, bytes) {
         GroupFault::Torn
+    } else {
+        GroupFault::Damaged
     }
+}
+
+/// Whether the bytes begin as the packet of this session with this number does, as far as they go.
+fn begins_next(session: u64, number: u32, bytes: &[u8]) -> bool
+    ensures { result ≡ begins_next session number bytes.now }
+{
+    let front = packet_front(session, number);
+    let len = bytes.len().min(front.len());
+    bytes[..len] == front[..len]
+}
+
+/// How the packet of this session begins that brings the entries from this number on, in the second version.
+fn packet_front(session: u64, number: u32) -> [u8; PACKET_FRONT_LENGTH]
+    ensures { result ≡ packet_front session number }
+{
+    let mut front = [0; PACKET_FRONT_LENGTH];
+    let at = put(&mut front, 0, &[Version::Two.byte(), DATA]);
+    let at = put(&mut front, at, &session.to_be_bytes());
+    put(&mut front, at, &number.to_be_bytes());
+    front
 }
 
 /// Whether one of the fronts of the bytes, which are fewer than a packet may have, is a packet.
@@ -138,7 +162,7 @@ fn is_packet(bytes: &[u8]) -> bool
 /// Appends the entries of the packet that the text is, if it is the next one.
 fn read_row(
     session: u64,
-    number: u64,
+    number: u32,
     text: &[u8],
     entries: &mut Vec<Entry>,
 ) -> Result<(), GroupFault>
@@ -164,11 +188,11 @@ fn read_row(
 }
 
 /// Whether a packet of this session brings the entries from this number on, in the second version.
-fn is_next(session: u64, number: u64, own: u64, row: &EntryRow) -> bool
+fn is_next(session: u64, number: u32, own: u64, row: &EntryRow) -> bool
     ensures { result ≡ is_next session number own row.now }
 {
     let entries = row.entries();
-    let first = u64::from(entries[0].number.value());
+    let first = entries[0].number.value();
     own == session && row.version() == Version::Two && first == number
 }
 

@@ -136,7 +136,7 @@ fn reads_each_cut(alloc: Global, day: &Day) -> bool {
     true
 }
 
-/// Whether a changed byte at this place is noticed, and is damage in the first group.
+/// Whether a changed byte at this place is damage: of the group that has it, whose mark it may be, or of the header.
 fn notices(alloc: Global, day: &mut Day, place: usize) -> bool {
     let Some(byte) = day.bytes.get_mut(place) else {
         return false;
@@ -148,8 +148,13 @@ fn notices(alloc: Global, day: &mut Day, place: usize) -> bool {
     }
     match read {
         None => place < day.header,
-        Some((0, JournalEnd::Damaged { first: 1, .. })) => place < day.first,
-        Some((_, end)) => place >= day.first && end != JournalEnd::Whole,
+        Some((0, JournalEnd::Damaged { first: 1, .. })) => {
+            place >= day.header && place < day.first
+        }
+        Some((held, JournalEnd::Damaged { first, .. })) => {
+            place >= day.first && held == FIRST as usize && first == FIRST + 1
+        }
+        Some(_) => false,
     }
 }
 

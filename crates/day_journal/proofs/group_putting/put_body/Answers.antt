@@ -1,4 +1,4 @@
-use Rattle.std.proofs.Common.{◌≡◌, ◌+◌, ◌-◌, ◌++◌, ◌∙◌, List, ℕ, ap, append_assoc, length, arith, rules}
+use Rattle.std.proofs.Common.{◌≡◌, ◌-◌, ◌++◌, ◌∙◌, List, ℕ, ap, append_assoc, length, arith, rules}
 use Rattle.std.specs.Int.{w16, w32, to_be_bytes}
 use Rattle.day_journal.specs.Groups.{packet_count, packets_text, pending}
 use Rattle.day_journal.proofs.PutPackets.{length-pending, numbered_pending}

@@ -1,4 +1,4 @@
-use Rattle.std.proofs.Common.{◌≡◌, ◌+◌, ◌*◌, ◌<◌, ◌≤◌, ◌∙◌, drop, refl, arith}
+use Rattle.std.proofs.Common.{◌≡◌, ◌*◌, ◌<◌, ◌≤◌, ◌∙◌, drop, refl, arith}
 use Rattle.tape_frames.specs.Limits.{ENTRIES_MOST}
 use Rattle.day_journal.specs.Groups.{first_packet, packet_count, pending}
 use Rattle.day_journal.proofs.PutPackets.{ArePackets-all, AreSpelled-more, Left-end, Left-more, cut_packet, length-pending}

@@ -1,6 +1,6 @@
 use Rattle.std.proofs.Common.{◌≡◌, ◌++◌, length, take}
 use Rattle.std.specs.Prelude.{flat_map}
-use Rattle.std.specs.Int.{w8, w16, to_be_bytes}
+use Rattle.std.specs.Int.{w8, to_be_bytes}
 use Rattle.day_journal.proofs.header.put_participants.Given as goal
 
 -- the number and the participants so far are written

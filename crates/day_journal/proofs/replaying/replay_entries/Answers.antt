@@ -1,7 +1,6 @@
-use Rattle.std.proofs.Common.{◌≡◌, ◌∙◌, Some, ap, sym, take, rules}
+use Rattle.std.proofs.Common.{◌≡◌, ◌∙◌, Some, ap, sym, rules}
 use Rattle.std.specs.Prelude.{unwrap_or}
 use Rattle.std.proofs.lemmas.Option.{slice_get-get_or}
-use Rattle.tape_core.specs.declared.entry.Entry.{Entry}
 use Rattle.tape_core.specs.declared.refusal.Refusal.TheVariants.{OutOfMemory}
 use Rattle.tape_core.specs.Tape.{TapeState, next_entry, replay_refusal, with_message}
 use Rattle.day_journal.proofs.Replays.{replayed}

@@ -1,0 +1,4 @@
+mod DayLemmas
+mod EndLemmas
+mod GroupLemmas
+mod TextLemmas

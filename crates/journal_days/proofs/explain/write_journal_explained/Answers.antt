@@ -1,0 +1,21 @@
+use Rattle.std.proofs.Common.{◌≡◌, ◌∙◌, ap, refl, subst}
+use Rattle.std.specs.Prelude.{List, ℕ}
+use Rattle.row_reads.specs.Writing.{WritesPrefix}
+use Rattle.table_days.specs.Explained.{explain_text}
+use Rattle.journal_days.specs.Texts.{messages_in}
+use Rattle.journal_days.proofs.TextLemmas.{nothing_written, on_err, text_failed}
+use Rattle.journal_days.proofs.explain.write_journal_explained.Goals as goal
+
+pub returns-in_err-messages-clause-prefix : goal.returns-in_err-messages-clause-prefix
+returns-in_err-messages-clause-prefix g c = on_err _ _ (nothing_written _ _ _ refl)
+
+pub returns-clause-prefix : goal.returns-clause-prefix
+returns-clause-prefix g c =
+    let t = c.args.day.now.tape in
+    let m = c.matrix.ensures.value in
+    let ms = c.deref.ensures.value ∙ c.in_ok-messages.ensures ∙ ap messages_in c.entries-entries.ensures.entries in
+    let same : explain_text c.matrix.result c.deref.result.now ≡ explain_text t.matrix (messages_in t.entries) = λ i. explain_text (m i) (ms i) in
+    text_failed g.W.Write.contents (explain_text t.matrix (messages_in t.entries)) c.args.writer.now c.write_explained.new.writer c.write_explained.result
+    c.written.result c.written.ensures.ok.1 c.write_explained.ensures.silent
+    (λ failed. subst (λ (text : List ℕ). WritesPrefix text (g.W.Write.contents c.args.writer.now) (g.W.Write.contents c.write_explained.new.writer)) same
+    (c.write_explained.ensures.prefix failed))

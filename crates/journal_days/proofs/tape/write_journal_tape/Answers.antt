@@ -1,0 +1,46 @@
+use Rattle.std.proofs.Common.{◌≡◌, ◌∙◌, ◌==◌, ap, length, refl, rules, subst, true}
+use Rattle.std.specs.Io.KnownBytes.{Appends}
+use Rattle.std.specs.Prelude.{List, ℕ}
+use Rattle.row_reads.specs.Lemmas.WriteLemmas.{WritesPrefix-kept, WritesPrefix-whole}
+use Rattle.row_reads.specs.Writing.{WritesPrefix}
+use Rattle.table_days.specs.TapeRows.{tape_text}
+use Rattle.journal_days.specs.Texts.{messages_in}
+use Rattle.journal_days.proofs.TextLemmas.{nothing_written, on_err, on_ok, tape_of_none, text_failed, written_kept}
+use Rattle.journal_days.proofs.tape.write_journal_tape.Goals as goal
+
+pub returns-in_err-write_head-clause-prefix : goal.returns-in_err-write_head-clause-prefix
+returns-in_err-write_head-clause-prefix g c =
+    let none : (length c.args.day.now.tape.entries == 0) ≡ true = search rules in
+    on_err _ _
+    (subst (λ (text : List ℕ). WritesPrefix text (g.W.Write.contents c.args.writer.now) (g.W.Write.contents c.write_head.new.writer))
+    (tape_of_none c.args.day.now.tape.matrix c.args.day.now.tape.entries none) c.in_err-write_head.ensures.prefix)
+
+pub returns-then-is_empty-clause-written : goal.returns-then-is_empty-clause-written
+returns-then-is_empty-clause-written g c =
+    let none : (length c.args.day.now.tape.entries == 0) ≡ true = search rules in
+    on_ok _ _
+    (subst (λ (text : List ℕ). Appends (g.W.Write.contents c.args.writer.now) (g.W.Write.contents c.flush.new.writer) text)
+    (tape_of_none c.args.day.now.tape.matrix c.args.day.now.tape.entries none)
+    (written_kept _ _ _ _ c.in_ok-write_head.ensures.written c.flush.ensures.kept))
+
+pub returns-then-is_empty-clause-prefix : goal.returns-then-is_empty-clause-prefix
+returns-then-is_empty-clause-prefix g c =
+    let none : (length c.args.day.now.tape.entries == 0) ≡ true = search rules in
+    on_err _ _
+    (subst (λ (text : List ℕ). WritesPrefix text (g.W.Write.contents c.args.writer.now) (g.W.Write.contents c.flush.new.writer))
+    (tape_of_none c.args.day.now.tape.matrix c.args.day.now.tape.entries none)
+    (WritesPrefix-kept _ _ _ _ (WritesPrefix-whole _ _ _ c.in_ok-write_head.ensures.written) c.flush.ensures.kept))
+
+pub returns-in_err-messages-clause-prefix : goal.returns-in_err-messages-clause-prefix
+returns-in_err-messages-clause-prefix g c = on_err _ _ (nothing_written _ _ _ refl)
+
+pub returns-clause-prefix : goal.returns-clause-prefix
+returns-clause-prefix g c =
+    let t = c.args.day.now.tape in
+    let m = c.matrix.ensures.value in
+    let ms = c.deref.ensures.value ∙ c.in_ok-messages.ensures ∙ ap messages_in c.entries-entries.ensures.entries in
+    let same : tape_text c.matrix.result c.deref.result.now ≡ tape_text t.matrix (messages_in t.entries) = λ i. tape_text (m i) (ms i) in
+    text_failed g.W.Write.contents (tape_text t.matrix (messages_in t.entries)) c.args.writer.now c.write_tape.new.writer c.write_tape.result
+    c.written.result c.written.ensures.ok.1 c.write_tape.ensures.silent
+    (λ failed. subst (λ (text : List ℕ). WritesPrefix text (g.W.Write.contents c.args.writer.now) (g.W.Write.contents c.write_tape.new.writer)) same
+    (c.write_tape.ensures.prefix failed))

@@ -1,0 +1,43 @@
+//! What became of the reports of a journal.
+ghost use Rattle.std.specs.Prelude.{◌≡◌, [], OnErr, OnOk};
+ghost use Rattle.std.specs.Io.KnownBytes.{Appends};
+ghost use Rattle.row_reads.specs.Writing.{WritesPrefix};
+ghost use Rattle.table_days.specs.Explained.{explain_text, explained_text};
+ghost use Rattle.journal_days.specs.Texts.{messages_in};
+
+use crate::JournalDay;
+use crate::messages::messages_in;
+use crate::tape::written;
+use std::alloc::Global;
+use std::io::Write;
+use table_days::{WritingFault, flush, write_explained, write_part};
+
+/// The line of the columns' names, which is all that is told of no report.
+fn head_line() -> &'static [u8]
+    ensures { result.now ≡ explained_text [] }
+{
+    b"symbol,tape,row,participant,number,moment,price,size,condition,state,changed,high_low,last,volume,sets,own_high_low,own_last,own_sets\n"
+}
+
+/// Writes what became of the reports of a journal, as `explain` writes it for the table of the entries' messages, in which each entry
+/// stands in the row after its tape number; and with no entry the names of the columns alone. What was written is flushed at the end.
+///
+/// Refused: `WriteFault` where a write or the flush fails, and `OutOfMemory`; a part of the text from its front has been written then.
+pub fn write_journal_explained<W: Write>(
+    alloc: Global,
+    day: &JournalDay,
+    writer: &mut W,
+) -> Result<(), WritingFault>
+    ensures written { OnOk result (Appends (W.contents writer.old) (W.contents writer.new)
+        (explain_text day.now.tape.matrix (messages_in day.now.tape.entries))) }
+    ensures prefix { OnErr result (WritesPrefix
+        (explain_text day.now.tape.matrix (messages_in day.now.tape.entries)) (W.contents writer.old) (W.contents writer.new)) }
+{
+    let entries = day.tape.entries();
+    if entries.is_empty() {
+        write_part(writer, head_line())?;
+        return flush(writer);
+    }
+    let messages = messages_in(alloc, entries)?;
+    written(write_explained(alloc, day.tape.matrix(), &messages, writer))
+}

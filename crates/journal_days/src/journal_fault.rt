@@ -1,0 +1,24 @@
+//! Why a journal has no day.
+
+use day_journal::{HeaderFault, ReplayFault};
+use sale_matrix::Matrix;
+
+/// Why a journal has no day: the first reason from its front.
+#[derive(Clone, Copy, Debug, PartialEq, Eq)]
+pub enum JournalFault {
+    /// It does not begin with the header of a journal.
+    Header(HeaderFault),
+    /// It goes by this matrix, and another one was asked for.
+    OtherMatrix(Matrix),
+    /// An entry is not the tape's next one: it is refused, or carries other figures than the tape gives.
+    Entry(ReplayFault),
+    /// Behind its whole groups, whose entries are all the tape's, stand bytes that are neither the next group nor the front of one.
+    Damaged {
+        /// The number of the first entry that the damaged group should have.
+        first: u32,
+        /// How many entries it should have by its own end; `None` if the lengths of its packets do not lead there.
+        count: Option<u32>,
+    },
+    /// Memory ran out.
+    OutOfMemory,
+}

@@ -1,0 +1,23 @@
+//! Journals in, the day's report, its readable tape, what became of each report, or whether all stands as recorded out.
+#![tactic(auto)]
+
+mod explain;
+mod journal_day;
+mod journal_fault;
+mod messages;
+mod reading;
+mod report;
+mod tape;
+#[cfg(test)]
+mod tests;
+mod texts;
+mod verify;
+
+pub use explain::write_journal_explained;
+pub use journal_day::{JournalDay, JournalTape};
+pub use journal_fault::JournalFault;
+pub use reading::{is_journal, read_day};
+pub use report::write_journal_report;
+pub use tape::write_journal_tape;
+pub use texts::{fault_text, verdict_text};
+pub use verify::{JournalVerdict, verify_journal};

@@ -1,0 +1,151 @@
+//! A journal read, and replayed.
+ghost use Rattle.std.specs.Prelude.{◌≡◌, IfErr, IfOk, OnOk};
+ghost use Rattle.day_journal.specs.Journals.{groups_at};
+ghost use Rattle.day_journal.specs.Replays.{with_entries};
+ghost use Rattle.journal_days.specs.Days.{EndsDay, IsDay, IsEntryFault, IsFault, IsHeaderFault, IsMatrixFault, StopsEntries, StopsNext, TakesNext, begins_journal, entries_of};
+
+use crate::{JournalDay, JournalFault, JournalTape};
+use day_journal::{
+    GroupReader, HeaderFault, JournalEnd, Next, ReplayFault, read_header, replay_entries,
+};
+use sale_matrix::Matrix;
+use std::alloc::Global;
+use tape_core::{Entry, Refusal, Tape};
+
+/// The first bytes of every journal.
+const FRONT: [u8; 8] = *b"tapejrnl";
+
+/// Whether bytes begin as every journal does, and no table.
+#[tactic(auto, using(std::proofs::lemmas::List::take_min))]
+pub fn is_journal(bytes: &[u8]) -> bool
+    ensures begins { result ≡ begins_journal bytes.now }
+{
+    let front = &bytes[..bytes.len().min(FRONT.len())];
+    front == FRONT.as_slice()
+}
+
+/// The fault of a journal for a fault of its header.
+fn header_fault(fault: HeaderFault) -> JournalFault
+    ensures { IsHeaderFault fault result }
+{
+    match fault {
+        HeaderFault::OutOfMemory => JournalFault::OutOfMemory,
+        fault => JournalFault::Header(fault),
+    }
+}
+
+/// The fault of a journal for an entry at which its replay stopped.
+fn entry_fault(fault: ReplayFault) -> JournalFault
+    ensures { IsEntryFault fault result }
+{
+    match fault {
+        ReplayFault::Refused {
+            refusal: Refusal::OutOfMemory,
+            ..
+        } => JournalFault::OutOfMemory,
+        fault => JournalFault::Entry(fault),
+    }
+}
+
+/// The fault of a journal that goes by this matrix, where another one was asked for.
+fn matrix_fault(asked: Option<Matrix>, matrix: Matrix) -> Option<JournalFault>
+    ensures { IsMatrixFault asked matrix result }
+{
+    match asked {
+        Some(asked) if asked != matrix => Some(JournalFault::OtherMatrix(matrix)),
+        Some(_) | None => None,
+    }
+}
+
+/// Replays the next group on a tape. There is none at the journal's end, which it gives.
+fn replay_next(
+    groups: &mut GroupReader<'_>,
+    entries: &mut Vec<Entry>,
+    tape: &mut JournalTape,
+) -> Result<Option<JournalEnd>, JournalFault>
+    ensures next { IfOk result (λ end. TakesNext end groups.old tape.old groups.new tape.new) }
+    ensures stops { IfErr result (λ fault. StopsNext fault groups.old tape.old) }
+{
+    match groups.next_group(entries) {
+        Ok(Next::Group) => {
+            let replayed = replay_entries(tape, entries.as_slice());
+            // What a tape holds is legal, wherever its replay stopped.
+            let _legal = tape.entries();
+            match replayed {
+                Ok(()) => Ok(None),
+                Err(fault) => Err(entry_fault(fault)),
+            }
+        }
+        Ok(Next::End(end)) => Ok(Some(end)),
+        Err(_) => Err(JournalFault::OutOfMemory),
+    }
+}
+
+/// Replays all groups on a tape, of which there are fewer than turns, and gives the journal's end.
+fn replay_groups(
+    alloc: Global,
+    groups: &mut GroupReader<'_>,
+    turns: usize,
+    tape: &mut JournalTape,
+) -> Result<JournalEnd, JournalFault>
+    ensures end { IfOk result (λ end. (groups_at turns groups.old).1 ≡ end) }
+    ensures tape { OnOk result (tape.new ≡ with_entries tape.old (entries_of (groups_at turns groups.old))) }
+    ensures stops { IfErr result (λ fault. StopsEntries fault tape.old (entries_of (groups_at turns groups.old))) }
+{
+    let mut entries = Vec::new(alloc);
+    for turn in 0..turns {
+        match replay_next(groups, &mut entries, tape) {
+            Ok(None) => {}
+            Ok(Some(end)) => return Ok(end),
+            Err(fault) => return Err(fault),
+        }
+    }
+    // Each group has some bytes, so the end comes first; no clause says so.
+    Err(JournalFault::OutOfMemory)
+}
+
+/// The day of a tape that has all entries of a journal with this end.
+fn day_of(tape: JournalTape, end: JournalEnd) -> Result<JournalDay, JournalFault>
+    ensures ends { EndsDay end tape result }
+{
+    let _legal = tape.entries();
+    match end {
+        JournalEnd::Whole => Ok(JournalDay { tape, torn: None }),
+        JournalEnd::Torn { from } => Ok(JournalDay {
+            tape,
+            torn: Some(from),
+        }),
+        JournalEnd::Damaged { first, count } => Err(JournalFault::Damaged { first, count }),
+    }
+}
+
+/// Reads the bytes of a journal, replays the entries of its whole groups on a tape with the listing, the matrix and the limit of its
+/// header, and compares each with the one that the tape makes of its message. A last group that is cut off is left out.
+///
+/// Where there is no such day the fault is the first reason from the journal's front. A matrix that is asked for has to be the header's.
+pub fn read_day(
+    alloc: Global,
+    asked: Option<Matrix>,
+    bytes: &[u8],
+) -> Result<JournalDay, JournalFault>
+    ensures day { IfOk result (IsDay asked bytes.now) }
+    ensures fault { IfErr result (IsFault asked bytes.now) }
+{
+    let header = match read_header(alloc, bytes) {
+        Ok(header) => header,
+        Err(fault) => return Err(header_fault(fault)),
+    };
+    if let Some(fault) = matrix_fault(asked, header.matrix) {
+        return Err(fault);
+    }
+    let mut groups = GroupReader::new(header.session, header.digest, header.len, bytes);
+    let turns = bytes.len() - header.len + 1;
+    let Ok(mut tape) = Tape::new(alloc, header.listing, header.limit, header.matrix) else {
+        // The limit of a header is that of a tape.
+        return Err(JournalFault::OutOfMemory);
+    };
+    match replay_groups(alloc, &mut groups, turns, &mut tape) {
+        Ok(end) => day_of(tape, end),
+        Err(fault) => Err(fault),
+    }
+}

@@ -1,0 +1,66 @@
+//! A journal's report.
+ghost use Rattle.std.specs.Prelude.{◌≡◌, ◌≢◌, Err, IfOk, OnErr, OnOk};
+ghost use Rattle.std.specs.Io.KnownBytes.{Appends};
+ghost use Rattle.day_report.specs.ReportText.{report_text};
+ghost use Rattle.day_report.specs.Rows.{report_rows};
+ghost use Rattle.row_reads.specs.Writing.{WritesPrefix};
+ghost use Rattle.table_days.specs.declared.writing.WritingFault.TheVariants.{OutOfMemory, WriteFault as FailedWrite};
+ghost use Rattle.day_report.specs.declared.report_fault.ReportFault.TheVariants.{WriteFault as FailedReport};
+ghost use Rattle.tape_core.specs.Ending.{KeepsEnd};
+ghost use Rattle.journal_days.specs.Days.{unlimited};
+
+use crate::{JournalDay, JournalTape};
+use day_report::{ReportFault, end_rows, write_report};
+use std::alloc::{AllocError, Global};
+use std::io::Write;
+use table_days::{WritingFault, flush};
+use tape_core::EndTape;
+
+/// What a report asks of a tape, from the messages of its entries.
+fn end_of(alloc: Global, tape: &JournalTape) -> Result<EndTape, AllocError>
+    ensures kept { IfOk result (KeepsEnd (unlimited tape.now)) }
+{
+    let mut end = EndTape::new(alloc, tape.matrix());
+    for entry in tape.entries() {
+        // What one tape has admitted the other does, unless memory runs out.
+        let Ok(_) = end.admit(entry.message) else {
+            return Err(AllocError);
+        };
+    }
+    Ok(end)
+}
+
+/// Why the text of a report was not written.
+fn writing_fault(fault: ReportFault) -> WritingFault
+    ensures write { fault ≡ FailedReport → result ≡ FailedWrite }
+    ensures memory { fault ≢ FailedReport → result ≡ OutOfMemory }
+{
+    match fault {
+        ReportFault::WriteFault => WritingFault::WriteFault,
+        ReportFault::BadWorkers | ReportFault::Unstarted | ReportFault::OutOfMemory => {
+            WritingFault::OutOfMemory
+        }
+    }
+}
+
+/// Writes the report of a journal's day, by its own matrix: the bytes that `live` writes at the end of the same day. All symbols of the
+/// listing are in it, in its order. What was written is flushed at the end.
+///
+/// Refused: `OutOfMemory` before anything is written, and `WriteFault` where a write or the flush fails, when a part of the report from
+/// its front has been written.
+pub fn write_journal_report<W: Write>(
+    alloc: Global,
+    day: &JournalDay,
+    writer: &mut W,
+) -> Result<(), WritingFault>
+    ensures written { OnOk result (Appends (W.contents writer.old) (W.contents writer.new) (report_text (report_rows day.now.tape))) }
+    ensures memory { result ≡ Err OutOfMemory → writer.new ≡ writer.old }
+    ensures prefix { OnErr result (WritesPrefix (report_text (report_rows day.now.tape)) (W.contents writer.old) (W.contents writer.new)) }
+{
+    let end = end_of(alloc, &day.tape)?;
+    let rows = end_rows(alloc, &end, day.tape.listing())?;
+    match write_report(alloc, &rows, writer) {
+        Ok(()) => flush(writer),
+        Err(fault) => Err(writing_fault(fault)),
+    }
+}

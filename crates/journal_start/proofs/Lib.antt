@@ -1,0 +1,5 @@
+mod DiskLemmas
+mod GroupLemmas
+mod LineTexts
+mod StartLemmas
+mod TermLemmas

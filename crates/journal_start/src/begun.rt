@@ -1,0 +1,47 @@
+//! Whether bytes are the beginning of a day's journal.
+ghost use Rattle.std.specs.Prelude.{◌≡◌, ◌≤◌, None, IfErr, IfOk, IfSome, length};
+ghost use Rattle.journal_start.specs.Starts.{HasHeader, IsUnbegun, RefusesHeader, is_front};
+ghost use Rattle.journal_start.specs.Terms.{terms_of};
+
+use crate::day_terms::other_term;
+use crate::{DayTerms, JournalRefusal, StartFault};
+use day_journal::{Header, HeaderFault, read_header};
+use std::alloc::Global;
+
+/// What every journal begins with.
+const MAGIC: &[u8] = b"tapejrnl";
+
+/// Whether bytes are a front of what every journal begins with.
+fn is_front(bytes: &[u8]) -> bool
+    ensures { result ≡ is_front bytes.now }
+{
+    MAGIC.starts_with(bytes)
+}
+
+/// The header of bytes that are a journal of this day, or `None` where none was begun: there is no byte, or they end within the header, as a start
+/// that was cut off leaves them.
+pub(crate) fn begun_header(
+    alloc: Global,
+    terms: &DayTerms<'_>,
+    bytes: &[u8],
+) -> Result<Option<Header>, StartFault>
+    ensures none { IfOk result (λ header. header ≡ None → IsUnbegun bytes.now) }
+    ensures some { IfOk result (λ header. IfSome header (λ h. HasHeader h (terms_of terms.now) bytes.now)) }
+    ensures within { IfOk result (λ header. IfSome header (λ h. h.len ≤ length bytes.now)) }
+    ensures refused { IfErr result (λ fault. RefusesHeader fault (terms_of terms.now) bytes.now) }
+{
+    if is_front(bytes) {
+        return Ok(None);
+    }
+    match read_header(alloc, bytes) {
+        Ok(header) => match other_term(&header, terms) {
+            Some(term) => Err(StartFault::Refused(JournalRefusal::OtherDay(term))),
+            None => Ok(Some(header)),
+        },
+        Err(HeaderFault::Short) => Ok(None),
+        Err(HeaderFault::NoJournal) => Err(StartFault::Refused(JournalRefusal::NoJournal)),
+        Err(HeaderFault::OtherVersion) => Err(StartFault::Refused(JournalRefusal::OtherVersion)),
+        Err(HeaderFault::Damaged) => Err(StartFault::Refused(JournalRefusal::HeaderDamaged)),
+        Err(HeaderFault::OutOfMemory) => Err(StartFault::OutOfMemory),
+    }
+}
