@@ -1,56 +1,35 @@
 -- What a tape and a line refuse out of memory, and what not.
 use Rattle.std.proofs.Common.{◌≡◌, ◌≢◌, ◌==◌, ◌∷◌, ◌∙◌, [], ℕ, List, Bool, true, false, Option, Some, None, Result, Ok, Err, IsOk, refl, sym, ap, inl, inr}
-use Rattle.std.proofs.Common.{unwrap_or, cond}
-use Rattle.std.specs.List.{AllByRecursion}
+use Rattle.std.proofs.Common.{unwrap_or}
 use Rattle.std.proofs.lemmas.Bool.{cases_Bool}
 use Rattle.reports.specs.Messages.{header_of}
 use Rattle.reports.specs.Reading.{message_at}
 use Rattle.reports.specs.declared.fault.MessageFault.{MessageFault}
 use Rattle.reports.specs.declared.message.Message.{Message}
-use Rattle.reports.specs.declared.message.Message.TheVariants.{Report, Cancel, Correct, Reinstate}
-use Rattle.tape_types.specs.Names.{first_fault}
-use Rattle.tape_core.specs.Standing.{NumberedMessage, named_report}
-use Rattle.tape_core.specs.Tape.{TapeState, message_faults, messages_of, refusal, target_faults}
+use Rattle.tape_core.specs.Tape.{TapeState, refusal}
+use Rattle.tape_core.specs.Lemmas.RefusalCases.{EachCase, of_refusal}
 use Rattle.tape_core.specs.declared.refusal.Refusal.{Refusal}
-use Rattle.tape_core.specs.declared.refusal.Refusal.TheVariants.{Closed, Full, NotInMatrix, OutOfMemory, Stale, UnknownParticipant, UnknownSymbol}
+use Rattle.tape_core.specs.declared.refusal.Refusal.TheVariants.{OutOfMemory}
 use Rattle.batch.specs.Batch.{line_answer, tape_after_line}
 use Rattle.batch.specs.MessageLine.{from_bytes, hex_bytes, line_message, line_parts, message_of_parts, spelled_message, whole_message}
 use Rattle.batch.specs.declared.batch_refusal.BatchRefusal.TheVariants.{Refused}
 
 -- ## A message is never refused by definition for running out of memory
 
--- a fault that no case has is not the first
-first_fault-other : {F : Type 0} (x : F) (cases : List (Bool × F)) → AllByRecursion (λ c. c.1 ≢ x) cases → first_fault cases ≢ Some x
-first_fault-other x [] all = λ e. cc
-first_fault-other x ((true, f) ∷ cases) all = λ e. all.0 cc
-first_fault-other x ((false, f) ∷ cases) all = first_fault-other x cases all.1
-
--- no fault of a target is out of memory
-target_faults-other : (tape : List NumberedMessage) (symbol : List ℕ) (reinstated : Bool) (named : Option NumberedMessage)
-    → AllByRecursion (λ c. c.1 ≢ OutOfMemory) (target_faults tape symbol reinstated named)
-target_faults-other tape symbol reinstated None = (λ e. cc, tt)
-target_faults-other tape symbol reinstated (Some report) = (λ e. cc, (λ e. cc, (λ e. cc, tt)))
-
--- no fault of what a message names is out of memory
-message_faults-other : (tape : List NumberedMessage) (m : Message) → AllByRecursion (λ c. c.1 ≢ OutOfMemory) (message_faults tape m)
-message_faults-other tape (Report header content) = tt
-message_faults-other tape (Cancel header target) = target_faults-other tape header.symbol false (named_report tape header.participant target)
-message_faults-other tape (Correct header target content) = target_faults-other tape header.symbol false (named_report tape header.participant target)
-message_faults-other tape (Reinstate header target) = target_faults-other tape header.symbol true (named_report tape header.participant target)
-
--- one case more in front
-first-other : {F : Type 0} (x f : F) (test : Bool) (rest : Option F) → f ≢ x → rest ≢ Some x → cond test (Some f) rest ≢ Some x
-first-other x f true rest here later = λ e. here cc
-first-other x f false rest here later = later
-
 -- a tape itself refuses no message as out of memory
 refusal-other : (t : TapeState) (m : Message) → refusal t m ≢ Some OutOfMemory
-refusal-other t m =
-    let targets = first_fault-other OutOfMemory (message_faults (messages_of t.entries) m) (message_faults-other (messages_of t.entries) m) in
-    first-other _ Closed _ _ (λ e. cc)
-    (first-other _ Full _ _ (λ e. cc)
-    (first-other _ UnknownParticipant _ _ (λ e. cc) (first-other _ Stale _ _ (λ e. cc)
-    (first-other _ UnknownSymbol _ _ (λ e. cc) (first-other _ NotInMatrix _ _ (λ e. cc) targets)))))
+refusal-other t m = λ is. of_refusal (λ r. r ≢ OutOfMemory) t m OutOfMemory (record {
+  closed = λ _ e. cc;
+  full = λ _ e. cc;
+  unknown = λ _ e. cc;
+  stale = λ _ e. cc;
+  unlisted = λ _ e. cc;
+  not_within = λ _ e. cc;
+  unnamed = λ e. cc;
+  of_other = λ e. cc;
+  cancelled = λ e. cc;
+  standing = λ e. cc;
+}) is refl
 
 -- a message that is read from bytes is not refused as out of memory
 whole_message-other : (letter len : ℕ) (read : Result (Message × ℕ) MessageFault) → whole_message letter len (from_bytes read) ≢ Err (Refused OutOfMemory)

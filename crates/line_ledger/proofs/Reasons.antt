@@ -3,16 +3,14 @@ use Rattle.std.proofs.Common.{◌≡◌, ◌≢◌, ◌<◌, ◌≤◌, ◌==◌
 use Rattle.std.proofs.Common.{None, unwrap_or, true≢false}
 use Rattle.std.specs.Option.{option_map}
 use Rattle.std.proofs.lemmas.Bool.Decides.{nat_tests}
-use Rattle.std.proofs.lemmas.Option.{none-some, same_Some}
 use Rattle.reports.specs.declared.message.Message.{Message}
-use Rattle.reports.specs.declared.message.Message.TheVariants.{Report, Cancel, Correct, Reinstate}
 use Rattle.reports.specs.Messages.{header_of}
-use Rattle.tape_types.specs.Names.{first_fault}
 use Rattle.tape_core.specs.declared.refusal.Refusal.{Refusal}
-use Rattle.tape_core.specs.declared.refusal.Refusal.TheVariants.{Closed, Full, WrongLine, UnknownParticipant, Stale, UnknownSymbol, OutOfMemory, NotInMatrix}
+use Rattle.tape_core.specs.declared.refusal.Refusal.TheVariants.{WrongLine, OutOfMemory}
 use Rattle.tape_core.specs.Refusals.{refusal_code}
-use Rattle.tape_core.specs.Standing.{NumberedMessage, named_report, last_number}
-use Rattle.tape_core.specs.Tape.{TapeState, refusal, messages_of, message_faults, target_faults, lists_participant, lists_symbol, is_in_matrix}
+use Rattle.tape_core.specs.Standing.{last_number}
+use Rattle.tape_core.specs.Tape.{TapeState, refusal, messages_of, lists_participant, lists_symbol, is_in_matrix}
+use Rattle.tape_core.specs.Lemmas.RefusalCases.{EachCase, of_refusal}
 use Rattle.line_ledger.specs.declared.line_refusal.LineRefusal.{LineRefusal}
 use Rattle.line_ledger.specs.declared.line_refusal.LineRefusal.TheVariants.{Behind, Refused}
 use Rattle.line_ledger.specs.Faults.{line_refusal_code}
@@ -30,17 +28,6 @@ pub record Says (t : TapeState) (m : Message) (r : Refusal) : Type 0 where
   pub not_within : refusal_code r ≡ 44 → not (is_in_matrix t.matrix m) ≡ true
 
 module _ (t : TapeState) (m : Message) where
-  -- each case says so where its test holds
-  abbrev AllSay : List (Bool × Refusal) → Type 0
-  AllSay [] = Unit {0}
-  AllSay (c ∷ cases) = (c.0 ≡ true → Says t m c.1) × AllSay cases
-
-  -- where each case says so, the first that applies says so
-  first-says : (cases : List (Bool × Refusal)) (r : Refusal) → AllSay cases → first_fault cases ≡ Some r → Says t m r
-  first-says [] r all is = absurd (none-some r is)
-  first-says ((true, x) ∷ cases) r all is = subst (Says t m) (same_Some x r is) (all.0 refl)
-  first-says ((false, x) ∷ cases) r all is = first-says cases r all.1 is
-
   -- a refusal of another number says nothing
   other-says : (r : Refusal) → 37 ≤ refusal_code r → refusal_code r < 44 → Says t m r
   other-says r high low = record {
@@ -52,91 +39,62 @@ module _ (t : TapeState) (m : Message) where
     not_within = λ e. absurd (omega arith);
   }
 
-  -- each fault of a target says so
-  targets-say : (tape : List NumberedMessage) (symbol : List ℕ) (reinstated : Bool) (o : Option NumberedMessage)
-      → AllSay (target_faults tape symbol reinstated o)
-  targets-say tape symbol reinstated None = (λ _. other-says _ (omega arith) (omega arith), tt)
-  targets-say tape symbol reinstated (Some report) =
-      (λ _. other-says _ (omega arith) (omega arith), (λ _. other-says _ (omega arith) (omega arith), (λ _. other-says _ (omega arith) (omega arith), tt)))
-
-  -- each fault of what a message names says so
-  message-says : (tape : List NumberedMessage) (x : Message) → AllSay (message_faults tape x)
-  message-says tape (Report header content) = tt
-  message-says tape (Cancel header target) = targets-say tape header.symbol false (named_report tape header.participant target)
-  message-says tape (Correct header target content) = targets-say tape header.symbol false (named_report tape header.participant target)
-  message-says tape (Reinstate header target) = targets-say tape header.symbol true (named_report tape header.participant target)
-
   -- a refusal by the tape says so
   refusal-says : (r : Refusal) → refusal t m ≡ Some r → Says t m r
-  refusal-says r is =
-      let tape = messages_of t.entries in
-      let who = (header_of m).participant in
-      let cases : List (Bool × Refusal) =
-      (t.closed, Closed) ∷ (length t.entries == t.limit, Full) ∷ (not (lists_participant t.listing who), UnknownParticipant)
-      ∷ (nat_le (header_of m).number (last_number tape who), Stale) ∷ (not (lists_symbol t.listing (header_of m).symbol), UnknownSymbol) ∷
-      (not (is_in_matrix t.matrix m), NotInMatrix) ∷ message_faults tape m in
-      let all : AllSay cases = (
-        (λ b. record {
-          wrong_line = λ e. omega arith;
-          closed = λ e. b;
-          unknown = λ e. absurd (omega arith);
-          stale = λ e. absurd (omega arith);
-          unlisted = λ e. absurd (omega arith);
-          not_within = λ e. absurd (omega arith);
-        }),
-        (
-          (λ b. record {
-            wrong_line = λ e. omega arith;
-            closed = λ e. absurd (omega arith);
-            unknown = λ e. absurd (omega arith);
-            stale = λ e. absurd (omega arith);
-            unlisted = λ e. absurd (omega arith);
-            not_within = λ e. absurd (omega arith);
-          }),
-          (
-            (λ b. record {
-              wrong_line = λ e. omega arith;
-              closed = λ e. absurd (omega arith);
-              unknown = λ e. b;
-              stale = λ e. absurd (omega arith);
-              unlisted = λ e. absurd (omega arith);
-              not_within = λ e. absurd (omega arith);
-            }),
-            (
-              (λ b. record {
-                wrong_line = λ e. omega arith;
-                closed = λ e. absurd (omega arith);
-                unknown = λ e. absurd (omega arith);
-                stale = λ e. b;
-                unlisted = λ e. absurd (omega arith);
-                not_within = λ e. absurd (omega arith);
-              }),
-              (
-                (λ b. record {
-                  wrong_line = λ e. omega arith;
-                  closed = λ e. absurd (omega arith);
-                  unknown = λ e. absurd (omega arith);
-                  stale = λ e. absurd (omega arith);
-                  unlisted = λ e. b;
-                  not_within = λ e. absurd (omega arith);
-                }),
-                (
-                  (λ b. record {
-                    wrong_line = λ e. omega arith;
-                    closed = λ e. absurd (omega arith);
-                    unknown = λ e. absurd (omega arith);
-                    stale = λ e. absurd (omega arith);
-                    unlisted = λ e. absurd (omega arith);
-                    not_within = λ e. b;
-                  }),
-                  message-says tape m,
-                ),
-              ),
-            ),
-          ),
-        ),
-      ) in
-      first-says cases r all is
+  refusal-says r is = of_refusal (Says t m) t m r (record {
+    closed = λ b. record {
+      wrong_line = λ e. omega arith;
+      closed = λ e. b;
+      unknown = λ e. absurd (omega arith);
+      stale = λ e. absurd (omega arith);
+      unlisted = λ e. absurd (omega arith);
+      not_within = λ e. absurd (omega arith);
+    };
+    full = λ b. record {
+      wrong_line = λ e. omega arith;
+      closed = λ e. absurd (omega arith);
+      unknown = λ e. absurd (omega arith);
+      stale = λ e. absurd (omega arith);
+      unlisted = λ e. absurd (omega arith);
+      not_within = λ e. absurd (omega arith);
+    };
+    unknown = λ b. record {
+      wrong_line = λ e. omega arith;
+      closed = λ e. absurd (omega arith);
+      unknown = λ e. b;
+      stale = λ e. absurd (omega arith);
+      unlisted = λ e. absurd (omega arith);
+      not_within = λ e. absurd (omega arith);
+    };
+    stale = λ b. record {
+      wrong_line = λ e. omega arith;
+      closed = λ e. absurd (omega arith);
+      unknown = λ e. absurd (omega arith);
+      stale = λ e. b;
+      unlisted = λ e. absurd (omega arith);
+      not_within = λ e. absurd (omega arith);
+    };
+    unlisted = λ b. record {
+      wrong_line = λ e. omega arith;
+      closed = λ e. absurd (omega arith);
+      unknown = λ e. absurd (omega arith);
+      stale = λ e. absurd (omega arith);
+      unlisted = λ e. b;
+      not_within = λ e. absurd (omega arith);
+    };
+    not_within = λ b. record {
+      wrong_line = λ e. omega arith;
+      closed = λ e. absurd (omega arith);
+      unknown = λ e. absurd (omega arith);
+      stale = λ e. absurd (omega arith);
+      unlisted = λ e. absurd (omega arith);
+      not_within = λ e. b;
+    };
+    unnamed = other-says _ (omega arith) (omega arith);
+    of_other = other-says _ (omega arith) (omega arith);
+    cancelled = other-says _ (omega arith) (omega arith);
+    standing = other-says _ (omega arith) (omega arith);
+  }) is
 
   -- the answer of the tape, out of memory included
   answer-says : (o : Option Refusal) → refusal t m ≡ o → Says t m (unwrap_or o OutOfMemory)

@@ -1,6 +1,6 @@
 -- A line's frames, done one after the other.
 use Rattle.std.proofs.Common.{◌≡◌, ◌≢◌, ℕ, ◌+◌, ◌<◌, ◌≤◌, List, [], ◌∷◌, ◌++◌, ◌^◌, Option, Some, None, IfSome, Result, Ok, Err, IfOk, IfErr, inl, inr}
-use Rattle.std.specs.Prelude.{IfNone}
+use Rattle.std.specs.Prelude.{Bool, IfNone, false, true, if◌then◌else◌}
 use Rattle.std.proofs.Common.{length, length-append, append-nil, refl, sym, ap, subst, ◌∙◌, arith}
 use Rattle.std.specs.List.{concat, cons_option}
 use Rattle.std.specs.Io.KnownBytes.{Consumes}
@@ -15,12 +15,15 @@ use Rattle.line_ledger.specs.declared.told.Told.{Told}
 use Rattle.reports.specs.Messages.{header_of}
 use Rattle.reports.specs.Spelling.{Spells}
 use Rattle.reports.specs.declared.message.Message.{Message}
+use Rattle.tape_core.specs.Lemmas.RefusalCodes.{same_number}
+use Rattle.tape_core.specs.Refusals.{is_out_of_memory}
 use Rattle.tape_core.specs.declared.refusal.Refusal.{Refusal}
 use Rattle.tape_core.specs.declared.refusal.Refusal.TheVariants as tape
 use Rattle.participant_lines.specs.Frames.{EndsInput, IsFrame}
-use Rattle.participant_lines.specs.Runs.{AreDone, Does, EndsAfter, IsAnswered, IsDone, Runs, RunsSo, RunsTallied, StopsAt, TakesMessage, effect_of, FRAMES_MOST, is_counted, refusal_effect}
+use Rattle.participant_lines.specs.Runs.{AreDone, Does, EndsAfter, IsAnswered, IsDone, Runs, RunsSo, RunsTallied, StopsAt, TakesMessage, effect_of, FRAMES_MOST, refusal_effect}
 use Rattle.participant_lines.specs.Tallies.{AreCounted}
 use Rattle.participant_lines.specs.declared.tally.Mark.{Mark}
+use Rattle.participant_lines.specs.declared.tally.Reason.TheVariants.{Refused as ByTape}
 use Rattle.participant_lines.specs.declared.tally.Tally.{Tally}
 use Rattle.participant_lines.specs.declared.line_end.Ended.{Ended}
 use Rattle.participant_lines.specs.declared.line_end.Ended.TheVariants.{Clean, Truncated, Oversize, ReadFault, TooMany, OutOfMemory, Behind}
@@ -30,25 +33,17 @@ abbrev mark_in : Result (Option Mark) Ended → Option Mark
 mark_in (Ok mark) = mark
 mark_in (Err ended) = None
 
--- a refusal that is counted is one mark
-once : (number : ℕ) (r : Refusal) (mark : Option Mark) → is_counted number r ≡ Ok mark → length (cons_option mark []) ≡ 1
-once number r mark is = sym (ap (λ (o : Option Mark). length (cons_option o [])) (ap mark_in is))
+-- the effect of a refusal, by whether it is for want of memory
+abbrev effect_by : Bool → ℕ → Refusal → Result (Option Mark) Ended
+effect_by memory number r = if memory then Err OutOfMemory else Ok (Some (record { reason = ByTape r; number = number }))
 
 -- a refusal by the tape after which the line goes on is counted once
 counted_once : (number : ℕ) (r : Refusal) (mark : Option Mark) → refusal_effect number r ≡ Ok mark → length (cons_option mark []) ≡ 1
-counted_once number tape.Closed mark is = once number tape.Closed mark is
-counted_once number tape.Full mark is = once number tape.Full mark is
-counted_once number tape.WrongLine mark is = once number tape.WrongLine mark is
-counted_once number tape.UnknownParticipant mark is = once number tape.UnknownParticipant mark is
-counted_once number tape.Stale mark is = once number tape.Stale mark is
-counted_once number tape.UnknownSymbol mark is = once number tape.UnknownSymbol mark is
-counted_once number tape.NoSuchReport mark is = once number tape.NoSuchReport mark is
-counted_once number tape.OtherSymbol mark is = once number tape.OtherSymbol mark is
-counted_once number tape.Cancelled mark is = once number tape.Cancelled mark is
-counted_once number tape.OutOfMemory mark is = absurd cc
-counted_once number tape.WrongNumber mark is = once number tape.WrongNumber mark is
-counted_once number tape.Standing mark is = once number tape.Standing mark is
-counted_once number tape.NotInMatrix mark is = once number tape.NotInMatrix mark is
+counted_once number r mark = by (is_out_of_memory r)
+  where
+    by : (memory : Bool) → effect_by memory number r ≡ Ok mark → length (cons_option mark []) ≡ 1
+    by true is = absurd cc
+    by false is = sym (ap (λ (o : Option Mark). length (cons_option o [])) (ap mark_in is))
 
 -- what a message that was taken does to the counts of a seat
 takes_counts : (terms : Terms) (s s' : SeatState) (m : Message) (answer : Result ℕ LineRefusal) (mark : Option Mark) → IsAnswered terms s m answer s'
@@ -89,19 +84,15 @@ taken terms s s' m answer (Err ended) tells is = tt
 -- a refusal by the tape at which the line ends
 stopped_by : (terms : Terms) (s s' : SeatState) (m : Message) (r : Refusal) → TellsWhy terms s m (line.Refused r) s'
     → IfErr (refusal_effect (header_of m).number r) (λ ended. (s' ≡ s) × StopsAt ended terms s m)
-stopped_by terms s s' m tape.Closed tells = tt
-stopped_by terms s s' m tape.Full tells = tt
-stopped_by terms s s' m tape.WrongLine tells = tt
-stopped_by terms s s' m tape.UnknownParticipant tells = tt
-stopped_by terms s s' m tape.Stale tells = tt
-stopped_by terms s s' m tape.UnknownSymbol tells = tt
-stopped_by terms s s' m tape.NoSuchReport tells = tt
-stopped_by terms s s' m tape.OtherSymbol tells = tt
-stopped_by terms s s' m tape.Cancelled tells = tt
-stopped_by terms s s' m tape.OutOfMemory tells = (tells.seat, subst (TellsWhy terms s m (line.Refused tape.OutOfMemory)) tells.seat tells)
-stopped_by terms s s' m tape.WrongNumber tells = tt
-stopped_by terms s s' m tape.Standing tells = tt
-stopped_by terms s s' m tape.NotInMatrix tells = tt
+stopped_by terms s s' m r tells = by (is_out_of_memory r) refl
+  where
+    by : (memory : Bool) → is_out_of_memory r ≡ memory
+        → IfErr (effect_by memory (header_of m).number r) (λ ended. (s' ≡ s) × StopsAt ended terms s m)
+    by true is =
+        let told : TellsWhy terms s m (line.Refused tape.OutOfMemory) s' =
+        subst (λ x. TellsWhy terms s m (line.Refused x) s') (same_number r tape.OutOfMemory (grind (arith, is))) tells in
+        (tells.seat, subst (TellsWhy terms s m (line.Refused tape.OutOfMemory)) tells.seat told)
+    by false is = tt
 
 -- an answer at which the line ends leaves the seat as it was, and gives the reason of the end
 effect-stops : (terms : Terms) (s s' : SeatState) (m : Message) (answer : Result ℕ LineRefusal) → IsAnswered terms s m answer s'

@@ -4,7 +4,7 @@ use Rattle.std.proofs.Common.{ap, arith, inl, inr, length, length-append, refl, 
 use Rattle.std.proofs.lemmas.Bool.{cases_Bool, eq-eqb}
 use Rattle.std.proofs.lemmas.List.{get_or-replicate, get_or-set_other, get_or-set_same}
 use Rattle.std.proofs.lemmas.List.Sums.{count_by-le-length, sum_by_from, sum_by_push}
-use Rattle.std.specs.List.{count_by, slice_index_or}
+use Rattle.std.specs.List.{Contains, count_by, slice_index_or}
 use Rattle.std.specs.Prelude.{find, slice_set}
 use Rattle.std.specs.Option.{option_map}
 use Rattle.reports.specs.Faults.{message_fault_code}
@@ -13,7 +13,7 @@ use Rattle.reports.specs.declared.fault.MessageFault.TheVariants as fault
 use Rattle.tape_core.specs.Refusals.{refusal_code}
 use Rattle.tape_core.specs.declared.refusal.Refusal.{Refusal}
 use Rattle.tape_core.specs.declared.refusal.Refusal.TheVariants as tape
-use Rattle.participant_lines.specs.Tallies.{AreCounted, is_for, one_more, reason_code, refused_for, refused_frames}
+use Rattle.participant_lines.specs.Tallies.{AreCounted, all_reasons, is_for, one_more, reason_code, refused_for, refused_frames}
 use Rattle.participant_lines.specs.declared.tally.Mark.{Mark}
 use Rattle.participant_lines.specs.declared.tally.Reason.{Reason}
 use Rattle.participant_lines.specs.declared.tally.Reason.TheVariants.{Unspelled, Refused as ByTape}
@@ -54,6 +54,33 @@ refusal_range tape.NotInMatrix = (omega arith, omega arith)
 pub code_range : (r : Reason) → (11 ≤ reason_code r) × (reason_code r ≤ 44)
 code_range (Unspelled f) = fault_range f
 code_range (ByTape r) = refusal_range r
+
+-- each reason is among all
+pub reason-known : (why : Reason) → Contains all_reasons why
+reason-known (Unspelled fault.Oversize) = (0, omega arith, refl)
+reason-known (Unspelled fault.Short) = (1, omega arith, refl)
+reason-known (Unspelled fault.BadKind) = (2, omega arith, refl)
+reason-known (Unspelled fault.BadLength) = (3, omega arith, refl)
+reason-known (Unspelled fault.BadParticipant) = (4, omega arith, refl)
+reason-known (Unspelled fault.BadNumber) = (5, omega arith, refl)
+reason-known (Unspelled fault.BadSymbol) = (6, omega arith, refl)
+reason-known (Unspelled fault.BadTarget) = (7, omega arith, refl)
+reason-known (Unspelled fault.BadPrice) = (8, omega arith, refl)
+reason-known (Unspelled fault.BadSize) = (9, omega arith, refl)
+reason-known (Unspelled fault.BadCondition) = (10, omega arith, refl)
+reason-known (ByTape tape.Closed) = (11, omega arith, refl)
+reason-known (ByTape tape.Full) = (12, omega arith, refl)
+reason-known (ByTape tape.WrongLine) = (13, omega arith, refl)
+reason-known (ByTape tape.UnknownParticipant) = (14, omega arith, refl)
+reason-known (ByTape tape.Stale) = (15, omega arith, refl)
+reason-known (ByTape tape.UnknownSymbol) = (16, omega arith, refl)
+reason-known (ByTape tape.NoSuchReport) = (17, omega arith, refl)
+reason-known (ByTape tape.OtherSymbol) = (18, omega arith, refl)
+reason-known (ByTape tape.Cancelled) = (19, omega arith, refl)
+reason-known (ByTape tape.OutOfMemory) = (20, omega arith, refl)
+reason-known (ByTape tape.WrongNumber) = (21, omega arith, refl)
+reason-known (ByTape tape.Standing) = (22, omega arith, refl)
+reason-known (ByTape tape.NotInMatrix) = (23, omega arith, refl)
 
 -- ## Lists
 

@@ -1,5 +1,5 @@
 -- What a line does with its frames, and how it ends.
-use Rattle.std.specs.Prelude.{◌≡◌, ◌≢◌, ◌+◌, ◌<◌, ◌≤◌, ◌⊎◌, ℕ, List, [], ◌∷◌, length, Option, Some, None, Result, Ok, Err}
+use Rattle.std.specs.Prelude.{◌≡◌, ◌≢◌, ◌+◌, ◌<◌, ◌≤◌, ◌⊎◌, ℕ, List, [], ◌∷◌, length, Option, Some, None, Result, Ok, Err, if◌then◌else◌}
 use Rattle.std.specs.List.{cons_option}
 use Rattle.std.specs.List.{concat}
 use Rattle.std.specs.Io.KnownBytes.{Consumes}
@@ -13,6 +13,7 @@ use Rattle.reports.specs.Reading.{message_at}
 use Rattle.reports.specs.Spelling.{Spells}
 use Rattle.reports.specs.declared.fault.MessageFault.{MessageFault}
 use Rattle.reports.specs.declared.message.Message.{Message}
+use Rattle.tape_core.specs.Refusals.{is_out_of_memory}
 use Rattle.tape_core.specs.declared.refusal.Refusal.{Refusal}
 use Rattle.tape_core.specs.declared.refusal.Refusal.TheVariants as tape
 use Rattle.participant_lines.specs.Frames.{EndsInput, IsFrame}
@@ -27,25 +28,10 @@ use Rattle.participant_lines.specs.declared.line_end.Ended.TheVariants.{Clean, T
 abbrev pub FRAMES_MOST : ℕ
 FRAMES_MOST = 33554432
 
--- the effect of a refusal that is counted: the message of this number is refused, and the line goes on
-abbrev pub is_counted : ℕ → Refusal → Result (Option Mark) Ended
-is_counted number refusal = Ok (Some (record { reason = ByTape refusal; number = number }))
-
 -- what a tape's refusal of the message of this number does to its line: out of memory ends it, and each other one is counted
 abbrev pub refusal_effect : ℕ → Refusal → Result (Option Mark) Ended
-refusal_effect number tape.Closed = is_counted number tape.Closed
-refusal_effect number tape.Full = is_counted number tape.Full
-refusal_effect number tape.WrongLine = is_counted number tape.WrongLine
-refusal_effect number tape.UnknownParticipant = is_counted number tape.UnknownParticipant
-refusal_effect number tape.Stale = is_counted number tape.Stale
-refusal_effect number tape.UnknownSymbol = is_counted number tape.UnknownSymbol
-refusal_effect number tape.NoSuchReport = is_counted number tape.NoSuchReport
-refusal_effect number tape.OtherSymbol = is_counted number tape.OtherSymbol
-refusal_effect number tape.Cancelled = is_counted number tape.Cancelled
-refusal_effect number tape.OutOfMemory = Err OutOfMemory
-refusal_effect number tape.WrongNumber = is_counted number tape.WrongNumber
-refusal_effect number tape.Standing = is_counted number tape.Standing
-refusal_effect number tape.NotInMatrix = is_counted number tape.NotInMatrix
+refusal_effect number refusal =
+    if is_out_of_memory refusal then Err OutOfMemory else Ok (Some (record { reason = ByTape refusal; number = number }))
 
 -- what an answer to the message of this number does to its line: the refusal that is counted, none at an admission, or the end that
 -- it brings

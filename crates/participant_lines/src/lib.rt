@@ -14,6 +14,6 @@ pub use line_end::{Ended, LineEnd, TalliedEnd};
 pub use lines::{run_lines, run_watched_lines};
 pub use running::{FRAMES_MOST, run_line};
 pub use seats::{seats_of_ends, seats_of_lines, seats_of_tallied};
-pub use tally::{ALL_REASONS, Mark, Reason, Refused, Tally};
+pub use tally::{ALL_REASONS, Mark, Reason, Refused, Tally, each_reason};
 pub use unstarted::{Lack, Unstarted};
 pub use watch::LineWatch;

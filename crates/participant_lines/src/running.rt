@@ -12,7 +12,6 @@ use line_ledger::{DayName, LineRefusal, LineSeat, Receipt, SharedTape};
 use reports::{LONGEST_FRAME, Message};
 use std::io::BufRead;
 use std::sync::Wait;
-use tape_core::Refusal;
 use tape_types::Gate;
 
 /// How many frames a line does at most.
@@ -36,11 +35,16 @@ fn effect_of(answer: Result<Receipt, LineRefusal>, number: u32) -> Result<Option
     match answer {
         Ok(_) => Ok(None),
         Err(LineRefusal::Behind) => Err(Ended::Behind),
-        Err(LineRefusal::Refused(Refusal::OutOfMemory)) => Err(Ended::OutOfMemory),
-        Err(LineRefusal::Refused(refusal)) => Ok(Some(Mark {
-            reason: Reason::Refused(refusal),
-            number,
-        })),
+        Err(LineRefusal::Refused(refusal)) => {
+            if refusal.is_out_of_memory() {
+                Err(Ended::OutOfMemory)
+            } else {
+                Ok(Some(Mark {
+                    reason: Reason::Refused(refusal),
+                    number,
+                }))
+            }
+        }
     }
 }
 

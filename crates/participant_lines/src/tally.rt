@@ -1,7 +1,8 @@
 //! The refused frames of a line, counted by what they were refused for.
 ghost use Rattle.std.specs.Prelude.{◌≡◌, ◌+◌, ◌<◌, ◌≤◌, ◌^◌, ◌++◌, ◌∷◌, List, [], Option, Some, IfSome, length};
-ghost use Rattle.std.specs.List.{cons_option};
-ghost use Rattle.participant_lines.specs.Tallies.{AreCounted, one_more, reason_code, reason_name, refused_for};
+ghost use Rattle.std.specs.List.{Contains, cons_option};
+ghost use Rattle.participant_lines.specs.Tallies.{AreCounted, all_reasons, one_more, reason_code, reason_name, refused_for};
+ghost use Rattle.participant_lines.specs.declared.tally.Reason.{Reason as Why};
 
 use reports::MessageFault;
 use tape_core::Refusal;
@@ -170,3 +171,8 @@ impl Tally {
         }
     }
 }
+
+/// Each reason is among all.
+pub fn each_reason()
+    ensures holds { (why : Why) → Contains all_reasons why }
+{}

@@ -4,35 +4,32 @@ use Rattle.std.proofs.Common.{ap, arith, inl, inr, length, refl, replicate, subs
 use Rattle.std.proofs.lemmas.Bool.{cases_Bool, eq-eqb}
 use Rattle.std.proofs.lemmas.List.{get_or-replicate, get_or-set_other, get_or-set_same}
 use Rattle.std.proofs.lemmas.List.Sums.{count_by-le-length, sum_by_from, sum_by_push}
-use Rattle.std.specs.List.{Contains, count_by, list_all, position_from}
-use Rattle.std.specs.Prelude.{is_none}
+use Rattle.std.specs.List.{count_by, list_all, position_from}
+use Rattle.std.specs.Prelude.{if◌then◌else◌, is_none, nat_le, slice_get}
+use Rattle.std.proofs.lemmas.Option.{same_Some, slice_get_within, get_or_from_slice_get}
 use Rattle.std.proofs.lemmas.List.Folds.{list_all_at}
 use Rattle.std.specs.Prelude.{slice_index_or, slice_set}
 use Rattle.std.specs.Option.{option_map}
-use Rattle.tape_core.specs.Refusals.{refusal_code}
+use Rattle.tape_core.specs.Lemmas.RefusalCodes.{position_known}
+use Rattle.tape_core.specs.Refusals.{all_refusals, refusal_code, refusal_position}
 use Rattle.tape_core.specs.declared.refusal.Refusal.{Refusal}
-use Rattle.tape_core.specs.declared.refusal.Refusal.TheVariants.{Closed, Full, WrongLine, UnknownParticipant, Stale, UnknownSymbol, NoSuchReport, OtherSymbol}
-use Rattle.tape_core.specs.declared.refusal.Refusal.TheVariants.{Cancelled, OutOfMemory, WrongNumber, Standing, NotInMatrix}
 use Rattle.day_tables.specs.Tables.{FIRST_ROW}
-use Rattle.table_days.specs.Refusals.{AreRefusals, RefusesNone, all_reasons, is_refusal, one_more, refused_for, refused_rows}
+use Rattle.table_days.specs.Refusals.{AreRefusals, RefusesNone, is_refusal, one_more, refused_for, refused_rows}
 use Rattle.table_days.specs.declared.refusals.Refusals.{Refusals}
 use Rattle.table_days.specs.declared.refusals.Refused.{Refused}
 
--- the numbers of refusals
-pub code_range : (r : Refusal) → (31 ≤ refusal_code r) × (refusal_code r ≤ 44)
-code_range Closed = (omega arith, omega arith)
-code_range Full = (omega arith, omega arith)
-code_range WrongLine = (omega arith, omega arith)
-code_range UnknownParticipant = (omega arith, omega arith)
-code_range Stale = (omega arith, omega arith)
-code_range UnknownSymbol = (omega arith, omega arith)
-code_range NoSuchReport = (omega arith, omega arith)
-code_range OtherSymbol = (omega arith, omega arith)
-code_range Cancelled = (omega arith, omega arith)
-code_range OutOfMemory = (omega arith, omega arith)
-code_range WrongNumber = (omega arith, omega arith)
-code_range Standing = (omega arith, omega arith)
-code_range NotInMatrix = (omega arith, omega arith)
+-- the position of a refusal is one of thirteen
+position_range : (r : Refusal) → refusal_position r < 13
+position_range r = slice_get_within all_refusals (refusal_position r) r (position_known r)
+
+-- refusals at one position have one number
+same_number : (r other : Refusal) → refusal_position other ≡ refusal_position r → refusal_code r ≡ refusal_code other
+same_number r other same =
+    ap refusal_code (same_Some r other (sym (position_known r) ∙ ap (slice_get all_refusals) (sym same) ∙ position_known other))
+
+-- and refusals of one number one position
+same_position : (r other : Refusal) → refusal_code r ≡ refusal_code other → refusal_position other ≡ refusal_position r
+same_position r other same = ap (λ (n : ℕ). if nat_le n 41 then n - 31 else n - 32) (sym same)
 
 -- ## Lists
 
@@ -131,12 +128,11 @@ if_some-weaker P Q (Some a) f h = f a h
 -- ## Refusals
 
 -- nothing is refused of no answers
-pub AreRefusals-none : (refusals : Refusals) → refusals.reasons ≡ replicate 14 None → AreRefusals [] refusals
+pub AreRefusals-none : (refusals : Refusals) → refusals.reasons ≡ replicate 13 None → AreRefusals [] refusals
 unfolding refused_rows
 AreRefusals-none refusals none reason =
-    let range = code_range reason in
-    ap (λ (l : List (Option Refused)). slice_index_or l (refusal_code reason - 31) None) none
-    ∙ get_or-replicate 14 (refusal_code reason - 31) None None (omega (arith, range.1))
+    ap (λ (l : List (Option Refused)). slice_index_or l (refusal_position reason) None) none
+    ∙ get_or-replicate 13 (refusal_position reason) None None (position_range reason)
 
 -- an answer that is a tape number is no refusal
 pub AreRefusals-admitted : (refusals : Refusals) (answers : List (Result ℕ Refusal)) (number : ℕ) → AreRefusals answers refusals
@@ -145,78 +141,61 @@ AreRefusals-admitted refusals answers number had reason = had reason ∙ sym (re
 
 -- a refusal more is counted for its reason
 pub AreRefusals-refused : (old new : Refusals) (refused : Refusal) (place row : ℕ) (more : Refused) (answers : List (Result ℕ Refusal))
-    → length old.reasons ≡ 14 → place + 31 ≡ refusal_code refused → new.reasons ≡ slice_set old.reasons place (Some more)
+    → length old.reasons ≡ 13 → place ≡ refusal_position refused → new.reasons ≡ slice_set old.reasons place (Some more)
     → (IfSome (slice_index_or old.reasons place None) (λ refused. refused.count + 1 < 2 ^ 64)
     → more ≡ one_more (slice_index_or old.reasons place None) row)
     → row < 2 ^ 64 → row ≡ length answers + FIRST_ROW → AreRefusals answers old → AreRefusals (answers ++ Err refused ∷ []) new
 AreRefusals-refused old new refused place row more answers size at set is fits counted had reason =
-    let range = code_range refused in
-    let other_range = code_range reason in
     elim (cases_Bool (refusal_code refused == refusal_code reason)) [
       | inl same ↦
           let same_code : refusal_code refused ≡ refusal_code reason = grind (arith, same) in
-          let here : refusal_code reason - 31 ≡ place = omega (arith, same_code, at) in
+          let here : refusal_position reason ≡ place = same_position refused reason same_code ∙ sym at in
           let had_here : slice_index_or old.reasons place None ≡ refused_rows reason answers =
           ap (λ (n : ℕ). slice_index_or old.reasons n None) (sym here) ∙ had reason in
           let few : IfSome (slice_index_or old.reasons place None) (λ refused. refused.count + 1 < 2 ^ 64) =
           subst (λ (o : Option Refused). IfSome o (λ refused. refused.count + 1 < 2 ^ 64)) (sym had_here)
           (if_some-weaker (λ refused. refused.count ≤ length answers) (λ refused. refused.count + 1 < 2 ^ 64) (refused_rows reason answers)
           (λ refused le. omega (arith, le, fits, counted)) (refused_rows-few reason answers)) in
-          ap (λ (l : List (Option Refused)). slice_index_or l (refusal_code reason - 31) None) set
+          ap (λ (l : List (Option Refused)). slice_index_or l (refusal_position reason) None) set
           ∙ ap (λ (n : ℕ). slice_index_or (slice_set old.reasons place (Some more)) n None) here
-          ∙ get_or-set_same old.reasons place (Some more) None (omega (arith, size, at, range.1))
+          ∙ get_or-set_same old.reasons place (Some more) None (omega (arith, size, at, position_range refused))
           ∙ ap (λ (r : Refused). Some r) (is few ∙ ap (λ (o : Option Refused). one_more o row) had_here
           ∙ ap (one_more (refused_rows reason answers)) counted)
           ∙ sym (refused_rows-more reason answers (Err refused) same)
       | inr other ↦
-          let apart : refusal_code reason - 31 ≢ place = λ e. cc (eq-eqb (refusal_code refused) (refusal_code reason) (omega (arith, e, at, other_range.0)), other) in
-          ap (λ (l : List (Option Refused)). slice_index_or l (refusal_code reason - 31) None) set
-          ∙ get_or-set_other old.reasons place (refusal_code reason - 31) (Some more) None apart
+          let apart : refusal_position reason ≢ place = λ e. cc (eq-eqb (refusal_code refused) (refusal_code reason) (same_number refused reason (e ∙ at)), other) in
+          ap (λ (l : List (Option Refused)). slice_index_or l (refusal_position reason) None) set
+          ∙ get_or-set_other old.reasons place (refusal_position reason) (Some more) None apart
           ∙ had reason ∙ sym (refused_rows-same reason answers (Err refused) other)
     ]
 
 -- they are those of the same answers where nothing but the first stale row changes
 pub AreRefusals-kept : (old new : Refusals) (answers : List (Result ℕ Refusal)) → new.reasons ≡ old.reasons → AreRefusals answers old
     → AreRefusals answers new
-AreRefusals-kept old new answers same had reason = ap (λ (l : List (Option Refused)). slice_index_or l (refusal_code reason - 31) None) same ∙ had reason
+AreRefusals-kept old new answers same had reason = ap (λ (l : List (Option Refused)). slice_index_or l (refusal_position reason) None) same ∙ had reason
 
--- ## All reasons
-
--- each refusal is among all
-pub reason-known : (reason : Refusal) → Contains all_reasons reason
-reason-known Closed = (0, omega arith, refl)
-reason-known Full = (1, omega arith, refl)
-reason-known WrongLine = (2, omega arith, refl)
-reason-known UnknownParticipant = (3, omega arith, refl)
-reason-known Stale = (4, omega arith, refl)
-reason-known UnknownSymbol = (5, omega arith, refl)
-reason-known NoSuchReport = (6, omega arith, refl)
-reason-known OtherSymbol = (7, omega arith, refl)
-reason-known Cancelled = (8, omega arith, refl)
-reason-known OutOfMemory = (9, omega arith, refl)
-reason-known WrongNumber = (10, omega arith, refl)
-reason-known Standing = (11, omega arith, refl)
-reason-known NotInMatrix = (12, omega arith, refl)
+-- ## All refusals
 
 -- whether a reason has no row
 abbrev has_none : Refusals → Refusal → Bool
 has_none refusals reason = is_none (refused_for refusals reason)
 
 -- where none of all reasons has a row, no refusal has
-pub RefusesNone-all : (refusals : Refusals) → list_all (has_none refusals) all_reasons ≡ true → RefusesNone refusals
+pub RefusesNone-all : (refusals : Refusals) → list_all (has_none refusals) all_refusals ≡ true → RefusesNone refusals
 RefusesNone-all refusals all reason = cases (refused_for refusals reason) refl
   where
     cases : (o : Option Refused) → refused_for refusals reason ≡ o → o ≡ None
     cases None is = refl
     cases (Some refused) is =
-        let (k, within, at) = reason-known reason in
-        let fails : has_none refusals (slice_index_or all_reasons k reason) ≡ false =
+        let at : slice_index_or all_refusals (refusal_position reason) reason ≡ reason =
+        get_or_from_slice_get all_refusals (refusal_position reason) reason reason (position_known reason) in
+        let fails : has_none refusals (slice_index_or all_refusals (refusal_position reason) reason) ≡ false =
         ap (has_none refusals) at ∙ ap (λ (o : Option Refused). is_none o) is in
-        absurd (cc (all, list_all_at (has_none refusals) all_reasons k reason within fails))
+        absurd (cc (all, list_all_at (has_none refusals) all_refusals (refusal_position reason) reason (position_range reason) fails))
 
 -- where no refusal has a row, none of all reasons has
-pub all-RefusesNone : (refusals : Refusals) → RefusesNone refusals → list_all (has_none refusals) all_reasons ≡ true
-all-RefusesNone refusals none = each all_reasons
+pub all-RefusesNone : (refusals : Refusals) → RefusesNone refusals → list_all (has_none refusals) all_refusals ≡ true
+all-RefusesNone refusals none = each all_refusals
   where
     each : (reasons : List Refusal) → list_all (has_none refusals) reasons ≡ true
     each [] = refl

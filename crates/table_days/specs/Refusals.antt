@@ -1,20 +1,12 @@
 -- What a tape refused, counted by reason.
-use Rattle.std.specs.Prelude.{◌≡◌, ◌+◌, ◌-◌, ◌==◌, ℕ, Bool, false, List, [], ◌∷◌, Option, Some, None, Result, Ok, Err}
+use Rattle.std.specs.Prelude.{◌≡◌, ◌+◌, ◌==◌, ℕ, Bool, false, List, Option, Some, None, Result, Ok, Err}
 use Rattle.std.specs.List.{count_by, position_from, slice_index_or}
 use Rattle.std.specs.Option.{option_map}
-use Rattle.tape_core.specs.Refusals.{refusal_code}
+use Rattle.tape_core.specs.Refusals.{refusal_code, refusal_position}
 use Rattle.day_tables.specs.Tables.{FIRST_ROW}
 use Rattle.tape_core.specs.declared.refusal.Refusal.{Refusal}
-use Rattle.tape_core.specs.declared.refusal.Refusal.TheVariants.{Closed, Full, WrongLine, UnknownParticipant, Stale, UnknownSymbol, NoSuchReport, OtherSymbol}
-use Rattle.tape_core.specs.declared.refusal.Refusal.TheVariants.{Cancelled, OutOfMemory, WrongNumber, Standing, NotInMatrix}
 use Rattle.table_days.specs.declared.refusals.Refusals.{Refusals}
 use Rattle.table_days.specs.declared.refusals.Refused.{Refused}
-
--- every refusal, by rising number
-abbrev pub all_reasons : List Refusal
-all_reasons =
-    Closed ∷ Full ∷ WrongLine ∷ UnknownParticipant ∷ Stale ∷ UnknownSymbol ∷ NoSuchReport ∷ OtherSymbol ∷ Cancelled
-    ∷ OutOfMemory ∷ WrongNumber ∷ Standing ∷ NotInMatrix ∷ []
 
 -- whether an answer is this refusal
 abbrev pub is_refusal : Refusal → Result ℕ Refusal → Bool
@@ -28,7 +20,7 @@ refused_rows reason answers =
 
 -- the rows that were counted for this reason
 abbrev pub refused_for : Refusals → Refusal → Option Refused
-refused_for refusals reason = slice_index_or refusals.reasons (refusal_code reason - 31) None
+refused_for refusals reason = slice_index_or refusals.reasons (refusal_position reason) None
 
 -- these are the refusals of these answers, for every reason
 abbrev pub AreRefusals : List (Result ℕ Refusal) → Refusals → Type 0

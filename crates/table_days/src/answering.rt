@@ -1,6 +1,5 @@
 //! A tape's answers to messages.
-ghost use Rattle.std.specs.Prelude.{◌≡◌, ◌↔◌, IsTrue, IfOk, OnOk};
-ghost use Rattle.tape_core.specs.declared.refusal.Refusal.TheVariants.{OutOfMemory};
+ghost use Rattle.std.specs.Prelude.{◌≡◌, IfOk, OnOk};
 ghost use Rattle.table_days.specs.Answers.{answer, tape_after};
 
 use reports::Message;
@@ -15,13 +14,6 @@ pub type TableTape = Tape<IndexStore>;
 /// The answer to a row: its message's tape number, or why the tape refused it.
 pub type Answer = Result<TapeNumber, Refusal>;
 
-/// Whether memory ran out.
-pub fn is_out_of_memory(refusal: Refusal) -> bool
-    ensures { IsTrue result ↔ (refusal ≡ OutOfMemory) }
-{
-    matches!(refusal, Refusal::OutOfMemory)
-}
-
 /// Answers a message: it is admitted, or refused, and then the tape is as it was.
 pub fn answer(tape: &mut TableTape, message: Message) -> Result<Answer, AllocError>
     ensures tape { OnOk result (tape.new ≡ tape_after tape.old message) }
@@ -30,7 +22,7 @@ pub fn answer(tape: &mut TableTape, message: Message) -> Result<Answer, AllocErr
     match tape.admit(message) {
         Ok(entry) => Ok(Ok(entry.number)),
         Err(refusal) => {
-            if is_out_of_memory(refusal) {
+            if refusal.is_out_of_memory() {
                 return Err(AllocError);
             }
             Ok(Err(refusal))

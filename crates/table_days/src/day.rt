@@ -18,6 +18,8 @@ use tape_types::TAPE_MOST;
 /// A table's tape while its rows are answered, and what it has refused.
 #[derive(Drop)]
 pub struct Day {
+    /// Where the text of a refusal is made.
+    pub alloc: Global,
     /// The tape.
     pub tape: TableTape,
     /// What it refused of the rows so far.
@@ -40,6 +42,7 @@ impl Day {
         };
         match Tape::new(alloc, listing, TAPE_MOST, matrix) {
             Ok(tape) => Ok(Day {
+                alloc,
                 tape,
                 refusals: Refusals::none(),
                 row: FIRST_ROW,

@@ -4,7 +4,6 @@ ghost use Rattle.tape_core.specs.Ending.{IsKeptFor, KeepsEnd, ListsNames};
 ghost use Rattle.tape_core.specs.Tape.{TapeState};
 ghost use Rattle.table_days.specs.Answers.{answer, tape_after};
 
-use crate::answering::is_out_of_memory;
 use crate::day_names::DayNames;
 use crate::last_numbers::LastNumbers;
 use crate::{Answer, Refusals};
@@ -39,7 +38,7 @@ fn answer(tape: &mut EndTape, message: Message) -> Result<Answer, AllocError>
     match tape.admit(message) {
         Ok(number) => Ok(Ok(number)),
         Err(refusal) => {
-            if is_out_of_memory(refusal) {
+            if refusal.is_out_of_memory() {
                 return Err(AllocError);
             }
             Ok(Err(refusal))

@@ -54,6 +54,7 @@ impl EntryRows {
     {
         let mut writer = lines_in(mem::replace(&mut self.text, Vec::new(self.alloc)));
         put_row(
+            self.alloc,
             &mut writer,
             &mut self.fields,
             &Ok(entry.number),

@@ -36,7 +36,7 @@ pub use explain::{explain_over, rows_add_up, rows_of_figures, rows_of_reports, w
 pub use lines::{into_text, lines_in, put_line};
 pub use messages_report::write_messages_report;
 pub use naming::listing_of;
-pub use refusals::{ALL_REASONS, Refusals, Refused, each_reason};
+pub use refusals::{Refusals, Refused};
 pub use report::report_over;
 pub use stale_row::StaleRow;
 pub use strict::{explain_strict_over, report_strict_over, tape_strict_over};

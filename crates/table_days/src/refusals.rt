@@ -1,39 +1,15 @@
 //! What a tape refused, counted by reason.
 ghost use Rattle.std.specs.Prelude.{◌≡◌, ◌↔◌, ◌+◌, ◌<◌, ◌^◌, ◌++◌, ◌∷◌, ℕ, List, [], Option, None, Result, Err, IfSome, IsTrue, is_none, length};
-ghost use Rattle.std.specs.List.{Contains, list_all};
-ghost use Rattle.tape_core.specs.Refusals.{refusal_code};
+ghost use Rattle.std.specs.List.{list_all};
 ghost use Rattle.tape_core.specs.declared.refusal.Refusal.{Refusal as Reason};
 ghost use Rattle.tape_core.specs.declared.refusal.Refusal.TheVariants.{Stale};
-ghost use Rattle.table_days.specs.Refusals.{all_reasons, is_refusal, one_more, refused_for};
+ghost use Rattle.table_days.specs.Refusals.{is_refusal, one_more, refused_for};
 ghost use Rattle.table_days.specs.StaleRows.{stale_after, stale_row};
 
 use crate::Answer;
 use crate::stale_row::StaleRow;
 use reports::Message;
-use tape_core::Refusal;
-
-/// Every refusal, by rising number.
-pub const ALL_REASONS: [Refusal; 13] = [
-    Refusal::Closed,
-    Refusal::Full,
-    Refusal::WrongLine,
-    Refusal::UnknownParticipant,
-    Refusal::Stale,
-    Refusal::UnknownSymbol,
-    Refusal::NoSuchReport,
-    Refusal::OtherSymbol,
-    Refusal::Cancelled,
-    Refusal::OutOfMemory,
-    Refusal::WrongNumber,
-    Refusal::Standing,
-    Refusal::NotInMatrix,
-];
-
-/// The number of the first refusal.
-const FIRST_REASON: u8 = 31;
-
-/// How many numbers refusals have, with those between them that no refusal has.
-const REASONS: usize = 14;
+use tape_core::{ALL_REFUSALS, Refusal};
 
 /// The rows that a tape refused for one reason.
 #[derive(Clone, Copy, Debug, PartialEq, Eq)]
@@ -47,17 +23,8 @@ pub struct Refused {
 /// What a tape refused: for each reason how many rows, and the first of them; and of the first stale row which numbers show it.
 #[derive(Clone, Copy, Debug, PartialEq, Eq)]
 pub struct Refusals {
-    reasons: [Option<Refused>; REASONS],
+    reasons: [Option<Refused>; ALL_REFUSALS.len()],
     stale: Option<StaleRow>,
-}
-
-/// The place of a refusal among those of all reasons.
-#[tactic(auto, using(crate::proofs::RefusalLemmas::code_range))]
-fn place_of(refusal: Refusal) -> usize
-    ensures within { result < REASONS }
-    ensures place { result + FIRST_REASON ≡ refusal_code refusal }
-{
-    usize::from(refusal.code() - FIRST_REASON)
 }
 
 /// Whether a refusal is that of a stale row.
@@ -93,7 +60,7 @@ impl Refusals {
         ensures stale { result.stale ≡ None }
     {
         Refusals {
-            reasons: [None; REASONS],
+            reasons: [None; ALL_REFUSALS.len()],
             stale: None,
         }
     }
@@ -102,7 +69,7 @@ impl Refusals {
     pub fn of(&self, refusal: Refusal) -> Option<Refused>
         ensures refused { result ≡ refused_for self.now refusal }
     {
-        self.reasons[place_of(refusal)]
+        self.reasons[refusal.position()]
     }
 
     /// The first row that was refused as `Stale`, or `None` where none was.
@@ -128,7 +95,7 @@ impl Refusals {
     pub fn is_empty(&self) -> bool
         ensures empty { IsTrue result ↔ RefusesNone self.now }
     {
-        self.has_none_of(&ALL_REASONS)
+        self.has_none_of(&ALL_REFUSALS)
     }
 
     /// Counts a row more that is refused for this reason, by its number.
@@ -137,7 +104,7 @@ impl Refusals {
         ensures counts { (answers : List (Result ℕ Reason)) → row ≡ length answers + FIRST_ROW
             → AreRefusals answers self.old → AreRefusals (answers ++ Err refusal ∷ []) self.new }
     {
-        let place = place_of(refusal);
+        let place = refusal.position();
         let more = one_more(self.reasons[place], row);
         self.reasons[place] = Some(more);
     }
@@ -173,8 +140,3 @@ impl Refusals {
         }
     }
 }
-
-/// Each refusal is among all.
-pub fn each_reason()
-    ensures holds { (reason : Reason) → Contains all_reasons reason }
-{}

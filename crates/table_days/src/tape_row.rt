@@ -1,5 +1,5 @@
 //! A row of the readable tape.
-ghost use Rattle.std.specs.Prelude.{◌≡◌, ◌+◌, ◌<◌, ◌^◌, ◌++◌, ◌∷◌, [], IfOk, OnOk, true};
+ghost use Rattle.std.specs.Prelude.{◌≡◌, ◌+◌, ◌<◌, ◌^◌, ◌++◌, ◌∷◌, [], IfOk, OnOk, string_bytes, true};
 ghost use Rattle.tape_core.specs.Tape.{lists_symbol};
 ghost use Rattle.csv.specs.Records.{fields_of, partial_of};
 ghost use Rattle.csv.specs.Writing.{default_writer, row_text};
@@ -56,28 +56,16 @@ pub fn head_text(alloc: Global) -> Result<Vec<u8>, AllocError>
 }
 
 /// A refusal by its number and its name.
-fn refusal_text(refusal: Refusal) -> &'static [u8]
-    ensures { result.now ≡ refusal_text refusal }
+fn refusal_text(alloc: Global, refusal: Refusal) -> Result<String, AllocError>
+    ensures { IfOk result (λ text. string_bytes text ≡ refusal_text refusal) }
 {
-    match refusal {
-        Refusal::Closed => b"31 Closed",
-        Refusal::Full => b"32 Full",
-        Refusal::WrongLine => b"33 WrongLine",
-        Refusal::UnknownParticipant => b"34 UnknownParticipant",
-        Refusal::Stale => b"35 Stale",
-        Refusal::UnknownSymbol => b"36 UnknownSymbol",
-        Refusal::NoSuchReport => b"37 NoSuchReport",
-        Refusal::OtherSymbol => b"38 OtherSymbol",
-        Refusal::Cancelled => b"39 Cancelled",
-        Refusal::OutOfMemory => b"40 OutOfMemory",
-        Refusal::WrongNumber => b"41 WrongNumber",
-        Refusal::Standing => b"43 Standing",
-        Refusal::NotInMatrix => b"44 NotInMatrix",
-    }
+    let code = refusal.code();
+    let name = refusal.name();
+    format!(in alloc; "{code} {name}")
 }
 
 /// Adds the tape number and the refusal, one of them empty.
-fn push_answer(fields: &mut ByteRecord, answer: &Answer) -> Result<(), AllocError>
+fn push_answer(alloc: Global, fields: &mut ByteRecord, answer: &Answer) -> Result<(), AllocError>
     requires { partial_of fields.old ≡ [] }
     ensures fields { OnOk result (fields_of fields.new ≡ fields_of fields.old ++ answer_fields answer.now) }
     ensures partial { OnOk result (partial_of fields.new ≡ []) }
@@ -89,7 +77,8 @@ fn push_answer(fields: &mut ByteRecord, answer: &Answer) -> Result<(), AllocErro
         }
         Err(refusal) => {
             fields.push_field(b"")?;
-            fields.push_field(refusal_text(*refusal))
+            let text = refusal_text(alloc, *refusal)?;
+            fields.push_field(text.as_bytes())
         }
     }
 }
@@ -123,6 +112,7 @@ fn push_figures(fields: &mut ByteRecord, figures: &Summary) -> Result<(), AllocE
 /// Writes a row as a line, by a record that is used again for each.
 #[tactic(auto, unfolding(crate::specs::TapeRows::tape_fields))]
 pub fn put_row(
+    alloc: Global,
     writer: &mut Writer<Vec<u8>>,
     fields: &mut ByteRecord,
     answer: &Answer,
@@ -135,7 +125,7 @@ pub fn put_row(
         ++ row_text default_writer (tape_fields (record { answer = answer.now; message = message.now; figures = figures.now }))) }
 {
     fields.clear();
-    push_answer(fields, answer)?;
+    push_answer(alloc, fields, answer)?;
     push_row(fields, message)?;
     push_figures(fields, figures)?;
     put_line(writer, fields)
@@ -172,5 +162,5 @@ pub fn put_next(
 {
     let answered = day.answer(message)?;
     let figures = figures_of(&day.tape, &message);
-    put_row(writer, fields, &answered, &message, &figures)
+    put_row(day.alloc, writer, fields, &answered, &message, &figures)
 }

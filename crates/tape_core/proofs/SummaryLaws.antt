@@ -9,7 +9,6 @@ use Rattle.reports.specs.declared.message.Message.{Message}
 use Rattle.reports.specs.declared.message.Message.TheVariants.{Report, Cancel, Correct, Reinstate}
 use Rattle.reports.specs.Messages.{header_of}
 use Rattle.scratch_fold.specs.Fold.{PlacedEffect, empty_summary, step, summary_of}
-use Rattle.scratch_fold.specs.declared.summary.Summary.{Summary}
 use Rattle.symbol_book.specs.declared.trade.Trade.{Trade}
 use Rattle.symbol_book.specs.Columns.{consolidated_effect_of, reported_trade}
 use Rattle.tape_core.specs.Books.{HasTargets, IsNumbered, book_of}

@@ -1,5 +1,5 @@
 -- A report of a legal tape is the one that its participant and its number name, and its latest content is of the tape's matrix.
-use Rattle.std.proofs.Common.{◌≡◌, ℕ, ◌+◌, ◌<◌, ◌==◌, ◌&&◌, Bool, true, cond, nat_le, false, List, ◌∷◌, ◌++◌, Option, Some, None, IfSome, if◌then◌else◌, is_some, unwrap_or, subst, length, take, drop, slice_get, get_or}
+use Rattle.std.proofs.Common.{◌≡◌, ℕ, ◌+◌, ◌<◌, Bool, true, cond, false, List, ◌∷◌, ◌++◌, Option, Some, None, IfSome, if◌then◌else◌, is_some, unwrap_or, subst, length, take, drop, slice_get}
 use Rattle.std.proofs.Common.{refl, sym, ap, ◌∙◌, arith}
 use Rattle.std.specs.List.{find}
 use Rattle.std.specs.Option.{option_map, option_or}

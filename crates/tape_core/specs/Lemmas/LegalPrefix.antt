@@ -1,16 +1,14 @@
 -- What a legal tape says of its first entries.
-use Rattle.std.proofs.Common.{◌≡◌, ℕ, suc, ◌<◌, ◌==◌, cond, not, nat_le, false, List, ◌∷◌, length, take, slice_get, Option, Some, None, ap, ◌∙◌, arith, sym}
+use Rattle.std.proofs.Common.{◌≡◌, ℕ, suc, ◌<◌, ◌==◌, cond, false, List, length, take, slice_get, Option, Some, None, ap, ◌∙◌, arith, sym}
 use Rattle.std.proofs.lemmas.Option.{slice_get_within}
 use Rattle.std.proofs.Math.ListN.{length-take}
 use Rattle.sale_matrix.specs.declared.matrix.Matrix.{Matrix}
 use Rattle.reports.specs.declared.message.Message.{Message}
-use Rattle.reports.specs.Messages.{header_of}
 use Rattle.tape_types.specs.Names.{Names, first_fault}
 use Rattle.tape_core.specs.declared.entry.Entry.{Entry}
 use Rattle.tape_core.specs.declared.refusal.Refusal.{Refusal}
-use Rattle.tape_core.specs.declared.refusal.Refusal.TheVariants.{Closed, Full, UnknownParticipant, Stale, UnknownSymbol, NotInMatrix}
-use Rattle.tape_core.specs.Standing.{last_number}
-use Rattle.tape_core.specs.Tape.{TapeState, IsLegal, refusal, next_entry, messages_of, lists_participant, lists_symbol, is_in_matrix, message_faults}
+use Rattle.tape_core.specs.declared.refusal.Refusal.TheVariants.{Closed, Full}
+use Rattle.tape_core.specs.Tape.{TapeState, IsLegal, refusal, next_entry, message_cases, messages_of}
 use Rattle.tape_core.specs.Laws.{limit_refusal}
 use Rattle.tape_core.specs.Lemmas.LegalNext.{none_first}
 
@@ -22,12 +20,7 @@ number-of_position t k e legal at =
 
 -- why a message is refused, whether or not the tape is closed or full
 abbrev message_refusal : Names → Matrix → List Entry → Message → Option Refusal
-message_refusal listing matrix entries m = first_fault (
-    (not (lists_participant listing (header_of m).participant), UnknownParticipant) ∷
-    (nat_le (header_of m).number (last_number (messages_of entries) (header_of m).participant), Stale) ∷
-    (not (lists_symbol listing (header_of m).symbol), UnknownSymbol) ∷
-    (not (is_in_matrix matrix m), NotInMatrix) ∷
-    message_faults (messages_of entries) m)
+message_refusal listing matrix entries m = first_fault (message_cases listing matrix (messages_of entries) m)
 
 -- a tape with the first entries of a legal one refuses the message of the next only for being closed or full itself
 pub refusal-next : (t own : TapeState) (k : ℕ) (e : Entry) → IsLegal t → slice_get t.entries k ≡ Some e

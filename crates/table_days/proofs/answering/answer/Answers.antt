@@ -12,8 +12,8 @@ returns-in-Ok-clause-answer c = answer-entry c.args.tape.now c.args.message c.in
 pub returns-else-is_out_of_memory-clause-tape : goal.returns-else-is_out_of_memory-clause-tape
 returns-else-is_out_of_memory-clause-tape c =
     c.in-Err.ensures.answers.1
-    ∙ sym (tape_after-refused c.args.tape.now c.args.message c.in-Err.refusal c.in-Err.ensures.answers.0 (λ e. cc (c.if-is_out_of_memory.ensures.1 e)))
+    ∙ sym (tape_after-refused c.args.tape.now c.args.message c.in-Err.refusal c.in-Err.ensures.answers.0 (λ e. cc (c.if-is_out_of_memory.ensures.memory.1 e)))
 
 pub returns-else-is_out_of_memory-clause-answer : goal.returns-else-is_out_of_memory-clause-answer
 returns-else-is_out_of_memory-clause-answer c =
-    sym (answer-refused c.args.tape.now c.args.message c.in-Err.refusal c.in-Err.ensures.answers.0 (λ e. cc (c.if-is_out_of_memory.ensures.1 e)))
+    sym (answer-refused c.args.tape.now c.args.message c.in-Err.refusal c.in-Err.ensures.answers.0 (λ e. cc (c.if-is_out_of_memory.ensures.memory.1 e)))

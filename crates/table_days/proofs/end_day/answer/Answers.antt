@@ -17,9 +17,9 @@ pub returns-else-is_out_of_memory-clause-tape : goal.returns-else-is_out_of_memo
 returns-else-is_out_of_memory-clause-tape c = λ t keeps lists.
     let answers = c.in-Err.ensures.answers t keeps lists in
     subst (λ s. KeepsEnd s c.admit.new.self)
-    (sym (tape_after-refused t c.args.message c.in-Err.refusal answers.0 (λ e. cc (c.if-is_out_of_memory.ensures.1 e)))) answers.1
+    (sym (tape_after-refused t c.args.message c.in-Err.refusal answers.0 (λ e. cc (c.if-is_out_of_memory.ensures.memory.1 e)))) answers.1
 
 pub returns-else-is_out_of_memory-clause-answer : goal.returns-else-is_out_of_memory-clause-answer
 returns-else-is_out_of_memory-clause-answer c = λ t keeps lists.
     let answers = c.in-Err.ensures.answers t keeps lists in
-    sym (answer-refused t c.args.message c.in-Err.refusal answers.0 (λ e. cc (c.if-is_out_of_memory.ensures.1 e)))
+    sym (answer-refused t c.args.message c.in-Err.refusal answers.0 (λ e. cc (c.if-is_out_of_memory.ensures.memory.1 e)))
