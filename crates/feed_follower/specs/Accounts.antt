@@ -1,8 +1,11 @@
 -- What a follower's account counts.
-use Rattle.std.specs.Prelude.{ℕ, ◌+◌, ◌-◌, ◌^◌, min, Option, None, Some}
+use Rattle.std.specs.Prelude.{ℕ, ◌+◌, ◌-◌, ◌^◌, length, min, Option, None, Some}
 use Rattle.std.specs.Option.{option_or}
+use Rattle.arbitration.specs.Counts.{brought_by}
 use Rattle.arbitration.specs.declared.line.Line.{Line}
 use Rattle.arbitration.specs.declared.line.Line.TheVariants.{A, B, R}
+use Rattle.subscriber.specs.Subscribers.{SubscriberState}
+use Rattle.feed_follower.specs.declared.conflicts.Numbers.{Numbers}
 use Rattle.feed_follower.specs.declared.heard.Heard.{Heard}
 use Rattle.feed_follower.specs.declared.heard.Heard.TheVariants.{Taken, NoPacket, Foreign, Conflict, PastEnd}
 use Rattle.feed_follower.specs.declared.account.LineCounts.{LineCounts}
@@ -51,3 +54,21 @@ new_account session = record {
 -- another session is named, unless one was
 abbrev pub once_other : ℕ → FollowAccount → FollowAccount
 once_other session a = record a { other_session = option_or a.other_session (Some session) }
+
+-- a number of which packets told differently is named, unless one was
+abbrev pub once_differing : ℕ → FollowAccount → FollowAccount
+once_differing number a = record a { conflict = option_or a.conflict (Some number) }
+
+-- one more request was answered or failed
+abbrev pub once_asked : FollowAccount → FollowAccount
+once_asked a = record a { asked = one_more a.asked }
+
+-- the account of a run: what it counted, which entries a line was the first to bring, how many are held, and how many numbers are to be asked for
+abbrev pub account_of : FollowAccount → SubscriberState → Numbers → FollowAccount
+account_of account s wanted = record account {
+  a = record account.a { entries = brought_by s.window.brought A };
+  b = record account.b { entries = brought_by s.window.brought B };
+  retransmission = record account.retransmission { entries = brought_by s.window.brought R };
+  unsettled = wanted.before - wanted.from;
+  held = length s.tape.entries;
+}

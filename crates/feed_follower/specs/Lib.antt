@@ -5,6 +5,8 @@ pub mod Faults
 pub mod Followers
 pub mod Hearing
 pub mod LinePositions
+pub mod Naming
 pub mod Nexts
 pub mod Reported
 pub mod Sinks
+pub mod Tries

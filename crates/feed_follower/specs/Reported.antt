@@ -1,5 +1,5 @@
 -- How a follower's day ends, and what is reported of it.
-use Rattle.std.specs.Prelude.{◌≡◌, ℕ, List, length, Option}
+use Rattle.std.specs.Prelude.{◌≡◌, ◌≢◌, ℕ, List, length, Option, None, Some}
 use Rattle.std.specs.Io.KnownBytes.{Appends}
 use Rattle.tape_types.specs.Names.{Names}
 use Rattle.sale_matrix.specs.declared.matrix.Matrix.{Matrix}
@@ -18,6 +18,11 @@ abbrev pub follow_fault : FollowFault → Fault
 follow_fault (Ended f) = f
 follow_fault (Unreachable port kind) = fault.Read
 follow_fault (OtherEntry number) = fault.Disagrees
+
+-- a fault is told by what names it, if that is of this fault, and else by itself
+abbrev pub IsNamed : Option FollowFault → Fault → FollowFault → Type 0
+IsNamed None fault told = told ≡ Ended fault
+IsNamed (Some why) fault told = (follow_fault why ≡ fault → told ≡ why) × (follow_fault why ≢ fault → told ≡ Ended fault)
 
 -- the whole report of some legal tape of so many entries, of the listing and the matrix and within the limit, was appended, and nothing else
 abbrev pub WritesReportOf : Names → Matrix → ℕ → ℕ → Option (List ℕ) → Option (List ℕ) → Type 0

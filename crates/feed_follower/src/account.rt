@@ -1,6 +1,6 @@
 //! The account of a follower's day: what it heard, and what became of it.
-ghost use Rattle.std.specs.Prelude.{◌≡◌, IfSome};
-ghost use Rattle.feed_follower.specs.Accounts.{account_with, counted, dropped, new_account, once_other};
+ghost use Rattle.std.specs.Prelude.{◌≡◌};
+ghost use Rattle.feed_follower.specs.Accounts.{account_with, counted, dropped, new_account, once_asked, once_differing, once_other};
 
 use crate::heard::Heard;
 use arbitration::Line;
@@ -116,7 +116,7 @@ impl FollowAccount {
 
     /// Counts a request.
     pub(crate) fn ask(&mut self)
-        ensures { (self.new.unsettled ≡ self.old.unsettled) × (self.new.conflict ≡ self.old.conflict) }
+        ensures { self.new ≡ once_asked self.old }
     {
         self.asked = self.asked.saturating_add(1);
     }
@@ -130,9 +130,7 @@ impl FollowAccount {
 
     /// Names a number of which two packets told differently, unless one is named.
     pub(crate) fn differ(&mut self, number: u32)
-        ensures first { IfSome self.old.conflict (λ n. self.new.conflict ≡ self.old.conflict) }
-        ensures named { self.old.conflict ≡ None → self.new.conflict ≡ Some number }
-        ensures lines { (self.new.a ≡ self.old.a) × (self.new.b ≡ self.old.b) × (self.new.retransmission ≡ self.old.retransmission) }
+        ensures { self.new ≡ once_differing number self.old }
     {
         self.conflict = self.conflict.or(Some(number));
     }

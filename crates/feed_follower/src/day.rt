@@ -1,12 +1,14 @@
 //! A follower of a day that is given by a file.
-ghost use Rattle.std.specs.Prelude.{◌≡◌, ◌≢◌, IfErr, IfOk, IfSome, IsOk, IsSome, IsSomeAnd, None, OnOk, false, length, true};
+ghost use Rattle.std.specs.Prelude.{◌≡◌, ◌≢◌, Err, IfErr, IfOk, IfSome, IsOk, IsSome, IsSomeAnd, None, OnOk, false, length, true};
 ghost use Rattle.std.specs.Io.KnownBytes.{Appends};
 ghost use Rattle.day_report.specs.ReportText.{report_text};
 ghost use Rattle.day_report.specs.Rows.{report_rows};
 ghost use Rattle.feed_ends.specs.Reports.{IsListing, WritesItsReport, WritesOneReport};
-ghost use Rattle.feed_ends.specs.declared.fault.Fault.TheVariants.{Write as WriteFault};
-ghost use Rattle.feed_follower.specs.Reported.{WritesReportOf, follow_fault};
+ghost use Rattle.feed_ends.specs.declared.fault.Fault.TheVariants.{Read as ReadFault, Write as WriteFault};
+ghost use Rattle.feed_follower.specs.Accounts.{new_account};
+ghost use Rattle.feed_follower.specs.Reported.{IsNamed, WritesReportOf, follow_fault};
 ghost use Rattle.feed_follower.specs.Sinks.{GivesItsReport, GivesPart, GivesTape};
+ghost use Rattle.feed_follower.specs.declared.follow_fault.FollowFault.TheVariants.{Ended};
 ghost use Rattle.tape_core.specs.Tape.{IsLegal};
 
 use crate::follow::{Ways, follow, report};
@@ -51,7 +53,7 @@ fn report_held<R: Threads + Sync, W: Write>(
 fn named_end(ended: Result<(), Fault>, why: Option<FollowFault>) -> Result<(), FollowFault>
     ensures well { IsOk result → IsOk ended }
     ensures done { IsOk ended → IsOk result }
-    ensures fault { IfErr ended (λ fault. IfErr result (λ named. follow_fault named ≡ fault)) }
+    ensures fault { IfErr ended (λ fault. IfErr result (λ named. (follow_fault named ≡ fault) × IsNamed why fault named)) }
 {
     match ended {
         Ok(()) => Ok(()),
@@ -69,7 +71,9 @@ fn ended_by(
     ensures well { IsOk result → IsOk ended }
     ensures reported { IsOk result → IsSomeAnd report (λ made. IsOk made) }
     ensures done { IsOk ended → IsSomeAnd report (λ made. IsOk made) → IsOk result }
-    ensures fault { IfErr ended (λ fault. IfErr result (λ named. follow_fault named ≡ fault)) }
+    ensures fault { IfErr ended (λ fault. IfErr result (λ named. (follow_fault named ≡ fault) × IsNamed why fault named)) }
+    ensures unmade { IsOk ended → IfSome report (λ made. IfErr made (λ fault. result ≡ Err (Ended fault))) }
+    ensures unreported { IsOk ended → report ≡ None → result ≡ Err (Ended ReadFault) }
 {
     match (ended, report) {
         (Err(fault), _) => Err(FollowFault::naming(fault, why)),
@@ -110,6 +114,8 @@ pub fn follow_day<
     ensures unwritten { result.0.report ≡ None → writer.new ≡ writer.old }
     ensures unmade { IfSome result.0.report (λ made. IfErr made (λ fault. fault ≢ WriteFault → writer.new ≡ writer.old)) }
     ensures whole { is_partial ≡ false → IfSome result.0.report (λ made. IfOk made (λ count. IsOk result.0.ended)) }
+    ensures partial { is_partial ≡ true → result.0.report ≡ None → result.0.account ≡ new_account terms.session }
+    ensures held { IfSome result.0.report (λ made. IfOk made (λ count. count ≡ result.0.account.held)) }
     ensures settled { OnOk result.0.ended (result.0.account.unsettled ≡ 0) }
 {
     let FollowTerms {

@@ -1,10 +1,11 @@
 //! A follower of a day: it reads both lines, asks for what is missing, and reports the tape that it comes to hold.
-ghost use Rattle.std.specs.Prelude.{◌≡◌, ◌≢◌, ◌⊎◌, ◌≤◌, [], Err, IfErr, IfOk, IfSome, IsSome, None, OnOk, true};
+ghost use Rattle.std.specs.Prelude.{◌≡◌, ◌≢◌, ◌⊎◌, ◌≤◌, [], Err, IfErr, IfOk, IfSome, IsSome, None, OnOk, Some, length, true};
 ghost use Rattle.std.specs.Io.KnownBytes.{Appends};
 ghost use Rattle.day_report.specs.ReportText.{report_text};
 ghost use Rattle.day_report.specs.Rows.{report_rows};
 ghost use Rattle.feed_ends.specs.Faults.{fault_status};
 ghost use Rattle.feed_ends.specs.Reports.{IsListing, WritesItsReport, WritesOneReport};
+ghost use Rattle.feed_follower.specs.Accounts.{new_account};
 ghost use Rattle.feed_follower.specs.Followers.{HasAllOf};
 ghost use Rattle.feed_follower.specs.Reported.{follow_fault};
 ghost use Rattle.feed_follower.specs.Sinks.{GivesItsReport, GivesPart, GivesTape, IsTapeOf, rows_of};
@@ -111,6 +112,8 @@ fn not_begun<S: EntrySink>(session: u64, fault: FollowFault, sink: S) -> Followe
     ensures subscriber { result.subscriber ≡ None }
     ensures ended { result.ended ≡ Err (follow_fault fault) }
     ensures sink { result.sink ≡ sink }
+    ensures account { result.account ≡ new_account session }
+    ensures why { result.why ≡ Some fault }
 {
     Followed {
         subscriber: None,
@@ -150,6 +153,8 @@ pub(crate) fn follow<
     ensures part { GivesPart S.text listing matrix limit (S.contents sink) (S.contents result.sink) }
     ensures whole { OnOk result.ended (IfSome result.subscriber HasAllOf) }
     ensures settled { OnOk result.ended (result.account.unsettled ≡ 0) }
+    ensures unbegun { result.subscriber ≡ None → result.account ≡ new_account session }
+    ensures held { IfSome result.subscriber (λ subscriber. result.account.held ≡ length subscriber.tape.entries) }
 {
     let within = ways.connect_within;
     let started = match start(rt, alloc, listing, limit, matrix, session, sockets, within) {
@@ -334,13 +339,13 @@ pub fn follow_over<
     (status_of(ended), sink)
 }
 
-/// Follows a day as `follow_over` does, without a report and without a restart: a sink is given each entry as soon as it is held, and comes
-/// back with the status.
+/// Follows a day as `follow_ended` does, without a report and without a restart: a sink is given each entry as soon as it is held, and comes
+/// back.
 ///
-/// The status is 0 only where the day's end is known and the sink was given all entries. Else it is one of those of `follow_over`: 4 and 5
-/// where the sink failed, or where a request to the retransmission did. Whatever it is, the sink has the rows of entries of a legal
-/// tape, up to some byte of them.
-pub fn follow_tape_over<
+/// It ends well only where the day's end is known and the sink was given all entries. Else the fault is one of those of `follow_ended`: `Write`
+/// and `Memory` where the sink failed, or where a request to the retransmission did. However it ends, the sink has the rows of
+/// entries of a legal tape, up to some byte of them.
+pub fn follow_tape<
     R: Threads + Wait + Net<Listener = TcpListener, Stream = TcpStream> + Sync,
     S: EntrySink + Send,
 >(
@@ -352,10 +357,9 @@ pub fn follow_tape_over<
     session: u64,
     sockets: FollowSockets,
     sink: S,
-) -> (u8, S)
-    ensures given { result.0 ≡ 0 → GivesTape S.text listing matrix limit (S.contents sink) (S.contents result.1) }
+) -> (Result<(), Fault>, S)
+    ensures given { OnOk result.0 (GivesTape S.text listing matrix limit (S.contents sink) (S.contents result.1)) }
     ensures part { GivesPart S.text listing matrix limit (S.contents sink) (S.contents result.1) }
-    ensures status { (result.0 ≡ 0) ⊎ ((3 ≤ result.0) × (result.0 ≤ 7)) }
 {
     let (held, sink) = follow_plainly::<Brand, S, R>(
         rt, alloc, listing, limit, matrix, session, &sockets, None, sink,
@@ -363,8 +367,8 @@ pub fn follow_tape_over<
     match held {
         Ok(subscriber) => {
             drop(subscriber);
-            (0, sink)
+            (Ok(()), sink)
         }
-        Err(fault) => (fault.status(), sink),
+        Err(fault) => (Err(fault), sink),
     }
 }

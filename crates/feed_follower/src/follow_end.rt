@@ -1,6 +1,5 @@
 //! What a follower's day is given, and how it ends.
-ghost use Rattle.std.specs.Prelude.{◌≡◌, ◌⊎◌, ◌≤◌, IfErr, OnOk};
-ghost use Rattle.feed_ends.specs.Faults.{fault_status};
+ghost use Rattle.std.specs.Prelude.{◌≡◌, Err, IfErr, IsOk, OnOk};
 ghost use Rattle.feed_follower.specs.Reported.{follow_fault};
 
 use crate::{FollowAccount, FollowFault};
@@ -19,8 +18,8 @@ pub struct FollowTerms {
     pub matrix: Matrix,
     /// The session under which the day is sent.
     pub session: u64,
-    /// For how many seconds a connection to the retransmission is tried, at the start and after one that was lost: `None` for one
-    /// try at the start, and one after a connection on which a request was answered.
+    /// For how many seconds a connection to the retransmission is tried, at the start and after one was lost. They are counted anew once a
+    /// connection has answered, or was seen open. `None` is for one try at the start, and one after a connection that has answered.
     pub connect_within: Option<u32>,
 }
 
@@ -37,15 +36,14 @@ pub struct FollowEnd {
 }
 
 impl FollowEnd {
-    /// The status: 0, or that of the fault, 3 to 7.
-    pub fn status(&self) -> u8
-        ensures done { OnOk self.now.ended (result ≡ 0) }
-        ensures fault { IfErr self.now.ended (λ fault. result ≡ fault_status (follow_fault fault)) }
-        ensures range { (result ≡ 0) ⊎ ((3 ≤ result) × (result ≤ 7)) }
+    /// Well, or by the day's fault, which has the status.
+    pub fn outcome(&self) -> Result<(), Fault>
+        ensures done { OnOk self.now.ended (IsOk result) }
+        ensures fault { IfErr self.now.ended (λ fault. result ≡ Err (follow_fault fault)) }
     {
         match self.ended {
-            Ok(()) => 0,
-            Err(fault) => fault.fault().status(),
+            Ok(()) => Ok(()),
+            Err(fault) => Err(fault.fault()),
         }
     }
 }

@@ -1,6 +1,6 @@
 //! What ends a follower's day without its end.
 ghost use Rattle.std.specs.Prelude.{◌≡◌};
-ghost use Rattle.feed_follower.specs.Reported.{follow_fault};
+ghost use Rattle.feed_follower.specs.Reported.{IsNamed, follow_fault};
 
 use feed_ends::Fault;
 use std::io::ErrorKind;
@@ -35,7 +35,8 @@ impl FollowFault {
 
     /// What names a fault, where it is of that fault, or else the fault.
     pub(crate) fn naming(fault: Fault, why: Option<FollowFault>) -> FollowFault
-        ensures { follow_fault result ≡ fault }
+        ensures fault { follow_fault result ≡ fault }
+        ensures named { IsNamed why fault result }
     {
         match why {
             Some(named) if named.fault() == fault => named,

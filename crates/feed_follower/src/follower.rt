@@ -7,13 +7,12 @@ ghost use Rattle.tape_frames.specs.Headers.{header_number_of, last_entry_of};
 ghost use Rattle.tape_frames.specs.Packets.{session_of};
 ghost use Rattle.tape_frames.specs.Spelling.{Spells};
 ghost use Rattle.tape_frames.specs.declared.packet.Packet.{Packet};
-ghost use Rattle.feed_follower.specs.Followers.{Comes, HasAllOf, HasCounts, IsDelivered, KeepsNews, KeepsTerms, heard_of};
+ghost use Rattle.feed_follower.specs.Followers.{HasAllOf, HasCounts, IsDelivered, KeepsNews, KeepsTerms};
 ghost use Rattle.subscriber.specs.Drains.{BringsHeld};
-ghost use Rattle.arbitration.specs.Counts.{brought_by};
-ghost use Rattle.arbitration.specs.declared.line.Line.TheVariants.{A, B, R};
-ghost use Rattle.feed_follower.specs.Accounts.{account_with, once_other};
+ghost use Rattle.feed_follower.specs.Accounts.{account_of, account_with, once_asked, once_other};
 ghost use Rattle.feed_follower.specs.Conflicts.{IsIn, Shows};
 ghost use Rattle.feed_follower.specs.Hearing.{IsHeard, MeetsConflict, number_past, told_by};
+ghost use Rattle.feed_follower.specs.Naming.{MayEndBy, MayName};
 ghost use Rattle.feed_follower.specs.LinePositions.{IsBehind, once_noted};
 ghost use Rattle.feed_follower.specs.declared.requester.Answered.TheVariants.{Beyond};
 ghost use Rattle.feed_follower.specs.declared.follow_fault.FollowFault.TheVariants.{OtherEntry};
@@ -26,20 +25,20 @@ ghost use Rattle.feed_ends.specs.declared.fault.Fault.TheVariants.{Disagrees, Re
 
 use crate::conflicts::{Conflicts, Numbers};
 use crate::followed::Followed;
-use crate::heard::Heard;
+use crate::heard::{Heard, deliver_to};
 use crate::held_name::HeldName;
 use crate::line_positions::LinePositions;
 use crate::replaying::{begin_anew, replay};
 use crate::requester::Answered;
 use crate::silence::Silence;
 use crate::{EntrySink, FollowAccount, FollowFault};
-use arbitration::{DeliverFault, Line};
+use arbitration::Line;
 use feed_ends::{Fault, fault_of_tape};
 use sale_matrix::Matrix;
 use std::alloc::Global;
 use std::marker::PhantomData;
 use std::mem;
-use subscriber::{DeliveryFault, Subscriber};
+use subscriber::Subscriber;
 use tape_frames::{Request, decode_packet, header_number, last_entry};
 use tape_types::{Listing, TAPE_MOST};
 
@@ -132,37 +131,6 @@ fn copy_of(alloc: Global, listing: &Listing) -> Result<Listing, Fault>
     ) {
         Ok(listing) => Ok(listing),
         Err(_) => Err(Fault::Memory),
-    }
-}
-
-/// What became of what came by a line that was refused for this. A subscriber that has failed disagrees.
-fn heard_of(fault: &DeliveryFault) -> Result<Heard, Fault>
-    ensures heard { result ≡ heard_of fault.now }
-    ensures number { IfOk result IsHeard }
-{
-    match fault {
-        DeliveryFault::NoPacket(_) => Ok(Heard::NoPacket),
-        DeliveryFault::Refused(DeliverFault::Foreign) => Ok(Heard::Foreign),
-        DeliveryFault::Refused(DeliverFault::Conflict(number)) => {
-            Ok(Heard::Conflict(number.value()))
-        }
-        DeliveryFault::Refused(DeliverFault::PastEnd) => Ok(Heard::PastEnd),
-        DeliveryFault::Failed => Err(Fault::Disagrees),
-    }
-}
-
-/// Has the subscriber take what came by a line, and tells what became of it. Bytes that are no packet of the day are dropped.
-#[tactic(auto, using(crate::proofs::Heards::came_of))]
-fn deliver_to(subscriber: &mut Subscriber, line: Line, bytes: &[u8]) -> Result<Heard, Fault>
-    ensures tape { subscriber.new.tape ≡ subscriber.old.tape }
-    ensures came { IfOk result (λ heard. Comes line bytes.now heard subscriber.old subscriber.new) }
-    ensures failed { subscriber.old.failed ≡ true → result ≡ Err Disagrees }
-    ensures running { subscriber.old.failed ≡ false → IsOk result }
-    ensures number { IfOk result IsHeard }
-{
-    match subscriber.deliver(line, bytes) {
-        Ok(_) => Ok(Heard::Taken),
-        Err(fault) => heard_of(&fault),
     }
 }
 
@@ -271,7 +239,8 @@ impl<N: HeldName, S: EntrySink> Follower<N, S> {
             → self.new.positions ≡ once_noted line (header_number_of packet) self.old.positions }
         ensures going { self.new.over ≡ self.old.over }
         ensures same { self.new.subscriber ≡ self.old.subscriber }
-        ensures rest { (self.new.account ≡ self.old.account) × (self.new.conflicts ≡ self.old.conflicts) }
+        ensures conflicts { self.new.conflicts ≡ self.old.conflicts }
+        ensures rest { (self.new.account ≡ self.old.account) × (self.new.why ≡ self.old.why) }
     {
         self.positions.note(line, header_number(bytes).unwrap_or(0));
         self.silence.broken();
@@ -288,6 +257,7 @@ impl<N: HeldName, S: EntrySink> Follower<N, S> {
         ensures found { self.new.conflicts.found ≡ self.old.conflicts.found }
         ensures counts { HasCounts self.old.account self.new.account }
         ensures positions { self.new.positions ≡ self.old.positions }
+        ensures rest { (self.new.account.asked ≡ self.old.account.asked) × (self.new.why ≡ self.old.why) }
     {
         self.account.differ(number);
         self.conflicts.meet(number);
@@ -300,6 +270,7 @@ impl<N: HeldName, S: EntrySink> Follower<N, S> {
         ensures same { self.new.subscriber ≡ self.old.subscriber }
         ensures conflicts { self.new.conflicts ≡ self.old.conflicts }
         ensures counts { HasCounts self.old.account self.new.account }
+        ensures rest { (self.new.account.asked ≡ self.old.account.asked) × (self.new.why ≡ self.old.why) }
     {
         if let Some(session) = session_of(bytes) {
             self.account.name(session);
@@ -328,6 +299,7 @@ impl<N: HeldName, S: EntrySink> Follower<N, S> {
         ensures met { self.old.conflicts.are_settled ≡ true → MeetsConflict self.old.subscriber self.old.session bytes.now heard self.new.conflicts }
         ensures kept { (n : ℕ) → IsIn n self.old.conflicts.wanted → IsIn n self.new.conflicts.wanted }
         ensures counts { HasCounts self.old.account self.new.account }
+        ensures rest { (self.new.account.asked ≡ self.old.account.asked) × (self.new.why ≡ self.old.why) }
     {
         match heard {
             Heard::Taken => self.note(line, bytes),
@@ -351,6 +323,7 @@ impl<N: HeldName, S: EntrySink> Follower<N, S> {
         ensures met { self.old.conflicts.are_settled ≡ true → MeetsConflict self.old.subscriber self.old.session bytes.now heard self.new.conflicts }
         ensures kept { (n : ℕ) → IsIn n self.old.conflicts.wanted → IsIn n self.new.conflicts.wanted }
         ensures counted { 1 ≤ length bytes.now → HasCounts (account_with line heard self.old.account) self.new.account }
+        ensures rest { (self.new.account.asked ≡ self.old.account.asked) × (self.new.why ≡ self.old.why) }
     {
         self.heed(line, bytes, heard);
         if !bytes.is_empty() {
@@ -368,6 +341,7 @@ impl<N: HeldName, S: EntrySink> Follower<N, S> {
         ensures idle { self.old.conflicts.are_settled ≡ false → self.old.subscriber.failed ≡ false
             → IsDelivered line bytes.now self.old.subscriber self.new.subscriber self.old.account self.new.account
             ⊎ ((self.new.subscriber ≡ self.old.subscriber) × ((packet : Packet) → Spells bytes.now packet → BringsHeld self.old.subscriber packet)) }
+        ensures rest { (self.new.account.asked ≡ self.old.account.asked) × (self.new.why ≡ self.old.why) }
     {
         if !self.conflicts.are_settled() && self.subscriber.holds_all_of(bytes) {
             self.hear(line, bytes, Heard::Taken);
@@ -384,7 +358,7 @@ impl<N: HeldName, S: EntrySink> Follower<N, S> {
         requires { self.old.over ≡ None }
         ensures going { self.new.over ≡ None }
         ensures news { KeepsNews self.old.subscriber self.new.subscriber }
-        ensures account { self.new.account ≡ self.old.account }
+        ensures rest { (self.new.account ≡ self.old.account) × (self.new.why ≡ self.old.why) }
     {
         if let Some(fault) = self.lacks {
             return Err(fault);
@@ -398,20 +372,33 @@ impl<N: HeldName, S: EntrySink> Follower<N, S> {
         }
     }
 
+    /// A number that was asked for has to be held. If it is not, it is named.
+    fn need(&mut self, number: u32) -> Result<(), Fault>
+        requires { self.old.over ≡ None }
+        ensures going { self.new.over ≡ None }
+        ensures held { number ≤ length self.old.subscriber.tape.entries → IsOk result × (self.new ≡ self.old) }
+        ensures named { length self.old.subscriber.tape.entries < number → (result ≡ Err Disagrees) × (self.new.why ≡ Some (OtherEntry number)) }
+        ensures rest { (self.new.subscriber ≡ self.old.subscriber) × (self.new.account ≡ self.old.account) }
+    {
+        if self.subscriber.held().len() < number as usize {
+            return Err(self.other_entry(number));
+        }
+        Ok(())
+    }
+
     /// Takes packets that were asked for. The first number that was asked for has to be held then, by these or by what a line
     /// brought meanwhile, so that each request makes progress.
     fn take_all(&mut self, request: &Request, packets: &[Vec<u8>]) -> Result<(), Fault>
         requires { self.old.over ≡ None }
         ensures going { self.new.over ≡ None }
         ensures progress { OnOk result (request.now.from ≤ length self.new.subscriber.tape.entries) }
+        ensures asked { self.new.account.asked ≡ self.old.account.asked }
+        ensures why { MayName result self.old.why self.new.why }
     {
         for packet in packets {
             self.take(Line::R, packet)?;
         }
-        if self.subscriber.held().len() < request.from as usize {
-            return Err(self.other_entry(request.from));
-        }
-        Ok(())
+        self.need(request.from)
     }
 
     /// Another subscriber of the same day, which holds nothing.
@@ -437,6 +424,7 @@ impl<N: HeldName, S: EntrySink> Follower<N, S> {
         requires { self.old.over ≡ None }
         ensures going { self.new.over ≡ None }
         ensures asked { ¬ (IsSomeAnd self.old.restart_after (λ most. most ≤ length self.old.subscriber.tape.entries)) → self.new ≡ self.old }
+        ensures rest { (self.new.account ≡ self.old.account) × (self.new.why ≡ self.old.why) }
     {
         if !is_given_up(self.restart_after, self.subscriber.held().len()) {
             return Ok(());
@@ -481,6 +469,7 @@ impl<N: HeldName, S: EntrySink> Follower<N, S> {
         ensures fault { IfErr taken (λ fault. self.new.over ≡ Some (Err fault)) }
         ensures whole { IfSome self.new.over (λ ended. OnOk ended (HasAllOf self.new.subscriber)) }
         ensures settled { IfSome self.new.over (λ ended. OnOk ended (self.new.conflicts.wanted.before ≤ self.new.conflicts.wanted.from)) }
+        ensures rest { (self.new.account ≡ self.old.account) × (self.new.why ≡ self.old.why) }
     {
         let settled = match taken {
             Ok(()) => self.restart(),
@@ -499,6 +488,7 @@ impl<N: HeldName, S: EntrySink> Follower<N, S> {
         ensures connect { self.new.has_restarted ≡ true → result ≡ Connect }
         ensures rung { ¬ (result ≡ ReadOn) → self.new.is_asleep ≡ false }
         ensures over { IsSome self.old.over → self.new.subscriber ≡ self.old.subscriber }
+        ensures rest { (self.new.account.asked ≡ self.old.account.asked) × (self.new.why ≡ self.old.why) }
     {
         if self.over.is_none() {
             let taken = self.take(line, bytes);
@@ -520,7 +510,10 @@ impl<N: HeldName, S: EntrySink> Follower<N, S> {
         ensures over { IsSome self.old.over → self.new ≡ self.old }
         ensures given_up { self.old.has_restarted ≡ true → self.new ≡ self.old }
         ensures fault { IfErr brought (λ fault. self.old.over ≡ None → self.old.has_restarted ≡ false → self.new.over ≡ Some (Err fault)) }
-        ensures beyond { brought ≡ Ok Beyond → self.old.over ≡ None → self.old.has_restarted ≡ false → self.new.over ≡ Some (Err Disagrees) }
+        ensures beyond { brought ≡ Ok Beyond → self.old.over ≡ None → self.old.has_restarted ≡ false
+            → (self.new.over ≡ Some (Err Disagrees)) × (self.new.why ≡ Some (OtherEntry request.now.from)) }
+        ensures asked { self.old.over ≡ None → self.old.has_restarted ≡ false → self.new.account.asked ≡ (once_asked self.old.account).asked }
+        ensures why { MayEndBy self.new.over self.old.why self.new.why }
     {
         if self.over.is_some() || self.has_restarted {
             return;
@@ -540,6 +533,7 @@ impl<N: HeldName, S: EntrySink> Follower<N, S> {
         ensures fault { result ≡ Disagrees }
         ensures named { self.new.why ≡ Some (OtherEntry number) }
         ensures going { self.new.over ≡ None }
+        ensures rest { (self.new.account ≡ self.old.account) × (self.new.subscriber ≡ self.old.subscriber) }
     {
         self.why = Some(FollowFault::OtherEntry(number));
         Fault::Disagrees
@@ -551,6 +545,8 @@ impl<N: HeldName, S: EntrySink> Follower<N, S> {
         requires { self.old.over ≡ None }
         ensures going { self.new.over ≡ None }
         ensures shows { IfOk result (λ before. (from < before) × (self.old.subscriber.window.session ≡ self.old.session → Shows self.old.subscriber bytes.now from before)) }
+        ensures asked { self.new.account.asked ≡ self.old.account.asked }
+        ensures why { MayName result self.old.why self.new.why }
     {
         match deliver_to(&mut self.subscriber, Line::R, bytes)? {
             Heard::Taken => {}
@@ -571,6 +567,8 @@ impl<N: HeldName, S: EntrySink> Follower<N, S> {
     fn find_all(&mut self, request: &Request, packets: &[Vec<u8>]) -> Result<(), Fault>
         requires { self.old.over ≡ None }
         ensures going { self.new.over ≡ None }
+        ensures asked { self.new.account.asked ≡ self.old.account.asked }
+        ensures why { MayName result self.old.why self.new.why }
     {
         let mut from = request.from;
         for packet in packets {
@@ -586,6 +584,7 @@ impl<N: HeldName, S: EntrySink> Follower<N, S> {
         ensures past { OnOk result (IsSomeAnd self.old.subscriber.window.ended (λ count. count < number)) }
         ensures named { OnErr result (self.new.why ≡ Some (OtherEntry number)) }
         ensures fault { IfErr result (λ fault. fault ≡ Disagrees) }
+        ensures same { (self.new.account ≡ self.old.account) × OnOk result (self.new.why ≡ self.old.why) }
     {
         match self.subscriber.ended() {
             Some(count) if count < number => {
@@ -605,7 +604,10 @@ impl<N: HeldName, S: EntrySink> Follower<N, S> {
         ensures given_up { self.old.has_restarted ≡ true → self.new ≡ self.old }
         ensures fault { IfErr brought (λ fault. self.old.over ≡ None → self.old.has_restarted ≡ false → self.new.over ≡ Some (Err fault)) }
         ensures beyond { brought ≡ Ok Beyond → self.old.over ≡ None → self.old.has_restarted ≡ false
-            → ¬ (IsSomeAnd self.old.subscriber.window.ended (λ count. count < request.now.from)) → self.new.over ≡ Some (Err Disagrees) }
+            → ¬ (IsSomeAnd self.old.subscriber.window.ended (λ count. count < request.now.from))
+            → (self.new.over ≡ Some (Err Disagrees)) × (self.new.why ≡ Some (OtherEntry request.now.from)) }
+        ensures asked { self.old.over ≡ None → self.old.has_restarted ≡ false → self.new.account.asked ≡ (once_asked self.old.account).asked }
+        ensures why { MayEndBy self.new.over self.old.why self.new.why }
     {
         if self.over.is_some() || self.has_restarted {
             return;
@@ -693,6 +695,7 @@ impl<N: HeldName, S: EntrySink> Follower<N, S> {
         ensures later { IsSome self.old.over → self.new.over ≡ self.old.over }
         ensures other { self.new.silence.looks < SILENT_MOST → self.new.over ≡ self.old.over }
         ensures open { is_closed ≡ false → self.new.silence.looks ≡ 0 }
+        ensures rest { (self.new.account ≡ self.old.account) × (self.new.why ≡ self.old.why) }
     {
         if self.silence.looked(is_closed) {
             self.fail(Fault::Read);
@@ -704,6 +707,7 @@ impl<N: HeldName, S: EntrySink> Follower<N, S> {
         ensures first { self.old.over ≡ None → self.new.over ≡ Some (Err fault) }
         ensures later { IsSome self.old.over → self.new.over ≡ self.old.over }
         ensures rest { (self.new.has_restarted ≡ self.old.has_restarted) × (self.new.silence ≡ self.old.silence) }
+        ensures named { (self.new.account ≡ self.old.account) × (self.new.why ≡ self.old.why) }
     {
         if self.over.is_none() {
             self.over = Some(Err(fault));
@@ -712,21 +716,29 @@ impl<N: HeldName, S: EntrySink> Follower<N, S> {
 
     /// Takes note that the retransmission could not be reached, and why.
     pub(crate) fn unreachable(&mut self, fault: FollowFault)
-        ensures over { self.new.over ≡ self.old.over }
+        ensures named { self.old.over ≡ None → self.new.why ≡ Some fault }
+        ensures later { IsSome self.old.over → self.new.why ≡ self.old.why }
+        ensures rest { (self.new.over ≡ self.old.over) × (self.new.account ≡ self.old.account) }
     {
         if self.over.is_none() {
             self.why = Some(fault);
         }
     }
 
+    /// Takes note that the retransmission was reached again, unless the run is over.
+    pub(crate) fn reached(&mut self)
+        ensures unnamed { self.old.over ≡ None → self.new.why ≡ None }
+        ensures later { IsSome self.old.over → self.new.why ≡ self.old.why }
+        ensures rest { (self.new.over ≡ self.old.over) × (self.new.account ≡ self.old.account) }
+    {
+        if self.over.is_none() {
+            self.why = None;
+        }
+    }
+
     /// The account of a run.
     fn account(&self) -> FollowAccount
-        ensures unsettled { result.unsettled ≡ self.now.conflicts.wanted.before - self.now.conflicts.wanted.from }
-        ensures held { result.held ≡ length self.now.subscriber.tape.entries }
-        ensures brought { (result.a.entries ≡ brought_by self.now.subscriber.window.brought A) × (result.b.entries ≡ brought_by self.now.subscriber.window.brought B)
-            × (result.retransmission.entries ≡ brought_by self.now.subscriber.window.brought R) }
-        ensures conflict { result.conflict ≡ self.now.account.conflict }
-        ensures session { (result.session ≡ self.now.account.session) × (result.other_session ≡ self.now.account.other_session) }
+        ensures { result ≡ account_of self.now.account self.now.subscriber self.now.conflicts.wanted }
     {
         let mut account = self.account;
         account.a.entries = self.subscriber.brought(Line::A);
@@ -745,6 +757,9 @@ impl<N: HeldName, S: EntrySink> Follower<N, S> {
         ensures part { GivesPart S.text N.listing N.matrix N.limit N.before (S.contents result.sink) }
         ensures whole { OnOk result.ended (IfSome result.subscriber HasAllOf) }
         ensures settled { OnOk result.ended (result.account.unsettled ≡ 0) }
+        ensures held { IfSome result.subscriber (λ subscriber. result.account.held ≡ length subscriber.tape.entries) }
+        ensures account { result.account ≡ account_of self.account self.subscriber self.conflicts.wanted }
+        ensures why { result.why ≡ self.why }
         ensures lacks { (fault : Fault) → self.lacks ≡ Some fault → result.ended ≡ Err fault }
         ensures fault { (fault : Fault) → self.lacks ≡ None → self.over ≡ Some (Err fault) → result.ended ≡ Err fault }
         ensures open { self.lacks ≡ None → self.over ≡ None → result.ended ≡ Err Read }

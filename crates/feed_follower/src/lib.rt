@@ -23,11 +23,12 @@ mod shared_follower;
 mod silence;
 mod sink;
 mod sockets;
+mod tries;
 
 pub use account::{FollowAccount, LineCounts};
 pub use account_lines::account_text;
 pub use day::{follow_day, follow_tape_day};
-pub use follow::{follow_ended, follow_over, follow_tape_over};
+pub use follow::{follow_ended, follow_over, follow_tape};
 pub use follow_end::{FollowEnd, FollowTerms};
 pub use follow_fault::FollowFault;
 pub use sink::{EntrySink, NoSink, SinkFault};

@@ -9,6 +9,7 @@ ghost use Rattle.retransmit.specs.declared.refusal.Refusal.TheVariants.{Beyond a
 use crate::follower::Next;
 use crate::held_name::HeldName;
 use crate::run::Run;
+use crate::tries::{PAUSE, Tries, tries_within};
 use crate::{EntrySink, FollowFault};
 use feed_ends::{Fault, here};
 use retransmit::{AskFault, Refusal, ask};
@@ -22,12 +23,6 @@ use tape_frames::Request;
 
 /// How long a turn is for which what a line may still bring is waited for, in milliseconds.
 const TURN: u64 = 1;
-
-/// How long it waits before it tries to connect again, in milliseconds.
-const TRY: u64 = 100;
-
-/// How often it tries to connect within a second.
-const TRIES: u32 = 10;
 
 /// How long the requester sleeps at most before it looks whether its connection was closed, in milliseconds.
 const LOOK: u64 = 1_000;
@@ -43,9 +38,9 @@ pub(crate) struct Requester {
     pub(crate) alloc: Global,
     /// For how many seconds it tries to connect: `None` where it tries once.
     connect_within: Option<u32>,
-    /// Whether another connection may be opened once this one has ended: a request was answered on it, or, where it tries for some
-    /// seconds, it was seen open.
-    has_served: bool,
+    /// The tries that are left to open another connection once this one has ended. All are, once a request was answered on it, or, where it
+    /// tries for some seconds, it was seen open.
+    tries: Tries,
 }
 
 /// What is read of an answer.
@@ -77,20 +72,9 @@ fn dial<R: Net<Listener = TcpListener, Stream = TcpStream>>(
     }
 }
 
-/// How often it tries to connect.
-fn tries(connect_within: Option<u32>) -> u32
-    ensures one { 1 ≤ result }
-    ensures once { connect_within ≡ None → result ≡ 1 }
-{
-    match connect_within {
-        Some(seconds) => seconds.saturating_mul(TRIES).max(1),
-        None => 1,
-    }
-}
-
 /// Waits before it tries to connect again.
 fn pause<R: Wait>(rt: &R) {
-    Parker::new().park_timeout(rt, Duration::from_millis(TRY));
+    Parker::new().park_timeout(rt, Duration::from_millis(PAUSE));
 }
 
 /// Connects to the retransmission, for as long as it may try. The fault is that of the last try.
@@ -102,7 +86,7 @@ fn dial_within<R: Net<Listener = TcpListener, Stream = TcpStream> + Wait>(
     ensures { IfErr result (λ fault. follow_fault fault ≡ Read) }
 {
     let mut dialed = dial(rt, port);
-    for _again in 1..tries(connect_within) {
+    for _again in 1..tries_within(connect_within) {
         if dialed.is_ok() {
             break;
         }
@@ -166,7 +150,7 @@ impl Requester {
             port,
             alloc,
             connect_within,
-            has_served: connect_within.is_some(),
+            tries: Tries::within(connect_within),
         })
     }
 
@@ -199,19 +183,32 @@ impl Requester {
         }
     }
 
-    /// Connects again, for as long as it may try and the run goes on.
+    /// Tries once to connect again, after a pause unless it is the first try.
+    fn try_again<R: Net<Listener = TcpListener, Stream = TcpStream> + Wait>(
+        &mut self,
+        rt: &R,
+    ) -> Result<TcpStream, FollowFault>
+        ensures { IfErr result (λ fault. follow_fault fault ≡ Read) }
+    {
+        if self.tries.is_paused() {
+            pause(rt);
+        }
+        self.tries.take();
+        dial(rt, self.port)
+    }
+
+    /// Connects again, as long as tries are left and the run goes on. `None` where it was not tried.
     fn dial_again<
         N: HeldName,
         S: EntrySink,
         R: Net<Listener = TcpListener, Stream = TcpStream> + Wait,
-    >(&self, rt: &R, run: &Run<'_, N, S>) -> Result<TcpStream, FollowFault> {
-        let mut dialed = dial(rt, self.port);
-        for _again in 1..tries(self.connect_within) {
-            if dialed.is_ok() || !run.goes_on(rt) {
+    >(&mut self, rt: &R, run: &Run<'_, N, S>) -> Option<Result<TcpStream, FollowFault>> {
+        let mut dialed = None;
+        for _again in 0..self.tries.left() {
+            if matches!(dialed, Some(Ok(_))) || !run.goes_on(rt) {
                 break;
             }
-            pause(rt);
-            dialed = dial(rt, self.port);
+            dialed = Some(self.try_again(rt));
         }
         dialed
     }
@@ -225,40 +222,40 @@ impl Requester {
         match dial(rt, self.port) {
             Ok(connection) => {
                 self.connection = connection;
-                self.has_served = false;
+                self.tries = Tries::within(self.connect_within);
                 run.connected(rt, self.handle());
             }
             Err(fault) => run.connected(rt, Err(fault.fault())),
         }
     }
 
-    /// Connects anew after a connection that has ended, and tells whether that could be done. Where it could not, the run keeps what names
-    /// the fault.
+    /// Connects anew after a connection that has ended, and tells whether that could be done. Where it was tried in vain, the run keeps what
+    /// names the fault.
     fn connect_again<
         N: HeldName,
         S: EntrySink,
         R: Net<Listener = TcpListener, Stream = TcpStream> + Wait,
     >(&mut self, rt: &R, run: &Run<'_, N, S>) -> bool {
         let connection = match self.dial_again(rt, run) {
-            Ok(connection) => connection,
-            Err(fault) => {
+            Some(Ok(connection)) => connection,
+            Some(Err(fault)) => {
                 run.unreachable(rt, fault);
                 return false;
             }
+            None => return false,
         };
         let Ok(handle) = connection.try_clone() else {
             return false;
         };
         self.connection = connection;
-        self.has_served = false;
         run.replace_connection(rt, handle);
+        run.reached(rt);
         true
     }
 
-    /// Asks for numbers: what a request brings, unless the connection has ended and another was opened. That is done where a request
-    /// was answered on it, or it may be tried for some seconds. Then it is looked again at what is to be asked for. So at most one connection is
-    /// opened for each request that was answered or look at an open connection. Where it cannot connect, or nothing was answered,
-    /// the run ends by the fault of the connection that has ended.
+    /// Asks for numbers: what a request brings, unless the connection has ended and another was opened, after which it is looked again at what
+    /// is to be asked for. Each connection that is opened takes a try, and all tries are left once a request was answered, so there is an end
+    /// to connections that answer nothing. Where no try is left, the run ends by the fault of the connection that has ended.
     fn ask_for<
         N: HeldName,
         S: EntrySink,
@@ -270,12 +267,11 @@ impl Requester {
         request: &Request,
     ) -> Option<Result<Answered, Fault>> {
         let brought = self.bring(request);
-        let is_lost = self.has_served && has_ended(&brought);
-        if is_lost && run.goes_on(rt) && self.connect_again(rt, run) {
+        if has_ended(&brought) && self.connect_again(rt, run) {
             return None;
         }
         if brought.is_ok() {
-            self.has_served = true;
+            self.tries.renew();
         }
         Some(brought)
     }
@@ -302,24 +298,30 @@ impl Requester {
         }
     }
 
-    /// Looks at the connection. One that was closed is opened again where it may be tried for some seconds, and has served.
+    /// Connects anew after a connection that was seen closed, by one try at least.
+    fn reopen<N: HeldName, S: EntrySink, R: Net<Listener = TcpListener, Stream = TcpStream> + Wait>(
+        &mut self,
+        rt: &R,
+        run: &Run<'_, N, S>,
+    ) -> bool {
+        self.tries.one_more();
+        self.connect_again(rt, run)
+    }
+
+    /// Looks at the connection. One that was closed is opened again where it may be tried for some seconds: by the tries that are left, or else
+    /// once at each look, of which there are more as long as packets come.
     fn look<N: HeldName, S: EntrySink, R: Net<Listener = TcpListener, Stream = TcpStream> + Wait>(
         &mut self,
         rt: &R,
         run: &Run<'_, N, S>,
     ) {
         let is_closed = self.is_closed();
-        let may_try = self.connect_within.is_some();
-        if is_closed
-            && may_try
-            && self.has_served
-            && run.goes_on(rt)
-            && self.connect_again(rt, run)
-        {
-            return;
-        }
-        if may_try && !is_closed {
-            self.has_served = true;
+        if self.connect_within.is_some() {
+            if !is_closed {
+                self.tries.renew();
+            } else if self.reopen(rt, run) {
+                return;
+            }
         }
         run.looked(rt, is_closed);
     }

@@ -238,6 +238,13 @@ impl<'a, N: HeldName, S: EntrySink> Run<'a, N, S> {
         self.work_off(rt, turn.end());
     }
 
+    /// Takes note that the retransmission was reached again.
+    pub(crate) fn reached<R: Wait>(&self, rt: &R) {
+        let mut turn = self.shared.turn(rt);
+        turn.follower.reached();
+        self.work_off(rt, turn.end());
+    }
+
     /// Takes note that the new subscriber has its connection, by another handle of it, or of the fault that kept it from it.
     pub(crate) fn connected<R: Wait>(&self, rt: &R, connected: Result<TcpStream, Fault>) {
         let connected = match connected {

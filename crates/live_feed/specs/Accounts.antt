@@ -1,5 +1,5 @@
 -- What is said of the participants' lines.
-use Rattle.std.specs.Prelude.{◌≡◌, ◌==◌, ◌⊎◌, ◌<◌, ◌+◌, ◌++◌, ◌∷◌, ℕ, Bool, true, false, if◌then◌else◌, List, [], codes, decimal, length, slice_index_or}
+use Rattle.std.specs.Prelude.{◌≡◌, ◌==◌, ◌⊎◌, ◌<◌, ◌+◌, ◌++◌, ◌∷◌, ◌||◌, ℕ, Bool, true, false, not, if◌then◌else◌, Option, None, Some, List, [], codes, decimal, length, slice_index_or}
 use Rattle.std.specs.List.{flat_map}
 use Rattle.std.specs.Option.{option_map_or}
 use Rattle.line_ledger.specs.Seats.{SeatState, last_told}
@@ -62,6 +62,16 @@ has_connected Unawaited = false
 has_connected (Open since) = true
 has_connected (Closed since) = true
 
+-- how far the line of a participant came whose connection did not come: within so many seconds, or before the day was ended
+abbrev pub absent_stage : Bool → Option ℕ → LineStage
+absent_stage is_ended None = Unawaited
+absent_stage true (Some seconds) = Unawaited
+absent_stage false (Some seconds) = Absent seconds
+
+-- whether a line's counts are said: its participant has connected, or the day goes on after some of its messages
+abbrev pub is_counted : LineStage → LineCounts → Bool
+is_counted stage counts = has_connected stage || not (counts.admitted == 0)
+
 -- what is said of a participant that did not connect
 unfoldable pub absent_words : LineStage → List ℕ
 absent_words Awaited = codes "not connected"
@@ -69,6 +79,10 @@ absent_words (Absent seconds) = codes "did not connect within " ++ decimal secon
 absent_words Unawaited = codes "did not connect before the day was ended"
 absent_words (Open since) = []
 absent_words (Closed since) = []
+
+-- the line of a participant that did not connect
+abbrev pub absent_line : List ℕ → ℕ → LineStage → List ℕ
+absent_line word who stage = head_text word who ++ absent_words stage ++ codes "\n"
 
 -- ## A day that has ended
 
@@ -88,20 +102,30 @@ end_words TooMany was_cut = codes "the line ended after as many messages as one 
 end_words OutOfMemory was_cut = codes "the line ended for want of memory"
 end_words Behind was_cut = codes "the line ended at a tape that disagrees"
 
--- the lines of a participant whose line ran and ended in these words
-abbrev pub ran_lines : List ℕ → LineAccount → List ℕ → List ℕ
-ran_lines word a words =
-    head_text word a.who ++ counts_text a.counts ++ codes "\n" ++ refused_lines word a.who a.counts.tally ++ words_line word a.who words
+-- what became of a participant's messages
+abbrev pub counted_lines : List ℕ → LineAccount → List ℕ
+counted_lines word a = head_text word a.who ++ counts_text a.counts ++ codes "\n" ++ refused_lines word a.who a.counts.tally
+
+-- the same, or nothing where it is not said
+unfoldable pub messages_lines : List ℕ → LineAccount → List ℕ
+messages_lines word a = if is_counted a.stage a.counts then counted_lines word a else []
+
+-- how a participant's line came out, or nothing where it ended cleanly
+abbrev pub outcome_line : List ℕ → LineAccount → List ℕ
+outcome_line word a =
+    if has_connected a.stage then words_line word a.who (end_words a.ended a.was_cut) else absent_line word a.who a.stage
 
 -- the lines of a participant
 abbrev pub account_lines : LineAccount → List ℕ
-account_lines a =
-    if has_connected a.stage then ran_lines program_word a (end_words a.ended a.was_cut)
-    else words_line program_word a.who (absent_words a.stage)
+account_lines a = messages_lines program_word a ++ outcome_line program_word a
+
+-- the words for so many connections of the retransmission that were given up
+unfoldable pub followers_words : ℕ → List ℕ
+followers_words given_up = if given_up == 1 then codes " follower was" else codes " followers were"
 
 -- so many connections of the retransmission were waited for no longer
 abbrev pub given_up_text : List ℕ → ℕ → List ℕ
-given_up_text word given_up = word ++ decimal given_up ++ codes " followers were waited for no longer\n"
+given_up_text word given_up = word ++ decimal given_up ++ followers_words given_up ++ codes " waited for no longer\n"
 
 -- how many were, if any
 unfoldable pub given_up_line : ℕ → List ℕ
@@ -142,21 +166,17 @@ HasAccount text = ((accounts : List LineAccount) × (given_up : ℕ) × (text �
 abbrev pub span_text : List ℕ → ℕ → List ℕ
 span_text words since = words ++ decimal since ++ codes " s, "
 
--- since when a line is open, or was
+-- since when a line is open, or was, or that its participant did not connect
 unfoldable pub since_text : LineStage → List ℕ
 since_text (Open since) = span_text (codes "connected since ") since
 since_text (Closed since) = span_text (codes "ended, connected since ") since
-since_text Awaited = []
-since_text (Absent seconds) = []
-since_text Unawaited = []
+since_text Awaited = absent_words Awaited ++ codes ", "
+since_text (Absent seconds) = absent_words (Absent seconds) ++ codes ", "
+since_text Unawaited = absent_words Unawaited ++ codes ", "
 
--- the lines of a participant that connected
+-- the lines of a participant whose counts are said
 abbrev pub open_lines : SeenLine → List ℕ
 open_lines l = head_text [] l.who ++ since_text l.stage ++ counts_text l.counts ++ codes "\n" ++ refused_lines [] l.who l.counts.tally
-
--- the lines of a participant
-abbrev pub seen_lines : SeenLine → List ℕ
-seen_lines l = if has_connected l.stage then open_lines l else words_line [] l.who (absent_words l.stage)
 
 -- whether the end waits for a line
 abbrev pub is_awaited : LineStage → Bool
@@ -165,3 +185,7 @@ is_awaited (Absent seconds) = false
 is_awaited Unawaited = false
 is_awaited (Open since) = true
 is_awaited (Closed since) = false
+
+-- the lines of a participant
+abbrev pub seen_lines : SeenLine → List ℕ
+seen_lines l = if is_counted l.stage l.counts then open_lines l else absent_line [] l.who l.stage

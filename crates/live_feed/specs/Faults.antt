@@ -1,5 +1,5 @@
 -- The faults that a day's lines, sender and retransmission meet.
-use Rattle.std.specs.Prelude.{◌≡◌, ◌≤◌, ◌↔◌, List, Option, Some, None, IfSome, All, Contains}
+use Rattle.std.specs.Prelude.{◌≡◌, ◌≤◌, ◌↔◌, Bool, false, List, Option, Some, None, IfSome, Result, MatchResult, All, Contains}
 use Rattle.participant_lines.specs.declared.line_end.Ended.{Ended}
 use Rattle.participant_lines.specs.declared.line_end.Ended.TheVariants as ended
 use Rattle.participant_lines.specs.declared.unstarted.Lack.{Lack}
@@ -11,6 +11,14 @@ use Rattle.feed_ends.specs.declared.fault.Fault.TheVariants.{Memory, Worker, Dis
 -- what was met beside it, if anything, has no lesser status
 abbrev pub NoneBefore : Fault → Option Fault → Type 0
 NoneBefore fault met = IfSome met (λ other. fault_status fault ≤ fault_status other)
+
+-- there is no whole report, and a fault that was met, of this one's status or a lesser one
+abbrev pub EndsEarly : Fault → Bool → Option Fault → Type 0
+EndsEarly fault is_whole met = (is_whole ≡ false) × ((other : Fault) × (met ≡ Some other) × (fault_status other ≤ fault_status fault))
+
+-- there is no whole report, and an error of the status of a failed write or a lesser one
+abbrev pub FailsEarly : Bool → Result Unit Fault → Type 0
+FailsEarly is_whole result = (is_whole ≡ false) × MatchResult result (λ _. ⊥) (λ fault. fault_status fault ≤ 4)
 
 -- the fault that is answered of all that were met: none exactly where none was, else one of them, of the least status
 pub record IsLeast (met : List (Option Fault)) (answer : Option Fault) : Type 0 where

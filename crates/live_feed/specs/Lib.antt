@@ -3,9 +3,11 @@ pub mod Accounts
 pub mod Budgets
 pub mod Faults
 pub mod Followers
+pub mod Journals
 pub mod Paces
 pub mod Patience
 pub mod Quiets
 pub mod Reports
+pub mod Restorings
 pub mod Sendings
 pub mod Status

@@ -1,7 +1,7 @@
 //! The account of a day's lines, for whoever runs the day.
 ghost use Rattle.std.specs.Prelude.{◌≡◌, ◌++◌, IfOk, OnOk};
 ghost use Rattle.std.specs.List.{flat_map};
-ghost use Rattle.live_feed.specs.Accounts.{account_lines, account_text, end_words, given_up_line, given_up_text, program_word, ran_lines};
+ghost use Rattle.live_feed.specs.Accounts.{account_lines, account_text, counted_lines, end_words, followers_words, given_up_line, given_up_text, messages_lines, outcome_line, program_word};
 
 use crate::follower_counts::push_number;
 use crate::line_counts::{
@@ -53,32 +53,45 @@ fn end_words(ended: Ended, was_cut: bool) -> &'static [u8]
     }
 }
 
-/// Adds the lines of a participant whose line ran and ended in these words.
-fn push_ran(
-    text: &mut Vec<u8>,
-    word: &[u8],
-    account: &LineAccount,
-    words: &[u8],
-) -> Result<(), AllocError>
-    ensures { OnOk result (text.new.items ≡ text.old.items ++ ran_lines word.now account.now words.now) }
+/// Adds what became of a participant's messages.
+fn push_counted(text: &mut Vec<u8>, word: &[u8], account: &LineAccount) -> Result<(), AllocError>
+    ensures { OnOk result (text.new.items ≡ text.old.items ++ counted_lines word.now account.now) }
 {
     push_head(text, word, account.who)?;
     push_counts(text, &account.counts)?;
     push_text(text, b"\n")?;
-    push_all_refused(text, word, account.who, &account.counts.tally)?;
-    push_words(text, word, account.who, words)
+    push_all_refused(text, word, account.who, &account.counts.tally)
+}
+
+/// Adds what became of a participant's messages, or nothing where it is not said.
+#[tactic(auto, unfolding(crate::specs::Accounts::messages_lines))]
+fn push_messages(text: &mut Vec<u8>, word: &[u8], account: &LineAccount) -> Result<(), AllocError>
+    ensures { OnOk result (text.new.items ≡ text.old.items ++ messages_lines word.now account.now) }
+{
+    if account.stage.is_counted(&account.counts) {
+        return push_counted(text, word, account);
+    }
+    Ok(())
+}
+
+/// Adds how a participant's line came out, or nothing where it ended cleanly.
+fn push_outcome(text: &mut Vec<u8>, word: &[u8], account: &LineAccount) -> Result<(), AllocError>
+    ensures { OnOk result (text.new.items ≡ text.old.items ++ outcome_line word.now account.now) }
+{
+    if account.stage.has_connected() {
+        let words = end_words(account.ended, account.was_cut);
+        push_words(text, word, account.who, words)
+    } else {
+        push_absent(text, word, account.who, account.stage)
+    }
 }
 
 /// Adds the lines of a participant.
 fn push_account(text: &mut Vec<u8>, account: &LineAccount) -> Result<(), AllocError>
     ensures { OnOk result (text.new.items ≡ text.old.items ++ account_lines account.now) }
 {
-    if account.stage.has_connected() {
-        let words = end_words(account.ended, account.was_cut);
-        push_ran(text, program_word(), account, words)
-    } else {
-        push_absent(text, program_word(), account.who, account.stage)
-    }
+    push_messages(text, program_word(), account)?;
+    push_outcome(text, program_word(), account)
 }
 
 /// Adds the lines of these participants, one after another.
@@ -91,13 +104,26 @@ fn push_accounts(text: &mut Vec<u8>, accounts: &[LineAccount]) -> Result<(), All
     Ok(())
 }
 
+/// The words for so many followers that were given up.
+#[tactic(auto, unfolding(crate::specs::Accounts::followers_words))]
+fn followers_words(given_up: u64) -> &'static [u8]
+    ensures { result.now ≡ followers_words given_up }
+{
+    if given_up == 1 {
+        b" follower was"
+    } else {
+        b" followers were"
+    }
+}
+
 /// Adds that so many followers were waited for no longer.
 fn push_given(text: &mut Vec<u8>, word: &[u8], given_up: u64) -> Result<(), AllocError>
     ensures { OnOk result (text.new.items ≡ text.old.items ++ given_up_text word.now given_up) }
 {
     push_text(text, word)?;
     push_number(text, given_up)?;
-    push_text(text, b" followers were waited for no longer\n")
+    push_text(text, followers_words(given_up))?;
+    push_text(text, b" waited for no longer\n")
 }
 
 /// Adds how many followers were waited for no longer, if any.

@@ -1,5 +1,6 @@
 //! How a day that can be ended waits for its participants.
 ghost use Rattle.std.specs.Prelude.{◌≡◌, IfOk, length, vec_len};
+ghost use Rattle.live_feed.specs.Accounts.{absent_stage};
 
 use crate::accepting::is_transient;
 use crate::clock::nanos_of;
@@ -131,7 +132,9 @@ fn wait_at<R: Wait + Clock>(
 }
 
 /// How far the lines came whose connections did not come.
-fn stage_of_absent(is_ended: bool, connect_within: Option<u32>) -> LineStage {
+fn stage_of_absent(is_ended: bool, connect_within: Option<u32>) -> LineStage
+    ensures { result ≡ absent_stage is_ended connect_within }
+{
     match connect_within {
         Some(seconds) if !is_ended => LineStage::Absent(seconds),
         _ => LineStage::Unawaited,

@@ -1,7 +1,8 @@
 //! What is said of the retransmission's connections.
-ghost use Rattle.std.specs.Prelude.{◌≡◌, ◌++◌, OnOk, decimal};
-ghost use Rattle.live_feed.specs.Followers.{asked_text, follower_line, follower_lines, place_text, state_text};
+ghost use Rattle.std.specs.Prelude.{◌≡◌, ◌++◌, [], OnOk, decimal};
+ghost use Rattle.live_feed.specs.Followers.{asked_text, follower_line, follower_lines, followers_line, is_served, left_in, left_text, missing_in, missing_text, place_text, served_in, state_text};
 
+use crate::line_counts::push_text;
 use itoa::Buffer;
 use std::alloc::AllocError;
 
@@ -31,6 +32,52 @@ pub(crate) struct FollowerCounts {
     pub(crate) bytes: u64,
     /// Whether it is served.
     pub(crate) state: FollowerState,
+}
+
+/// A day's followers, as they were at one moment.
+#[derive(Drop)]
+pub(crate) struct SeenFollowers {
+    /// How many connections the day serves.
+    pub(crate) serves: u16,
+    /// How many of these have come.
+    pub(crate) came: u32,
+    /// Whether nobody is waited for any longer.
+    pub(crate) is_given_up: bool,
+    /// The connections that came and are counted, in their order.
+    pub(crate) counts: Vec<FollowerCounts>,
+}
+
+impl FollowerState {
+    /// Whether the connection is served.
+    fn is_served(self) -> bool
+        ensures { result ≡ is_served self }
+    {
+        matches!(self, FollowerState::Served)
+    }
+}
+
+impl SeenFollowers {
+    /// How many connections are served.
+    fn served(&self) -> u64
+        ensures { result ≡ served_in self.now }
+    {
+        let counts = self.counts.as_slice();
+        counts.iter().filter(|c| c.state.is_served()).count() as u64
+    }
+
+    /// How many connections have still to come.
+    fn missing(&self) -> u64
+        ensures { result ≡ missing_in self.now }
+    {
+        u64::from(u32::from(self.serves).saturating_sub(self.came))
+    }
+
+    /// How many connections the day's end waits for.
+    fn left(&self) -> u64
+        ensures { result ≡ left_in self.now }
+    {
+        self.missing().saturating_add(self.served())
+    }
 }
 
 /// Adds a number in decimal.
@@ -86,15 +133,62 @@ fn push_line(front: &[u8], counts: &FollowerCounts, text: &mut Vec<u8>) -> Resul
 }
 
 /// Adds a line for each connection, in their order, with this in front of each. Where memory runs out, some of them may have been added.
-pub(crate) fn push_lines(
-    front: &[u8],
-    all: &[FollowerCounts],
-    text: &mut Vec<u8>,
-) -> Result<(), AllocError>
+fn push_lines(front: &[u8], all: &[FollowerCounts], text: &mut Vec<u8>) -> Result<(), AllocError>
     ensures { OnOk result (text.new.items ≡ text.old.items ++ follower_lines front.now all.now) }
 {
     for counts in all {
         push_line(front, counts, text)?;
     }
     Ok(())
+}
+
+/// Adds a line for each connection that came, in their order. Where memory runs out, some of them may have been added.
+pub(crate) fn push_all_followers(
+    text: &mut Vec<u8>,
+    followers: &SeenFollowers,
+) -> Result<(), AllocError>
+    ensures { OnOk result (text.new.items ≡ text.old.items ++ follower_lines [] followers.now.counts.items) }
+{
+    push_lines(b"", &followers.counts, text)
+}
+
+/// Adds how many followers the day's end waits for, of those that the day serves.
+fn push_left(text: &mut Vec<u8>, followers: &SeenFollowers) -> Result<(), AllocError>
+    ensures { OnOk result (text.new.items ≡ text.old.items ++ left_text followers.now) }
+{
+    push_text(text, b"the end waits for ")?;
+    push_number(text, followers.left())?;
+    push_text(text, b" of ")?;
+    push_number(text, u64::from(followers.serves))?;
+    push_text(text, b" followers: ")
+}
+
+/// Adds how many of these have still to come, and how many are served.
+fn push_missing(text: &mut Vec<u8>, followers: &SeenFollowers) -> Result<(), AllocError>
+    ensures { OnOk result (text.new.items ≡ text.old.items ++ missing_text followers.now) }
+{
+    push_number(text, followers.missing())?;
+    push_text(text, b" not connected, ")?;
+    push_number(text, followers.served())?;
+    push_text(text, b" served\n")
+}
+
+/// Adds what the day's end waits for of the followers. Where memory runs out, some of it may have been added.
+#[tactic(auto, unfolding(crate::specs::Followers::followers_line))]
+pub(crate) fn push_followers(
+    text: &mut Vec<u8>,
+    followers: &SeenFollowers,
+) -> Result<(), AllocError>
+    ensures { OnOk result (text.new.items ≡ text.old.items ++ followers_line followers.now) }
+{
+    if followers.serves == 0 {
+        Ok(())
+    } else if followers.is_given_up {
+        push_text(text, b"followers are waited for no longer\n")
+    } else if followers.left() == 0 {
+        push_text(text, b"all followers have ended\n")
+    } else {
+        push_left(text, followers)?;
+        push_missing(text, followers)
+    }
 }

@@ -1,7 +1,7 @@
 //! What each connection of the retransmission asked for, for whoever looks on.
 
 use crate::clock::nanos_of;
-use crate::follower_counts::{FollowerCounts, FollowerState, push_lines};
+use crate::follower_counts::{FollowerCounts, FollowerState, SeenFollowers};
 use std::alloc::{AllocError, Global};
 use std::rt::Clock;
 use std::sync::atomic::{AtomicBool, AtomicU64, Ordering};
@@ -86,56 +86,84 @@ impl Follower {
     }
 }
 
-/// The connections of a day's retransmission in the order in which they came, those that have ended included.
+/// Those that came.
 #[derive(Drop)]
-pub(crate) struct Followers {
-    alloc: Global,
-    /// When the day began, in nanoseconds of the clock.
-    began: u64,
-    came: Mutex<Vec<Arc<Follower>>>,
+struct Came {
+    /// How many connections came, those that are not counted included.
+    many: u32,
+    /// Whether nobody is waited for any longer.
+    is_given_up: bool,
+    /// The connections that are counted, in the order in which they came.
+    followers: Vec<Arc<Follower>>,
 }
 
-impl Followers {
-    /// No connection came yet, and the day begins now. It takes no memory.
-    pub(crate) fn new<R: Clock>(rt: &R, alloc: Global) -> Followers {
-        Followers {
-            alloc,
-            began: nanos_of(rt),
-            came: Mutex::new(Vec::new(alloc)),
-        }
-    }
-
-    /// A connection came, which is counted from now on. Where memory runs out it is not counted, and served all the same.
-    pub(crate) fn enter<R: Wait + Clock>(&self, rt: &R) -> Option<Arc<Follower>> {
-        let since = nanos_of(rt).saturating_sub(self.began) / SECOND;
-        let follower = Arc::new(self.alloc, Follower::new(since)).ok()?;
-        let kept = Arc::try_clone(&follower).ok()?;
-        self.came.lock(rt).push(kept).ok()?;
-        Some(follower)
-    }
-
-    /// Those that are served still are given up.
-    pub(crate) fn give_up<R: Wait>(&self, rt: &R) {
-        let came = self.came.lock(rt);
-        for follower in came.iter() {
-            follower.give_up();
-        }
-    }
-
-    /// What was counted of each connection so far. Nobody enters meanwhile, and what is served goes on.
-    fn counts<R: Wait>(&self, rt: &R) -> Result<Vec<FollowerCounts>, AllocError> {
-        let came = self.came.lock(rt);
-        let mut counts = Vec::with_capacity(self.alloc, came.len())?;
-        for (at, follower) in came.iter().enumerate() {
+impl Came {
+    /// What was counted of each connection so far.
+    fn counts(&self, alloc: Global) -> Result<Vec<FollowerCounts>, AllocError> {
+        let mut counts = Vec::with_capacity(alloc, self.followers.len())?;
+        for (at, follower) in self.followers.iter().enumerate() {
             counts.push(follower.counts(at as u64 + 1))?;
         }
         Ok(counts)
     }
+}
 
-    /// Adds a line for each connection, in the order in which they came:
-    /// `follower 1: since 12 s, asked 3 times, answered 3 times, 5120 bytes, served`, in whole seconds after the day's start, and `ended` or
-    /// `given up` in place of `served`. Where memory runs out, some of the lines may have been added.
-    pub(crate) fn put_text<R: Wait>(&self, rt: &R, text: &mut Vec<u8>) -> Result<(), AllocError> {
-        push_lines(b"", &self.counts(rt)?, text)
+/// The connections of a day's retransmission in the order in which they came, those that have ended included.
+#[derive(Drop)]
+pub(crate) struct Followers {
+    alloc: Global,
+    /// How many connections are served.
+    serves: u16,
+    /// When the day began, in nanoseconds of the clock.
+    began: u64,
+    came: Mutex<Came>,
+}
+
+impl Followers {
+    /// No connection came yet of so many that are served, and the day begins now. It takes no memory.
+    pub(crate) fn new<R: Clock>(rt: &R, alloc: Global, serves: u16) -> Followers {
+        Followers {
+            alloc,
+            serves,
+            began: nanos_of(rt),
+            came: Mutex::new(Came {
+                many: 0,
+                is_given_up: false,
+                followers: Vec::new(alloc),
+            }),
+        }
+    }
+
+    /// A connection came, which is counted from now on. Where memory runs out it is known to have come, and served all the same, but what it
+    /// asks for is not counted.
+    pub(crate) fn enter<R: Wait + Clock>(&self, rt: &R) -> Option<Arc<Follower>> {
+        let since = nanos_of(rt).saturating_sub(self.began) / SECOND;
+        let follower = Arc::new(self.alloc, Follower::new(since));
+        let mut came = self.came.lock(rt);
+        came.many = came.many.saturating_add(1);
+        let follower = follower.ok()?;
+        let kept = Arc::try_clone(&follower).ok()?;
+        came.followers.push(kept).ok()?;
+        Some(follower)
+    }
+
+    /// Those that are served still are given up, and those that did not come are waited for no longer.
+    pub(crate) fn give_up<R: Wait>(&self, rt: &R) {
+        let mut came = self.came.lock(rt);
+        came.is_given_up = true;
+        for follower in &came.followers {
+            follower.give_up();
+        }
+    }
+
+    /// How the day's followers stand. Nobody enters meanwhile, and what is served goes on.
+    pub(crate) fn seen<R: Wait>(&self, rt: &R) -> Result<SeenFollowers, AllocError> {
+        let came = self.came.lock(rt);
+        Ok(SeenFollowers {
+            serves: self.serves,
+            came: came.many,
+            is_given_up: came.is_given_up,
+            counts: came.counts(self.alloc)?,
+        })
     }
 }

@@ -1,7 +1,9 @@
 //! What is known of a participant's line at one moment, and how it is said.
-ghost use Rattle.std.specs.Prelude.{◌≡◌, ◌++◌, OnOk, decimal};
+ghost use Rattle.std.specs.Prelude.{◌≡◌, ◌+◌, ◌-◌, ◌^◌, ◌++◌, [], OnOk, min};
 ghost use Rattle.std.specs.List.{flat_map};
-ghost use Rattle.live_feed.specs.Accounts.{absent_words, counts_text, first_text, has_connected, head_text, is_awaited, open_lines, reason_line, reason_text, refused_lines, refused_text, seen_lines, since_text, span_text, words_line};
+ghost use Rattle.live_feed.specs.Accounts.{absent_line, absent_words, counts_text, first_text, has_connected, head_text, is_awaited, is_counted, open_lines, reason_line, reason_text, refused_lines, refused_text, seen_lines, since_text, span_text, words_line};
+ghost use Rattle.live_feed.specs.declared.line_counts.LineStage.TheVariants.{Awaited};
+ghost use Rattle.participant_lines.specs.Tallies.{AreCounted};
 
 use crate::follower_counts::push_number;
 use participant_lines::{ALL_REASONS, Reason, Refused, Tally};
@@ -43,15 +45,43 @@ pub(crate) struct SeenLine {
     pub(crate) stage: LineStage,
     /// What became of its messages.
     pub(crate) counts: LineCounts,
+    /// How many of its messages the day's journal had when the day began, which are counted too.
+    pub(crate) before: u32,
 }
 
 impl LineCounts {
     /// Nothing came yet.
-    pub(crate) fn none() -> LineCounts {
+    pub(crate) fn none() -> LineCounts
+        ensures { (result.admitted ≡ 0) × (result.last ≡ 0) × AreCounted [] result.tally }
+    {
         LineCounts {
             admitted: 0,
             last: 0,
             tally: Tally::none(),
+        }
+    }
+
+    /// So many were admitted before a day goes on, of which the last had this number.
+    pub(crate) fn before(admitted: u32, last: u32) -> LineCounts
+        ensures numbers { (result.admitted ≡ admitted) × (result.last ≡ last) }
+        ensures tally { AreCounted [] result.tally }
+    {
+        LineCounts {
+            admitted,
+            last,
+            ..LineCounts::none()
+        }
+    }
+
+    /// What became of a line's messages once so many were done, of which these were refused, behind so many of a day that goes on.
+    pub(crate) fn so_far(before: u32, done: u32, last: u32, tally: &Tally) -> LineCounts
+        ensures admitted { result.admitted ≡ min (before + (done - tally.now.refused)) (2 ^ 32 - 1) }
+        ensures others { (result.last ≡ last) × (result.tally ≡ tally.now) }
+    {
+        LineCounts {
+            admitted: before.saturating_add(done.saturating_sub(tally.refused())),
+            last,
+            tally: *tally,
         }
     }
 }
@@ -64,11 +94,57 @@ impl LineStage {
         matches!(self, LineStage::Open(_) | LineStage::Closed(_))
     }
 
+    /// Whether a line's counts are said: its participant has connected, or the day goes on after some of its messages.
+    pub(crate) fn is_counted(self, counts: &LineCounts) -> bool
+        ensures { result ≡ is_counted self counts.now }
+    {
+        self.has_connected() || counts.admitted != 0
+    }
+
     /// Whether the day's end waits for the line.
     pub(crate) fn is_awaited(self) -> bool
         ensures { result ≡ is_awaited self }
     {
         matches!(self, LineStage::Awaited | LineStage::Open(_))
+    }
+}
+
+impl SeenLine {
+    /// The line of a participant that has not connected, of which nothing came.
+    pub(crate) fn awaited(who: Participant) -> SeenLine
+        ensures line { (result.who ≡ who) × (result.stage ≡ Awaited) × (result.before ≡ 0) }
+        ensures counts { (result.counts.admitted ≡ 0) × (result.counts.last ≡ 0) × AreCounted [] result.counts.tally }
+    {
+        SeenLine {
+            who,
+            stage: LineStage::Awaited,
+            counts: LineCounts::none(),
+            before: 0,
+        }
+    }
+
+    /// The line once it is known to go on after so many messages of the day's journal, of which the last had this number.
+    pub(crate) fn going_on(self, admitted: u32, last: u32) -> SeenLine
+        ensures line { (result.who ≡ self.who) × (result.stage ≡ self.stage) × (result.before ≡ admitted) }
+        ensures counts { (result.counts.admitted ≡ admitted) × (result.counts.last ≡ last) × AreCounted [] result.counts.tally }
+    {
+        SeenLine {
+            counts: LineCounts::before(admitted, last),
+            before: admitted,
+            ..self
+        }
+    }
+
+    /// The line once so many messages were done behind those that it goes on after, of which these were refused.
+    pub(crate) fn after(self, done: u32, last: u32, tally: &Tally) -> SeenLine
+        ensures line { (result.who ≡ self.who) × (result.stage ≡ self.stage) × (result.before ≡ self.before) }
+        ensures admitted { result.counts.admitted ≡ min (self.before + (done - tally.now.refused)) (2 ^ 32 - 1) }
+        ensures others { (result.counts.last ≡ last) × (result.counts.tally ≡ tally.now) }
+    {
+        SeenLine {
+            counts: LineCounts::so_far(self.before, done, last, tally),
+            ..self
+        }
     }
 }
 
@@ -198,29 +274,35 @@ pub(crate) fn push_all_refused(
     push_each_refused(text, word, who, tally, &ALL_REASONS)
 }
 
-/// Adds a line about a participant that did not connect, and nothing about another.
-#[tactic(auto, unfolding(crate::specs::Accounts::absent_words, crate::specs::Accounts::words_line))]
+/// Adds what is said of a participant that did not connect, and nothing of another.
+#[tactic(auto, unfolding(crate::specs::Accounts::absent_words))]
+fn push_absent_words(text: &mut Vec<u8>, stage: LineStage) -> Result<(), AllocError>
+    ensures { OnOk result (text.new.items ≡ text.old.items ++ absent_words stage) }
+{
+    match stage {
+        LineStage::Awaited => push_text(text, b"not connected"),
+        LineStage::Unawaited => push_text(text, b"did not connect before the day was ended"),
+        LineStage::Absent(seconds) => {
+            push_text(text, b"did not connect within ")?;
+            push_number(text, u64::from(seconds))?;
+            push_text(text, b" seconds")
+        }
+        LineStage::Open(_) | LineStage::Closed(_) => Ok(()),
+    }
+}
+
+/// Adds the line of a participant that did not connect.
 pub(crate) fn push_absent(
     text: &mut Vec<u8>,
     word: &[u8],
     who: Participant,
     stage: LineStage,
 ) -> Result<(), AllocError>
-    ensures { OnOk result (text.new.items ≡ text.old.items ++ words_line word.now who (absent_words stage)) }
+    ensures { OnOk result (text.new.items ≡ text.old.items ++ absent_line word.now who stage) }
 {
-    match stage {
-        LineStage::Awaited => push_words(text, word, who, b"not connected"),
-        LineStage::Unawaited => {
-            push_words(text, word, who, b"did not connect before the day was ended")
-        }
-        LineStage::Absent(seconds) => {
-            push_head(text, word, who)?;
-            push_text(text, b"did not connect within ")?;
-            push_number(text, u64::from(seconds))?;
-            push_text(text, b" seconds\n")
-        }
-        LineStage::Open(_) | LineStage::Closed(_) => Ok(()),
-    }
+    push_head(text, word, who)?;
+    push_absent_words(text, stage)?;
+    push_text(text, b"\n")
 }
 
 /// Adds these words and so many seconds.
@@ -232,7 +314,7 @@ fn push_span(text: &mut Vec<u8>, words: &[u8], since: u64) -> Result<(), AllocEr
     push_text(text, b" s, ")
 }
 
-/// Adds since when a line is open, or was.
+/// Adds since when a line is open, or was, or that its participant did not connect.
 #[tactic(auto, unfolding(crate::specs::Accounts::since_text))]
 fn push_since(text: &mut Vec<u8>, stage: LineStage) -> Result<(), AllocError>
     ensures { OnOk result (text.new.items ≡ text.old.items ++ since_text stage) }
@@ -240,11 +322,14 @@ fn push_since(text: &mut Vec<u8>, stage: LineStage) -> Result<(), AllocError>
     match stage {
         LineStage::Open(since) => push_span(text, b"connected since ", since),
         LineStage::Closed(since) => push_span(text, b"ended, connected since ", since),
-        LineStage::Awaited | LineStage::Absent(_) | LineStage::Unawaited => Ok(()),
+        LineStage::Awaited | LineStage::Absent(_) | LineStage::Unawaited => {
+            push_absent_words(text, stage)?;
+            push_text(text, b", ")
+        }
     }
 }
 
-/// Adds the lines of a participant that connected, in a day that runs.
+/// Adds the lines of a participant whose counts are said, in a day that runs.
 fn push_open(text: &mut Vec<u8>, line: &SeenLine) -> Result<(), AllocError>
     ensures { OnOk result (text.new.items ≡ text.old.items ++ open_lines line.now) }
 {
@@ -259,7 +344,7 @@ fn push_open(text: &mut Vec<u8>, line: &SeenLine) -> Result<(), AllocError>
 pub(crate) fn push_seen(text: &mut Vec<u8>, line: &SeenLine) -> Result<(), AllocError>
     ensures { OnOk result (text.new.items ≡ text.old.items ++ seen_lines line.now) }
 {
-    if line.stage.has_connected() {
+    if line.stage.is_counted(&line.counts) {
         push_open(text, line)
     } else {
         push_absent(text, b"", line.who, line.stage)

@@ -1,7 +1,7 @@
 //! A participant's line as the threads of a day share it.
 
 use crate::bell::Bell;
-use crate::line_counts::{LineCounts, LineStage, SeenLine};
+use crate::line_counts::{LineStage, SeenLine};
 use participant_lines::{LineWatch, Tally};
 use std::sync::atomic::{AtomicBool, Ordering};
 use std::sync::{Arc, Mutex, Wait};
@@ -27,12 +27,13 @@ impl LineSlot {
             is_over: AtomicBool::new(false),
             was_cut: AtomicBool::new(false),
             is_closed: AtomicBool::new(false),
-            seen: Mutex::new(SeenLine {
-                who,
-                stage: LineStage::Awaited,
-                counts: LineCounts::none(),
-            }),
+            seen: Mutex::new(SeenLine::awaited(who)),
         }
+    }
+
+    /// Whether it is this participant's line.
+    pub(crate) fn is_of<R: Wait>(&self, rt: &R, who: Participant) -> bool {
+        self.seen.lock(rt).who == who
     }
 
     /// Ends the line's reading: what was read is all.
@@ -64,15 +65,17 @@ impl LineSlot {
         self.seen.lock(rt).stage = stage
     }
 
+    /// Takes note that the line goes on after so many messages of a journal, of which the last had this number. The day does not run yet.
+    pub(crate) fn go_on<R: Wait>(&self, rt: &R, admitted: u32, last: u32) {
+        let mut seen = self.seen.lock(rt);
+        *seen = seen.going_on(admitted, last);
+    }
+
     /// Takes note of what became of the line's messages so far, unless someone looks on at this moment: the next message makes up
     /// for it. It never waits.
     fn count(&self, done: u32, last: u32, tally: &Tally) {
         if let Some(mut seen) = self.seen.try_lock() {
-            seen.counts = LineCounts {
-                admitted: done.saturating_sub(tally.refused()),
-                last,
-                tally: *tally,
-            };
+            *seen = seen.after(done, last, tally);
         }
     }
 

@@ -34,7 +34,10 @@ use std::thread::Threads;
 use tape_types::{Listing, can_start};
 
 /// Ends the day with a seat of each participant.
-fn end_day<D: DayName>(shared: SharedTape<D>, seats: Vec<LineSeat<D>>) -> Result<Day, Fault>
+pub(crate) fn end_day<D: DayName>(
+    shared: SharedTape<D>,
+    seats: Vec<LineSeat<D>>,
+) -> Result<Day, Fault>
     requires { IsOneEach D.terms.listing.participants seats.items }
     ensures legal { IfOk result (λ day. IsLegal day.tape) }
     ensures listed { IfOk result (λ day. day.tape.listing ≡ D.terms.listing) }
@@ -153,7 +156,9 @@ fn run_named<D: DayName + Send + Sync, R: Threads + Wait + Clock + Sync, L: Loss
     ensures within { IfOk result (λ ended. length ended.day.tape.entries ≤ D.terms.limit) }
 {
     let slots = Vec::new(feed.alloc);
-    let (shared, waiting) = match open_lines::<D>(feed.alloc, prepared, readers, slots) {
+    let (shared, waiting) = match open_lines::<D, R>(
+        rt, feed.alloc, prepared, readers, slots, None,
+    ) {
         Ok(opened) => opened,
         Err(fault) => return Err(fault),
     };

@@ -1,18 +1,21 @@
 //! A day's lines with their seats, and the shared tape, before they run.
-ghost use Rattle.std.specs.Prelude.{◌≡◌, ◌≤◌, [], IfOk, List, length, map, vec_len};
+ghost use Rattle.std.specs.Prelude.{◌≡◌, ◌≤◌, [], IfOk, IfSome, List, None, length, map, vec_len};
 ghost use Rattle.std.specs.Vec.{vec_capacity};
 ghost use Rattle.line_ledger.specs.Days.{terms_of};
 ghost use Rattle.line_ledger.specs.Ends.{IsOneEach, whos};
-ghost use Rattle.line_ledger.specs.Seats.{SeatState};
+ghost use Rattle.line_ledger.specs.Seats.{SeatState, untold};
+ghost use Rattle.live_feed.specs.Restorings.{Restores};
 
 use crate::account::LineAccount;
 use crate::line_input::Reader;
 use crate::line_slot::LineSlot;
+use crate::live::end_day;
+use crate::restoring::{Past, restore};
 use crate::seated::{SeatedLine, Waiting, seated_lines};
 use feed_ends::Fault;
 use line_ledger::{DayName, LineSeat, Prepared, SharedTape};
 use std::alloc::Global;
-use std::sync::Arc;
+use std::sync::{Arc, Wait};
 
 /// Gives each line its seat. The vectors have room for the lines, and for their seats and accounts after them.
 fn seat_lines<D: DayName>(
@@ -42,12 +45,64 @@ fn seat_lines<D: DayName>(
     }
 }
 
-/// Opens the shared tape of what was prepared, and gives each line its seat. The slots are for the lines in their order, or there are none.
-pub(crate) fn open_lines<D: DayName>(
+/// Restores the day from what its journal had, if it goes on. After a fault shared tape and seats are spent.
+fn restore_seats<D: DayName, R: Wait>(
+    rt: &R,
+    alloc: Global,
+    shared: SharedTape<D>,
+    seats: Vec<LineSeat<D>>,
+    past: Option<&Past>,
+) -> Result<(SharedTape<D>, Vec<LineSeat<D>>), Fault>
+    requires each { IsOneEach D.terms.listing.participants seats.items }
+    ensures whos { IfOk result (λ opened. whos opened.1.items ≡ whos seats.items) }
+    ensures cells { IfOk result (λ opened. opened.0 ≡ shared) }
+    ensures restored { IfOk result (λ opened. IfSome past.entry (λ p. Restores p.now.session p.now.restored.digest p.now.restored.from
+        p.now.restored.journal.items p.now.held shared seats.items opened.1.items)) }
+    ensures fresh { IfOk result (λ opened. past.entry ≡ None → opened.1.items ≡ seats.items) }
+{
+    let Some(past) = past else {
+        return Ok((shared, seats));
+    };
+    let mut seats = seats;
+    match restore(rt, alloc, &shared, &mut seats, past) {
+        Ok(()) => Ok((shared, seats)),
+        Err(fault) => {
+            drop(end_day(shared, seats));
+            Err(fault)
+        }
+    }
+}
+
+/// Opens the shared tape of what was prepared, with a seat for each participant, and restores what the day's journal had, if it goes on.
+fn open_seats<D: DayName, R: Wait>(
+    rt: &R,
+    alloc: Global,
+    prepared: Prepared,
+    past: Option<&Past>,
+) -> Result<(SharedTape<D>, Vec<LineSeat<D>>), Fault>
+    requires name { prepared.blank.name ≡ D.name }
+    requires parts { prepared.blank.parts ≡ D.parts }
+    requires terms { terms_of prepared.tape ≡ D.terms }
+    ensures each { IfOk result (λ opened. IsOneEach D.terms.listing.participants opened.1.items) }
+    ensures restored { IfOk result (λ opened. IfSome past.entry (λ p. Restores p.now.session p.now.restored.digest p.now.restored.from
+        p.now.restored.journal.items p.now.held opened.0 (map untold prepared.tape.listing.participants) opened.1.items)) }
+    ensures fresh { IfOk result (λ opened. past.entry ≡ None → opened.1.items ≡ map untold prepared.tape.listing.participants) }
+{
+    match SharedTape::<D>::open(prepared) {
+        Ok((shared, seats)) => restore_seats(rt, alloc, shared, seats, past),
+        Err(_) => Err(Fault::Memory),
+    }
+}
+
+/// Opens the shared tape of what was prepared, restores what its journal had, if the day goes on, and gives each line its seat. The slots
+/// are for the lines in their order, or there are none.
+pub(crate) fn open_lines<D: DayName, R: Wait>(
+    rt: &R,
     alloc: Global,
     prepared: Prepared,
     readers: Vec<Reader>,
     slots: Vec<Arc<LineSlot>>,
+    past: Option<&Past>,
 ) -> Result<(SharedTape<D>, Waiting<D>), Fault>
     requires name { prepared.blank.name ≡ D.name }
     requires parts { prepared.blank.parts ≡ D.parts }
@@ -70,10 +125,13 @@ pub(crate) fn open_lines<D: DayName>(
         drop(prepared);
         return Err(Fault::Memory);
     };
-    let Ok((shared, seats)) = SharedTape::<D>::open(prepared) else {
-        lines.destroy_empty();
-        room.destroy_empty();
-        return Err(Fault::Memory);
+    let (shared, seats) = match open_seats(rt, alloc, prepared, past) {
+        Ok(opened) => opened,
+        Err(fault) => {
+            lines.destroy_empty();
+            room.destroy_empty();
+            return Err(fault);
+        }
     };
     Ok((
         shared,

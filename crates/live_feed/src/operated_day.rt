@@ -1,9 +1,10 @@
 //! A day that is operated: someone looks on, and may end it.
-ghost use Rattle.std.specs.Prelude.{◌≡◌, ◌<◌, Err, None, IfErr, IfOk, OnOk, length, vec_len, true, false};
+ghost use Rattle.std.specs.Prelude.{◌≡◌, ◌<◌, ◌↔◌, Err, None, IfErr, IfOk, OnOk, length, vec_len, true, false};
 ghost use Rattle.line_ledger.specs.Cells.{FirstTokens};
 ghost use Rattle.line_ledger.specs.Days.{terms_of};
 ghost use Rattle.line_ledger.specs.Ends.{IsOneEach};
-ghost use Rattle.live_feed.specs.Faults.{NoneBefore};
+ghost use Rattle.live_feed.specs.Faults.{FailsEarly, NoneBefore};
+ghost use Rattle.live_feed.specs.Journals.{HasFailed};
 ghost use Rattle.feed_ends.specs.Faults.{fault_status};
 ghost use Rattle.feed_ends.specs.Reports.{WritesItsReport};
 ghost use Rattle.live_feed.specs.Accounts.{HasAccount};
@@ -12,17 +13,20 @@ use crate::account::{LineAccount, account_text};
 use crate::bell::Bell;
 use crate::doors::wait_for_lines;
 use crate::feed::Feed;
+use crate::journal::DayJournal;
+use crate::keeper::Keeper;
 use crate::line_input::Reader;
 use crate::line_slot::LineSlot;
 use crate::live::{closing_of, finish_day};
 use crate::opening::open_lines;
 use crate::operation::Operation;
 use crate::patience::Watch;
+use crate::restoring::Past;
 use crate::running::{Joined, Reported, run_and_report};
 use crate::seated::Ran;
 use crate::sender::room_for_a_packet;
 use crate::starting::prepare_day;
-use crate::{LiveSockets, Loss};
+use crate::{JournalFile, LiveSockets, Loss};
 use feed_ends::Fault;
 use line_ledger::{DayName, Prepared, SharedTape};
 use sale_matrix::Matrix;
@@ -64,6 +68,9 @@ pub struct LiveEnd {
     /// What is said of the day, for standard error: lines of `tapebox: `, for each participant what became of its messages. Empty where
     /// the lines were not run, or memory ran out for it.
     pub account: Vec<u8>,
+    /// Whether a write of the journal failed, or keeping what was written. The result is then `Write` or a fault of a lesser status, and no
+    /// end was sent and no report written.
+    pub journal_failed: bool,
 }
 
 /// How the run of a day ended.
@@ -73,18 +80,21 @@ struct Held {
     is_whole: bool,
     accounts: Vec<LineAccount>,
     given_up: u32,
+    journal_failed: bool,
 }
 
 /// A day that was not run, for this fault.
 fn not_held(alloc: Global, fault: Fault) -> Held
     ensures result { result.result ≡ Err fault }
     ensures unwritten { result.is_whole ≡ false }
+    ensures kept { result.journal_failed ≡ false }
 {
     Held {
         result: Err(fault),
         is_whole: false,
         accounts: Vec::new(alloc),
         given_up: 0,
+        journal_failed: false,
     }
 }
 
@@ -131,11 +141,12 @@ fn held_of<D: DayName>(
     joined: Joined<D>,
     is_whole: bool,
     given_up: u32,
+    journal_failed: bool,
 ) -> Held
     requires seats { IsOneEach D.terms.listing.participants joined.ran.seats.items }
     requires tokens { FirstTokens shared joined.sent.tokens.items }
     requires whole { joined.sent.fault ≡ None → is_whole ≡ true }
-    ensures same { result.is_whole ≡ is_whole }
+    ensures same { (result.is_whole ≡ is_whole) × (result.journal_failed ≡ journal_failed) }
     ensures whole { OnOk result.result (result.is_whole ≡ true) }
     ensures least { IfErr result.result (λ fault. NoneBefore fault joined.sent.fault) }
 {
@@ -148,6 +159,7 @@ fn held_of<D: DayName>(
                 is_whole,
                 accounts,
                 given_up,
+                journal_failed,
             }
         }
         Err(fault) => Held {
@@ -155,17 +167,37 @@ fn held_of<D: DayName>(
             is_whole,
             accounts,
             given_up,
+            journal_failed,
         },
     }
 }
 
-/// Runs the day of what was prepared under a name, and writes its report. Packets are written in the text.
-fn run_named<D: DayName + Send + Sync, R: Threads + Wait + Clock + Sync, L: Loss + Sync, W: Write>(
+/// Whether the day's journal failed, if it has one.
+fn journal_failed<J: JournalFile>(keeper: &Option<Keeper<J>>) -> bool
+    ensures { (result ≡ true) ↔ HasFailed keeper.now }
+{
+    match keeper {
+        Some(keeper) => keeper.has_failed(),
+        None => false,
+    }
+}
+
+/// Runs the day of what was prepared under a name, and writes its report. It goes on with what its journal had, if that is given. Packets
+/// are written in the text.
+fn run_named<
+    D: DayName + Send + Sync,
+    R: Threads + Wait + Clock + Sync,
+    L: Loss + Sync,
+    J: JournalFile + Send,
+    W: Write,
+>(
     rt: &R,
     feed: &Feed<'_, L>,
     prepared: Prepared,
     readers: Vec<Reader>,
     slots: Vec<Arc<LineSlot>>,
+    past: Option<Past>,
+    keeper: &mut Option<Keeper<J>>,
     watch: &Watch<'_>,
     text: &mut Vec<u8>,
     writer: &mut W,
@@ -174,12 +206,17 @@ fn run_named<D: DayName + Send + Sync, R: Threads + Wait + Clock + Sync, L: Loss
     requires parts { prepared.blank.parts ≡ D.parts }
     requires terms { terms_of prepared.tape ≡ D.terms }
     requires many { vec_len readers ≡ length D.terms.listing.participants }
+    requires kept { ¬ HasFailed keeper.old }
     ensures report { result.is_whole ≡ true
         → WritesItsReport D.terms.listing D.terms.matrix D.terms.limit (W.contents writer.old) (W.contents writer.new) }
     ensures whole { OnOk result.result (result.is_whole ≡ true) }
     ensures unwritten { result.is_whole ≡ false → IfErr result.result (λ fault. 4 < fault_status fault → writer.new ≡ writer.old) }
+    ensures journal { result.journal_failed ≡ true → FailsEarly result.is_whole result.result }
+    ensures failed { HasFailed keeper.new → result.journal_failed ≡ true }
 {
-    let (shared, waiting) = match open_lines::<D>(feed.alloc, prepared, readers, slots) {
+    let opened = open_lines::<D, R>(rt, feed.alloc, prepared, readers, slots, past.as_ref());
+    drop(past);
+    let (shared, waiting) = match opened {
         Ok(opened) => opened,
         Err(fault) => return not_held(feed.alloc, fault),
     };
@@ -188,28 +225,68 @@ fn run_named<D: DayName + Send + Sync, R: Threads + Wait + Clock + Sync, L: Loss
         joined,
         is_whole,
         given_up,
-    } = run_and_report(rt, feed, &shared, waiting, &bell, watch, text, writer);
-    held_of(feed.alloc, shared, joined, is_whole, given_up)
+    } = run_and_report(
+        rt, feed, &shared, keeper, waiting, &bell, watch, text, writer,
+    );
+    let failed = journal_failed(keeper);
+    held_of(feed.alloc, shared, joined, is_whole, given_up, failed)
 }
 
-/// Runs the day of what was prepared.
-fn run_prepared<R: Threads + Wait + Clock + Sync, L: Loss + Sync, W: Write>(
+/// Runs the day of what was prepared. It goes on with what its journal had, if that is given.
+fn run_prepared<R: Threads + Wait + Clock + Sync, L: Loss + Sync, J: JournalFile + Send, W: Write>(
     rt: &R,
     feed: &Feed<'_, L>,
     prepared: Prepared,
     readers: Vec<Reader>,
     slots: Vec<Arc<LineSlot>>,
+    past: Option<Past>,
+    keeper: &mut Option<Keeper<J>>,
     watch: &Watch<'_>,
     text: &mut Vec<u8>,
     writer: &mut W,
 ) -> Held
-    requires { vec_len readers ≡ length prepared.tape.listing.participants }
+    requires many { vec_len readers ≡ length prepared.tape.listing.participants }
+    requires kept { ¬ HasFailed keeper.old }
     ensures report { result.is_whole ≡ true → WritesItsReport prepared.tape.listing prepared.tape.matrix prepared.tape.limit
         (W.contents writer.old) (W.contents writer.new) }
     ensures whole { OnOk result.result (result.is_whole ≡ true) }
     ensures unwritten { result.is_whole ≡ false → IfErr result.result (λ fault. 4 < fault_status fault → writer.new ≡ writer.old) }
+    ensures journal { result.journal_failed ≡ true → FailsEarly result.is_whole result.result }
+    ensures failed { HasFailed keeper.new → result.journal_failed ≡ true }
 {
-    run_named::<Brand, R, L, W>(rt, feed, prepared, readers, slots, watch, text, writer)
+    run_named::<Brand, R, L, J, W>(
+        rt, feed, prepared, readers, slots, past, keeper, watch, text, writer,
+    )
+}
+
+/// The keeper of a day's journal, if it has one, and what the journal had, if the day goes on.
+fn keeper_of<J: JournalFile>(
+    alloc: Global,
+    session: u64,
+    journal: Option<DayJournal<J>>,
+) -> (Option<Keeper<J>>, Option<Past>)
+    ensures kept { ¬ HasFailed result.0 }
+{
+    let Some(
+        DayJournal {
+            groups,
+            file,
+            restored,
+        },
+    ) = journal
+    else {
+        return (None, None);
+    };
+    let keeper = Keeper::new(alloc, groups, file);
+    let past = match restored {
+        Some(restored) => Some(Past {
+            restored,
+            session,
+            held: keeper.held(),
+        }),
+        None => None,
+    };
+    (Some(keeper), past)
 }
 
 /// What the day's lines are read from, once their participants have connected or were given up, where a thread can be started for them then.
@@ -279,12 +356,14 @@ fn end_of(alloc: Global, held: Held) -> LiveEnd
     ensures result { result.result ≡ held.result }
     ensures is_whole { result.is_whole ≡ held.is_whole }
     ensures account { HasAccount result.account.items }
+    ensures journal { result.journal_failed ≡ held.journal_failed }
 {
     let Held {
         result,
         is_whole,
         accounts,
         given_up,
+        journal_failed,
     } = held;
     let account = match account_text(alloc, &accounts, given_up) {
         Ok(account) => account,
@@ -294,6 +373,7 @@ fn end_of(alloc: Global, held: Held) -> LiveEnd
         result,
         is_whole,
         account,
+        journal_failed,
     }
 }
 
@@ -310,13 +390,20 @@ fn end_of(alloc: Global, held: Held) -> LiveEnd
 /// there is not one listener and one line of the operation for each participant; `Write` for a failed write of the report; `Memory`;
 /// `Worker` where no thread can be started for the lines; `Disagrees` where the tape disagrees with what was told or sent of it, and for a
 /// limit outside 1 to `TAPE_MOST`. Without `Read` and `Write` there is the whole report or none of it.
-pub fn live_day<R: Threads + Wait + Clock + Sync, L: Loss + Sync, W: Write>(
+///
+/// With a `journal` what the lines admit is appended to it as one group, up to 4,096 entries at once, and kept, before any of it is
+/// published or sent; while one group is kept the next gathers. Where that fails nothing more is published, and the day ends as after
+/// another fault of the sender, with `Write` and `journal_failed`. If the journal had entries when it was opened, the day goes on behind
+/// them under the same numbers: they are admitted, each by the seat of its participant, and published, but not sent again; `Disagrees`
+/// where they are not what this day makes of their messages.
+pub fn live_day<R: Threads + Wait + Clock + Sync, L: Loss + Sync, J: JournalFile + Send, W: Write>(
     rt: &R,
     alloc: Global,
     terms: LiveTerms,
     sockets: LiveSockets,
     loss: &L,
     operation: &Operation,
+    journal: Option<DayJournal<J>>,
     writer: &mut W,
 ) -> LiveEnd
     ensures report { result.is_whole ≡ true
@@ -324,6 +411,7 @@ pub fn live_day<R: Threads + Wait + Clock + Sync, L: Loss + Sync, W: Write>(
     ensures whole { OnOk result.result (result.is_whole ≡ true) }
     ensures unwritten { result.is_whole ≡ false → IfErr result.result (λ fault. 4 < fault_status fault → writer.new ≡ writer.old) }
     ensures account { HasAccount result.account.items }
+    ensures journal { result.journal_failed ≡ true → FailsEarly result.is_whole result.result }
 {
     let LiveTerms {
         listing,
@@ -379,9 +467,20 @@ pub fn live_day<R: Threads + Wait + Clock + Sync, L: Loss + Sync, W: Write>(
         followers_wait,
         hurried: &operation.hurried,
         followers: &operation.followers,
+        lines: operation.lines.as_slice(),
     };
+    let (mut keeper, past) = keeper_of(alloc, session, journal);
     let held = run_prepared(
-        rt, &feed, prepared, readers, slots, &watch, &mut text, writer,
+        rt,
+        &feed,
+        prepared,
+        readers,
+        slots,
+        past,
+        &mut keeper,
+        &watch,
+        &mut text,
+        writer,
     );
     end_of(alloc, held)
 }

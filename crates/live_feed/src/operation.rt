@@ -10,7 +10,7 @@ use std::alloc::{AllocError, Global};
 use std::rt::Clock;
 use std::sync::atomic::{AtomicBool, Ordering};
 use std::sync::{Arc, Wait};
-use tape_types::Listing;
+use tape_types::{Listing, Participant};
 
 /// How many nanoseconds a second has.
 const SECOND: u64 = 1_000_000_000;
@@ -32,8 +32,13 @@ pub struct Operation {
 }
 
 impl Operation {
-    /// That of a day of this listing, which begins now. Nobody has connected.
-    pub fn new<R: Clock>(rt: &R, alloc: Global, listing: &Listing) -> Result<Operation, AllocError>
+    /// That of a day of this listing that serves so many connections of the retransmission, which begins now. Nobody has connected.
+    pub fn new<R: Clock>(
+        rt: &R,
+        alloc: Global,
+        listing: &Listing,
+        serves: u16,
+    ) -> Result<Operation, AllocError>
         ensures lines { IfOk result (λ operation. length operation.lines.items ≡ length listing.now.participants) }
     {
         let participants = listing.participants().as_slice();
@@ -47,7 +52,7 @@ impl Operation {
             lines,
             is_ended: AtomicBool::new(false),
             hurried: AtomicBool::new(false),
-            followers: Followers::new(rt, alloc),
+            followers: Followers::new(rt, alloc, serves),
         })
     }
 
@@ -63,6 +68,16 @@ impl Operation {
             line.stop();
         }
         true
+    }
+
+    /// Takes note, before the day runs, that this participant's line goes on after so many messages of the day's journal, of which the last
+    /// had this number. Where the participant is not one of the day's, nothing changes.
+    pub fn go_on<R: Wait>(&self, rt: &R, who: Participant, admitted: u32, last: u32) {
+        for line in self.lines.as_slice() {
+            if line.is_of(rt, who) {
+                line.go_on(rt, admitted, last);
+            }
+        }
     }
 
     /// Whether the day was ended.
@@ -93,13 +108,14 @@ impl Operation {
         text: &mut Vec<u8>,
     ) -> Result<(), AllocError> {
         let seen = self.seen(rt)?;
+        let followers = self.followers.seen(rt)?;
         push_status(
             text,
             self.seconds(rt),
             self.is_ended(),
             DayFigures::of(&seen),
             &seen,
-        )?;
-        self.followers.put_text(rt, text)
+            &followers,
+        )
     }
 }

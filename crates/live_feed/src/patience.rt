@@ -3,12 +3,14 @@ ghost use Rattle.std.specs.Prelude.{◌≡◌};
 ghost use Rattle.live_feed.specs.Patience.{has_passed, is_enough};
 
 use crate::followers::Followers;
+use crate::line_slot::LineSlot;
+use std::sync::Arc;
 use std::sync::atomic::{AtomicBool, Ordering};
 
 /// How many nanoseconds a second has.
 const SECOND: u64 = 1_000_000_000;
 
-/// How whoever runs a day looks on at its followers, and for how long it waits for them after the end.
+/// How whoever runs a day looks on at its followers and its lines, and for how long it waits for followers after the end.
 #[derive(Clone, Copy)]
 pub(crate) struct Watch<'a> {
     /// For how many seconds after the end followers may still ask: without such a number until the last connection has ended.
@@ -17,6 +19,8 @@ pub(crate) struct Watch<'a> {
     pub(crate) hurried: &'a AtomicBool,
     /// What they asked for.
     pub(crate) followers: &'a Followers,
+    /// The participants' lines.
+    pub(crate) lines: &'a [Arc<LineSlot>],
 }
 
 impl Watch<'_> {

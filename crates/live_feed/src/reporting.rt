@@ -2,7 +2,7 @@
 ghost use Rattle.std.specs.Prelude.{◌≡◌, ◌≢◌, ◌⊎◌, [], ◌∷◌, IfErr, IfOk, IfSome, IsSome, None, OnErr, Some, length, false, true};
 ghost use Rattle.line_ledger.specs.Cells.{FirstTokens, shown};
 ghost use Rattle.feed_ends.specs.declared.fault.Fault.TheVariants.{Write as WriteFault};
-ghost use Rattle.live_feed.specs.Faults.{IsLeast};
+ghost use Rattle.live_feed.specs.Faults.{EndsEarly, IsLeast};
 ghost use Rattle.live_feed.specs.Patience.{is_enough};
 ghost use Rattle.live_feed.specs.Reports.{ReportsDay};
 ghost use Rattle.live_feed.specs.Sendings.{end_text};
@@ -152,6 +152,7 @@ pub(crate) fn end_and_report<D: DayName, R: Threads + Wait + Clock + Sync, L, W:
     ensures report { result.is_whole ≡ true → ReportsDay D.terms (shown sent.tokens.items) (W.contents writer.old) (W.contents writer.new) }
     ensures whole { result.sent.fault ≡ None → result.is_whole ≡ true }
     ensures unwritten { result.is_whole ≡ false → result.sent.fault ≢ Some WriteFault → writer.new ≡ writer.old }
+    ensures early { IfSome sent.fault (λ fault. EndsEarly fault result.is_whole result.sent.fault) }
 {
     let met = Fault::least(sent.fault, lines);
     let sent = sent.with_fault(met);

@@ -1,21 +1,24 @@
 //! A day's lines, its sender and its retransmission, all at once.
-ghost use Rattle.std.specs.Prelude.{◌≡◌, ◌≢◌, None, IsSome, IfSome, Some, [], length, map, false, true};
+ghost use Rattle.std.specs.Prelude.{◌≡◌, ◌≢◌, ◌⊎◌, None, IsSome, IfSome, Some, [], length, map, false, true};
 ghost use Rattle.std.specs.Thread.{IsSync};
 ghost use Rattle.feed_ends.specs.declared.fault.Fault.TheVariants.{Write as WriteFault};
 ghost use Rattle.line_ledger.specs.Cells.{FirstTokens, shown};
 ghost use Rattle.line_ledger.specs.Ends.{whos};
+ghost use Rattle.live_feed.specs.Faults.{EndsEarly};
+ghost use Rattle.live_feed.specs.Journals.{HasFailed, Runs};
 ghost use Rattle.live_feed.specs.Reports.{ReportsDay};
 ghost use Rattle.live_feed.specs.Sendings.{end_text};
 
-use crate::Loss;
 use crate::bell::Bell;
 use crate::feed::Feed;
+use crate::keeper::Keeper;
 use crate::patience::Watch;
 use crate::reporting::{Ending, end_and_report};
 use crate::retransmission::{Served, serve_all};
 use crate::seated::{Ran, Waiting, run_all};
 use crate::sender::{Sent, send_end, send_entries};
 use crate::serving::Serving;
+use crate::{JournalFile, Loss, MemoryJournal};
 use feed_ends::Fault;
 use line_ledger::{DayName, SharedTape};
 use std::io::Write;
@@ -77,10 +80,16 @@ fn run_waiting<D: DayName + Send + Sync, R: Threads + Wait + Sync, L>(
 }
 
 /// Runs the lines that wait, which are taken out, next to the sender, and joins both. No end is sent yet.
-fn run_beside_sender<D: DayName + Send + Sync, R: Threads + Wait + Clock + Sync, L: Loss + Sync>(
+fn run_beside_sender<
+    D: DayName + Send + Sync,
+    R: Threads + Wait + Clock + Sync,
+    L: Loss + Sync,
+    J: JournalFile + Send,
+>(
     rt: &R,
     feed: &Feed<'_, L>,
     shared: &SharedTape<D>,
+    keeper: &mut Option<Keeper<J>>,
     waiting: &mut Option<Waiting<D>>,
     bell: &Bell,
     serving: &Serving<'_>,
@@ -91,11 +100,13 @@ fn run_beside_sender<D: DayName + Send + Sync, R: Threads + Wait + Clock + Sync,
     ensures ran { IfSome waiting.old (λ w. whos result.ran.seats.items ≡ map (λ l. l.0.who) w.lines.items) }
     ensures first { FirstTokens shared.now result.sent.tokens.items }
     ensures whole { result.sent.fault ≡ None → length result.sent.tokens.items ≡ result.sent.number }
+    ensures journal { result.sent.fault ≡ None → Runs keeper.old keeper.new (shown result.sent.tokens.items) }
+    ensures failed { HasFailed keeper.new → HasFailed keeper.old ⊎ (result.sent.fault ≡ Some WriteFault) }
 {
     let mut lines = waiting.take();
     let (sent, ran) = join_mut(
         rt,
-        &mut || send_entries(rt, feed, shared, bell, serving, text),
+        &mut || send_entries(rt, feed, shared, keeper, bell, serving, text),
         &mut || -> Option<Ran<D>>
             requires { IsSync R.row × IsSome lines }
             ensures { (lines.exit ≡ None) × IsSome result
@@ -127,8 +138,16 @@ fn run_and_send<D: DayName + Send + Sync, R: Threads + Wait + Clock + Sync, L: L
     ensures end { IfSome result (λ both. both.sent.fault ≡ None → text.new.items ≡ end_text feed.now.session both.sent.number) }
     ensures no_end { IfSome result (λ both. IsSome both.ran.fault → text.new.items ≡ []) }
 {
+    let mut keeper = None::<Keeper<MemoryJournal>>;
     let RanAndSent { ran, sent } = run_beside_sender(
-        rt, feed, shared, waiting, bell, serving, text,
+        rt,
+        feed,
+        shared,
+        &mut keeper,
+        waiting,
+        bell,
+        serving,
+        text,
     );
     let sent = send_end(rt, feed, serving, sent, ran.fault, text);
     Some(RanAndSent { ran, sent })
@@ -140,11 +159,13 @@ fn run_and_end<
     D: DayName + Send + Sync,
     R: Threads + Wait + Clock + Sync,
     L: Loss + Sync,
+    J: JournalFile + Send,
     W: Write,
 >(
     rt: &R,
     feed: &Feed<'_, L>,
     shared: &SharedTape<D>,
+    keeper: &mut Option<Keeper<J>>,
     waiting: &mut Option<Waiting<D>>,
     bell: &Bell,
     serving: &Serving<'_>,
@@ -163,9 +184,11 @@ fn run_and_end<
         → ReportsDay D.terms (shown both.ending.sent.tokens.items) (W.contents writer.old) (W.contents writer.new)) }
     ensures whole { IfSome result (λ both. both.ending.sent.fault ≡ None → both.ending.is_whole ≡ true) }
     ensures unwritten { IfSome result (λ both. both.ending.is_whole ≡ false → both.ending.sent.fault ≢ Some WriteFault → writer.new ≡ writer.old) }
+    ensures journal { IfSome result (λ both. both.ending.sent.fault ≡ None → Runs keeper.old keeper.new (shown both.ending.sent.tokens.items)) }
+    ensures failed { IfSome result (λ both. HasFailed keeper.new → HasFailed keeper.old ⊎ EndsEarly WriteFault both.ending.is_whole both.ending.sent.fault) }
 {
     let RanAndSent { ran, sent } = run_beside_sender(
-        rt, feed, shared, waiting, bell, serving, text,
+        rt, feed, shared, keeper, waiting, bell, serving, text,
     );
     let ending = end_and_report(
         rt, feed, shared, serving, watch, &ran.seats, sent, ran.fault, text, writer,
@@ -191,7 +214,7 @@ pub(crate) fn run_together<
     ensures whos { whos result.ran.seats.items ≡ map (λ l. l.0.who) waiting.lines.items }
     ensures first { FirstTokens shared.now result.sent.tokens.items }
 {
-    let serving = Serving::new(feed.alloc, None);
+    let serving = Serving::new(feed.alloc, None, &[]);
     let mut waiting = Some(waiting);
     let (served, both) = join_mut(
         rt,
@@ -216,11 +239,13 @@ pub(crate) fn run_and_report<
     D: DayName + Send + Sync,
     R: Threads + Wait + Clock + Sync,
     L: Loss + Sync,
+    J: JournalFile + Send,
     W: Write,
 >(
     rt: &R,
     feed: &Feed<'_, L>,
     shared: &SharedTape<D>,
+    keeper: &mut Option<Keeper<J>>,
     waiting: Waiting<D>,
     bell: &Bell,
     watch: &Watch<'_>,
@@ -233,8 +258,10 @@ pub(crate) fn run_and_report<
         → ReportsDay D.terms (shown result.joined.sent.tokens.items) (W.contents writer.old) (W.contents writer.new) }
     ensures whole { result.joined.sent.fault ≡ None → result.is_whole ≡ true }
     ensures unwritten { result.is_whole ≡ false → result.joined.sent.fault ≢ Some WriteFault → writer.new ≡ writer.old }
+    ensures journal { result.joined.sent.fault ≡ None → Runs keeper.old keeper.new (shown result.joined.sent.tokens.items) }
+    ensures failed { HasFailed keeper.new → HasFailed keeper.old ⊎ EndsEarly WriteFault result.is_whole result.joined.sent.fault }
 {
-    let serving = Serving::new(feed.alloc, Some(watch.followers));
+    let serving = Serving::new(feed.alloc, Some(watch.followers), watch.lines);
     let mut waiting = Some(waiting);
     let (served, both) = join_mut(
         rt,
@@ -247,12 +274,16 @@ pub(crate) fn run_and_report<
                 × IfSome result (λ both. both.ending.is_whole ≡ true
                 → ReportsDay D.terms (shown both.ending.sent.tokens.items) (W.contents writer.entry.now) (W.contents writer.exit.now))
                 × IfSome result (λ both. both.ending.sent.fault ≡ None → both.ending.is_whole ≡ true)
-                × IfSome result (λ both. both.ending.is_whole ≡ false → both.ending.sent.fault ≢ Some WriteFault → writer.exit.now ≡ writer.entry.now) }
+                × IfSome result (λ both. both.ending.is_whole ≡ false → both.ending.sent.fault ≢ Some WriteFault → writer.exit.now ≡ writer.entry.now)
+                × IfSome result (λ both. both.ending.sent.fault ≡ None → Runs keeper.entry.now keeper.exit.now (shown both.ending.sent.tokens.items))
+                × IfSome result (λ both. HasFailed keeper.exit.now → HasFailed keeper.entry.now
+                ⊎ EndsEarly WriteFault both.ending.is_whole both.ending.sent.fault) }
         {
             run_and_end(
                 rt,
                 feed,
                 shared,
+                keeper,
                 &mut waiting,
                 bell,
                 &serving,

@@ -1,35 +1,34 @@
 //! The sender: what the lines admit is published and sent on both lines, then beats while nothing is, and the end at last.
-ghost use Rattle.std.specs.Prelude.{◌≡◌, ◌<◌, ◌≤◌, ◌+◌, ◌⊎◌, [], ◌∷◌, IfOk, IsSome, OnOk, None, length, ℕ};
+ghost use Rattle.std.specs.Prelude.{◌≡◌, ◌<◌, ◌≤◌, ◌+◌, ◌⊎◌, [], ◌∷◌, Err, IfErr, IfOk, IsSome, OnOk, None, Some, length};
 ghost use Rattle.line_ledger.specs.Cells.{FirstTokens, shown};
 ghost use Rattle.line_ledger.specs.Publishing.{GoesOn};
-ghost use Rattle.line_ledger.specs.declared.publish_fault.PublishFault.TheVariants.{OutOfMemory, Unpublished};
 ghost use Rattle.tape_frames.specs.Sources.{IsPublished};
 ghost use Rattle.tape_frames.specs.Spelling.{packet_text};
 ghost use Rattle.tape_frames.specs.declared.version.Version.TheVariants.{Two};
 ghost use Rattle.live_feed.specs.Faults.{IsLeast};
+ghost use Rattle.live_feed.specs.Journals.{AllKept, Grows, HasFailed, Runs, Steps};
 ghost use Rattle.live_feed.specs.Sendings.{IsSent, beat_text, data_text, end_text};
-ghost use Rattle.feed_ends.specs.declared.fault.Fault.TheVariants.{Memory, Disagrees};
+ghost use Rattle.feed_ends.specs.declared.fault.Fault.TheVariants.{Memory, Write as WriteFault};
 
-use crate::Loss;
 use crate::bell::Bell;
 use crate::budget::Budget;
 use crate::clock::nanos_of;
 use crate::feed::Feed;
+use crate::keeper::Keeper;
+use crate::publishing::{begin, publish_next};
 use crate::quiet::Quiet;
 use crate::request_flag::RequestFlag;
 use crate::serving::Serving;
+use crate::{JournalFile, Loss};
 use arbitration::Line;
 use feed_ends::{Fault, here};
-use line_ledger::{DayName, PublishFault, Published, SharedTape, Sighting};
+use line_ledger::{DayName, Published, SharedTape, Sighting};
 use std::alloc::Global;
 use std::rt::Clock;
 use std::sync::Wait;
 use std::thread;
 use std::time::Duration;
 use tape_frames::{EntryCount, LONGEST_PACKET, Packet, Source, Version, cut, write_packet};
-
-/// How many entries are published at once, no more than a packet takes.
-const PUBLISHED_AT_ONCE: u32 = 8;
 
 /// How long the sender waits before each of the first ends, in milliseconds: a reader whose buffer is full empties it meanwhile, and one that
 /// was held up for half a second still gets an end.
@@ -58,17 +57,6 @@ impl Sent {
     }
 }
 
-/// Why nothing is published.
-fn fault_of_publication(fault: PublishFault) -> Fault
-    ensures memory { fault ≡ OutOfMemory → result ≡ Memory }
-    ensures unpublished { (number : ℕ) → fault ≡ Unpublished number → result ≡ Disagrees }
-{
-    match fault {
-        PublishFault::Unpublished(_) => Fault::Disagrees,
-        PublishFault::OutOfMemory => Fault::Memory,
-    }
-}
-
 /// Memory for the text of one packet, which is taken before a day starts: a sender without it could send no end, and
 /// subscribers would wait for one.
 pub(crate) fn room_for_a_packet(alloc: Global) -> Result<Vec<u8>, Fault> {
@@ -93,7 +81,8 @@ pub(crate) fn send_to_both<L>(feed: &Feed<'_, L>, bytes: &[u8]) {
 
 /// Makes the text that of a packet, whatever it was before.
 fn spell(packet: &Packet, text: &mut Vec<u8>) -> Result<(), Fault>
-    ensures { OnOk result (text.new.items ≡ packet_text packet.now) }
+    ensures spelled { OnOk result (text.new.items ≡ packet_text packet.now) }
+    ensures fault { IfErr result (λ fault. fault ≡ Memory) }
 {
     text.clear();
     match write_packet(packet, text) {
@@ -143,6 +132,7 @@ fn send_from<D: DayName, L: Loss>(
     requires source { IsPublished (shown published.now.tokens) }
     ensures sent { IfOk result (λ last. IsSent feed.now.session (shown published.now.tokens) from last text.new.items) }
     ensures last { IfOk result (λ last. (from ≤ last) × (last ≤ length (shown published.now.tokens))) }
+    ensures fault { IfErr result (λ fault. fault ≡ Memory) }
 {
     let packet = cut(Version::Two, feed.session, from, published);
     spell(&packet, text)?;
@@ -150,30 +140,31 @@ fn send_from<D: DayName, L: Loss>(
     Ok(packet.last())
 }
 
-/// Publishes what the lines admitted, so many entries at most, and sends a packet of what is published after this
-/// number: the last number that was sent then. The text is only room, and holds what was sent last.
-fn send_next<D: DayName, R: Wait, L: Loss>(
+/// Publishes what the lines admitted, so many entries at most, once it is kept in the journal, if there is one, and sends a packet of
+/// what is published after this number: the last number that was sent then. The text is only room, and holds what was sent last.
+fn send_next<D: DayName, R: Wait, L: Loss, J: JournalFile>(
     rt: &R,
     feed: &Feed<'_, L>,
     shared: &SharedTape<D>,
+    keeper: &mut Option<Keeper<J>>,
     published: &mut Published<'_, D>,
     sent: u32,
     text: &mut Vec<u8>,
 ) -> Result<u32, Fault>
-    requires { sent ≤ length (shown published.old.tokens) }
+    requires sent { sent ≤ length (shown published.old.tokens) }
+    requires kept { AllKept keeper.old (shown published.old.tokens) }
     ensures cells { published.new.names ≡ published.old.names }
     ensures kept { OnOk result (GoesOn published.old.tokens published.new.tokens) }
     ensures last { IfOk result (λ last. (sent ≤ last) × (last ≤ length (shown published.new.tokens))) }
     ensures nothing { IfOk result (λ last. last ≡ sent → sent ≡ length (shown published.new.tokens)) }
     ensures packet { IfOk result (λ last. sent < last → IsSent feed.now.session (shown published.new.tokens) (sent + 1) last text.new.items) }
+    // Nothing is published that is not kept first.
+    ensures journal { OnOk result (AllKept keeper.new (shown published.new.tokens)
+        × Steps keeper.old (shown published.old.tokens) keeper.new (shown published.new.tokens)) }
+    ensures failed { HasFailed keeper.new → HasFailed keeper.old ⊎ (result ≡ Err WriteFault) }
+    ensures kept_back { result ≡ Err WriteFault → published.new ≡ published.old }
 {
-    let set = match shared.publish(rt, PUBLISHED_AT_ONCE) {
-        Ok(set) => set,
-        Err(fault) => return Err(fault_of_publication(fault)),
-    };
-    let Ok(()) = published.refresh() else {
-        return Err(Fault::Memory);
-    };
+    let set = publish_next(rt, shared, keeper, published)?;
     if published.published() > sent {
         return send_from(feed, published, sent + 1, text);
     }
@@ -243,27 +234,33 @@ fn keep_quiet<D: DayName, R: Wait + Clock, L>(
 }
 
 /// Publishes and sends until the lines have ended and all is sent: the number of the last entry that was sent, and why it did
-/// not go on to the last one. In a turn of the clock it sends as many packets as its followers take, and rests for what is left
-/// of it. While there is nothing to send it sleeps, until the bell rings, and sends a beat now and then.
-fn send_to_end<D: DayName, R: Wait + Clock, L: Loss>(
+/// not go on to the last one. What a journal had was sent before, and is not sent again. In a turn of the clock it sends as many packets
+/// as its followers take, and rests for what is left of it. While there is nothing to send it sleeps, until the bell rings, and sends a
+/// beat now and then.
+fn send_to_end<D: DayName, R: Wait + Clock, L: Loss, J: JournalFile>(
     rt: &R,
     feed: &Feed<'_, L>,
     shared: &SharedTape<D>,
+    keeper: &mut Option<Keeper<J>>,
     bell: &Bell,
     requested: &RequestFlag,
     published: &mut Published<'_, D>,
     text: &mut Vec<u8>,
 ) -> (u32, Option<Fault>)
+    requires sent { AllKept keeper.old (shown published.old.tokens) }
     ensures cells { published.new.names ≡ published.old.names }
     ensures whole { result.1 ≡ None → result.0 ≡ length (shown published.new.tokens) }
+    ensures behind { length (shown published.old.tokens) ≤ result.0 }
+    ensures journal { result.1 ≡ None → Grows keeper.old (shown published.old.tokens) keeper.new (shown published.new.tokens) }
+    ensures failed { HasFailed keeper.new → HasFailed keeper.old ⊎ (result.1 ≡ Some WriteFault) }
 {
-    let mut number = 0;
+    let mut number = published.published();
     let mut budget = Budget::first();
     let mut quiet = Quiet::after_data(0);
     for _ in rt.forever() {
         // Looked at first: what was admitted before the end is published after it.
         let is_last = bell.has_ended();
-        let last = match send_next(rt, feed, shared, published, number, text) {
+        let last = match send_next(rt, feed, shared, keeper, published, number, text) {
             Ok(last) => last,
             Err(fault) => return (number, Some(fault)),
         };
@@ -284,23 +281,59 @@ fn send_to_end<D: DayName, R: Wait + Clock, L: Loss>(
     unreachable!()
 }
 
-/// Sends the entries of the day while the lines admit them, and until they have ended and all is sent. After a fault the
-/// connections are ended. The text is only room, and a packet that fits in it takes no memory.
-pub(crate) fn send_entries<D: DayName, R: Wait + Clock, L: Loss>(
+/// Begins where the journal ends, if there is one, and then publishes and sends as `send_to_end` does, with its answer.
+fn send_all<D: DayName, R: Wait + Clock, L: Loss, J: JournalFile>(
     rt: &R,
     feed: &Feed<'_, L>,
     shared: &SharedTape<D>,
+    keeper: &mut Option<Keeper<J>>,
+    bell: &Bell,
+    requested: &RequestFlag,
+    published: &mut Published<'_, D>,
+    text: &mut Vec<u8>,
+) -> (u32, Option<Fault>)
+    requires { published.old.tokens ≡ [] }
+    ensures cells { published.new.names ≡ published.old.names }
+    ensures whole { result.1 ≡ None → result.0 ≡ length (shown published.new.tokens) }
+    ensures journal { result.1 ≡ None → Runs keeper.old keeper.new (shown published.new.tokens) }
+    ensures failed { HasFailed keeper.new → HasFailed keeper.old ⊎ (result.1 ≡ Some WriteFault) }
+{
+    match begin(keeper, published) {
+        Ok(()) => send_to_end(rt, feed, shared, keeper, bell, requested, published, text),
+        Err(fault) => (0, Some(fault)),
+    }
+}
+
+/// Sends the entries of the day while the lines admit them, and until they have ended and all is sent. After a fault the
+/// connections are ended, and the reading of the lines where someone looks on. The text is only room, and a packet that fits in it takes no memory.
+pub(crate) fn send_entries<D: DayName, R: Wait + Clock, L: Loss, J: JournalFile>(
+    rt: &R,
+    feed: &Feed<'_, L>,
+    shared: &SharedTape<D>,
+    keeper: &mut Option<Keeper<J>>,
     bell: &Bell,
     serving: &Serving<'_>,
     text: &mut Vec<u8>,
 ) -> Sent
     ensures first { FirstTokens shared.now result.tokens.items }
     ensures whole { result.fault ≡ None → length result.tokens.items ≡ result.number }
+    ensures journal { result.fault ≡ None → Runs keeper.old keeper.new (shown result.tokens.items) }
+    ensures failed { HasFailed keeper.new → HasFailed keeper.old ⊎ (result.fault ≡ Some WriteFault) }
 {
     let mut published = Published::new(shared);
     let requested = &serving.requested;
-    let (number, fault) = send_to_end(rt, feed, shared, bell, requested, &mut published, text);
+    let (number, fault) = send_all(
+        rt,
+        feed,
+        shared,
+        keeper,
+        bell,
+        requested,
+        &mut published,
+        text,
+    );
     if fault.is_some() {
+        serving.stop_lines();
         serving.give_up(rt, feed.closing);
     }
     Sent {

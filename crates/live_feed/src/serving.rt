@@ -3,6 +3,7 @@ ghost use Rattle.std.specs.Prelude.{◌≡◌, IfErr, IfSome};
 ghost use Rattle.feed_ends.specs.declared.fault.Fault.TheVariants.{Memory};
 
 use crate::followers::Followers;
+use crate::line_slot::LineSlot;
 use crate::request_flag::RequestFlag;
 use feed_ends::Fault;
 use std::alloc::Global;
@@ -27,6 +28,8 @@ struct Served {
 pub(crate) struct Serving<'a> {
     /// What the connections ask for, where someone looks on.
     pub(crate) followers: Option<&'a Followers>,
+    /// The participants' lines, where someone looks on; else none.
+    lines: &'a [Arc<LineSlot>],
     /// Whether something was asked for.
     pub(crate) requested: RequestFlag,
     /// Whether a connection is served or awaited.
@@ -40,9 +43,14 @@ pub(crate) struct Serving<'a> {
 
 impl<'a> Serving<'a> {
     /// Nobody is served or awaited yet. It takes no memory.
-    pub(crate) fn new(alloc: Global, followers: Option<&'a Followers>) -> Serving<'a> {
+    pub(crate) fn new(
+        alloc: Global,
+        followers: Option<&'a Followers>,
+        lines: &'a [Arc<LineSlot>],
+    ) -> Serving<'a> {
         Serving {
             followers,
+            lines,
             requested: RequestFlag::new(),
             is_on: AtomicBool::new(false),
             is_out_of_memory: AtomicBool::new(false),
@@ -103,6 +111,13 @@ impl<'a> Serving<'a> {
     /// Whether the sender has given the day up.
     pub(crate) fn is_given_up<R: Wait>(&self, rt: &R) -> bool {
         self.served.lock(rt).is_given_up
+    }
+
+    /// Ends the reading of the participants' lines, where someone looks on: what they would admit would not be sent.
+    pub(crate) fn stop_lines(&self) {
+        for line in self.lines {
+            line.stop();
+        }
     }
 
     /// Ends all connections that are served, and lets none come any more: what was read, written or accepted returns. The

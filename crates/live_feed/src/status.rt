@@ -2,9 +2,9 @@
 ghost use Rattle.std.specs.Prelude.{◌≡◌, ◌<◌, ◌^◌, ◌++◌, OnOk};
 ghost use Rattle.std.specs.List.{flat_map, list_any};
 ghost use Rattle.live_feed.specs.Accounts.{is_awaited, seen_lines};
-ghost use Rattle.live_feed.specs.Status.{AreFigures, admitted_in_all, awaited_name, ended_line, messages_of, names_line, number_text, rate_text, refused_in_all, status_text, waits_line};
+ghost use Rattle.live_feed.specs.Status.{AreFigures, admitted_in_all, awaited_name, day_text, ended_line, messages_of, names_line, number_text, rate_text, refused_in_all, restored_in_all, status_text, waits_line};
 
-use crate::follower_counts::push_number;
+use crate::follower_counts::{SeenFollowers, push_all_followers, push_followers, push_number};
 use crate::line_counts::{SeenLine, push_seen, push_text};
 use std::alloc::AllocError;
 
@@ -15,6 +15,8 @@ pub(crate) struct DayFigures {
     pub(crate) admitted: u64,
     /// How many were refused.
     pub(crate) refused: u64,
+    /// How many of those that were admitted the day's journal had when the day began.
+    pub(crate) restored: u64,
 }
 
 /// How many messages of all lines were admitted.
@@ -39,6 +41,17 @@ fn refused_in_all(lines: &[SeenLine]) -> u64
     sum
 }
 
+/// How many messages of all lines the day's journal had when the day began.
+fn restored_in_all(lines: &[SeenLine]) -> u64
+    ensures { restored_in_all lines.now < 2 ^ 64 → result ≡ restored_in_all lines.now }
+{
+    let mut sum: u64 = 0;
+    for line in lines {
+        sum = sum.saturating_add(u64::from(line.before));
+    }
+    sum
+}
+
 impl DayFigures {
     /// Those of these lines.
     pub(crate) fn of(lines: &[SeenLine]) -> DayFigures
@@ -47,14 +60,17 @@ impl DayFigures {
         DayFigures {
             admitted: admitted_in_all(lines),
             refused: refused_in_all(lines),
+            restored: restored_in_all(lines),
         }
     }
 
-    /// How many messages came so far.
+    /// How many messages came since the day began or went on: what was restored came before.
     fn messages(self) -> u64
         ensures { result ≡ messages_of self }
     {
-        self.admitted.saturating_add(self.refused)
+        self.admitted
+            .saturating_sub(self.restored)
+            .saturating_add(self.refused)
     }
 }
 
@@ -68,7 +84,7 @@ fn push_day(text: &mut Vec<u8>, seconds: u64, figures: DayFigures) -> Result<(),
     push_number(text, figures.admitted)
 }
 
-/// Adds how many messages came in a second so far.
+/// Adds how many messages came in a second since the day began or went on.
 fn push_rate(text: &mut Vec<u8>, seconds: u64, figures: DayFigures) -> Result<(), AllocError>
     ensures { OnOk result (text.new.items ≡ text.old.items ++ rate_text seconds figures) }
 {
@@ -153,20 +169,37 @@ fn push_all_seen(text: &mut Vec<u8>, lines: &[SeenLine]) -> Result<(), AllocErro
     Ok(())
 }
 
-/// Adds what is said of a day's lines, which run for so many seconds, by their figures. Where memory runs out, some of it may have been
-/// added.
+/// Adds for how long the day runs, by its figures, and what its end waits for.
+fn push_state(
+    text: &mut Vec<u8>,
+    seconds: u64,
+    is_ended: bool,
+    figures: DayFigures,
+    lines: &[SeenLine],
+    followers: &SeenFollowers,
+) -> Result<(), AllocError>
+    ensures { OnOk result (text.new.items ≡ text.old.items ++ day_text seconds is_ended figures lines.now followers.now) }
+{
+    push_day(text, seconds, figures)?;
+    push_rate(text, seconds, figures)?;
+    push_ended(text, is_ended)?;
+    push_waits(text, lines)?;
+    push_followers(text, followers)
+}
+
+/// Adds what is said of a day's lines and followers, which run for so many seconds, by its figures. Where memory runs out, some of it may have
+/// been added.
 pub(crate) fn push_status(
     text: &mut Vec<u8>,
     seconds: u64,
     is_ended: bool,
     figures: DayFigures,
     lines: &[SeenLine],
+    followers: &SeenFollowers,
 ) -> Result<(), AllocError>
-    ensures { OnOk result (text.new.items ≡ text.old.items ++ status_text seconds is_ended figures lines.now) }
+    ensures { OnOk result (text.new.items ≡ text.old.items ++ status_text seconds is_ended figures lines.now followers.now) }
 {
-    push_day(text, seconds, figures)?;
-    push_rate(text, seconds, figures)?;
-    push_ended(text, is_ended)?;
-    push_waits(text, lines)?;
-    push_all_seen(text, lines)
+    push_state(text, seconds, is_ended, figures, lines, followers)?;
+    push_all_seen(text, lines)?;
+    push_all_followers(text, followers)
 }

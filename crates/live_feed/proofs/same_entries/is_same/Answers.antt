@@ -1,0 +1,11 @@
+use Rattle.std.proofs.Common.{rules, ◌≡◌, sym, ◌∙◌}
+use Rattle.tape_core.specs.Laws.{entry_eq}
+use Rattle.tape_core.specs.Lemmas.Equality.{entry-Decides}
+use Rattle.live_feed.proofs.same_entries.is_same.Goals as goal
+
+-- `==` of entries decides whether they are one
+pub returns : goal.returns
+returns c =
+    let decides = entry-Decides c.args.one.now c.args.other.now in
+    let is : c.eq.result ≡ entry_eq c.args.one.now c.args.other.now = search rules in
+    (λ true_of. decides.0 (sym is ∙ true_of), λ one. is ∙ decides.1 one)

@@ -1,0 +1,38 @@
+//! Whether a source goes on with given entries.
+ghost use Rattle.std.specs.Prelude.{◌≡◌, ◌+◌, ◌↔◌, IsTrue, Some, drop, length, true};
+ghost use Rattle.tape_frames.specs.Sources.{entry_of};
+
+use tape_core::Entry;
+use tape_frames::Source;
+
+/// Whether the entries are the same.
+fn is_same(one: &Entry, other: &Entry) -> bool
+    ensures { IsTrue result ↔ (one.now ≡ other.now) }
+{
+    one == other
+}
+
+/// Whether the source has this entry under the number.
+fn has_entry<S: Source>(source: &S, number: u32, entry: &Entry) -> bool
+    ensures { result ≡ true → entry_of (S.list source.now) number ≡ Some entry.now }
+{
+    match source.entry(number) {
+        Some(found) => is_same(&found, entry),
+        None => false,
+    }
+}
+
+/// Whether what a source has after its first so many entries are these.
+pub(crate) fn ends_with<S: Source>(source: &S, before: u32, entries: &[Entry]) -> bool
+    requires many { before + length entries.now ≡ length (S.list source.now) }
+    ensures { result ≡ true → drop before (S.list source.now) ≡ entries.now }
+{
+    // For the proof alone: by the clauses of this call the source has no more entries than a number tells.
+    let _ = source.published();
+    for at in 0..entries.len() {
+        if !has_entry(source, before + 1 + at as u32, &entries[at]) {
+            return false;
+        }
+    }
+    true
+}
