@@ -1,5 +1,6 @@
 -- Where a control socket is, and who can enter its folder.
-use Rattle.std.specs.Prelude.{◌≡◌, ℕ, [], ◌∷◌, bit_and, Bool, true, false, Result, Ok, Err}
+use Rattle.std.specs.Prelude.{◌≡◌, ℕ, List, [], ◌∷◌, bit_and, codes, Bool, true, false, Option, Some, None, Result, Ok, Err}
+use Rattle.std.specs.Path.{path_parent}
 use Rattle.std.specs.Net.Addr.{ipv4_octets}
 use Rattle.std.specs.Net.Socket.{socket_ip, socket_port}
 use Rattle.std.specs.declared.net.ip_addr.IpAddr.TheVariants.{V4}
@@ -16,6 +17,16 @@ pub record IsHere (address : SocketAddr) (port : ℕ) : Type 0 where
   pub has_ip : socket_ip address ≡ V4 ip
   pub octets : ipv4_octets ip ≡ 127 ∷ 0 ∷ 0 ∷ 1 ∷ []
   pub has_port : socket_port address ≡ port
+
+-- the folder before a name, or the one that the program runs in where none stands there
+abbrev pub named_folder : Option (List ℕ) → List ℕ
+named_folder None = codes "."
+named_folder (Some []) = codes "."
+named_folder (Some (byte ∷ rest)) = byte ∷ rest
+
+-- the folder that a path names a file of
+abbrev pub folder_of : List ℕ → List ℕ
+folder_of path = named_folder (path_parent path)
 
 -- a folder of this mode gives its group and others nothing
 abbrev pub IsPrivate : ℕ → Type 0

@@ -1,7 +1,6 @@
 //! A command sent, and its answer read.
-ghost use Rattle.std.specs.Prelude.{◌≡◌, ◌≢◌, ◌++◌, ◌∷◌, [], List, ℕ, OnOk, OnErr, IfErr, Err, flat_map};
-ghost use Rattle.std.specs.Io.KnownBytes.{Appends, Consumes};
-ghost use Rattle.row_reads.specs.Writing.{WritesPrefix};
+ghost use Rattle.std.specs.Prelude.{◌≡◌, ◌≢◌, [], OnOk, IfErr, Err};
+ghost use Rattle.std.specs.Io.KnownBytes.{Appends};
 ghost use Rattle.day_control.specs.Asking.{AnswerRead, Told};
 ghost use Rattle.day_control.specs.Commands.{command_name};
 ghost use Rattle.day_control.specs.Lines.{line_text};

@@ -1,4 +1,7 @@
 //! The client's side of a control socket.
+ghost use Rattle.std.specs.Prelude.{◌≡◌, ◌≢◌, List, ℕ, Option, IfErr, OnOk};
+ghost use Rattle.day_control.specs.Asking.{Told};
+ghost use Rattle.day_control.specs.declared.control_fault.ControlFault.TheVariants.{WriteFault};
 
 use crate::place::here;
 use crate::{Command, ControlFault, ControlPlace, ask_over};
@@ -37,7 +40,11 @@ pub fn ask_control<R: Net<Listener = TcpListener, Stream = TcpStream>, W: Write>
     place: &ControlPlace,
     command: Command,
     writer: &mut W,
-) -> Result<(), ControlFault> {
+) -> Result<(), ControlFault>
+    // The lines of an answer were written, and nothing else.
+    ensures told { OnOk result ((had left : Option (List ℕ)) × Told had left (W.contents writer.old) (W.contents writer.new)) }
+    ensures untold { IfErr result (λ fault. fault ≢ WriteFault → writer.new ≡ writer.old) }
+{
     let Ok(connection) = connect(rt, place) else {
         return Err(ControlFault::Unanswered);
     };

@@ -1,4 +1,7 @@
 //! The listener of a control socket.
+ghost use Rattle.std.specs.Prelude.{◌≡◌, ◌≢◌};
+ghost use Rattle.std.specs.IoError.{error_kind};
+ghost use Rattle.day_control.specs.declared.control_fault.ControlFault.TheVariants.{InUse, Unopened};
 
 use crate::place::here;
 use crate::standing::{clear, enter_folder};
@@ -34,11 +37,13 @@ pub struct ControlListener {
 }
 
 /// The fault of a socket that was not opened.
-fn fault_of_opening(error: &Error) -> ControlFault {
-    if error.kind() == ErrorKind::AddrInUse {
-        ControlFault::InUse
-    } else {
-        ControlFault::Unopened
+fn fault_of_opening(error: &Error) -> ControlFault
+    ensures in_use { error_kind error.now ≡ ErrorKind.AddrInUse → result ≡ InUse }
+    ensures other { error_kind error.now ≢ ErrorKind.AddrInUse → result ≡ Unopened }
+{
+    match error.kind() {
+        ErrorKind::AddrInUse => ControlFault::InUse,
+        _ => ControlFault::Unopened,
     }
 }
 

@@ -1,5 +1,4 @@
 //! Where a control socket is.
-ghost use Rattle.std.specs.Prelude.{◌≡◌};
 ghost use Rattle.day_control.specs.Places.{IsHere};
 
 use std::fmt;

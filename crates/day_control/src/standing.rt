@@ -1,11 +1,13 @@
 //! What stands at a path where a socket is to be made, and the folder that it stands in.
-ghost use Rattle.std.specs.Prelude.{◌≡◌, ◌↔◌, IsTrue};
-ghost use Rattle.day_control.specs.Places.{IsPrivate, cleared};
+ghost use Rattle.std.specs.Prelude.{◌≡◌, ◌≢◌, ◌↔◌, IsTrue};
+ghost use Rattle.std.specs.IoError.{error_kind};
+ghost use Rattle.day_control.specs.Places.{IsPrivate, cleared, folder_of};
+ghost use Rattle.day_control.specs.declared.standing.Standing.TheVariants.{Answered, Deserted, Nothing};
 
 use crate::ControlFault;
 use std::fs;
 use std::fs::{DirBuilder, Files};
-use std::io::ErrorKind;
+use std::io::{Error, ErrorKind};
 use std::net::Net;
 use std::os::unix::fs::{DirBuilderExt, FileTypeExt, MetadataExt};
 use std::os::unix::net::UnixStream;
@@ -49,6 +51,19 @@ fn clears(standing: Standing) -> Result<bool, ControlFault>
     }
 }
 
+/// What a socket is that no connection could be made to: only one that refuses it, or is gone meanwhile, is nobody's.
+fn standing_unconnected(error: &Error) -> Standing
+    ensures deserted { error_kind error.now ≡ ErrorKind.ConnectionRefused → result ≡ Deserted }
+    ensures gone { error_kind error.now ≡ ErrorKind.NotFound → result ≡ Nothing }
+    ensures answered { error_kind error.now ≢ ErrorKind.ConnectionRefused → error_kind error.now ≢ ErrorKind.NotFound → result ≡ Answered }
+{
+    match error.kind() {
+        ErrorKind::ConnectionRefused => Standing::Deserted,
+        ErrorKind::NotFound => Standing::Nothing,
+        _ => Standing::Answered,
+    }
+}
+
 /// Looks at what stands at a path.
 fn look<R: Files + Net>(rt: &R, path: &str) -> Result<Standing, ControlFault> {
     match fs::symlink_metadata(rt, path) {
@@ -59,11 +74,7 @@ fn look<R: Files + Net>(rt: &R, path: &str) -> Result<Standing, ControlFault> {
     }
     match UnixStream::connect(rt, path) {
         Ok(_) => Ok(Standing::Answered),
-        Err(error) => match error.kind() {
-            ErrorKind::ConnectionRefused => Ok(Standing::Deserted),
-            ErrorKind::NotFound => Ok(Standing::Nothing),
-            _ => Ok(Standing::Answered),
-        },
+        Err(error) => Ok(standing_unconnected(&error)),
     }
 }
 
@@ -76,7 +87,9 @@ pub(crate) fn clear<R: Files + Net>(rt: &R, path: &str) -> Result<(), ControlFau
 }
 
 /// The folder that a path names a file of.
-fn folder_of(path: &str) -> &str {
+fn folder_of(path: &str) -> &str
+    ensures { result.now ≡ folder_of path.now }
+{
     match Path::new(path).parent() {
         Some(folder) if !folder.as_str().is_empty() => folder.as_str(),
         _ => ".",

@@ -1,11 +1,11 @@
 -- What a day's file says.
-use Rattle.std.specs.Prelude.{◌+◌, ◌==◌, ℕ, suc, zero, List, [], ◌∷◌, length, Option, Some, None, Result, Ok, Err, nat_le, if◌then◌else◌, string_bytes}
+use Rattle.std.specs.Prelude.{◌+◌, ◌==◌, ℕ, suc, zero, Bool, true, List, [], ◌∷◌, length, Option, Some, None, Result, Ok, Err, nat_le, if◌then◌else◌, string_bytes}
 use Rattle.std.specs.Option.{option_map}
 use Rattle.sale_matrix.specs.declared.matrix.Matrix.{Matrix}
 use Rattle.sale_matrix.specs.declared.matrix.Matrix.TheVariants.{One, Two}
 use Rattle.toml.specs.Data.{Data, Members, string, get_member}
 use Rattle.feed_words.specs.Limits.{LIMIT_LEFT_OUT}
-use Rattle.day_files.specs.Entries.{entries_at, participant_at, port_at, symbol_at}
+use Rattle.day_files.specs.Entries.{boolean_at, entries_at, participant_at, port_at, symbol_at, text_at}
 use Rattle.day_files.specs.Faults.{Fault, ◌>>=◌, out_of_range, port_past_last, uneven}
 use Rattle.day_files.specs.Keys.{key_text}
 use Rattle.day_files.specs.Numbers.{number_at}
@@ -44,6 +44,8 @@ pub record Day : Type 0 where
   pub connect_within : Option ℕ
   pub followers_wait : Option ℕ
   pub control : Option ControlPlace
+  pub journal : Option (List ℕ)
+  pub journal_sync : Bool
 
 -- the symbols of what was read
 abbrev pub symbols_view : DaySymbols → NamedSymbols
@@ -71,6 +73,8 @@ day_view day = record {
   connect_within = day.connect_within;
   followers_wait = day.followers_wait;
   control = option_map control_view day.control;
+  journal = option_map string_bytes day.journal;
+  journal_sync = day.journal_sync;
 }
 
 -- a string is a file's name
@@ -135,6 +139,24 @@ control_at value = do
 unfoldable pub control_in : Members → Result (Option ControlPlace) Fault
 control_in table = if_there control_at (get_member (key_text keys.Control) table)
 
+-- where the journal is: a path, which is not empty
+unfoldable pub journal_at : Data → Result (List ℕ) Fault
+journal_at (string []) = Err (out_of_range (At keys.Journal))
+journal_at value = text_at (At keys.Journal) value
+
+-- where the journal is, if one is kept
+unfoldable pub journal_in : Members → Result (Option (List ℕ)) Fault
+journal_in table = if_there journal_at (get_member (key_text keys.Journal) table)
+
+-- whether a journal is synced, which it is if that is left out
+abbrev pub sync_or : Option Data → Result Bool Fault
+sync_or None = Ok true
+sync_or (Some value) = boolean_at (At keys.JournalSync) value
+
+-- whether the journal is synced
+unfoldable pub sync_in : Members → Result Bool Fault
+sync_in table = sync_or (get_member (key_text keys.JournalSync) table)
+
 -- what two keys say together: as many ports for line B as for A, and a port for each participant
 abbrev pub agreed : Day → Result Day Fault
 agreed day =
@@ -160,6 +182,8 @@ day_in table = do
   connect_within ← seconds_in keys.ConnectWithin table
   followers_wait ← seconds_in keys.FollowersWait table
   control ← control_in table
+  journal ← journal_in table
+  journal_sync ← sync_in table
   agreed (record {
     symbols = symbols;
     participants = participants;
@@ -174,6 +198,8 @@ day_in table = do
     connect_within = connect_within;
     followers_wait = followers_wait;
     control = control;
+    journal = journal;
+    journal_sync = journal_sync;
   })
 
 -- the day that a text says, or the first thing wrong with it

@@ -1,6 +1,6 @@
 -- The lists of a day's file.
-use Rattle.std.specs.Prelude.{ℕ, suc, List, [], ◌∷◌, Option, Some, None, Result, Ok, Err}
-use Rattle.toml.specs.Data.{Data, string, array, Items, no_items, item}
+use Rattle.std.specs.Prelude.{ℕ, suc, Bool, List, [], ◌∷◌, Option, Some, None, Result, Ok, Err}
+use Rattle.toml.specs.Data.{Data, string, boolean, array, Items, no_items, item}
 use Rattle.tape_types.specs.Names.{symbol_named}
 use Rattle.batch.specs.Header.{participant_named}
 use Rattle.day_files.specs.Faults.{Fault, ◌>>=◌, empty, other_kind, out_of_range}
@@ -15,6 +15,11 @@ use Rattle.day_files.specs.declared.place.Place.TheVariants.{At, Entry}
 abbrev pub text_at : Place → Data → Result (List ℕ) Fault
 text_at place (string text) = Ok text
 text_at place value = Err (other_kind place (kind_of value))
+
+-- a boolean
+abbrev pub boolean_at : Place → Data → Result Bool Fault
+boolean_at place (boolean is) = Ok is
+boolean_at place value = Err (other_kind place (kind_of value))
 
 -- what a text names, or it is out of range
 abbrev pub or_out_of_range : {A : Type 0} → Place → Option A → Result A Fault

@@ -5,7 +5,7 @@ use Rattle.std.specs.Str.{bytes_eq}
 use Rattle.tape_types.specs.Ranges.{TAPE_MOST}
 use Rattle.std.specs.Prelude.{◌∷◌, []}
 use Rattle.day_files.specs.declared.day_key.DayKey.{DayKey}
-use Rattle.day_files.specs.declared.day_key.DayKey.TheVariants.{Symbols, Participants, Port, A, B, Retransmission, Followers, Session, Matrix, Limit, ConnectWithin, FollowersWait, Control}
+use Rattle.day_files.specs.declared.day_key.DayKey.TheVariants.{Symbols, Participants, Port, A, B, Retransmission, Followers, Session, Matrix, Limit, ConnectWithin, FollowersWait, Control, Journal, JournalSync}
 
 -- its name, as it stands in the file
 abbrev pub key_text : DayKey → List ℕ
@@ -22,10 +22,12 @@ key_text Limit = codes "limit"
 key_text ConnectWithin = codes "connect_within"
 key_text FollowersWait = codes "followers_wait"
 key_text Control = codes "control"
+key_text Journal = codes "journal"
+key_text JournalSync = codes "journal_sync"
 
 -- all keys, in the order in which they are read
 abbrev pub all_keys : List DayKey
-all_keys = Symbols ∷ Participants ∷ Port ∷ A ∷ B ∷ Retransmission ∷ Followers ∷ Session ∷ Matrix ∷ Limit ∷ ConnectWithin ∷ FollowersWait ∷ Control ∷ []
+all_keys = Symbols ∷ Participants ∷ Port ∷ A ∷ B ∷ Retransmission ∷ Followers ∷ Session ∷ Matrix ∷ Limit ∷ ConnectWithin ∷ FollowersWait ∷ Control ∷ Journal ∷ JournalSync ∷ []
 
 -- whether a day's file may have a key of this name
 unfoldable pub is_key : List ℕ → Bool

@@ -52,6 +52,10 @@ pub struct DayFile {
     pub followers_wait: Option<u32>,
     /// Where the control socket is, if there is one.
     pub control: Option<DayControl>,
+    /// The path of the file that `live` keeps the day in, if it keeps one. A path that is not absolute starts at the folder of the day's file.
+    pub journal: Option<String>,
+    /// Whether the journal is synced before what it has is sent. If nothing is said, it is.
+    pub journal_sync: bool,
     /// Each participant has a port.
     pub ghost ports: { port + length participants.items ≤ 2 ^ 16 },
 }

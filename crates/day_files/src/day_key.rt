@@ -34,13 +34,17 @@ pub enum DayKey {
     FollowersWait,
     /// `control`: where the control socket is: a port of this machine, 1 to 65,535, or the path of a UNIX socket.
     Control,
+    /// `journal`: the path of the file that `live` keeps the day in.
+    Journal,
+    /// `journal_sync`: whether the journal is synced before what it has is sent.
+    JournalSync,
 }
 
 /// How many seconds a day's file may say at most: those of one day.
 const SECONDS_MOST: u64 = 86_400;
 
 /// All keys.
-const KEYS: [DayKey; 13] = [
+const KEYS: [DayKey; 15] = [
     DayKey::Symbols,
     DayKey::Participants,
     DayKey::Port,
@@ -54,6 +58,8 @@ const KEYS: [DayKey; 13] = [
     DayKey::ConnectWithin,
     DayKey::FollowersWait,
     DayKey::Control,
+    DayKey::Journal,
+    DayKey::JournalSync,
 ];
 
 impl DayKey {
@@ -75,6 +81,8 @@ impl DayKey {
             DayKey::ConnectWithin => "connect_within",
             DayKey::FollowersWait => "followers_wait",
             DayKey::Control => "control",
+            DayKey::Journal => "journal",
+            DayKey::JournalSync => "journal_sync",
         }
     }
 
@@ -106,6 +114,8 @@ impl DayKey {
             DayKey::ConnectWithin => "1 to 86400",
             DayKey::FollowersWait => "0 to 86400",
             DayKey::Control => "1 to 65535 or a path",
+            DayKey::Journal => "a path",
+            DayKey::JournalSync => "true or false",
             _ => "1 to 65535",
         }
     }

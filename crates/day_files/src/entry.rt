@@ -57,7 +57,7 @@ impl Entry for u16 {
 }
 
 /// A text.
-fn text_of(place: Place, value: &Value) -> Result<&str, DayFault>
+pub(crate) fn text_of(place: Place, value: &Value) -> Result<&str, DayFault>
     ensures { Gives (λ text. text.now) result (text_at place (view value.now)) }
 {
     match value.as_str() {

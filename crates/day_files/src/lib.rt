@@ -1,6 +1,7 @@
 //! One file that says all of a running day, in TOML, which all of its peers read.
 #![tactic(auto)]
 
+mod boolean;
 mod day_fault;
 mod day_file;
 mod day_key;

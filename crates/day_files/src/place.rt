@@ -28,6 +28,8 @@ impl Place {
         match self {
             Place::At(DayKey::Symbols) => "a list or a file's name",
             Place::At(DayKey::Control) => "a number or a path",
+            Place::At(DayKey::Journal) => "a path",
+            Place::At(DayKey::JournalSync) => "a boolean",
             Place::At(DayKey::Participants | DayKey::A | DayKey::B) => "a list",
             Place::Entry(DayKey::Symbols | DayKey::Participants, _) | Place::Line(_) => "a string",
             Place::At(_) | Place::Entry(_, _) => "a number",

@@ -1,13 +1,14 @@
 //! A day's file, read key by key.
-ghost use Rattle.std.specs.Prelude.{◌≡◌, ◌<◌, ◌≤◌, ◌^◌, Err, IfErr, option_map};
+ghost use Rattle.std.specs.Prelude.{◌≡◌, ◌<◌, ◌≤◌, ◌^◌, Err, IfErr, option_map, string_bytes};
 ghost use Rattle.toml.specs.View.{table_view, view};
-ghost use Rattle.day_files.specs.Days.{control_at, control_in, control_view, day_in, day_of, day_view, limit_in, matrix_in, number_in, ports_in, seconds_in, symbols_at, symbols_view};
+ghost use Rattle.day_files.specs.Days.{control_at, control_in, control_view, day_in, day_of, day_view, journal_at, journal_in, limit_in, matrix_in, number_in, ports_in, seconds_in, symbols_at, symbols_view, sync_in};
 ghost use Rattle.day_files.specs.Faults.{Gives, syntax};
 ghost use Rattle.day_files.specs.Keys.{key_most};
 ghost use Rattle.day_files.specs.Places.{IsPlaced};
 ghost use Rattle.day_files.specs.Tables.{table_of};
 
-use crate::entry::entries_of;
+use crate::boolean::boolean_of;
+use crate::entry::{entries_of, text_of};
 use crate::number::{number_of, short_of};
 use crate::table::{judge_keys, required_of, table_of, value_of};
 use crate::{DayControl, DayFault, DayFile, DayKey, DaySymbols, Place};
@@ -125,6 +126,40 @@ fn control_in(alloc: Global, table: &Table) -> Result<Option<DayControl>, DayFau
     }
 }
 
+/// The path of the journal, at its key.
+#[tactic(auto, unfolding(crate::specs::Days::journal_at))]
+fn journal_at(alloc: Global, value: &Value) -> Result<String, DayFault>
+    ensures { Gives string_bytes result (journal_at (view value.now)) }
+{
+    let place = Place::At(DayKey::Journal);
+    match text_of(place, value)? {
+        "" => Err(DayFault::OutOfRange(place)),
+        path => Ok(String::from_str(alloc, path)?),
+    }
+}
+
+/// The path of the journal, if the table has its key.
+#[tactic(auto, unfolding(crate::specs::Days::journal_in))]
+fn journal_in(alloc: Global, table: &Table) -> Result<Option<String>, DayFault>
+    ensures { Gives (λ path. option_map string_bytes path) result (journal_in (table_view table.now)) }
+{
+    match value_of(table, DayKey::Journal) {
+        Some(value) => Ok(Some(journal_at(alloc, value)?)),
+        None => Ok(None),
+    }
+}
+
+/// Whether the journal is synced, which it is if nothing is said.
+#[tactic(auto, unfolding(crate::specs::Days::sync_in))]
+fn sync_in(table: &Table) -> Result<bool, DayFault>
+    ensures { Gives (λ is_synced. is_synced) result (sync_in (table_view table.now)) }
+{
+    match value_of(table, DayKey::JournalSync) {
+        Some(value) => boolean_of(Place::At(DayKey::JournalSync), value),
+        None => Ok(true),
+    }
+}
+
 /// The day of a table of known keys.
 #[tactic(auto, unfolding(crate::specs::Days::day_in))]
 fn day_in(alloc: Global, table: &Table) -> Result<DayFile, DayFault>
@@ -147,6 +182,8 @@ fn day_in(alloc: Global, table: &Table) -> Result<DayFile, DayFault>
     let connect_within = seconds_in(table, DayKey::ConnectWithin)?;
     let followers_wait = seconds_in(table, DayKey::FollowersWait)?;
     let control = control_in(alloc, table)?;
+    let journal = journal_in(alloc, table)?;
+    let journal_sync = sync_in(table)?;
     if b.len() != a.len() {
         return Err(DayFault::Uneven);
     }
@@ -167,6 +204,8 @@ fn day_in(alloc: Global, table: &Table) -> Result<DayFile, DayFault>
         connect_within,
         followers_wait,
         control,
+        journal,
+        journal_sync,
     })
 }
 

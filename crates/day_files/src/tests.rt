@@ -10,7 +10,8 @@ use tape_types::Listing;
 /// A day of two followers with all its keys.
 const DAY: &str =
     "# a day\nsymbols = [\"AB\", \"CD\"]\nparticipants = [\"N\", \"Q\"]\nport = 9000\na = [9101, 9111]\nb = [9102, 9112]\n\
-    retransmission = 9200\nfollowers = 2\nsession = 7\nmatrix = 2\nlimit = 16777216\nconnect_within = 86400\nfollowers_wait = 0\ncontrol = \"day.control\"\n";
+    retransmission = 9200\nfollowers = 2\nsession = 7\nmatrix = 2\nlimit = 16777216\nconnect_within = 86400\nfollowers_wait = 0\ncontrol = \"day.control\"\n\
+    journal = \"day.journal\"\njournal_sync = false\n";
 
 /// A day of one follower without the keys that may be left out, whose symbols stand in a file.
 const SHORT_DAY: &[u8] =
@@ -33,7 +34,7 @@ fn follow(
 }
 
 /// A text in a day's file, another that stands in its place, and the fault of the file then.
-const FAULTS: [(&str, &str, &str); 35] = [
+const FAULTS: [(&str, &str, &str); 38] = [
     (
         "port = 9000",
         "port == 9000",
@@ -135,6 +136,13 @@ const FAULTS: [(&str, &str, &str); 35] = [
         "\"day.control\"",
         "\"\"",
         "control: not 1 to 65535 or a path",
+    ),
+    ("\"day.journal\"", "7", "journal: a number, not a path"),
+    ("\"day.journal\"", "\"\"", "journal: not a path"),
+    (
+        "journal_sync = false",
+        "journal_sync = 0",
+        "journal_sync: a number, not a boolean",
     ),
     (
         "[\"AB\", \"CD\"]",
@@ -239,11 +247,16 @@ fn a_days_end_and_its_control_socket_are_read(rt: HostRuntime) {
     };
     assert!(rt; day.connect_within == Some(86_400) && day.followers_wait == Some(0));
     assert!(rt; is_at(day.control.as_ref(), "day.control"));
+    assert!(rt;
+        day.journal
+            .is_some_and(|path| path.as_str() == "day.journal")
+            && !day.journal_sync
+    );
     let Ok(day) = read_day(rt.alloc(), SHORT_DAY) else {
         panic!(rt; "refused");
     };
     assert!(rt; day.connect_within.is_none() && day.followers_wait.is_none());
-    assert!(rt; day.control.is_none());
+    assert!(rt; day.control.is_none() && day.journal.is_none() && day.journal_sync);
     let Ok(text) = DAY.replace(rt.alloc(), "\"day.control\"", "9300") else {
         panic!(rt; "no memory");
     };

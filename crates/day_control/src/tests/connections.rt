@@ -2,7 +2,7 @@
 ghost use Rattle.std.specs.Prelude.{None};
 
 use crate::{Command, ControlFault, Ended, Operator, ask_over, serve_commands};
-use std::alloc::{AllocError, Global};
+use std::alloc::AllocError;
 
 /// Tells two lines with an empty one between them, and counts its calls.
 #[derive(Drop)]

@@ -15,6 +15,7 @@ use std::rt::Clock;
 use std::sync::Wait;
 use std::sync::atomic::{AtomicU32, Ordering};
 use std::test::Fail;
+use std::time::Duration;
 use std::{fs, io, thread};
 
 /// A day that counts its ends.
@@ -91,6 +92,18 @@ fn half_lines<R: Net>(
     Ok(open)
 }
 
+/// Whether the first of these connections has ended, within two seconds.
+fn first_has_ended(open: &io::Result<Vec<UnixStream>>) -> bool {
+    let Ok(open) = open else {
+        return false;
+    };
+    let Some(mut first) = open.first() else {
+        return false;
+    };
+    first.set_read_timeout(Some(Duration::from_secs(2))).is_ok()
+        && matches!(first.read(&mut [0]), Ok(0))
+}
+
 /// What a connection gets for these bytes until it ends.
 fn answered<R: Net>(rt: &R, alloc: Global, path: &str, sent: &[u8]) -> io::Result<Vec<u8>> {
     let mut stream = UnixStream::connect(rt, path)?;
@@ -126,6 +139,7 @@ fn a_path_is_operated_through_half_lines(rt: HostRuntime) -> Result<(), Fail> {
         operate(rt_shared, alloc, place_shared);
         let open = half_lines(rt_shared, alloc, path, 256);
         assert!(rt_shared; open.is_ok());
+        assert!(rt_shared; first_has_ended(&open));
         assert_told(rt_shared, alloc, place_shared, Command::Status, "tape 12\n");
         let long = answered(rt_shared, alloc, path, &[b'a'; 1_000]);
         let refused = b"unknown command; status or end\n\n";
@@ -144,6 +158,37 @@ fn a_path_is_operated_through_half_lines(rt: HostRuntime) -> Result<(), Fail> {
     remove_control(&rt, &place);
     assert!(rt; !fs::exists(&rt, path)?);
     fs::remove_dir(&rt, "control_flooded")?;
+    Ok(())
+}
+
+/// A connection stays open through more than may be open at once, where each ends before the next.
+#[test]
+fn connections_that_ended_shut_none_down(rt: HostRuntime) -> Result<(), Fail> {
+    let path = "control_long/day.sock";
+    fresh(&rt, "control_long", path);
+    let place = ControlPlace::Path(String::from_str(rt.alloc(), path)?);
+    let listener = open_control(&rt, &place)?;
+    let day = Day {
+        ends: AtomicU32::new(0),
+    };
+    let rt_shared = &rt;
+    let alloc = rt.alloc();
+    let (served, operated) = (&listener, &day);
+    let place_shared = &place;
+    thread::scope(thread::scope_env(), rt_shared, move |scope| {
+        let started = scope.spawn(move || serve_control(rt_shared, alloc, served, operated));
+        assert!(rt_shared; started.is_ok());
+        let open = half_lines(rt_shared, alloc, path, 1);
+        for _ in 0..40 {
+            assert_told(rt_shared, alloc, place_shared, Command::Status, "tape 12\n");
+        }
+        assert!(rt_shared; !first_has_ended(&open));
+        served.close();
+        drop(open);
+    });
+    drop(listener);
+    remove_control(&rt, &place);
+    fs::remove_dir(&rt, "control_long")?;
     Ok(())
 }
 

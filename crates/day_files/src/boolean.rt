@@ -1,0 +1,20 @@
+//! The booleans of a day's file.
+ghost use Rattle.toml.specs.View.{view};
+ghost use Rattle.day_files.specs.Entries.{boolean_at};
+ghost use Rattle.day_files.specs.Faults.{Gives};
+
+use crate::{DayFault, Kind, Place};
+use toml::Value;
+
+/// The boolean that a value is.
+pub(crate) fn boolean_of(place: Place, value: &Value) -> Result<bool, DayFault>
+    ensures { Gives (λ is. is) result (boolean_at place (view value.now)) }
+{
+    match value.as_bool() {
+        Some(is) => Ok(is),
+        None => Err(DayFault::OtherKind {
+            place,
+            found: Kind::of(value),
+        }),
+    }
+}
