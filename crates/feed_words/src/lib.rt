@@ -12,3 +12,4 @@ pub use arguments::words;
 pub use fault::WordsFault;
 pub use follow_words::FollowWords;
 pub use live_words::LiveWords;
+pub use reading::{decimal, first_argument};

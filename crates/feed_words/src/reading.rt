@@ -1,5 +1,5 @@
 //! Arguments, one after another.
-ghost use Rattle.std.specs.Prelude.{◌≡◌, ◌<◌, ◌^◌, ◌∷◌, ◌++◌, ◌↔◌, [], ℕ, IfErr, IfOk, IfSome, IsErr, IsOk, List, Ok, OnOk, Some, position};
+ghost use Rattle.std.specs.Prelude.{◌≡◌, ◌<◌, ◌^◌, ◌∷◌, ◌++◌, ◌↔◌, [], ℕ, IfErr, IfOk, IfSome, IsErr, IsOk, List, MatchOption, Ok, OnOk, Some, length, position};
 ghost use Rattle.std.specs.Char.{is_ascii_digit};
 ghost use Rattle.std.specs.Iterator.{YieldsFirstRef, item_count};
 ghost use Rattle.std.specs.List.{list_all};
@@ -8,7 +8,7 @@ ghost use Rattle.tape_types.specs.Ranges.{IsTapeNumber};
 ghost use Rattle.feed_words.specs.Limits.{LIMIT_LEFT_OUT};
 ghost use Rattle.feed_words.specs.Listings.{COMMA};
 ghost use Rattle.feed_words.specs.Values.{ArePorts, IsLimitOrLeftOut, IsMatrixOrOne, IsNumber, IsPort, ListPorts, ListSomePorts};
-ghost use Rattle.feed_words.specs.Words.{IsFirst, words_left};
+ghost use Rattle.feed_words.specs.Words.{IsFirst, words_left, words_of};
 ghost use Rattle.feed_words.specs.declared.fault.WordsFault.TheVariants.{BadArguments, OutOfMemory};
 
 use crate::WordsFault;
@@ -34,6 +34,15 @@ fn end_of_word(bytes: &[u8]) -> Option<usize>
     bytes.iter().position(|byte| *byte == 0)
 }
 
+/// The first of arguments that are each ended by a zero byte, and the others, or `None` where none is left.
+pub fn first_argument(bytes: &[u8]) -> Option<(&[u8], &[u8])>
+    ensures { MatchOption result (words_of bytes.now ≡ [])
+        (λ parts. (words_of bytes.now ≡ parts.0.now ∷ words_of parts.1.now) × (length parts.1.now < length bytes.now)) }
+{
+    let end = end_of_word(bytes)?;
+    Some((&bytes[..end], &bytes[end + 1..]))
+}
+
 impl<'a> Iterator for Words<'a> {
     type Item = &'a [u8];
 
@@ -56,9 +65,9 @@ fn are_digits(word: &[u8]) -> bool
     word.iter().all(|byte| byte.is_ascii_digit())
 }
 
-/// A number in decimal digits alone, with no sign. Leading zeros are accepted.
+/// The number of an argument that is decimal digits alone, with no sign, up to 18,446,744,073,709,551,615. Leading zeros are accepted.
 #[tactic(auto, using(crate::proofs::DigitLemmas::number_read, crate::proofs::DigitLemmas::digits_text, crate::proofs::DigitLemmas::each_read))]
-fn decimal(word: &[u8]) -> Option<u64>
+pub fn decimal(word: &[u8]) -> Option<u64>
     ensures number { IfSome result (λ number. IsNumber word.now number) }
     ensures each { (number : ℕ) → IsNumber word.now number → number < 2 ^ 64 → result ≡ Some number }
 {

@@ -1,4 +1,2 @@
-mod ArgumentLemmas
-pub mod DigitLemmas
 mod PushLemmas
 mod WordLemmas

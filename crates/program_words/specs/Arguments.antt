@@ -2,8 +2,6 @@
 use Rattle.std.specs.Prelude.{◌==◌, ◌||◌, ◌&&◌, ◌∷◌, ℕ, List, [], Option, Some, None, Result, Ok, Err, Bool, true, false, codes, not, if◌then◌else◌}
 use Rattle.std.specs.Option.{option_and_then, option_map_or}
 use Rattle.std.specs.Str.{bytes_eq}
-use Rattle.sale_matrix.specs.declared.matrix.Matrix.{Matrix}
-use Rattle.sale_matrix.specs.declared.matrix.Matrix.TheVariants.{One}
 use Rattle.program_words.specs.Given.{given_with, is_option, nothing_given}
 use Rattle.program_words.specs.Words.{flag_name, is_row_word, word_of}
 use Rattle.program_words.specs.declared.command.Asked.{Asked}
@@ -55,13 +53,9 @@ in_a_row word.End rest = false
 
 -- ## What is asked for
 
--- a text of a table is asked for, by the file that is given
+-- a text of a table or a journal is asked for, by the file that is given
 abbrev pub table : Command → Given → Result Asked Wrong
 table command given = Ok (asked.Table (record { command = command; file = given.file }))
-
--- the matrix that is given, which is One where none is
-abbrev pub matrix_given : Given → Matrix
-matrix_given given = option_map_or (λ matrix. matrix) given.matrix One
 
 -- the place of a follower that is given, which is the first where none is
 abbrev pub follower_given : Given → ℕ
@@ -69,11 +63,11 @@ follower_given given = option_map_or (λ follower. follower) given.follower 1
 
 -- what a word asks for with what is given, of which no option awaits its value and none is help
 abbrev pub asked_by : Word → Given → Result Asked Wrong
-asked_by word.Report given = table (command.Report (matrix_given given) given.strict) given
-asked_by word.Tape given = table (command.Tape (matrix_given given) given.strict) given
-asked_by word.Explain given = table (command.Explain (matrix_given given) given.strict) given
+asked_by word.Report given = table (command.Report given.matrix given.strict) given
+asked_by word.Tape given = table (command.Tape given.matrix given.strict) given
+asked_by word.Explain given = table (command.Explain given.matrix given.strict) given
 asked_by word.Check given = table command.Check given
-asked_by word.Verify given = table (command.Verify (matrix_given given)) given
+asked_by word.Verify given = table (command.Verify given.matrix) given
 asked_by word.Encode given = table command.Encode given
 asked_by word.Decode given = table command.Decode given
 asked_by word.Line given = option_map_or (λ participant. table (command.Line participant) given) given.participant (Err wrong.NoParticipant)

@@ -1,29 +1,13 @@
 //! Arguments, one after another, each ended by a zero byte.
-ghost use Rattle.std.specs.Prelude.{◌+◌, ◌≡◌, ◌<◌, ◌∷◌, [], MatchOption, get_or, length, not, position};
+ghost use Rattle.std.specs.Prelude.{◌≡◌, [], get_or};
 ghost use Rattle.feed_words.specs.Words.{words_of};
-ghost use Rattle.memchr.specs.Find.{is_byte};
 ghost use Rattle.program_words.specs.Arguments.{in_a_row};
 ghost use Rattle.program_words.specs.Given.{given_with, nothing_given};
 
 use crate::flag::Flag;
 use crate::given::{Given, Wrong, is_option};
 use crate::word::Word;
-
-/// Where the first argument ends.
-fn end_of_argument(bytes: &[u8]) -> Option<usize>
-    ensures { result ≡ position (is_byte 0) bytes.now }
-{
-    bytes.iter().position(|byte| *byte == 0)
-}
-
-/// The first argument, and the others.
-pub fn first_argument(bytes: &[u8]) -> Option<(&[u8], &[u8])>
-    ensures { MatchOption result (words_of bytes.now ≡ [])
-        (λ parts. (words_of bytes.now ≡ parts.0.now ∷ words_of parts.1.now) × (length parts.1.now < length bytes.now)) }
-{
-    let end = end_of_argument(bytes)?;
-    Some((&bytes[..end], &bytes[end + 1..]))
-}
+use feed_words::first_argument;
 
 /// The argument at a place, counted from 0, or nothing past the last.
 pub fn argument_at(bytes: &[u8], place: usize) -> &[u8]

@@ -1,31 +1,32 @@
 //! What the program's arguments ask for.
 ghost use Rattle.std.specs.Prelude.{◌≡◌};
 ghost use Rattle.feed_words.specs.Words.{words_of};
-ghost use Rattle.program_words.specs.Arguments.{asked_after, asked_alone, asked_by, asked_of, asked_with, follower_given, matrix_given};
+ghost use Rattle.program_words.specs.Arguments.{asked_after, asked_alone, asked_by, asked_of, asked_with, follower_given};
 
-use crate::arguments::{are_in_a_row, first_argument, given};
+use crate::arguments::{are_in_a_row, given};
 use crate::flag::Flag;
 use crate::given::{Given, Wrong};
 use crate::word::Word;
+use feed_words::first_argument;
 use sale_matrix::Matrix;
 use tape_types::Participant;
 
 /// The argument that asks for the version.
 const VERSION: &[u8] = b"--version";
 
-/// A text of a table.
+/// A text of a table or a journal. By no matrix a table goes by Matrix One, and a journal by its own.
 #[derive(Clone, Copy, Debug, PartialEq, Eq)]
 pub enum Command {
-    /// The report of a table, by a matrix, and whether refused rows are faults.
-    Report(Matrix, bool),
-    /// The readable tape of a table, by a matrix, and whether refused rows are faults.
-    Tape(Matrix, bool),
-    /// What became of the reports of a table and what each sets, by a matrix, and whether refused rows are faults.
-    Explain(Matrix, bool),
+    /// The report of a table or a journal, by a matrix if one is given, and whether refused rows are faults.
+    Report(Option<Matrix>, bool),
+    /// The readable tape of a table or a journal, by a matrix if one is given, and whether refused rows are faults.
+    Tape(Option<Matrix>, bool),
+    /// What became of the reports of a table or a journal and what each sets, by a matrix if one is given, and whether refused rows are faults.
+    Explain(Option<Matrix>, bool),
     /// Every fault of a table.
     Check,
-    /// Whether a recorded tape stands as it is written, by a matrix.
-    Verify(Matrix),
+    /// Whether a recorded tape or a journal stands as it is written, by a matrix if one is given.
+    Verify(Option<Matrix>),
     /// The text of a batch of a table.
     Encode,
     /// The table of a batch's text.
@@ -34,19 +35,19 @@ pub enum Command {
     Line(Participant),
 }
 
-/// A text of a table, and where the table is. The arguments after a word are counted from 0.
+/// A text of a table or a journal, and where that is. The arguments after a word are counted from 0.
 #[derive(Clone, Copy, Debug, PartialEq, Eq)]
 pub struct Request {
     /// The text.
     pub command: Command,
-    /// Which argument is the name of the table's file, which is standard input where it is `-` or none is.
+    /// Which argument is the name of the file, which is standard input where it is `-` or none is.
     pub file: Option<usize>,
 }
 
 /// What the program is asked for. The arguments after a word are counted from 0.
 #[derive(Clone, Copy, Debug, PartialEq, Eq)]
 pub enum Asked {
-    /// A text of a table.
+    /// A text of a table or a journal.
     Table(Request),
     /// A running day, and which argument is the name of its file.
     Live(usize),
@@ -70,13 +71,6 @@ pub enum Asked {
 }
 
 impl Given {
-    /// The matrix, which is One where none is given.
-    fn matrix(&self) -> Matrix
-        ensures { result ≡ matrix_given self.now }
-    {
-        self.matrix.unwrap_or(Matrix::One)
-    }
-
     /// The place of a follower, which is the first where none is given.
     fn follower(&self) -> u16
         ensures { result ≡ follower_given self.now }
@@ -90,11 +84,11 @@ fn asked_by(word: Word, given: &Given) -> Result<Asked, Wrong>
     ensures { result ≡ asked_by word given.now }
 {
     let command = match word {
-        Word::Report => Command::Report(given.matrix(), given.strict),
-        Word::Tape => Command::Tape(given.matrix(), given.strict),
-        Word::Explain => Command::Explain(given.matrix(), given.strict),
+        Word::Report => Command::Report(given.matrix, given.strict),
+        Word::Tape => Command::Tape(given.matrix, given.strict),
+        Word::Explain => Command::Explain(given.matrix, given.strict),
         Word::Check => Command::Check,
-        Word::Verify => Command::Verify(given.matrix()),
+        Word::Verify => Command::Verify(given.matrix),
         Word::Encode => Command::Encode,
         Word::Decode => Command::Decode,
         Word::Line => Command::Line(given.participant.ok_or(Wrong::NoParticipant)?),

@@ -1,15 +1,12 @@
 //! What a word's arguments give, one after another, and which of them is wrong.
-ghost use Rattle.std.specs.Prelude.{◌≡◌, ◌<◌, ◌^◌, ℕ, IfSome, MatchOption, None, Some, option_copied, position};
-ghost use Rattle.std.specs.Char.{is_ascii_digit};
-ghost use Rattle.std.specs.List.{list_all};
-ghost use Rattle.feed_words.specs.Values.{IsNumber};
+ghost use Rattle.std.specs.Prelude.{◌≡◌, MatchOption, None, Some, option_copied, position};
 ghost use Rattle.memchr.specs.Find.{is_byte};
 ghost use Rattle.program_words.specs.Given.{follower_named, is_given, is_option, matrix_named, nothing_given, option_name, option_value, participant_named, with_argument, with_flag, with_option, with_plain, with_value, without_value};
 
 use crate::flag::Flag;
 use crate::word::Word;
+use feed_words::decimal;
 use sale_matrix::Matrix;
-use std::str;
 use tape_types::Participant;
 
 /// What arguments gave so far. The arguments after a word are counted from 0.
@@ -101,32 +98,13 @@ fn participant_named(argument: &[u8]) -> Option<Participant>
     }
 }
 
-/// Whether all bytes are decimal digits.
-fn are_digits(value: &[u8]) -> bool
-    ensures { result ≡ list_all is_ascii_digit value.now }
-{
-    value.iter().all(|byte| byte.is_ascii_digit())
-}
-
-/// A number of 16 bits in decimal digits alone, with no sign. Leading zeros are accepted.
-#[tactic(auto, using(crate::proofs::DigitLemmas::number_read, crate::proofs::DigitLemmas::digits_text, crate::proofs::DigitLemmas::each_read))]
-fn decimal(value: &[u8]) -> Option<u16>
-    ensures number { IfSome result (λ number. IsNumber value.now number) }
-    ensures each { (number : ℕ) → IsNumber value.now number → number < 2 ^ 16 → result ≡ Some number }
-{
-    if !are_digits(value) {
-        return None;
-    }
-    str::from_utf8(value).ok()?.parse::<u16>().ok()
-}
-
 /// The place of a follower, from 1.
 fn follower_named(value: &[u8]) -> Option<u16>
     ensures { result ≡ follower_named value.now }
 {
-    match decimal(value) {
-        Some(0) | None => None,
-        Some(follower) => Some(follower),
+    match u16::try_from(decimal(value)?) {
+        Ok(0) | Err(_) => None,
+        Ok(follower) => Some(follower),
     }
 }
 

@@ -12,7 +12,7 @@ mod tests;
 mod word;
 mod wrong_texts;
 
-pub use arguments::{argument_at, first_argument};
+pub use arguments::argument_at;
 pub use command::{Asked, Command, Request, read_arguments};
 pub use flag::Flag;
 pub use given::{STANDARD_INPUT, Wrong};

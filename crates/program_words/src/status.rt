@@ -1,7 +1,6 @@
 //! How the program ends.
-ghost use Rattle.std.specs.Prelude.{◌≡◌, ◌≤◌};
+ghost use Rattle.std.specs.Prelude.{◌≡◌};
 ghost use Rattle.program_words.specs.Statuses.{status_code, status_text};
-ghost use Rattle.program_words.specs.declared.status.Status.TheVariants.{Done};
 
 /// How the program ends.
 #[derive(Clone, Copy, Debug, PartialEq, Eq)]
@@ -38,23 +37,6 @@ impl Status {
             Status::OutOfMemory => 5,
             Status::NotStarted => 6,
             Status::Disagrees => 7,
-        }
-    }
-
-    /// The status of a number. One above 7 is no status, and is taken for 7.
-    pub fn of_code(code: u8) -> Status
-        ensures code { code ≤ 7 → status_code result ≡ code }
-        ensures done { code ≡ 0 → result ≡ Done }
-    {
-        match code {
-            0 => Status::Done,
-            1 => Status::Differs,
-            2 => Status::Bad,
-            3 => Status::ReadFault,
-            4 => Status::WriteFault,
-            5 => Status::OutOfMemory,
-            6 => Status::NotStarted,
-            _ => Status::Disagrees,
         }
     }
 

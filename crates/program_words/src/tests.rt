@@ -1,18 +1,19 @@
 //! What arguments ask for, and what is said of a wrong one and in help.
 
-use crate::{Asked, Command, Request, Word, first_argument, help_text, read_arguments, wrong_text};
+use crate::{Asked, Command, Request, Word, help_text, read_arguments, wrong_text};
+use feed_words::first_argument;
 use sale_matrix::Matrix;
 use std::alloc::{AllocError, Global};
 use std::process::Abort;
 
-/// A text of a table by Matrix Two, whose name is this argument.
-fn by_two(command: Command, file: Option<usize>) -> Option<Asked> {
+/// A text of a table whose name is this argument.
+fn table_in(command: Command, file: Option<usize>) -> Option<Asked> {
     Some(Asked::Table(Request { command, file }))
 }
 
 /// Whether arguments ask for a strict report by Matrix Two, whose name is this argument.
 fn ask_for_a_strict_report(words: &[u8], file: Option<usize>) -> bool {
-    read_arguments(words) == by_two(Command::Report(Matrix::Two, true), file)
+    read_arguments(words) == table_in(Command::Report(Some(Matrix::Two), true), file)
 }
 
 #[test]
@@ -28,8 +29,13 @@ fn options_stand_in_any_order_beside_a_file(rt: HostRuntime) {
     ] {
         assert!(rt; ask_for_a_strict_report(words, file));
     }
-    let lenient = Command::Tape(Matrix::Two, false);
-    assert!(rt; read_arguments(b"tape\0--matrix=2\0") == by_two(lenient, None));
+    for (words, matrix) in [
+        (b"tape\0--matrix=2\0".as_slice(), Some(Matrix::Two)),
+        (b"tape\0", None),
+    ] {
+        let lenient = Command::Tape(matrix, false);
+        assert!(rt; read_arguments(words) == table_in(lenient, None));
+    }
 }
 
 #[test]

@@ -7,15 +7,15 @@ use crate::flag::Flag;
 /// A first argument.
 #[derive(Clone, Copy, Debug, PartialEq, Eq)]
 pub enum Word {
-    /// The report of a table.
+    /// The report of a table or a journal.
     Report,
-    /// The readable tape of a table.
+    /// The readable tape of a table or a journal.
     Tape,
-    /// What became of the reports of a table, and what each sets.
+    /// What became of the reports of a table or a journal, and what each sets.
     Explain,
     /// Every fault of a table.
     Check,
-    /// Whether a recorded tape stands as it is written.
+    /// Whether a recorded tape or a journal stands as it is written.
     Verify,
     /// The text of a batch of a table.
     Encode,
@@ -158,7 +158,7 @@ impl Word {
                 b"follow [--follower N] [--partial] DAY.toml | SYMBOLS PARTICIPANTS A B RETRANS SESSION [MATRIX [LIMIT]]"
             }
             Word::Watch => {
-                b"watch [--follower N] DAY.toml | SYMBOLS PARTICIPANTS A B RETRANS SESSION [MATRIX [LIMIT]]"
+                b"watch [--follower N] DAY.toml | JOURNAL | SYMBOLS PARTICIPANTS A B RETRANS SESSION [MATRIX [LIMIT]]"
             }
             Word::Status => b"status DAY.toml",
             Word::End => b"end DAY.toml",
@@ -171,19 +171,19 @@ impl Word {
     {
         match self {
             Word::Report => {
-                b"Writes the report of a table's day; rows that the tape refuses are counted on standard error, and with --strict they are faults."
+                b"Writes the report of a table's or a journal's day; rows that the tape refuses are counted on standard error, and with --strict they are faults."
             }
             Word::Tape => {
-                b"Writes each row of a table with its tape number or its refusal, and its symbol's figures after it."
+                b"Writes each row of a table, or each entry of a journal, with its tape number or its refusal, and its symbol's figures after it."
             }
             Word::Explain => {
-                b"Writes what became of each report of a table that the tape admits, and which figures it sets."
+                b"Writes what became of each report of a table or a journal that the tape admits, and which figures it sets."
             }
             Word::Check => {
                 b"Writes every fault of a table: the first hundred each on a line, then how many more there are of each kind."
             }
             Word::Verify => {
-                b"Replays a recorded tape, and says that all stands as recorded, or which line and column first differs."
+                b"Replays a recorded tape or a journal, and says that all stands as recorded, or where it first differs."
             }
             Word::Encode => {
                 b"Writes a table's messages as the text of a batch: the symbols, the participants, and each message's letter and bytes."
@@ -202,7 +202,7 @@ impl Word {
                 b"Follows a running day by the ports of a follower's place, the first unless N is given, and writes the report; with --partial also that of what it holds if no end comes."
             }
             Word::Watch => {
-                b"Follows a running day as follow does, and writes each entry of its tape as it comes, with its symbol's figures after it."
+                b"Follows a running day as follow does, and writes each entry of its tape as it comes, with its symbol's figures after it; of a journal, each that it has."
             }
             Word::Status => b"Says how a running day stands, and what its end waits for.",
             Word::End => b"Ends a running day as if each participant's line had ended now.",

@@ -1,6 +1,6 @@
 use Rattle.std.proofs.Common.{rules, ◌+◌, arith, length-drop}
-use Rattle.program_words.proofs.ArgumentLemmas.{position_within, rest-slice, words_of-more, words_of-none}
-use Rattle.program_words.proofs.arguments.first_argument.Goals as goal
+use Rattle.feed_words.proofs.WordLemmas.{position_within, rest-slice, words_of-more, words_of-none}
+use Rattle.feed_words.proofs.reading.first_argument.Goals as goal
 
 pub returns-in_err-end : goal.returns-in_err-end
 returns-in_err-end c = rw c.from_residual.ensures (words_of-none c.args.bytes.now (search rules))
