@@ -1,3 +1,5 @@
+pub mod InputLemmas
+pub mod JournalLemmas
 pub mod LineLemmas
 pub mod RunLemmas
 pub mod VerifyLemmas

@@ -3,14 +3,15 @@ use Rattle.std.proofs.Common.{◌≡◌, ◌++◌, ◌∙◌, ◌∷◌, ◌+◌
 use Rattle.std.proofs.KnownBytes.{Appends-kept, Keeps-refl}
 use Rattle.std.proofs.Math.Seq.{take-append-add}
 use Rattle.std.proofs.lemmas.List.{take-append-drop}
+use Rattle.std.proofs.lemmas.Bool.{false≢true}
 use Rattle.std.specs.Io.KnownBytes.{Appends, Keeps, append_known}
+use Rattle.std.specs.Prelude.{IsOk}
 use Rattle.row_reads.specs.Lemmas.WriteLemmas.{WritesPrefix-kept, WritesPrefix-longer, WritesPrefix-then, WritesUpTo-all, WritesUpTo-gathered, WritesUpTo-whole}
 use Rattle.row_reads.specs.Writing.{WritesPrefix}
 use Rattle.sale_matrix.specs.declared.matrix.Matrix.{Matrix}
 use Rattle.tape_types.specs.Names.{Names}
 use Rattle.tape_core.specs.Tape.{IsLegal, empty_tape}
 use Rattle.tape_core.specs.declared.entry.Entry.{Entry}
-use Rattle.feed_ends.specs.Faults.{fault_status}
 use Rattle.feed_ends.specs.declared.fault.Fault.{Fault}
 use Rattle.feed_ends.specs.declared.fault.Fault.TheVariants.{Read, Write, Memory, Worker, Disagrees as DisagreesFault}
 use Rattle.feed_follower.specs.Reported.{follow_fault}
@@ -21,6 +22,7 @@ use Rattle.program_words.specs.Statuses.{status_code, status_text}
 use Rattle.program_words.specs.declared.status.Status.{Status}
 use Rattle.program_words.specs.declared.status.Status.TheVariants as status
 use Rattle.program_words.specs.declared.status.Status.TheVariants.{Done, Differs, Bad, ReadFault, NotStarted, Disagrees}
+use Rattle.desk_words.specs.RunStatuses.{ended_status}
 use Rattle.desk_words.specs.Watches.{IsRunStatus, WritesPartOf, WritesSome, WritesTapeOf, WritesWhole, entry_line, followed_text, watch_text}
 
 -- ## Rows
@@ -124,15 +126,23 @@ keeps_same known = Keeps-refl known
 
 -- ## Statuses
 
--- the status of a run is no other one after a flush, unless that fails
-pub flushed_status : (status result : ℕ) → IsRunStatus status → (result ≡ status) ⊎ (result ≡ 4) → IsRunStatus result
-flushed_status status result run (inl same) = subst IsRunStatus (sym same) run
-flushed_status status result run (inr failed) = inr (omega (arith, failed), omega (arith, failed))
+-- a run ends with one of its statuses
+pub run_status : (ended : Result (Unit {0}) Fault) → IsRunStatus (status_code (ended_status ended))
+run_status (Ok done) = inl refl
+run_status (Err Read) = inr (omega (arith), omega (arith))
+run_status (Err Write) = inr (omega (arith), omega (arith))
+run_status (Err Memory) = inr (omega (arith), omega (arith))
+run_status (Err Worker) = inr (omega (arith), omega (arith))
+run_status (Err DisagreesFault) = inr (omega (arith), omega (arith))
 
--- the status of a run is one of the program's
-pub run_within : (status : ℕ) → IsRunStatus status → status ≤ 7
-run_within status (inl done) = omega (arith, done)
-run_within status (inr fault) = fault.1
+-- one that is done has ended well
+pub done_well : (ended : Result (Unit {0}) Fault) (P : Type 0) → ended_status ended ≡ Done → OnOk ended P → P
+done_well (Ok done) P is holds = holds
+done_well (Err Read) P is holds = absurd (cc is)
+done_well (Err Write) P is holds = absurd (cc is)
+done_well (Err Memory) P is holds = absurd (cc is)
+done_well (Err Worker) P is holds = absurd (cc is)
+done_well (Err DisagreesFault) P is holds = absurd (cc is)
 
 -- no run has the status of bad arguments
 pub not_bad : (status : ℕ) → IsRunStatus status → status ≡ 2 → ⊥
@@ -150,15 +160,29 @@ watch_said status.OutOfMemory run = refl
 watch_said NotStarted run = refl
 watch_said Disagrees run = refl
 
--- a follower whose status is 0 has ended well
-pub ended_well : (ended : Result (Unit {0}) FollowFault) (code : ℕ) (P : Type 0) → code ≡ 0 → IfErr ended (λ fault. code ≡ fault_status (follow_fault fault))
-    → OnOk ended P → P
-ended_well (Ok done) code P zero fault holds = holds
-ended_well (Err why) code P zero fault holds = absurd (no_fault (follow_fault why) (sym fault ∙ zero))
-  where
-    no_fault : (fault : Fault) → fault_status fault ≡ 0 → ⊥
-    no_fault Read is = absurd (cc is)
-    no_fault Write is = absurd (cc is)
-    no_fault Memory is = absurd (cc is)
-    no_fault Worker is = absurd (cc is)
-    no_fault DisagreesFault is = absurd (cc is)
+-- ## Ends
+
+-- what is so of a run that ended well
+pub on_well : {T E : Type 0} (ended : Result T E) (P : Type 0) → (IsOk ended → P) → OnOk ended P
+on_well (Ok done) P holds = holds refl
+on_well (Err fault) P holds = tt
+
+-- and that it is so
+pub of_well : {T E : Type 0} (ended : Result T E) (P : Type 0) → IsOk ended → OnOk ended P → P
+of_well (Ok done) P well holds = holds
+of_well (Err fault) P well holds = absurd (false≢true well)
+
+-- a follower's day whose outcome is good has ended well
+pub ended_well : (ended : Result (Unit {0}) FollowFault) (outcome : Result (Unit {0}) Fault) (P : Type 0)
+    → IfErr ended (λ fault. outcome ≡ Err (follow_fault fault)) → IsOk outcome → OnOk ended P → P
+ended_well (Ok done) outcome P fault well holds = holds
+ended_well (Err why) outcome P fault well holds = absurd (false≢true (subst (λ (o : Result (Unit {0}) Fault). IsOk o) fault well))
+
+-- the whole tape of a run that ended well went through a buffer
+pub whole_kept : {W : Type 0} (contents : W → Option (List ℕ)) (listing : Names) (matrix : Matrix) (limit : ℕ) (ended run : Result (Unit {0}) Fault) (writer : W)
+    (back : Option W) (first mid : Option (List ℕ)) → first ≡ contents writer → OnOk run (WritesTapeOf listing matrix limit first mid)
+    → IfSome back (λ inner. Keeps mid (contents inner)) → (IsOk ended → IsOk run) → OnOk ended (IsSome back)
+    → OnOk ended (WritesWhole contents listing matrix limit writer back)
+whole_kept contents listing matrix limit ended run writer back first mid same whole kept done some =
+    on_well ended (WritesWhole contents listing matrix limit writer back) (λ well. whole_back contents listing matrix limit writer back first mid same
+    (of_well run (WritesTapeOf listing matrix limit first mid) (done well) whole) kept (of_well ended (IsSome back) well some))

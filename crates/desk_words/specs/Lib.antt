@@ -1,6 +1,9 @@
+pub mod JournalLines
+pub mod JournalRuns
 pub mod Outputs
 pub mod Program
 pub mod RefusalLines
+pub mod RunStatuses
 pub mod TextRuns
 pub mod VerdictLines
 pub mod VerifyRuns

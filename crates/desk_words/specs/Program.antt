@@ -1,16 +1,18 @@
 -- What the program does for its arguments.
-use Rattle.std.specs.Prelude.{◌≡◌, ◌≢◌, ◌⊎◌, ◌&&◌, ℕ, Bool, true, false, List, [], Option, IfOk, IfSome, Result, Ok, Err, IsOk, OnOk, if◌then◌else◌}
+use Rattle.std.specs.Prelude.{◌≡◌, ◌≢◌, ◌⊎◌, ◌&&◌, ℕ, Bool, true, false, List, [], Option, Some, None, IfOk, IfSome, Result, Ok, Err, IsOk, OnOk, if◌then◌else◌}
 use Rattle.std.specs.List.{list_any}
 use Rattle.std.specs.Option.{is_some}
 use Rattle.day_tables.specs.TableTexts.{table_text}
 use Rattle.day_tables.specs.Tables.{IsTable}
 use Rattle.sale_matrix.specs.declared.matrix.Matrix.{Matrix}
+use Rattle.sale_matrix.specs.declared.matrix.Matrix.TheVariants.{One}
 use Rattle.reports.specs.declared.message.Message.{Message}
 use Rattle.row_reads.specs.Writing.{WritesPrefix}
 use Rattle.table_days.specs.Checks.{IsCheckEnd, WritesCheck, WritesCheckPart}
 use Rattle.table_days.specs.Days.{day_text}
 use Rattle.table_days.specs.EndTexts.{end_status}
-use Rattle.table_days.specs.Refusals.{RefusesNone, all_reasons, refused_for}
+use Rattle.table_days.specs.Refusals.{RefusesNone, refused_for}
+use Rattle.tape_core.specs.Refusals.{all_refusals}
 use Rattle.table_days.specs.Strict.{IsListed, strictly}
 use Rattle.table_days.specs.Explained.{explain_text}
 use Rattle.table_days.specs.TableEnds.{IsTableEnd, WritesTable, WritesTablePart}
@@ -22,6 +24,8 @@ use Rattle.table_texts.specs.DecodedTexts.{IsText, IsTextEnd}
 use Rattle.table_texts.specs.EncodedTexts.{encoded_text}
 use Rattle.table_texts.specs.Ends.{IsReadingEnd}
 use Rattle.table_texts.specs.OwnBytes.{line_bytes}
+use Rattle.journal_days.specs.Days.{begins_journal}
+use Rattle.desk_words.specs.JournalRuns.{AnswersJournal, Unread}
 use Rattle.desk_words.specs.RefusalLines.{refusal_lines}
 use Rattle.desk_words.specs.TextRuns.{RunsText, end_line, table_ends, text_ends}
 use Rattle.desk_words.specs.VerifyRuns.{RunsVerify}
@@ -32,7 +36,7 @@ use Rattle.program_words.specs.declared.command.Command.TheVariants.{Report, Tap
 
 -- whether rows were refused
 abbrev pub refuses_any : Refusals → Bool
-refuses_any refusals = list_any (λ reason. is_some (refused_for refusals reason)) all_reasons
+refuses_any refusals = list_any (λ reason. is_some (refused_for refusals reason)) all_refusals
 
 -- the status of a run, in which refused rows may be faults
 abbrev pub run_status : Bool → Result Refusals TableEnd → ℕ
@@ -102,22 +106,43 @@ pub record RunsCheck {W E : Type 0} (input old new : Option (List ℕ)) (status 
   pub quiet : IsOk run → errors_new ≡ errors_old
   pub said : WritesPrefix (check_line run) said_old said_new
 
+-- ## Words
+
+-- the matrix that a table goes by
+abbrev pub table_matrix : Option Matrix → Matrix
+table_matrix None = One
+table_matrix (Some matrix) = matrix
+
 -- what a text of a table did; a status is that of what it came to
+abbrev pub AnswersTable : {W E : Type 0} → Command → ℕ → Option (List ℕ) → W → W → Option (List ℕ) → Option (List ℕ) → E → E
+    → Option (List ℕ) → Option (List ℕ) → Type 0
+AnswersTable (Report asked strict) status input writer_old writer_new old new errors_old errors_new said_old said_new =
+    RunsTable strict day_text (table_matrix asked) input old new status writer_old writer_new errors_old errors_new said_old said_new × (status ≡ 5 → writer_new ≡ writer_old)
+AnswersTable (Tape asked strict) status input writer_old writer_new old new errors_old errors_new said_old said_new =
+    RunsTable strict tape_text (table_matrix asked) input old new status writer_old writer_new errors_old errors_new said_old said_new
+AnswersTable (Explain asked strict) status input writer_old writer_new old new errors_old errors_new said_old said_new =
+    RunsTable strict explain_text (table_matrix asked) input old new status writer_old writer_new errors_old errors_new said_old said_new
+AnswersTable Check status input writer_old writer_new old new errors_old errors_new said_old said_new =
+    RunsCheck input old new status writer_old writer_new errors_old errors_new said_old said_new
+AnswersTable (Verify asked) status input writer_old writer_new old new errors_old errors_new said_old said_new =
+    RunsVerify (table_matrix asked) input old new status writer_old writer_new errors_old errors_new said_old said_new
+AnswersTable Encode status input writer_old writer_new old new errors_old errors_new said_old said_new =
+    RunsText table_ends IsTable encoded_text IsTableEnd input old new status writer_old writer_new errors_old errors_new said_old said_new
+AnswersTable Decode status input writer_old writer_new old new errors_old errors_new said_old said_new =
+    RunsText text_ends IsText table_text IsTextEnd input old new status writer_old writer_new errors_old errors_new said_old said_new
+AnswersTable (Line participant) status input writer_old writer_new old new errors_old errors_new said_old said_new =
+    RunsText table_ends IsTable (line_bytes participant) IsReadingEnd input old new status writer_old writer_new errors_old errors_new said_old said_new
+
+-- a text of a journal, or else of a table
+abbrev pub AnswersBy : {W E : Type 0} → Bool → Command → ℕ → Option (List ℕ) → W → W → Option (List ℕ) → Option (List ℕ) → E → E
+    → Option (List ℕ) → Option (List ℕ) → Type 0
+AnswersBy true = AnswersJournal
+AnswersBy false = AnswersTable
+
+-- what a word did with an input: the text of a journal where the input begins as one, and else that of a table; or no byte that tells could be read
 abbrev pub AnswersCommand : {W E : Type 0} → Command → ℕ → Option (List ℕ) → W → W → Option (List ℕ) → Option (List ℕ) → E → E
     → Option (List ℕ) → Option (List ℕ) → Type 0
-AnswersCommand (Report matrix strict) status input writer_old writer_new old new errors_old errors_new said_old said_new =
-    RunsTable strict day_text matrix input old new status writer_old writer_new errors_old errors_new said_old said_new × (status ≡ 5 → writer_new ≡ writer_old)
-AnswersCommand (Tape matrix strict) status input writer_old writer_new old new errors_old errors_new said_old said_new =
-    RunsTable strict tape_text matrix input old new status writer_old writer_new errors_old errors_new said_old said_new
-AnswersCommand (Explain matrix strict) status input writer_old writer_new old new errors_old errors_new said_old said_new =
-    RunsTable strict explain_text matrix input old new status writer_old writer_new errors_old errors_new said_old said_new
-AnswersCommand Check status input writer_old writer_new old new errors_old errors_new said_old said_new =
-    RunsCheck input old new status writer_old writer_new errors_old errors_new said_old said_new
-AnswersCommand (Verify matrix) status input writer_old writer_new old new errors_old errors_new said_old said_new =
-    RunsVerify matrix input old new status writer_old writer_new errors_old errors_new said_old said_new
-AnswersCommand Encode status input writer_old writer_new old new errors_old errors_new said_old said_new =
-    RunsText table_ends IsTable encoded_text IsTableEnd input old new status writer_old writer_new errors_old errors_new said_old said_new
-AnswersCommand Decode status input writer_old writer_new old new errors_old errors_new said_old said_new =
-    RunsText text_ends IsText table_text IsTextEnd input old new status writer_old writer_new errors_old errors_new said_old said_new
-AnswersCommand (Line participant) status input writer_old writer_new old new errors_old errors_new said_old said_new =
-    RunsText table_ends IsTable (line_bytes participant) IsReadingEnd input old new status writer_old writer_new errors_old errors_new said_old said_new
+AnswersCommand command status input writer_old writer_new old new errors_old errors_new said_old said_new =
+    Unread status writer_old writer_new said_old said_new
+    ⊎ ((journal : Bool) × IfSome input (λ bytes. journal ≡ begins_journal bytes)
+    × AnswersBy journal command status input writer_old writer_new old new errors_old errors_new said_old said_new)

@@ -2,10 +2,10 @@
 use Rattle.std.specs.Prelude.{◌==◌, ◌++◌, ◌∷◌, ℕ, List, [], Err, codes, decimal, if◌then◌else◌}
 use Rattle.std.specs.List.{flat_map}
 use Rattle.std.specs.Option.{option_map_or}
-use Rattle.tape_core.specs.Refusals.{refusal_code, refusal_name}
 use Rattle.tape_core.specs.declared.refusal.Refusal.{Refusal}
 use Rattle.tape_core.specs.declared.refusal.Refusal.TheVariants.{Stale}
-use Rattle.table_days.specs.Refusals.{all_reasons, is_refusal, refused_for}
+use Rattle.table_days.specs.Refusals.{is_refusal, refused_for}
+use Rattle.tape_core.specs.Refusals.{all_refusals, refusal_code, refusal_name}
 use Rattle.table_days.specs.declared.refusals.Refusals.{Refusals}
 use Rattle.table_days.specs.declared.refusals.Refused.{Refused}
 use Rattle.table_days.specs.declared.stale_row.StaleRow.{StaleRow}
@@ -57,4 +57,4 @@ reason_line refusals reason = option_map_or (refused_line refusals reason) (refu
 
 -- the lines of all reasons, by rising number
 abbrev pub refusal_lines : Refusals → List ℕ
-refusal_lines refusals = flat_map (reason_line refusals) all_reasons
+refusal_lines refusals = flat_map (reason_line refusals) all_refusals

@@ -4,7 +4,8 @@ use Rattle.std.specs.Option.{option_map_or}
 use Rattle.std.specs.Str.{bytes_eq}
 use Rattle.tape_core.specs.declared.refusal.Refusal.{Refusal}
 use Rattle.day_tables.specs.FaultTexts.{shown}
-use Rattle.table_days.specs.Refusals.{all_reasons, refused_for}
+use Rattle.table_days.specs.Refusals.{refused_for}
+use Rattle.tape_core.specs.Refusals.{all_refusals}
 use Rattle.table_days.specs.TapeRows.{column_names}
 use Rattle.table_days.specs.declared.refusals.Refusals.{Refusals}
 use Rattle.recorded_tapes.specs.declared.difference.Difference.{Difference}
@@ -22,7 +23,7 @@ refused_for_any refusals reasons = fold (λ refused reason. refused + refused_co
 
 -- how many rows were refused
 abbrev pub refused_in_all : Refusals → ℕ
-refused_in_all refusals = refused_for_any refusals all_reasons
+refused_in_all refusals = refused_for_any refusals all_refusals
 
 -- so many of what has one name for one and another for more
 abbrev pub counted : ℕ → List ℕ → List ℕ → List ℕ

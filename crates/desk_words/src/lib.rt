@@ -1,12 +1,15 @@
-//! The words of a desk's own table: the day's report, a readable tape, what became of each report or the day's bytes; and the readable tape of
-//! a running day, as it comes.
+//! The words of a desk's own table or a day's journal: the day's report, a readable tape, what became of each report or the day's bytes; and the
+//! readable tape of a running day, as it comes.
 #![tactic(auto)]
 
+mod inputs;
+mod journal_words;
 mod number_text;
 mod output;
 mod program;
 mod progress;
 mod refusal_lines;
+mod run_status;
 mod saying;
 mod telling;
 #[cfg(test)]
@@ -15,9 +18,10 @@ mod verdict_lines;
 mod watched_file;
 mod watching;
 
+pub use inputs::{begins_journal, run_command};
 pub use output::{Output, PipeWriter};
-pub use program::run_table;
 pub use progress::{ClearedWriter, ProgressLine, ToldReader, ToldWriter};
+pub use run_status::{ended_status, fault_status};
 pub use saying::{say, say_ended, say_status};
 pub use telling::{say_followed, say_open_fault, say_told};
 pub use watched_file::watch_file;

@@ -15,7 +15,7 @@ ghost use Rattle.table_texts.specs.Ends.{IsReadingEnd};
 ghost use Rattle.table_texts.specs.OwnBytes.{line_bytes};
 ghost use Rattle.program_words.specs.Statuses.{status_code};
 ghost use Rattle.desk_words.specs.Outputs.{IsQuietIfGone};
-ghost use Rattle.desk_words.specs.Program.{AnswersCommand, RunsCheck, RunsTable, text_by};
+ghost use Rattle.desk_words.specs.Program.{AnswersTable, RunsCheck, RunsTable, table_matrix, text_by};
 ghost use Rattle.desk_words.specs.VerifyRuns.{RunsVerify};
 ghost use Rattle.desk_words.specs.TextRuns.{RunsText, table_ends, text_ends};
 
@@ -237,33 +237,47 @@ fn run_line<R: Read, W: Output, E: Write>(
     end_text(alloc, errors, writer.reader_is_gone(), run)
 }
 
-/// Writes a text of a table to `writer` and returns how that ended. The table is read from `reader`, and `decode`'s text of a batch too.
+/// The matrix that a table goes by: the one that is asked for, and else Matrix One.
+fn table_matrix(asked: Option<Matrix>) -> Matrix
+    ensures { result ≡ table_matrix asked }
+{
+    asked.unwrap_or(Matrix::One)
+}
+
+/// Writes a text of a table to `writer` and returns how that ended. The table is read from `reader` as it comes, and `decode`'s text of a
+/// batch too.
 ///
 /// A report is the day's, a tape its readable tape, an explanation what became of its reports; a check writes every fault of the table, and a
 /// verification whether a recorded tape stands as it is written. `errors` has a line for each reason for which the first three refused rows,
-/// and one for what goes wrong, but none for a write fault if whoever read what was written is gone. The status is `Done` where all is done, `Differs` where a tape is not as recorded, `Bad` for a bad table, also
-/// one that is checked, or a bad text, `ReadFault`, `WriteFault`, and `OutOfMemory`.
-pub fn run_table<R: Read, W: Output, E: Write>(
+/// and one for what goes wrong, but none for a write fault if whoever read what was written is gone. The status is `Done` where all is done,
+/// `Differs` where a tape is not as recorded, `Bad` for a bad table, also one that is checked, or a bad text, `ReadFault`, `WriteFault`, and
+/// `OutOfMemory`.
+pub(crate) fn run_rows<R: Read, W: Output, E: Write>(
     alloc: Global,
     command: Command,
     reader: &mut R,
     writer: &mut W,
     errors: &mut E,
 ) -> Status
-    ensures answers { AnswersCommand command (status_code result) (R.remaining reader.old) writer.old writer.new
+    ensures answers { AnswersTable command (status_code result) (R.remaining reader.old) writer.old writer.new
         (W.contents writer.old) (W.contents writer.new) errors.old errors.new (E.contents errors.old) (E.contents errors.new) }
     ensures gone { IsQuietIfGone (W.reader_gone writer.new) result errors.old errors.new }
 {
     match command {
-        Command::Report(matrix, strict) => run_report(
-            alloc, matrix, strict, reader, writer, errors,
-        ),
-        Command::Tape(matrix, strict) => run_tape(alloc, matrix, strict, reader, writer, errors),
-        Command::Explain(matrix, strict) => run_explain(
-            alloc, matrix, strict, reader, writer, errors,
-        ),
+        Command::Report(asked, strict) => {
+            let matrix = table_matrix(asked);
+            run_report(alloc, matrix, strict, reader, writer, errors)
+        }
+        Command::Tape(asked, strict) => {
+            let matrix = table_matrix(asked);
+            run_tape(alloc, matrix, strict, reader, writer, errors)
+        }
+        Command::Explain(asked, strict) => {
+            let matrix = table_matrix(asked);
+            run_explain(alloc, matrix, strict, reader, writer, errors)
+        }
         Command::Check => run_check(alloc, reader, writer, errors),
-        Command::Verify(matrix) => run_verify(alloc, matrix, reader, writer, errors),
+        Command::Verify(asked) => run_verify(alloc, table_matrix(asked), reader, writer, errors),
         Command::Encode => run_encode(alloc, reader, writer, errors),
         Command::Decode => run_decode(alloc, reader, writer, errors),
         Command::Line(participant) => run_line(alloc, participant, reader, writer, errors),

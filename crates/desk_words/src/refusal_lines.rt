@@ -5,8 +5,8 @@ ghost use Rattle.desk_words.specs.RefusalLines.{advice, after_text, again_text, 
 
 use crate::number_text::push_number;
 use std::alloc::{AllocError, Global};
-use table_days::{ALL_REASONS, Refusals, StaleRow};
-use tape_core::Refusal;
+use table_days::{Refusals, StaleRow};
+use tape_core::{ALL_REFUSALS, Refusal};
 use tape_types::Participant;
 
 /// One row, or several.
@@ -137,6 +137,6 @@ pub fn refusal_lines(alloc: Global, refusals: &Refusals) -> Result<Vec<u8>, Allo
     ensures { IfOk result (λ text. text.items ≡ refusal_lines refusals.now) }
 {
     let mut text = Vec::new(alloc);
-    push_lines(&mut text, refusals, &ALL_REASONS)?;
+    push_lines(&mut text, refusals, &ALL_REFUSALS)?;
     Ok(text)
 }

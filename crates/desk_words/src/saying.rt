@@ -17,8 +17,9 @@ use program_words::Status;
 use row_reads::write_text;
 use std::alloc::Global;
 use std::io::Write;
-use table_days::{ALL_REASONS, Refusals, TableEnd};
+use table_days::{Refusals, TableEnd};
 use table_texts::TextEnd;
+use tape_core::ALL_REFUSALS;
 use tape_types::ListingFault;
 
 /// Says a text, and for no text writes nothing. A write that fails ends it, and changes nothing of the status.
@@ -167,7 +168,7 @@ fn say_refusals<E: Write>(alloc: Global, errors: &mut E, refusals: &Refusals)
 fn refuses_any(refusals: &Refusals) -> bool
     ensures { result ≡ refuses_any refusals.now }
 {
-    ALL_REASONS
+    ALL_REFUSALS
         .iter()
         .any(|reason| refusals.of(*reason).is_some())
 }

@@ -1,22 +1,36 @@
 //! A day through each word, what is said of it, and readers and writers that fail.
 
-use crate::{PipeWriter, run_table};
+mod journals;
+
+use crate::{PipeWriter, run_command};
 use program_words::{Command, Status};
 use sale_matrix::Matrix;
-use std::alloc::Global;
+use std::alloc::{AllocError, Global};
 use std::io;
 use std::io::{ErrorKind, Read, Write};
 use std::process::Abort;
 use tape_types::Participant;
 
-/// The report by Matrix One.
-const REPORT_OF: Command = Command::Report(Matrix::One, false);
+/// The report by no matrix that is given.
+const REPORT_OF: Command = Command::Report(None, false);
 
-/// The readable tape by Matrix One.
-const TAPE_OF: Command = Command::Tape(Matrix::One, false);
+/// The readable tape by no matrix that is given.
+const TAPE_OF: Command = Command::Tape(None, false);
 
-/// What became of the reports by Matrix One.
-const EXPLAIN_OF: Command = Command::Explain(Matrix::One, false);
+/// What became of the reports by no matrix that is given.
+const EXPLAIN_OF: Command = Command::Explain(None, false);
+
+/// The first line of a report.
+const HEADING: &[u8] =
+    b"symbol,who,open,open_at,high,high_at,low,low_at,last,last_at,volume,trades\n";
+
+/// The first line of a readable tape.
+const TAPE_HEADING: &[u8] = b"\
+tape,refused,kind,participant,number,moment,symbol,target,price,size,condition,open,high,low,last,volume,trades\n";
+
+/// The first line of what became of a day's reports.
+const EXPLAIN_HEADING: &[u8] = b"\
+symbol,tape,row,participant,number,moment,price,size,condition,state,changed,high_low,last,volume,sets,own_high_low,own_last,own_sets\n";
 
 /// A table by two participants, of which a row is refused.
 const TABLE: &[u8] = b"\
@@ -26,23 +40,20 @@ AB,Q,1,10.1,200,@___,R,\n\
 AB,Q,1,10.20,500,@___,report,\n\
 AB,Q,2,,,,cancel,1\n";
 
-/// Its report.
-const REPORT: &[u8] = b"\
-symbol,who,open,open_at,high,high_at,low,low_at,last,last_at,volume,trades\n\
+/// The rows of its report.
+const REPORT_ROWS: &[u8] = b"\
 AB,ALL,100000,1,100000,1,100000,1,100000,1,100,1\n\
 AB,N,100000,1,100000,1,100000,1,100000,1,100,1\n";
 
-/// Its readable tape.
-const TAPE: &[u8] = b"\
-tape,refused,kind,participant,number,moment,symbol,target,price,size,condition,open,high,low,last,volume,trades\n\
+/// The rows of its readable tape.
+const TAPE_ROWS: &[u8] = b"\
 1,,report,N,1,0,AB,,10.00,100,@___,10.00,10.00,10.00,10.00,100,1\n\
 2,,report,Q,1,0,AB,,10.10,200,@___,10.00,10.10,10.00,10.10,300,2\n\
 ,35 Stale,report,Q,1,0,AB,,10.20,500,@___,10.00,10.10,10.00,10.10,300,2\n\
 3,,cancel,Q,2,0,AB,1,,,,10.00,10.00,10.00,10.00,100,1\n";
 
-/// What became of its reports.
-const EXPLAINED: &[u8] = b"\
-symbol,tape,row,participant,number,moment,price,size,condition,state,changed,high_low,last,volume,sets,own_high_low,own_last,own_sets\n\
+/// The rows of what became of its reports.
+const EXPLAINED_ROWS: &[u8] = b"\
 AB,1,2,N,1,0,10.00,100,@___,standing,,yes,yes,yes,open high low last,yes,yes,open high low last\n\
 AB,2,3,Q,1,0,10.10,200,@___,cancelled,3,yes,yes,yes,,yes,yes,\n";
 
@@ -137,6 +148,13 @@ impl Write for Room {
     }
 }
 
+/// A text of this first line and these rows.
+fn text_of(alloc: Global, heading: &[u8], rows: &[u8]) -> Result<Vec<u8>, AllocError> {
+    let mut text = Vec::from_slice(alloc, heading)?;
+    text.extend_from_slice(rows)?;
+    Ok(text)
+}
+
 /// The bytes of a participant's messages. Every letter here is one.
 fn line_of(letter: u8) -> Command {
     match Participant::try_new(letter) {
@@ -157,41 +175,37 @@ fn assert_answers<T: Abort, R: Read>(
 ) {
     let mut output = Vec::new(alloc);
     let mut errors = Vec::new(alloc);
-    let ended = run_table(alloc, command, reader, &mut output, &mut errors);
+    let ended = run_command(alloc, command, reader, &mut output, &mut errors);
     assert!(rt; ended == status);
     assert_eq!(rt; output.as_slice(), text);
     assert_eq!(rt; errors.as_slice(), said);
 }
 
 #[test]
-fn a_table_has_a_report_a_readable_tape_and_what_became_of_its_reports(rt: HostRuntime) {
-    assert_answers(
-        &rt,
-        rt.alloc(),
-        REPORT_OF,
-        &mut { TABLE },
-        Status::Done,
-        REPORT,
-        REFUSED,
-    );
-    assert_answers(
-        &rt,
-        rt.alloc(),
-        Command::Tape(Matrix::Two, false),
-        &mut { TABLE },
-        Status::Done,
-        TAPE,
-        REFUSED,
-    );
-    assert_answers(
-        &rt,
-        rt.alloc(),
-        EXPLAIN_OF,
-        &mut { TABLE },
-        Status::Done,
-        EXPLAINED,
-        REFUSED,
-    );
+fn a_table_has_a_report_a_readable_tape_and_what_became_of_its_reports(
+    rt: HostRuntime,
+) -> Result<(), AllocError> {
+    for (command, heading, rows) in [
+        (REPORT_OF, HEADING, REPORT_ROWS),
+        (
+            Command::Tape(Some(Matrix::Two), false),
+            TAPE_HEADING,
+            TAPE_ROWS,
+        ),
+        (EXPLAIN_OF, EXPLAIN_HEADING, EXPLAINED_ROWS),
+    ] {
+        let text = text_of(rt.alloc(), heading, rows)?;
+        assert_answers(
+            &rt,
+            rt.alloc(),
+            command,
+            &mut { TABLE },
+            Status::Done,
+            &text,
+            REFUSED,
+        );
+    }
+    Ok(())
 }
 
 #[test]
@@ -199,7 +213,7 @@ fn a_row_below_its_participants_greatest_number_is_told_with_it(rt: HostRuntime)
     assert_answers(
         &rt,
         rt.alloc(),
-        Command::Report(Matrix::One, true),
+        Command::Report(None, true),
         &mut { UNSORTED },
         Status::Bad,
         b"",
@@ -210,9 +224,9 @@ fn a_row_below_its_participants_greatest_number_is_told_with_it(rt: HostRuntime)
 #[test]
 fn a_refused_row_is_a_fault_of_a_strict_run(rt: HostRuntime) {
     for command in [
-        Command::Report(Matrix::One, true),
-        Command::Tape(Matrix::One, true),
-        Command::Explain(Matrix::One, true),
+        Command::Report(None, true),
+        Command::Tape(None, true),
+        Command::Explain(None, true),
     ] {
         assert_answers(
             &rt,
@@ -384,14 +398,20 @@ fn assert_write_fault<T: Abort>(
         _ => b"tapebox: write fault\n",
     };
     let mut errors = Vec::new(alloc);
-    let ended = run_table(alloc, command, &mut { input }, &mut writer, &mut errors);
+    let ended = run_command(alloc, command, &mut { input }, &mut writer, &mut errors);
     assert!(rt; ended == Status::WriteFault);
     assert_eq!(rt; writer.into_inner().taken.as_slice(), taken);
     assert_eq!(rt; errors.as_slice(), said);
 }
 
 #[test]
-fn a_write_and_a_flush_that_fail_are_told_unless_nobody_reads(rt: HostRuntime) {
+fn a_write_and_a_flush_that_fail_are_told_unless_nobody_reads(
+    rt: HostRuntime,
+) -> Result<(), AllocError> {
+    let alloc = rt.alloc();
+    let report = text_of(alloc, HEADING, REPORT_ROWS)?;
+    let tape = text_of(alloc, TAPE_HEADING, TAPE_ROWS)?;
+    let explained = text_of(alloc, EXPLAIN_HEADING, EXPLAINED_ROWS)?;
     for (room, flushes, full) in [
         (0, true, None),
         (20, true, Some(ErrorKind::StorageFull)),
@@ -400,16 +420,17 @@ fn a_write_and_a_flush_that_fail_are_told_unless_nobody_reads(rt: HostRuntime) {
         (usize::MAX, false, Some(ErrorKind::BrokenPipe)),
     ] {
         for (command, input, text) in [
-            (REPORT_OF, TABLE, REPORT),
-            (TAPE_OF, TABLE, TAPE),
-            (EXPLAIN_OF, TABLE, EXPLAINED),
+            (REPORT_OF, TABLE, report.as_slice()),
+            (TAPE_OF, TABLE, tape.as_slice()),
+            (EXPLAIN_OF, TABLE, explained.as_slice()),
             (Command::Check, FAULTY, FAULTS),
             (Command::Encode, TABLE, ENCODED),
             (Command::Decode, ENCODED, DECODED),
             (line_of(b'N'), TABLE, BYTES_OF_N),
         ] {
             let taken = &text[..text.len().min(room)];
-            assert_write_fault(&rt, rt.alloc(), command, input, taken, flushes, full);
+            assert_write_fault(&rt, alloc, command, input, taken, flushes, full);
         }
     }
+    Ok(())
 }

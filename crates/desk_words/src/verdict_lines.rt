@@ -16,8 +16,8 @@ use recorded_tapes::{Difference, Rows, Verdict};
 use row_reads::write_text;
 use std::alloc::{AllocError, Global};
 use std::io::Write;
-use table_days::{ALL_REASONS, Refusals, TableEnd};
-use tape_core::Refusal;
+use table_days::{Refusals, TableEnd};
+use tape_core::{ALL_REFUSALS, Refusal};
 
 /// How many rows were refused for a reason.
 fn refused_count(refusals: &Refusals, reason: Refusal) -> u64
@@ -53,7 +53,7 @@ fn push_counted(text: &mut Vec<u8>, count: u128, one: &[u8], more: &[u8]) -> Res
 fn push_rows(text: &mut Vec<u8>, rows: &Rows) -> Result<(), AllocError>
     ensures { OnOk result (text.new.items ≡ text.old.items ++ rows_line rows.now) }
 {
-    let refused = refused_for_any(&rows.refusals, &ALL_REASONS);
+    let refused = refused_for_any(&rows.refusals, &ALL_REFUSALS);
     let entries = u128::from(rows.count).saturating_sub(refused);
     push_counted(text, entries, b" entry, ", b" entries, ")?;
     push_counted(text, refused, b" refusal, ", b" refusals, ")

@@ -1,13 +1,15 @@
 //! The readable tape of a running day that its file gives, as it comes.
-ghost use Rattle.std.specs.Prelude.{◌≡◌, ◌⊎◌};
+ghost use Rattle.std.specs.Prelude.{◌≡◌, ◌⊎◌, OnOk};
 ghost use Rattle.program_words.specs.Statuses.{status_code};
 ghost use Rattle.program_words.specs.declared.status.Status.TheVariants.{Done};
 ghost use Rattle.desk_words.specs.Watches.{IsRunStatus, WritesPartOf, WritesSome, WritesTapeOf, WritesWhole};
 
 use crate::Output;
+use crate::run_status::ended_status;
 use crate::saying::{say_ended, say_status};
 use crate::telling::say_followed;
 use crate::watching::{RowSink, Watched, flushed, sink_fault, unbuffered};
+use feed_ends::Fault;
 use feed_follower::{FollowEnd, FollowSockets, FollowTerms, follow_tape_day};
 use program_words::Status;
 use std::alloc::Global;
@@ -21,13 +23,13 @@ use table_days::{EntryRows, write_head};
 struct Rows<W> {
     /// How it was followed, unless the names of the columns could not be written.
     end: Option<FollowEnd>,
-    /// The status.
-    code: u8,
+    /// Well, or by what.
+    ended: Result<(), Fault>,
     writer: W,
 }
 
 /// Follows a day, and writes the rows of its tape as they come to a writer, which comes back.
-#[tactic(auto, using(crate::proofs::WatchLemmas::head_part, crate::proofs::WatchLemmas::flushed_status))]
+#[tactic(auto, using(crate::proofs::WatchLemmas::head_part))]
 fn watch_rows<T, W>(
     rt: &T,
     alloc: Global,
@@ -38,15 +40,14 @@ fn watch_rows<T, W>(
 where
     T: Threads + Wait + Net<Listener = TcpListener, Stream = TcpStream> + Sync,
     W: Write + Send + Drop,
-    ensures whole { result.code ≡ 0 → WritesTapeOf terms.listing terms.matrix terms.limit (W.contents writer) (W.contents result.writer) }
+    ensures whole { OnOk result.ended (WritesTapeOf terms.listing terms.matrix terms.limit (W.contents writer) (W.contents result.writer)) }
     ensures part { (result.writer ≡ writer) ⊎ WritesPartOf terms.listing terms.matrix terms.limit (W.contents writer) (W.contents result.writer) }
-    ensures status { IsRunStatus result.code }
 {
     let mut writer = writer;
     if let Err(fault) = write_head(alloc, &mut writer) {
         return Rows {
             end: None,
-            code: sink_fault(fault).fault().status(),
+            ended: Err(sink_fault(fault).fault()),
             writer,
         };
     }
@@ -59,10 +60,10 @@ where
         rows: _,
         mut writer,
     } = sink;
-    let code = flushed(end.status(), &mut writer);
+    let ended = flushed(end.outcome(), &mut writer);
     Rows {
         end: Some(end),
-        code,
+        ended,
         writer,
     }
 }
@@ -70,7 +71,7 @@ where
 /// Watches the day that a file gives as a follower: it writes the readable tape of its entries as they come to a writer, which comes back with the
 /// status. The writer, its buffer and the statuses are as in `watch`. What was heard of the day is said on `errors`, line by line, whatever the
 /// status.
-#[tactic(auto, using(crate::proofs::WatchLemmas::run_within))]
+#[tactic(auto, using(crate::proofs::WatchLemmas::run_status, crate::proofs::WatchLemmas::done_well))]
 pub fn watch_file<T, W, E>(
     rt: &T,
     alloc: Global,
@@ -93,15 +94,15 @@ where
     };
     let Rows {
         end,
-        code,
+        ended,
         writer: buffer,
     } = watch_rows(rt, alloc, terms, sockets, buffer);
     let Watched {
-        code,
+        ended,
         reader_gone,
         writer,
-    } = unbuffered(code, buffer);
-    let status = Status::of_code(code);
+    } = unbuffered(ended, buffer);
+    let status = ended_status(ended);
     let is_named = match &end {
         Some(end) => say_followed(alloc, errors, end),
         None => false,

@@ -1,6 +1,7 @@
 //! The readable tape of a running day, as it comes.
-ghost use Rattle.std.specs.Prelude.{◌≡◌, ◌≢◌, ◌⊎◌, [], IfSome, IsSome, Some};
+ghost use Rattle.std.specs.Prelude.{◌≡◌, ◌⊎◌, [], Err, IfErr, IfSome, IsOk, IsSome, OnOk, Some};
 ghost use Rattle.std.specs.Io.Buffered.{writer_contents};
+ghost use Rattle.feed_ends.specs.declared.fault.Fault.TheVariants.{Write as WriteFault};
 ghost use Rattle.feed_words.specs.Days.{NameFollow};
 ghost use Rattle.feed_words.specs.Words.{words_of};
 ghost use Rattle.program_words.specs.Statuses.{status_code, status_text};
@@ -11,9 +12,10 @@ ghost use Rattle.desk_words.specs.Outputs.{IsQuietIfGone};
 ghost use Rattle.desk_words.specs.Watches.{IsRunStatus, IsWatchStatus, WritesPartOf, WritesSome, WritesTapeOf, WritesWhole, entry_line, row_fault, watch_text};
 
 use crate::Output;
+use crate::run_status::ended_status;
 use crate::saying::{say, say_ended};
 use feed_ends::{Fault, here};
-use feed_follower::{EntrySink, FollowSockets, SinkFault, follow_tape_over};
+use feed_follower::{EntrySink, FollowSockets, SinkFault, follow_tape};
 use feed_words::{FollowWords, WordsFault};
 use program_words::Status;
 use scratch_fold::Summary;
@@ -85,51 +87,51 @@ fn open_sockets<T: Net<Listener = TcpListener, Stream = TcpStream>>(
     })
 }
 
-/// The status of a run whose last flush failed: that of a write fault if all else was well.
-fn unflushed_status(status: u8) -> u8
-    ensures either { (result ≡ status) ⊎ (result ≡ 4) }
-    ensures fault { result ≢ 0 }
+/// The fault of a run whose last flush failed: a write fault if all else was well.
+fn unflushed(ended: Result<(), Fault>) -> Fault
+    ensures done { OnOk ended (result ≡ WriteFault) }
+    ensures fault { IfErr ended (λ fault. result ≡ fault) }
 {
-    match status {
-        0 => Fault::Write.status(),
-        _ => status,
+    match ended {
+        Ok(()) => Fault::Write,
+        Err(fault) => fault,
     }
 }
 
-/// Flushes what a run has written, and gives its status.
-pub(crate) fn flushed<W: Write>(status: u8, writer: &mut W) -> u8
+/// Flushes what a run has written, and tells how it ended then.
+pub(crate) fn flushed<W: Write>(ended: Result<(), Fault>, writer: &mut W) -> Result<(), Fault>
     ensures kept { Keeps (W.contents writer.old) (W.contents writer.new) }
-    ensures status { (result ≡ status) ⊎ (result ≡ 4) }
-    ensures done { result ≡ 0 → status ≡ 0 }
+    ensures done { IsOk result → IsOk ended }
+    ensures fault { IfErr ended (λ fault. result ≡ Err fault) }
+    ensures unflushed { OnOk ended (IfErr result (λ fault. fault ≡ WriteFault)) }
 {
     match writer.flush() {
-        Ok(()) => status,
-        Err(_) => unflushed_status(status),
+        Ok(()) => ended,
+        Err(_) => Err(unflushed(ended)),
     }
 }
 
-/// Follows the day of these arguments, and writes the rows of its tape as they come to a writer, which comes back with the status.
-#[tactic(auto, using(crate::proofs::WatchLemmas::head_part, crate::proofs::WatchLemmas::tape_whole, crate::proofs::WatchLemmas::tape_part, crate::proofs::WatchLemmas::flushed_status))]
-fn watch_day<T, W>(rt: &T, alloc: Global, words: FollowWords, writer: W) -> (u8, W)
+/// Follows the day of these arguments, and writes the rows of its tape as they come to a writer, which comes back.
+#[tactic(auto, using(crate::proofs::WatchLemmas::head_part, crate::proofs::WatchLemmas::tape_part))]
+fn watch_day<T, W>(rt: &T, alloc: Global, words: FollowWords, writer: W) -> (Result<(), Fault>, W)
 where
     T: Threads + Wait + Net<Listener = TcpListener, Stream = TcpStream> + Sync,
     W: Write + Send + Drop,
-    ensures whole { result.0 ≡ 0 → WritesTapeOf words.listing words.matrix words.limit (W.contents writer) (W.contents result.1) }
+    ensures whole { OnOk result.0 (WritesTapeOf words.listing words.matrix words.limit (W.contents writer) (W.contents result.1)) }
     ensures part { (result.1 ≡ writer) ⊎ WritesPartOf words.listing words.matrix words.limit (W.contents writer) (W.contents result.1) }
-    ensures status { IsRunStatus result.0 }
 {
     let Ok(sockets) = open_sockets(rt, &words) else {
-        return (Fault::Read.status(), writer);
+        return (Err(Fault::Read), writer);
     };
     let mut writer = writer;
     if let Err(fault) = write_head(alloc, &mut writer) {
-        return (sink_fault(fault).fault().status(), writer);
+        return (Err(sink_fault(fault).fault()), writer);
     }
     let sink = RowSink {
         rows: EntryRows::new(alloc),
         writer,
     };
-    let (status, sink) = follow_tape_over(
+    let (ended, sink) = follow_tape(
         rt,
         alloc,
         words.listing,
@@ -143,8 +145,8 @@ where
         rows: _,
         mut writer,
     } = sink;
-    let status = flushed(status, &mut writer);
-    (status, writer)
+    let ended = flushed(ended, &mut writer);
+    (ended, writer)
 }
 
 /// What is said of a day that is watched and ends so.
@@ -168,31 +170,35 @@ fn say_watched<E: Write>(errors: &mut E, status: Status)
 /// How a day that was watched with a buffer before its writer ended.
 #[derive(Drop)]
 pub(crate) struct Watched<W> {
-    /// The status.
-    pub(crate) code: u8,
+    /// Well, or by what.
+    pub(crate) ended: Result<(), Fault>,
     /// Whether whoever read the rows is gone.
     pub(crate) reader_gone: bool,
     /// The writer, unless what the buffer held could not be written, or there was no memory for the buffer.
     pub(crate) writer: Option<W>,
 }
 
-/// Takes the buffer off a writer. If all was well but the flush, the status is that of a write fault.
-pub(crate) fn unbuffered<W: Output + Drop>(code: u8, buffer: BufWriter<W>) -> Watched<W>
+/// Takes the buffer off a writer. If all was well but the flush, the run ended by a write fault.
+pub(crate) fn unbuffered<W: Output + Drop>(
+    ended: Result<(), Fault>,
+    buffer: BufWriter<W>,
+) -> Watched<W>
     ensures kept { IfSome result.writer (λ inner. Keeps (writer_contents W.contents buffer) (W.contents inner)) }
-    ensures some { result.code ≡ 0 → IsSome result.writer }
-    ensures status { (result.code ≡ code) ⊎ (result.code ≡ 4) }
-    ensures done { result.code ≡ 0 → code ≡ 0 }
+    ensures some { OnOk result.ended (IsSome result.writer) }
+    ensures done { IsOk result.ended → IsOk ended }
+    ensures fault { IfErr ended (λ fault. result.ended ≡ Err fault) }
+    ensures unflushed { OnOk ended (IfErr result.ended (λ fault. fault ≡ WriteFault)) }
     ensures gone { IfSome result.writer (λ inner. result.reader_gone ≡ W.reader_gone inner) }
 {
     let is_gone = buffer.get_ref().reader_is_gone();
     match buffer.into_inner() {
         Ok(inner) => Watched {
-            code,
+            ended,
             reader_gone: inner.reader_is_gone(),
             writer: Some(inner),
         },
         Err(_) => Watched {
-            code: unflushed_status(code),
+            ended: Err(unflushed(ended)),
             reader_gone: is_gone,
             writer: None,
         },
@@ -204,20 +210,19 @@ fn watch_buffered<T, W>(rt: &T, alloc: Global, words: FollowWords, writer: W) ->
 where
     T: Threads + Wait + Net<Listener = TcpListener, Stream = TcpStream> + Sync,
     W: Output + Send + Drop,
-    ensures whole { result.code ≡ 0 → WritesWhole W.contents words.listing words.matrix words.limit writer result.writer }
+    ensures whole { OnOk result.ended (WritesWhole W.contents words.listing words.matrix words.limit writer result.writer) }
     ensures part { WritesSome W.contents words.listing words.matrix words.limit writer result.writer }
-    ensures status { IsRunStatus result.code }
     ensures gone { IfSome result.writer (λ inner. result.reader_gone ≡ W.reader_gone inner) }
 {
     let Ok(buffer) = BufWriter::new(alloc, writer) else {
         return Watched {
-            code: Fault::Memory.status(),
+            ended: Err(Fault::Memory),
             reader_gone: false,
             writer: None,
         };
     };
-    let (code, buffer) = watch_day(rt, alloc, words, buffer);
-    unbuffered(code, buffer)
+    let (ended, buffer) = watch_day(rt, alloc, words, buffer);
+    unbuffered(ended, buffer)
 }
 
 /// Watches a running day as a follower, and writes the readable tape of its entries as they come to a writer, which comes back with the status.
@@ -225,7 +230,7 @@ where
 /// written at the end, no writer comes back. What goes wrong is said on `errors` in one line, but not that whoever read the rows is gone. The status is `Done` where the whole tape was
 /// written, `ReadFault` for a read fault or a socket that cannot be opened, `WriteFault`, `OutOfMemory`, `NotStarted` where no thread was
 /// started, and `Disagrees` where the tape disagrees.
-#[tactic(auto, using(crate::proofs::WatchLemmas::run_within))]
+#[tactic(auto, using(crate::proofs::WatchLemmas::run_status, crate::proofs::WatchLemmas::done_well))]
 pub fn watch<T, W, E>(
     rt: &T,
     alloc: Global,
@@ -245,11 +250,11 @@ where
     ensures said { WritesPrefix (status_text result.0) (E.contents errors.old) (E.contents errors.new) }
 {
     let Watched {
-        code,
+        ended,
         reader_gone,
         writer,
     } = watch_buffered(rt, alloc, words, writer);
-    let status = Status::of_code(code);
+    let status = ended_status(ended);
     say_ended(errors, status, reader_gone);
     (status, writer)
 }

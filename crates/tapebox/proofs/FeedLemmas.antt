@@ -2,7 +2,8 @@
 use Rattle.std.proofs.Common.{◌≡◌, ◌≢◌, ◌<◌, ◌⊎◌, Bool, true, false, IfErr, IfOk, IfSome, IsOk, OnOk, Result, Ok, Err, List, Option, None, Some, ℕ, ap, arith, inl, inr, refl, subst, sym}
 use Rattle.program_words.specs.Statuses.{status_code}
 use Rattle.program_words.specs.declared.status.Status.{Status}
-use Rattle.program_words.specs.declared.status.Status.TheVariants.{Done, ReadFault}
+use Rattle.program_words.specs.declared.status.Status.TheVariants as of_status
+use Rattle.program_words.specs.declared.status.Status.TheVariants.{Done, Bad, ReadFault, WriteFault, OutOfMemory}
 use Rattle.tape_types.specs.Names.{Names}
 use Rattle.sale_matrix.specs.declared.matrix.Matrix.{Matrix}
 use Rattle.feed_follower.specs.Reported.{WritesReportOf, follow_fault}
@@ -14,7 +15,9 @@ use Rattle.feed_ends.specs.declared.fault.Fault.TheVariants.{Read, Write, Memory
 use Rattle.feed_words.specs.declared.follow_words.FollowWords.{FollowWords}
 use Rattle.feed_words.specs.declared.live_words.LiveWords.{LiveWords}
 use Rattle.live_feed.specs.declared.operated_day.LiveEnd.{LiveEnd}
-use Rattle.tapebox.specs.Feeds.{EndsDay, FollowsDay, RunsDay, ended_status, follow_status}
+use Rattle.desk_words.specs.RunStatuses.{ended_status}
+use Rattle.tapebox.specs.Feeds.{EndsDay, FollowsDay, IsControlStatus, RunsDay, follow_status}
+use Rattle.tapebox.specs.Journals.{IsJournalStatus}
 use Rattle.tapebox.specs.Program.{AskFollow, AskLive, IsFeedStatus, RunsFeed, WritesFollowReport, WritesLiveReport}
 
 -- a run whose status is 0 has ended well
@@ -132,13 +135,52 @@ all_or_nothing writer_old writer_new Report (Err why) true report unwritten more
 all_or_nothing writer_old writer_new Report (Err why) false report unwritten more =
     inl (unwritten refl (subst (λ (n : ℕ). 4 < n) (fault_same why) more))
 
+-- the status of a run is never that of bad arguments
+never_bad : (ended : Result (Unit {0}) Fault) → ended_status ended ≡ Bad → ⊥
+never_bad (Ok done) is = absurd (cc is)
+never_bad (Err Read) is = absurd (cc is)
+never_bad (Err Write) is = absurd (cc is)
+never_bad (Err Memory) is = absurd (cc is)
+never_bad (Err Worker) is = absurd (cc is)
+never_bad (Err Disagrees) is = absurd (cc is)
+
+module _ {W : Type 0} (Report : Option (List ℕ) → Option (List ℕ) → Type 0) (writer : W) (known : Option (List ℕ)) where
+  -- a day that was not run wrote nothing
+  unrun : (status : Status) → (status ≡ Done → ⊥) → (status ≡ Bad) ⊎ IsFeedStatus (status_code status) → RunsDay Report status writer writer known known
+  unrun status undone is = record {
+    known = is;
+    report = λ done. absurd (undone done);
+    refused = λ bad. refl;
+    whole = λ more. inl refl;
+  }
+
+  -- a day whose journal was not opened
+  pub unopened_day : (status : Status) → IsJournalStatus status → RunsDay Report status writer writer known known
+  unopened_day status (inl is) = rw is (unrun Bad (λ e. absurd (cc e)) (inl refl))
+  unopened_day status (inr (inl is)) = rw is (unrun ReadFault (λ e. absurd (cc e)) (inr (inr (omega arith, omega arith))))
+  unopened_day status (inr (inr (inl is))) = rw is (unrun WriteFault (λ e. absurd (cc e)) (inr (inr (omega arith, omega arith))))
+  unopened_day status (inr (inr (inr (inl is)))) = rw is (unrun OutOfMemory (λ e. absurd (cc e)) (inr (inr (omega arith, omega arith))))
+  unopened_day status (inr (inr (inr (inr is)))) = rw is (unrun of_status.Disagrees (λ e. absurd (cc e)) (inr (inr (omega arith, omega arith))))
+
+  -- a day whose control socket was not opened
+  pub uncontrolled_day : (status : Status) → IsControlStatus status → RunsDay Report status writer writer known known
+  uncontrolled_day status (inl is) = unopened_day status (inr (inl is))
+  uncontrolled_day status (inr (inl is)) = unopened_day status (inr (inr (inl is)))
+  uncontrolled_day status (inr (inr is)) = unopened_day status (inr (inr (inr (inl is))))
+
+  -- a day whose sockets were not opened
+  pub unready_day : (status : Status) → (status ≡ ReadFault) ⊎ (status ≡ OutOfMemory) → RunsDay Report status writer writer known known
+  unready_day status (inl is) = unopened_day status (inr (inl is))
+  unready_day status (inr is) = unopened_day status (inr (inr (inr (inl is))))
+
 module _ {W : Type 0} (listing : Names) (matrix : Matrix) (limit : ℕ) (writer_old writer_new : W) (old new : Option (List ℕ)) where
   -- a day that was run and ended so has that status
   pub day_ends : (end : LiveEnd) (status : Status) → status ≡ ended_status end.result → EndsDay listing matrix limit writer_old writer_new old new end
       → RunsDay (WritesItsReport listing matrix limit) status writer_old writer_new old new
   day_ends end status is ends =
       subst (λ (s : Status). RunsDay (WritesItsReport listing matrix limit) s writer_old writer_new old new) (sym is) (record {
-        known = known_by end.result;
+        known = inr (known_by end.result);
+        refused = λ bad. absurd (never_bad end.result bad);
         report = λ done. ends.report (reported_by end.result (end.is_whole ≡ true) ends.whole (ap status_code done));
         whole = all_or_nothing writer_old writer_new (WritesItsReport listing matrix limit old new) end.result end.is_whole ends.report ends.unwritten;
       })

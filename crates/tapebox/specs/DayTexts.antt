@@ -1,15 +1,16 @@
 -- What the program says of a day's file, and with which status.
-use Rattle.std.specs.Prelude.{◌≡◌, ◌⊎◌, ℕ, List, Option, string_bytes}
+use Rattle.std.specs.Prelude.{◌≡◌, ◌⊎◌, ℕ, Bool, List, Option, option_map, string_bytes}
 use Rattle.program_words.specs.Statuses.{status_text}
 use Rattle.program_words.specs.declared.status.Status.{Status}
 use Rattle.program_words.specs.declared.status.Status.TheVariants as status
 use Rattle.row_reads.specs.Writing.{WritesPrefix}
-use Rattle.day_files.specs.Days.{ControlPlace, at_path, at_port}
+use Rattle.day_files.specs.Days.{ControlPlace, Day, at_path, at_port}
 use Rattle.day_files.specs.declared.day_fault.DayFault.{DayFault}
 use Rattle.day_files.specs.declared.day_fault.DayFault.TheVariants.{OutOfMemory}
 use Rattle.day_control.specs.declared.place.ControlPlace.{ControlPlace as Place}
 use Rattle.day_control.specs.declared.place.ControlPlace.TheVariants as place
 use Rattle.tapebox.specs.Files.{SaysOf, beside_path}
+use Rattle.tapebox.specs.declared.journal_place.JournalPlace.{JournalPlace}
 
 -- the status of a day's file with a fault: it is bad, unless memory ran out
 abbrev pub day_fault_status : DayFault → Status
@@ -29,6 +30,19 @@ IsUnreadStatus s = (s ≡ status.Bad) ⊎ (s ≡ status.ReadFault) ⊎ (s ≡ st
 abbrev pub control_by : List ℕ → ControlPlace → ControlPlace
 control_by file (at_port port) = at_port port
 control_by file (at_path path) = at_path (beside_path path file)
+
+-- where a journal is, and whether it is synced
+pub record NamedJournal : Type 0 where
+  pub path : List ℕ
+  pub is_synced : Bool
+
+-- the journal that a day's file of this name gives: a path starts at the file's folder
+abbrev pub journal_by : List ℕ → Day → Option NamedJournal
+journal_by file day = option_map (λ path. record { path = beside_path path file; is_synced = day.journal_sync }) day.journal
+
+-- the journal, as it is opened
+abbrev pub journal_view : JournalPlace → NamedJournal
+journal_view place = record { path = string_bytes place.path; is_synced = place.is_synced }
 
 -- the control socket, as it is opened
 abbrev pub place_view : Place → ControlPlace

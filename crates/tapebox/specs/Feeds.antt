@@ -5,6 +5,9 @@ use Rattle.sale_matrix.specs.declared.matrix.Matrix.{Matrix}
 use Rattle.program_words.specs.Statuses.{status_code}
 use Rattle.program_words.specs.declared.status.Status.{Status}
 use Rattle.program_words.specs.declared.status.Status.TheVariants as status
+use Rattle.desk_words.specs.RunStatuses.{fault_status}
+use Rattle.day_control.specs.declared.control_fault.ControlFault.{ControlFault}
+use Rattle.day_control.specs.declared.control_fault.ControlFault.TheVariants as control
 use Rattle.feed_ends.specs.Faults.{fault_status as fault_code}
 use Rattle.feed_ends.specs.Reports.{WritesItsReport}
 use Rattle.feed_ends.specs.declared.fault.Fault.{Fault}
@@ -23,23 +26,16 @@ abbrev pub unopened_fault : Unopened → Fault
 unopened_fault (unopened.Socket why) = fault.Read
 unopened_fault unopened.Memory = fault.Memory
 
--- the status of a fault
-abbrev pub fault_status : Fault → Status
-fault_status fault.Read = status.ReadFault
-fault_status fault.Write = status.WriteFault
-fault_status fault.Memory = status.OutOfMemory
-fault_status fault.Worker = status.NotStarted
-fault_status fault.Disagrees = status.Disagrees
-
--- the status of a day
-abbrev pub ended_status : Result (Unit {0}) Fault → Status
-ended_status (Ok done) = status.Done
-ended_status (Err fault) = fault_status fault
-
 -- the status of a day that was followed
 abbrev pub follow_status : Result (Unit {0}) FollowFault → Status
 follow_status (Ok done) = status.Done
 follow_status (Err fault) = fault_status (follow_fault fault)
+
+-- the status of a fault of a control socket
+abbrev pub control_status : ControlFault → Status
+control_status control.WriteFault = status.WriteFault
+control_status control.OutOfMemory = status.OutOfMemory
+control_status _ = status.ReadFault
 
 -- a status of what is asked at a control socket and not answered
 abbrev pub IsControlStatus : Status → Type 0
@@ -54,12 +50,13 @@ pub record EndsDay {W : Type 0} (listing : Names) (matrix : Matrix) (limit : ℕ
   pub whole : OnOk end.result (end.is_whole ≡ true)
   pub unwritten : end.is_whole ≡ false → IfErr end.result (λ fault. 4 < fault_code fault → writer_new ≡ writer_old)
 
--- a day that a file gives was run and ended with this status: where all is done its whole report was written; after a fault that is none of a
--- read or a write the report was written whole, or nothing was
+-- a day that a file gives was run and ended with this status: where all is done its whole report was written; where its journal is another's nothing
+-- was; after a fault that is none of a read or a write the report was written whole, or nothing was
 pub record RunsDay {W : Type 0} (WritesReport : Option (List ℕ) → Option (List ℕ) → Type 0) (ended : Status) (writer_old writer_new : W)
     (old new : Option (List ℕ)) : Type 0 where
-  pub known : IsFeedStatus (status_code ended)
+  pub known : (ended ≡ status.Bad) ⊎ IsFeedStatus (status_code ended)
   pub report : ended ≡ status.Done → WritesReport old new
+  pub refused : ended ≡ status.Bad → writer_new ≡ writer_old
   pub whole : 4 < status_code ended → (writer_new ≡ writer_old) ⊎ WritesReport old new
 
 -- a day that a file gives was followed and ended with this status: where all is done the whole report was written; a report of so many

@@ -1,6 +1,10 @@
 //! What an operator asks of a running day, at its control socket.
-ghost use Rattle.std.specs.Prelude.{◌≡◌};
-ghost use Rattle.tapebox.specs.Feeds.{IsControlStatus};
+ghost use Rattle.std.specs.Prelude.{◌≡◌, ◌≢◌, ◌⊎◌, ℕ, List, Option};
+ghost use Rattle.day_control.specs.Asking.{Told};
+ghost use Rattle.day_control.specs.Faults.{fault_status as control_code};
+ghost use Rattle.program_words.specs.Statuses.{status_code};
+ghost use Rattle.program_words.specs.declared.status.Status.TheVariants.{Done, WriteFault};
+ghost use Rattle.tapebox.specs.Feeds.{IsControlStatus, control_status};
 
 use day_control::{Command, ControlFault, ControlPlace, ask_control};
 use desk_words::say_told;
@@ -11,12 +15,20 @@ use std::net::{Net, TcpListener, TcpStream};
 
 /// The status of a fault of a control socket.
 fn control_status(fault: ControlFault) -> Status
-    ensures { IsControlStatus result }
+    ensures status { result ≡ control_status fault }
+    ensures code { status_code result ≡ control_code fault }
+    ensures known { IsControlStatus result }
 {
     match fault {
+        ControlFault::OpenFolder
+        | ControlFault::NoFolder
+        | ControlFault::NotASocket
+        | ControlFault::InUse
+        | ControlFault::Unopened
+        | ControlFault::Unanswered
+        | ControlFault::CutOff => Status::ReadFault,
         ControlFault::WriteFault => Status::WriteFault,
         ControlFault::OutOfMemory => Status::OutOfMemory,
-        _ => Status::ReadFault,
     }
 }
 
@@ -27,7 +39,9 @@ pub fn say_control_fault<E: Write>(
     place: &ControlPlace,
     fault: ControlFault,
 ) -> Status
-    ensures { IsControlStatus result }
+    ensures status { result ≡ control_status fault }
+    ensures code { status_code result ≡ control_code fault }
+    ensures known { IsControlStatus result }
 {
     if let Ok(text) = format!(in alloc; "control {place}: {fault}") {
         say_told(alloc, errors, text.as_bytes());
@@ -35,7 +49,8 @@ pub fn say_control_fault<E: Write>(
     control_status(fault)
 }
 
-/// Asks a running day at its control socket, and writes the answer.
+/// Asks a running day at its control socket, and writes the answer. With the status `Done` the lines of an answer were written, and nothing else; with
+/// any other status but `WriteFault` nothing was.
 pub fn ask_day<T, W, E>(
     rt: &T,
     alloc: Global,
@@ -48,6 +63,10 @@ where
     T: Net<Listener = TcpListener, Stream = TcpStream>,
     W: Write,
     E: Write,
+    ensures known { (result ≡ Done) ⊎ IsControlStatus result }
+    ensures told { result ≡ Done → (had left : Option (List ℕ)) × Told had left (W.contents writer.old) (W.contents writer.new) }
+    ensures quiet { result ≡ Done → errors.new ≡ errors.old }
+    ensures untold { result ≢ Done → result ≢ WriteFault → writer.new ≡ writer.old }
 {
     match ask_control(rt, alloc, place, command, writer) {
         Ok(()) => Status::Done,

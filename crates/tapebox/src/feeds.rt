@@ -5,9 +5,8 @@ ghost use Rattle.feed_ends.specs.Reports.{WritesItsReport};
 ghost use Rattle.tapebox.specs.Program.{IsFeedStatus, RunsFeed};
 ghost use Rattle.row_reads.specs.Writing.{WritesPrefix};
 
-use crate::sayings::{ended_status, status_of};
 use crate::sockets::{open_follow, open_live};
-use desk_words::say_status;
+use desk_words::{ended_status, fault_status, say_status};
 use feed_follower::{NoSink, follow_ended};
 use feed_words::{FollowWords, LiveWords};
 use live_feed::NoLoss;
@@ -49,7 +48,7 @@ where
             &NoLoss,
             writer,
         )),
-        Err(unopened) => status_of(unopened.fault()),
+        Err(unopened) => fault_status(unopened.fault()),
     }
 }
 

@@ -6,7 +6,7 @@ ghost use Rattle.program_words.specs.declared.status.Status.TheVariants.{ReadFau
 ghost use Rattle.row_reads.specs.Writing.{WritesPrefix};
 ghost use Rattle.tapebox.specs.Files.{FILE_MOST, KnowsLength, SaysOf, beside_path, named_line};
 
-use desk_words::say;
+use desk_words::{begins_journal, say};
 use program_words::Status;
 use std::alloc::{AllocError, Global};
 use std::fs::{File, Files, Metadata, OpenFile};
@@ -44,6 +44,14 @@ pub fn open_file<R: Files>(files: &R, name: &str) -> io::Result<Opened<R::File>>
     let file = File::open(files, name)?;
     let length = length_of(&file.metadata()?)?;
     Ok(Opened { file, length })
+}
+
+/// Whether a file begins as a journal does. A pipe or a device, of which nothing is read, does not, and neither does what can't be read.
+pub fn names_journal<R: Files>(files: &R, name: &str) -> bool {
+    let Ok(mut opened) = open_file(files, name) else {
+        return false;
+    };
+    opened.length.is_some() && begins_journal(&mut opened.file) == Some(true)
 }
 
 /// All bytes of a reader. More than `FILE_MOST` are too many.

@@ -6,9 +6,11 @@ ghost use Rattle.program_words.specs.declared.status.Status.TheVariants.{Done, R
 ghost use Rattle.tapebox.specs.Feeds.{FollowsDay, follow_status};
 
 use crate::day::FollowFile;
-use crate::sayings::{ended_status, say_unopened};
+use crate::outlet::Outlet;
+use crate::sayings::{say_day_end, say_unopened};
 use crate::sockets::open_follow;
-use desk_words::{Output, say_followed, say_status, watch_file};
+use crate::write_cause::WriteCause;
+use desk_words::{Output, ended_status, say_followed, watch_file};
 use feed_follower::{FollowEnd, FollowSockets, FollowTerms, NoSink, follow_day};
 use program_words::Status;
 use std::alloc::Global;
@@ -54,23 +56,29 @@ where
     Ok(Ready { terms, sockets })
 }
 
-/// Says what was heard of a day, unless there is no memory for it, and then how it ended; gives the status.
-fn say_follow_end<E: Write>(alloc: Global, errors: &mut E, end: &FollowEnd) -> Status
+/// Says what was heard of a day, unless there is no memory for it, and then how it ended; gives the status. The output of its report tells whether
+/// its reader is gone, and the cause of its last error.
+fn say_follow_end<E: Write>(
+    alloc: Global,
+    errors: &mut E,
+    end: &FollowEnd,
+    reader_gone: bool,
+    cause: Option<WriteCause>,
+) -> Status
     ensures { result ≡ follow_status end.now.ended }
 {
     let ended = match end.ended {
         Ok(()) => Ok(()),
         Err(fault) => Err(fault.fault()),
     };
-    let status = ended_status(ended);
-    if !say_followed(alloc, errors, end) {
-        say_status(errors, status);
+    if say_followed(alloc, errors, end) {
+        return ended_status(ended);
     }
-    status
+    say_day_end(alloc, errors, ended, reader_gone, cause)
 }
 
 /// Follows the day that a file gives, and returns the status: the report of its tape is written to `writer`, and where the day's end did not
-/// come that of what is held, if `is_partial`. What was heard is said, line by line, whatever the status.
+/// come that of what is held, if `is_partial`. What was heard is said, line by line, whatever the status, but nothing of a report whose reader is gone.
 pub fn run_follow_file<T, W, E>(
     rt: &T,
     alloc: Global,
@@ -81,14 +89,15 @@ pub fn run_follow_file<T, W, E>(
 ) -> Status
 where
     T: Threads + Wait + Net<Listener = TcpListener, Stream = TcpStream> + Sync,
-    W: Write,
+    W: Outlet,
     E: Write,
     ensures { FollowsDay day.words.listing day.words.matrix day.words.limit is_partial result writer.old writer.new (W.contents writer.old) (W.contents writer.new) }
 {
     match ready_day(rt, alloc, day, errors) {
         Ok(Ready { terms, sockets }) => {
             let (end, _sink) = follow_day(rt, alloc, terms, sockets, is_partial, NoSink, writer);
-            say_follow_end(alloc, errors, &end)
+            let (reader_gone, cause) = (writer.reader_is_gone(), writer.write_cause());
+            say_follow_end(alloc, errors, &end, reader_gone, cause)
         }
         Err(status) => status,
     }

@@ -1,23 +1,27 @@
 //! The program over the process's streams, files and sockets.
-ghost use Rattle.std.specs.Prelude.{◌≡◌};
+ghost use Rattle.std.specs.Prelude.{◌≡◌, None, Some, false};
 ghost use Rattle.std.specs.Str.{IsUtf8};
+ghost use Rattle.program_words.specs.declared.command.Asked.TheVariants.{Table};
+ghost use Rattle.program_words.specs.declared.command.Command.TheVariants.{Tape};
 ghost use Rattle.tapebox.specs.Files.{argument_in, has_rows};
+ghost use Rattle.tapebox.specs.Program.{asked_in};
 
 use crate::asking::ask_day;
 use crate::day::{control_file, follow_file, live_file};
-use crate::files::{open_file, say_unread};
+use crate::files::{names_journal, open_file, say_unread};
 use crate::following::{run_follow_file, run_watch_file};
 use crate::operated::run_live_file;
+use crate::outlet::CauseWriter;
 use crate::program::{run, write_own};
 use crate::version::version_text;
 use day_control::Command as Order;
 use desk_words::{ClearedWriter, PipeWriter, ProgressLine, ToldReader, ToldWriter, watch_row};
+use feed_words::first_argument;
 use program_words::{
-    Asked, Command, Request, STANDARD_INPUT, Status, Word, argument_at, first_argument,
-    read_arguments,
+    Asked, Command, Request, STANDARD_INPUT, Status, Word, argument_at, read_arguments,
 };
 use std::alloc::{Alloc, Global};
-use std::fs::Files;
+use std::fs::{File, Files};
 use std::io::{IsTerminal, Read, Stderr, Stdin, Stdout};
 use std::net::{Net, TcpListener, TcpStream};
 use std::rt::Clock;
@@ -46,6 +50,14 @@ fn argument_text(words: &[u8], place: usize) -> &str
     str::from_utf8(argument).unwrap_or("")
 }
 
+/// The arguments that ask for the readable tape of an input, by no other matrix than its own.
+#[tactic(auto, unfolding(program_words::specs::Arguments::asked_of, feed_words::specs::Words::words_of))]
+fn tape_words() -> &'static [u8]
+    ensures { asked_in result.now ≡ Some (Table (record { command = Tape None false; file = None })) }
+{
+    b"tape\0"
+}
+
 /// What the process gives the program.
 #[derive(Drop)]
 pub struct Host<'a, T> {
@@ -66,7 +78,7 @@ where
     T: Threads
         + Wait
         + Clock
-        + Files
+        + Files<File = File>
         + Alloc<A = Global>
         + Net<Listener = TcpListener, Stream = TcpStream>
         + Sync,
@@ -105,6 +117,14 @@ where
         self.run_over(words, false, self.stdin, None)
     }
 
+    /// Runs the program over the file of this name, or says why it can't be opened.
+    fn run_file(&self, words: &[u8], tells_rows: bool, name: &str) -> Status {
+        match open_file(self.rt, name) {
+            Ok(opened) => self.run_over(words, tells_rows, opened.file, opened.length),
+            Err(error) => say_unread(self.alloc, &mut { self.stderr }, name, error.kind()),
+        }
+    }
+
     /// Runs a word for a table over standard input or the file that an argument names.
     fn run_request(&self, words: &[u8], request: &Request) -> Status {
         let name = match request.file {
@@ -112,17 +132,20 @@ where
             None => STANDARD_INPUT,
         };
         if name == STANDARD_INPUT {
-            return self.run_over(words, has_rows(request), self.stdin, None);
+            self.run_over(words, has_rows(request), self.stdin, None)
+        } else {
+            self.run_file(words, has_rows(request), name)
         }
-        match open_file(self.rt, name) {
-            Ok(opened) => self.run_over(words, has_rows(request), opened.file, opened.length),
-            Err(error) => say_unread(self.alloc, &mut { self.stderr }, name, error.kind()),
-        }
+    }
+
+    /// Standard output, for the report of a day.
+    fn outlet(&self) -> CauseWriter<PipeWriter<Stdout>> {
+        CauseWriter::new(PipeWriter::new(self.stdout))
     }
 
     /// Runs a day by its file.
     fn run_live(&self, name: &str) -> Status {
-        let (mut stdout, mut stderr) = (self.stdout, self.stderr);
+        let (mut stdout, mut stderr) = (self.outlet(), self.stderr);
         match live_file(self.rt, self.alloc, name, &mut stderr) {
             Ok(day) => run_live_file(self.rt, self.alloc, day, &mut stdout, &mut stderr),
             Err(status) => status,
@@ -132,15 +155,18 @@ where
     /// Follows a day by its file.
     fn run_follow(&self, name: &str, follower: u16, is_partial: bool) -> Status {
         let (rt, alloc) = (self.rt, self.alloc);
-        let (mut stdout, mut stderr) = (self.stdout, self.stderr);
+        let (mut stdout, mut stderr) = (self.outlet(), self.stderr);
         match follow_file(rt, alloc, name, follower, &mut stderr) {
             Ok(day) => run_follow_file(rt, alloc, day, is_partial, &mut stdout, &mut stderr),
             Err(status) => status,
         }
     }
 
-    /// Watches a day by its file.
+    /// Watches a day by its file, or writes the readable tape of a journal, which has no followers.
     fn run_watch(&self, name: &str, follower: u16) -> Status {
+        if names_journal(self.rt, name) {
+            return self.run_file(tape_words(), true, name);
+        }
         let (rt, alloc, mut stderr) = (self.rt, self.alloc, self.stderr);
         match follow_file(rt, alloc, name, follower, &mut stderr) {
             Ok(day) => {

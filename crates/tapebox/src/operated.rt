@@ -1,21 +1,28 @@
 //! A running day that its file gives: it is operated by a control socket, and its end says what became of it.
 ghost use Rattle.std.specs.Prelude.{◌≡◌, ◌⊎◌, IfErr, IfOk, IfSome, IsSome, None, OnOk};
 ghost use Rattle.std.specs.Thread.{IsSync};
+ghost use Rattle.desk_words.specs.RunStatuses.{ended_status};
 ghost use Rattle.feed_ends.specs.Reports.{WritesItsReport};
 ghost use Rattle.program_words.specs.declared.status.Status.TheVariants.{OutOfMemory, ReadFault};
 ghost use Rattle.tapebox.specs.Feeds.{EndsDay, RunsDay};
 
 use crate::asking::say_control_fault;
 use crate::day::LiveFile;
-use crate::sayings::{say_day_end, say_unopened};
+use crate::file_journal::FileJournal;
+use crate::journal_texts::say_of_journal;
+use crate::kept_journal::{OpenJournal, open_journal};
+use crate::outlet::Outlet;
+use crate::sayings::{say_day_end, say_no_memory, say_unopened};
 use crate::sockets::{Unopened, open_live};
+use crate::write_cause::WriteCause;
 use day_control::{ControlListener, Operated, open_control, remove_control, serve_control};
 use desk_words::say;
 use feed_ends::Fault;
-use live_feed::{LiveEnd, LiveSockets, LiveTerms, NoLoss, Operation, live_day};
+use journal_start::PastLine;
+use live_feed::{DayJournal, LiveEnd, LiveSockets, LiveTerms, NoLoss, Operation, live_day};
 use program_words::Status;
 use std::alloc::{AllocError, Global};
-use std::fs::Files;
+use std::fs::{File, Files};
 use std::io::Write;
 use std::net::{Net, TcpListener, TcpStream};
 use std::rt::Clock;
@@ -51,6 +58,7 @@ impl Operated for OperatedDay<'_> {
 struct Parts {
     terms: LiveTerms,
     sockets: LiveSockets,
+    journal: Option<DayJournal<FileJournal>>,
 }
 
 /// Runs the day whose parts wait, which are taken out, and then ends its control socket.
@@ -72,8 +80,14 @@ where
         writer.old writer.new (W.contents writer.old) (W.contents writer.new))) }
 {
     let end = match parts.take() {
-        Some(Parts { terms, sockets }) => Some(live_day(
-            rt, alloc, terms, sockets, &NoLoss, operation, writer,
+        Some(
+            Parts {
+                terms,
+                sockets,
+                journal,
+            },
+        ) => Some(live_day(
+            rt, alloc, terms, sockets, &NoLoss, operation, journal, writer,
         )),
         None => None,
     };
@@ -133,14 +147,15 @@ where
         connect_within,
         followers_wait,
         control: _,
+        journal: _,
     } = day;
     let sockets = match open_live(rt, alloc, &words) {
         Ok(sockets) => sockets,
         Err(Unopened::Socket(fault)) => return Err(say_unopened(alloc, errors, fault)),
-        Err(Unopened::Memory) => return Err(say_day_end(errors, Err(Fault::Memory))),
+        Err(Unopened::Memory) => return Err(say_no_memory(errors)),
     };
-    let Ok(operation) = Operation::new(rt, alloc, &words.listing) else {
-        return Err(say_day_end(errors, Err(Fault::Memory)));
+    let Ok(operation) = Operation::new(rt, alloc, &words.listing, words.serves) else {
+        return Err(say_no_memory(errors));
     };
     let terms = LiveTerms {
         listing: words.listing,
@@ -158,18 +173,70 @@ where
     })
 }
 
+/// Takes note of how far the participants' lines had come, of a day that goes on.
+fn note_lines<T: Wait>(rt: &T, operation: &Operation, lines: &[PastLine]) {
+    for line in lines {
+        if line.admitted > 0 {
+            operation.go_on(rt, line.who, line.admitted, line.last);
+        }
+    }
+}
+
+/// The journal of a day, and its path, if it keeps one. The operation takes note of how far the lines had come.
+fn split_journal<T: Wait>(
+    rt: &T,
+    operation: &Operation,
+    opened: Option<OpenJournal>,
+) -> (Option<DayJournal<FileJournal>>, Option<String>) {
+    let Some(
+        OpenJournal {
+            path,
+            journal,
+            lines,
+        },
+    ) = opened
+    else {
+        return (None, None);
+    };
+    note_lines(rt, operation, &lines);
+    (Some(journal), Some(path))
+}
+
+/// Says that the journal could not be written if it could not, and then how the day ended; gives the status.
+fn say_end<E: Write>(
+    alloc: Global,
+    errors: &mut E,
+    ended: Result<(), Fault>,
+    failed_journal: Option<&str>,
+    reader_gone: bool,
+    cause: Option<WriteCause>,
+) -> Status
+    ensures { result ≡ ended_status ended }
+{
+    let Some(path) = failed_journal else {
+        return say_day_end(alloc, errors, ended, reader_gone, cause);
+    };
+    say_of_journal(alloc, errors, path, WriteCause::Other.text());
+    match ended {
+        Err(Fault::Write) => Status::WriteFault,
+        _ => say_day_end(alloc, errors, ended, reader_gone, cause),
+    }
+}
+
 /// Runs a day, beside its control socket if it has one, and says what became of it.
+#[tactic(auto, using(crate::proofs::FeedLemmas::unready_day))]
 fn run_day<T, W, E>(
     rt: &T,
     alloc: Global,
     day: LiveFile,
+    opened: Option<OpenJournal>,
     listener: Option<&ControlListener>,
     writer: &mut W,
     errors: &mut E,
 ) -> Status
 where
     T: Threads + Wait + Clock + Net<Listener = TcpListener, Stream = TcpStream> + Sync,
-    W: Write,
+    W: Outlet,
     E: Write,
     ensures { RunsDay (WritesItsReport day.words.listing day.words.matrix day.words.limit) result writer.old writer.new (W.contents writer.old) (W.contents writer.new) }
 {
@@ -181,19 +248,64 @@ where
         Ok(ready) => ready,
         Err(status) => return status,
     };
+    let (journal, path) = split_journal(rt, &operation, opened);
     let end = match listener {
         Some(listener) => {
-            let parts = Parts { terms, sockets };
+            let parts = Parts {
+                terms,
+                sockets,
+                journal,
+            };
             run_controlled(rt, alloc, parts, &operation, listener, writer)
         }
-        None => live_day(rt, alloc, terms, sockets, &NoLoss, &operation, writer),
+        None => live_day(
+            rt, alloc, terms, sockets, &NoLoss, &operation, journal, writer,
+        ),
     };
     say(errors, &end.account);
-    say_day_end(errors, end.result)
+    let failed = if end.journal_failed {
+        path.as_deref()
+    } else {
+        None
+    };
+    let (reader_gone, cause) = (writer.reader_is_gone(), writer.write_cause());
+    say_end(alloc, errors, end.result, failed, reader_gone, cause)
+}
+
+/// Runs a day whose journal is open, beside its control socket if it has one.
+#[tactic(auto, using(crate::proofs::FeedLemmas::uncontrolled_day))]
+fn run_opened<T, W, E>(
+    rt: &T,
+    alloc: Global,
+    day: LiveFile,
+    opened: Option<OpenJournal>,
+    writer: &mut W,
+    errors: &mut E,
+) -> Status
+where
+    T: Threads + Wait + Clock + Files + Net<Listener = TcpListener, Stream = TcpStream> + Sync,
+    W: Outlet,
+    E: Write,
+    ensures { RunsDay (WritesItsReport day.words.listing day.words.matrix day.words.limit) result writer.old writer.new (W.contents writer.old) (W.contents writer.new) }
+{
+    let mut day = day;
+    let Some(place) = day.control.take() else {
+        return run_day(rt, alloc, day, opened, None, writer, errors);
+    };
+    match open_control(rt, &place) {
+        Ok(listener) => {
+            let status = run_day(rt, alloc, day, opened, Some(&listener), writer, errors);
+            remove_control(rt, &place);
+            status
+        }
+        Err(fault) => say_control_fault(alloc, errors, &place, fault),
+    }
 }
 
 /// Runs the day that a file gives, and returns its status: the report is written to `writer`, and what became of the day is said, line by line,
-/// whatever the status. Its control socket is opened before all others, and gone once the day has ended.
+/// whatever the status, but nothing of a report whose reader is gone. Its journal is opened first, and a journal that is not this day's has the status
+/// `Bad`: nothing is opened or written then. Its control socket is opened before all other sockets, and gone once the day has ended.
+#[tactic(auto, using(crate::proofs::FeedLemmas::unopened_day))]
 pub fn run_live_file<T, W, E>(
     rt: &T,
     alloc: Global,
@@ -202,21 +314,22 @@ pub fn run_live_file<T, W, E>(
     errors: &mut E,
 ) -> Status
 where
-    T: Threads + Wait + Clock + Files + Net<Listener = TcpListener, Stream = TcpStream> + Sync,
-    W: Write,
+    T: Threads
+        + Wait
+        + Clock
+        + Files<File = File>
+        + Net<Listener = TcpListener, Stream = TcpStream>
+        + Sync,
+    W: Outlet,
     E: Write,
     ensures { RunsDay (WritesItsReport day.words.listing day.words.matrix day.words.limit) result writer.old writer.new (W.contents writer.old) (W.contents writer.new) }
 {
     let mut day = day;
-    let Some(place) = day.control.take() else {
-        return run_day(rt, alloc, day, None, writer, errors);
+    let Some(place) = day.journal.take() else {
+        return run_opened(rt, alloc, day, None, writer, errors);
     };
-    match open_control(rt, &place) {
-        Ok(listener) => {
-            let status = run_day(rt, alloc, day, Some(&listener), writer, errors);
-            remove_control(rt, &place);
-            status
-        }
-        Err(fault) => say_control_fault(alloc, errors, &place, fault),
+    match open_journal(rt, alloc, &day.words, place, errors) {
+        Ok(opened) => run_opened(rt, alloc, day, Some(opened), writer, errors),
+        Err(status) => status,
     }
 }

@@ -1,40 +1,19 @@
 //! What is said of how a running day ended.
-ghost use Rattle.std.specs.Prelude.{◌≡◌};
+ghost use Rattle.std.specs.Prelude.{◌≡◌, [], IfOk, Some, false};
+ghost use Rattle.desk_words.specs.RunStatuses.{ended_status};
 ghost use Rattle.desk_words.specs.Tellings.{told_line};
 ghost use Rattle.feed_ends.specs.OpenFaults.{open_fault_text};
 ghost use Rattle.program_words.specs.Statuses.{status_text};
-ghost use Rattle.program_words.specs.declared.status.Status.TheVariants.{ReadFault};
+ghost use Rattle.program_words.specs.declared.status.Status.TheVariants.{OutOfMemory, ReadFault};
 ghost use Rattle.row_reads.specs.Writing.{WritesPrefix};
-ghost use Rattle.tapebox.specs.Feeds.{ended_status, fault_status};
+ghost use Rattle.tapebox.specs.Outlets.{day_end_text, write_fault_text};
 
-use desk_words::{say_open_fault, say_status};
+use crate::write_cause::WriteCause;
+use desk_words::{ended_status, say_open_fault, say_status, say_told};
 use feed_ends::{Fault, OpenFault};
 use program_words::Status;
-use std::alloc::Global;
+use std::alloc::{AllocError, Global};
 use std::io::Write;
-
-/// The status of a fault of a running day.
-pub fn status_of(fault: Fault) -> Status
-    ensures { result ≡ fault_status fault }
-{
-    match fault {
-        Fault::Read => Status::ReadFault,
-        Fault::Write => Status::WriteFault,
-        Fault::Memory => Status::OutOfMemory,
-        Fault::Worker => Status::NotStarted,
-        Fault::Disagrees => Status::Disagrees,
-    }
-}
-
-/// The status of a running day that ended so.
-pub fn ended_status(ended: Result<(), Fault>) -> Status
-    ensures { result ≡ ended_status ended }
-{
-    match ended {
-        Ok(()) => Status::Done,
-        Err(fault) => status_of(fault),
-    }
-}
 
 /// Says which socket could not be opened, unless there is no memory for the line, and gives the status.
 pub fn say_unopened<E: Write>(alloc: Global, errors: &mut E, fault: OpenFault) -> Status
@@ -45,12 +24,69 @@ pub fn say_unopened<E: Write>(alloc: Global, errors: &mut E, fault: OpenFault) -
     Status::ReadFault
 }
 
-/// Says what there is to say of how a day ended, and gives the status.
-pub fn say_day_end<E: Write>(errors: &mut E, ended: Result<(), Fault>) -> Status
+/// Says that memory ran out, and gives the status.
+pub fn say_no_memory<E: Write>(errors: &mut E) -> Status
+    ensures status { result ≡ OutOfMemory }
+    ensures said { WritesPrefix (status_text OutOfMemory) (E.contents errors.old) (E.contents errors.new) }
+{
+    say_status(errors, Status::OutOfMemory);
+    Status::OutOfMemory
+}
+
+/// What is told of an output that could not be written for this cause.
+fn output_text(alloc: Global, cause: WriteCause) -> Result<Vec<u8>, AllocError>
+    ensures { IfOk result (λ text. told_line text.items ≡ write_fault_text false (Some cause)) }
+{
+    let mut text = Vec::from_slice(alloc, b"standard output: ")?;
+    text.extend_from_slice(cause.text())?;
+    Ok(text)
+}
+
+/// Says for which cause an output could not be written, unless there is no memory for the line.
+#[tactic(auto, using(crate::proofs::SayingLemmas::nothing_said))]
+fn say_output_fault<E: Write>(alloc: Global, errors: &mut E, cause: WriteCause)
+    ensures { WritesPrefix (write_fault_text false (Some cause)) (E.contents errors.old) (E.contents errors.new) }
+{
+    if let Ok(text) = output_text(alloc, cause) {
+        say_told(alloc, errors, &text);
+    }
+}
+
+/// Says that something could not be written, with the cause if it is the output, and nothing if whoever reads the output is gone.
+#[tactic(auto, using(crate::proofs::SayingLemmas::nothing_said))]
+fn say_write_fault<E: Write>(
+    alloc: Global,
+    errors: &mut E,
+    reader_gone: bool,
+    cause: Option<WriteCause>,
+)
+    ensures quiet { write_fault_text reader_gone cause ≡ [] → errors.new ≡ errors.old }
+    ensures said { WritesPrefix (write_fault_text reader_gone cause) (E.contents errors.old) (E.contents errors.new) }
+{
+    match cause {
+        Some(_) if reader_gone => {}
+        Some(cause) => say_output_fault(alloc, errors, cause),
+        None => say_status(errors, Status::WriteFault),
+    }
+}
+
+/// Says what there is to say of how a day ended, and gives the status. The output of its report tells whether its reader is gone, of which nothing is
+/// said, and the cause of its last error, if it had one.
+pub fn say_day_end<E: Write>(
+    alloc: Global,
+    errors: &mut E,
+    ended: Result<(), Fault>,
+    reader_gone: bool,
+    cause: Option<WriteCause>,
+) -> Status
     ensures status { result ≡ ended_status ended }
-    ensures said { WritesPrefix (status_text result) (E.contents errors.old) (E.contents errors.new) }
+    ensures quiet { day_end_text ended reader_gone cause ≡ [] → errors.new ≡ errors.old }
+    ensures said { WritesPrefix (day_end_text ended reader_gone cause) (E.contents errors.old) (E.contents errors.new) }
 {
     let status = ended_status(ended);
-    say_status(errors, status);
+    match ended {
+        Err(Fault::Write) => say_write_fault(alloc, errors, reader_gone, cause),
+        _ => say_status(errors, status),
+    }
     status
 }

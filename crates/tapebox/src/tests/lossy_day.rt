@@ -2,21 +2,20 @@
 //! equal.
 
 use super::day::{Lossy, Plan, Played, STRAIGHT, play};
+use super::rows_of;
 use crate::{Loss, NoLoss};
 use arbitration::Line;
 use sale_matrix::Matrix;
 use std::process::Abort;
 use std::sync::atomic::{AtomicU32, Ordering};
 
-/// The beginning of each report, whose first symbol has none.
+/// The beginning of each report's rows: the first symbol has no trade.
 const FIRST_ROWS: &[u8] = b"\
-symbol,who,open,open_at,high,high_at,low,low_at,last,last_at,volume,trades\n\
 CD,ALL,,,,,,,,,0,0\n\
 AB,ALL,";
 
-/// The report of a day without a message.
-const EMPTY_DAY: &[u8] = b"\
-symbol,who,open,open_at,high,high_at,low,low_at,last,last_at,volume,trades\n\
+/// The rows of a day without a message.
+const EMPTY_ROWS: &[u8] = b"\
 CD,ALL,,,,,,,,,0,0\n\
 AB,ALL,,,,,,,,,0,0\n";
 
@@ -81,7 +80,7 @@ fn has_all(report: &[u8]) -> bool {
 fn assert_whole<R: Abort>(rt: &R, played: &Played) {
     assert!(rt; played.is_sent);
     assert_eq!(rt; played.statuses, (0, 0));
-    assert!(rt; played.written.starts_with(FIRST_ROWS));
+    assert!(rt; rows_of(rt, &played.written).starts_with(FIRST_ROWS));
     assert!(rt; has_all(&played.written));
     assert_eq!(rt; played.written.as_slice(), played.followed.as_slice());
 }
@@ -171,6 +170,6 @@ fn a_follower_of_an_empty_day_starts_again_before_it_ends(rt: HostRuntime) {
     };
     let played = play(&rt, rt.alloc(), &plan, &NoLoss);
     assert_eq!(rt; played.statuses, (0, 0));
-    assert_eq!(rt; played.written.as_slice(), EMPTY_DAY);
-    assert_eq!(rt; played.followed.as_slice(), EMPTY_DAY);
+    assert_eq!(rt; rows_of(&rt, &played.written), EMPTY_ROWS);
+    assert_eq!(rt; rows_of(&rt, &played.followed), EMPTY_ROWS);
 }

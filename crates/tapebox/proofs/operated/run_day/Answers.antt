@@ -1,6 +1,7 @@
 use Rattle.std.proofs.Common.{◌≡◌}
 use Rattle.feed_ends.specs.Reports.{WritesItsReport}
-use Rattle.tapebox.specs.Feeds.{RunsDay, ended_status}
+use Rattle.desk_words.specs.RunStatuses.{ended_status}
+use Rattle.tapebox.specs.Feeds.{RunsDay}
 use Rattle.tapebox.proofs.FeedLemmas.{day_ends}
 use Rattle.tapebox.proofs.operated.run_day.Goals as goal
 use Rattle.tapebox.proofs.operated.run_day.Goals.{in-Some, in-None}
@@ -13,17 +14,17 @@ returns g c =
       | in-Some w ↦
           let new = w.run_controlled-end.new.writer in
           let ended = w.run_controlled-end.result in
-          let said : c.say_day_end.result ≡ ended_status ended.result = rw w.end-is at c.say_day_end.ensures.status in
-          let ends : RunsDay (WritesItsReport terms.listing terms.matrix terms.limit) c.say_day_end.result c.args.writer.now new old (g.W.Write.contents new) =
-          day_ends terms.listing terms.matrix terms.limit c.args.writer.now new old (g.W.Write.contents new) ended c.say_day_end.result said
+          let said : c.say_end.result ≡ ended_status ended.result = rw w.end-is at c.say_end.ensures in
+          let ends : RunsDay (WritesItsReport terms.listing terms.matrix terms.limit) c.say_end.result c.args.writer.now new old (g.W.Write.contents new) =
+          day_ends terms.listing terms.matrix terms.limit c.args.writer.now new old (g.W.Write.contents new) ended c.say_end.result said
           w.run_controlled-end.ensures in
           rw w.writer-is (rw c.in-Ok.ensures.listing at rw c.in-Ok.ensures.matrix at rw c.in-Ok.ensures.limit at ends)
       | in-None w ↦
           let new = w.live_day-end.new.writer in
           let ended = w.live_day-end.result in
-          let said : c.say_day_end.result ≡ ended_status ended.result = rw w.end-is at c.say_day_end.ensures.status in
-          let ends : RunsDay (WritesItsReport terms.listing terms.matrix terms.limit) c.say_day_end.result c.args.writer.now new old (g.W.Write.contents new) =
-          day_ends terms.listing terms.matrix terms.limit c.args.writer.now new old (g.W.Write.contents new) ended c.say_day_end.result said
+          let said : c.say_end.result ≡ ended_status ended.result = rw w.end-is at c.say_end.ensures in
+          let ends : RunsDay (WritesItsReport terms.listing terms.matrix terms.limit) c.say_end.result c.args.writer.now new old (g.W.Write.contents new) =
+          day_ends terms.listing terms.matrix terms.limit c.args.writer.now new old (g.W.Write.contents new) ended c.say_end.result said
           (record { report = w.live_day-end.ensures.report; whole = w.live_day-end.ensures.whole; unwritten = w.live_day-end.ensures.unwritten }) in
           rw w.writer-is (rw c.in-Ok.ensures.listing at rw c.in-Ok.ensures.matrix at rw c.in-Ok.ensures.limit at ends)
     ]

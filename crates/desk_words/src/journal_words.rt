@@ -1,0 +1,330 @@
+//! The texts of a journal, over its reader and the streams that they go to.
+ghost use Rattle.std.specs.Prelude.{◌≡◌, ◌≢◌, ◌⊎◌, [], Err, IfErr, IfOk, IfSome, OnErr, OnOk, string_bytes};
+ghost use Rattle.std.specs.Io.KnownBytes.{Appends};
+ghost use Rattle.row_reads.specs.Writing.{WritesPrefix};
+ghost use Rattle.table_days.specs.declared.writing.WritingFault.TheVariants.{OutOfMemory as NoMemory};
+ghost use Rattle.program_words.specs.Statuses.{status_code};
+ghost use Rattle.program_words.specs.declared.status.Status.TheVariants.{Bad, OutOfMemory, ReadFault, WriteFault};
+ghost use Rattle.desk_words.specs.JournalLines.{no_day_line, no_day_status, no_table_line, torn_line, torn_text, verdict_line, verdict_status, written_line, written_status};
+ghost use Rattle.desk_words.specs.JournalRuns.{AnswersJournal, Reads, RunsDay, RunsFound, TellsDay, TellsFound, day_text};
+ghost use Rattle.desk_words.specs.Outputs.{IsQuietIfGone};
+
+use crate::Output;
+use crate::saying::{say_ended, say_status};
+use crate::telling::say_told;
+use journal_days::{
+    JournalDay, JournalFault, JournalVerdict, fault_text, read_day, verdict_text, verify_journal,
+    write_journal_explained, write_journal_report, write_journal_tape,
+};
+use program_words::{Command, Status};
+use row_reads::write_text;
+use sale_matrix::Matrix;
+use std::alloc::{AllocError, Global};
+use std::io::{Error, ErrorKind, Read, Write};
+use table_days::WritingFault;
+
+/// A text of a journal's day.
+#[derive(Clone, Copy, Debug, PartialEq, Eq)]
+pub(crate) enum DayText {
+    /// Its report.
+    Report,
+    /// Its readable tape.
+    Tape,
+    /// What became of its reports.
+    Explained,
+}
+
+/// The status of a read that failed.
+fn failed_read(error: &Error) -> Status
+    ensures { (result ≡ ReadFault) ⊎ (result ≡ OutOfMemory) }
+{
+    match error.kind() {
+        ErrorKind::OutOfMemory => Status::OutOfMemory,
+        _ => Status::ReadFault,
+    }
+}
+
+/// All that a reader has left, or the status of the fault that kept it from being read.
+fn read_all<R: Read>(alloc: Global, reader: &mut R) -> Result<Vec<u8>, Status>
+    ensures all { IfSome (R.remaining reader.old) (λ all. IfOk result (λ bytes. bytes.items ≡ all)) }
+    ensures fault { IfErr result (λ status. (status ≡ ReadFault) ⊎ (status ≡ OutOfMemory)) }
+{
+    let mut bytes = Vec::new(alloc);
+    match reader.read_to_end(&mut bytes) {
+        Ok(_) => Ok(bytes),
+        Err(error) => Err(failed_read(&error)),
+    }
+}
+
+/// Writes a text of a journal's day, and flushes it.
+fn write_day<W: Write>(
+    alloc: Global,
+    text: DayText,
+    day: &JournalDay,
+    writer: &mut W,
+) -> Result<(), WritingFault>
+    ensures written { OnOk result (Appends (W.contents writer.old) (W.contents writer.new) (day_text text day.now)) }
+    ensures memory { text ≡ DayText.Report → result ≡ Err NoMemory → writer.new ≡ writer.old }
+    ensures prefix { OnErr result (WritesPrefix (day_text text day.now) (W.contents writer.old) (W.contents writer.new)) }
+{
+    match text {
+        DayText::Report => write_journal_report(alloc, day, writer),
+        DayText::Tape => write_journal_tape(alloc, day, writer),
+        DayText::Explained => write_journal_explained(alloc, day, writer),
+    }
+}
+
+/// What is told of a group that is cut off behind so many bytes.
+fn torn_text(alloc: Global, from: usize) -> Result<String, AllocError>
+    ensures { IfOk result (λ text. string_bytes text ≡ torn_text from) }
+{
+    format!(in alloc; "a group is cut off behind byte {from}, and left out")
+}
+
+/// Says that a group is cut off behind a day's bytes, if so, unless there is no memory for the line.
+#[tactic(auto, using(crate::proofs::LineLemmas::nothing_said))]
+fn say_torn<E: Write>(alloc: Global, errors: &mut E, torn: Option<usize>)
+    ensures quiet { torn_line torn ≡ [] → errors.new ≡ errors.old }
+    ensures said { WritesPrefix (torn_line torn) (E.contents errors.old) (E.contents errors.new) }
+{
+    let Some(from) = torn else {
+        return;
+    };
+    if let Ok(text) = torn_text(alloc, from) {
+        say_told(alloc, errors, text.as_bytes());
+    }
+}
+
+/// Says what a day's text came to: where a group is cut off, or why the text is not whole. It gives the status.
+fn end_day<E: Write>(
+    alloc: Global,
+    errors: &mut E,
+    reader_gone: bool,
+    torn: Option<usize>,
+    run: Result<(), WritingFault>,
+) -> Status
+    ensures status { status_code result ≡ status_code (written_status run) }
+    ensures gone { IsQuietIfGone reader_gone result errors.old errors.new }
+    ensures quiet { written_line torn run ≡ [] → errors.new ≡ errors.old }
+    ensures said { WritesPrefix (written_line torn run) (E.contents errors.old) (E.contents errors.new) }
+{
+    match run {
+        Ok(()) => {
+            say_torn(alloc, errors, torn);
+            Status::Done
+        }
+        Err(WritingFault::OutOfMemory) => {
+            say_status(errors, Status::OutOfMemory);
+            Status::OutOfMemory
+        }
+        Err(WritingFault::WriteFault) => {
+            say_ended(errors, Status::WriteFault, reader_gone);
+            Status::WriteFault
+        }
+    }
+}
+
+/// Writes a text of a journal's day, says what was left out or why the text is not whole, and gives the status.
+fn tell_day<W: Output, E: Write>(
+    alloc: Global,
+    text: DayText,
+    day: &JournalDay,
+    writer: &mut W,
+    errors: &mut E,
+) -> Status
+    ensures tells { TellsDay text day.now (status_code result) writer.old writer.new (W.contents writer.old) (W.contents writer.new)
+        errors.old errors.new (E.contents errors.old) (E.contents errors.new) }
+    ensures gone { IsQuietIfGone (W.reader_gone writer.new) result errors.old errors.new }
+{
+    let run = write_day(alloc, text, day, writer);
+    end_day(alloc, errors, writer.reader_is_gone(), day.torn, run)
+}
+
+/// Says why a journal has no day, unless there is no memory for the line, and gives the status.
+#[tactic(auto, using(crate::proofs::LineLemmas::nothing_said))]
+fn say_no_day<E: Write>(alloc: Global, errors: &mut E, fault: &JournalFault) -> Status
+    ensures status { result ≡ no_day_status fault.now }
+    ensures no_fault { result ≢ WriteFault }
+    ensures said { WritesPrefix (no_day_line fault.now) (E.contents errors.old) (E.contents errors.new) }
+{
+    if matches!(fault, JournalFault::OutOfMemory) {
+        say_status(errors, Status::OutOfMemory);
+        return Status::OutOfMemory;
+    }
+    if let Ok(text) = fault_text(alloc, fault) {
+        say_told(alloc, errors, text.as_bytes());
+    }
+    Status::Bad
+}
+
+/// Writes a text of the day of a journal's bytes, says what was left out or why there is none, and gives the status.
+fn run_bytes<W: Output, E: Write>(
+    alloc: Global,
+    text: DayText,
+    asked: Option<Matrix>,
+    bytes: &[u8],
+    writer: &mut W,
+    errors: &mut E,
+) -> Status
+    ensures runs { RunsDay text asked bytes.now (status_code result) writer.old writer.new (W.contents writer.old) (W.contents writer.new)
+        errors.old errors.new (E.contents errors.old) (E.contents errors.new) }
+    ensures gone { IsQuietIfGone (W.reader_gone writer.new) result errors.old errors.new }
+{
+    match read_day(alloc, asked, bytes) {
+        Ok(day) => tell_day(alloc, text, &day, writer, errors),
+        Err(fault) => say_no_day(alloc, errors, &fault),
+    }
+}
+
+/// Writes a text of a journal's day, says what was left out or why there is none, and gives the status.
+fn run_day<R: Read, W: Output, E: Write>(
+    alloc: Global,
+    text: DayText,
+    asked: Option<Matrix>,
+    reader: &mut R,
+    writer: &mut W,
+    errors: &mut E,
+) -> Status
+    ensures runs { Reads (λ bytes. RunsDay text asked bytes (status_code result) writer.old writer.new (W.contents writer.old) (W.contents writer.new)
+        errors.old errors.new (E.contents errors.old) (E.contents errors.new))
+        (R.remaining reader.old) (status_code result) writer.old writer.new (E.contents errors.old) (E.contents errors.new) }
+    ensures gone { IsQuietIfGone (W.reader_gone writer.new) result errors.old errors.new }
+{
+    match read_all(alloc, reader) {
+        Ok(bytes) => run_bytes(alloc, text, asked, &bytes, writer, errors),
+        Err(status) => {
+            say_ended(errors, status, writer.reader_is_gone());
+            status
+        }
+    }
+}
+
+/// The line of what a journal is found to be.
+fn verdict_line(alloc: Global, found: &JournalVerdict) -> Result<String, AllocError>
+    ensures { IfOk result (λ line. string_bytes line ≡ verdict_line found.now) }
+{
+    let mut line = verdict_text(alloc, found)?;
+    line.push_str("\n")?;
+    Ok(line)
+}
+
+/// The status of what a journal is found to be. A group that is cut off is no difference.
+fn verdict_status(found: &JournalVerdict) -> Status
+    ensures status { result ≡ verdict_status found.now }
+    ensures no_fault { result ≢ WriteFault }
+{
+    match found {
+        JournalVerdict::Recorded { .. } | JournalVerdict::CutOff { .. } => Status::Done,
+        JournalVerdict::Differs(_) | JournalVerdict::Damaged { .. } => Status::Differs,
+    }
+}
+
+/// Writes the line of what a journal is found to be, or says why it is not whole, and gives the status.
+fn tell_found<W: Output, E: Write>(
+    alloc: Global,
+    found: &JournalVerdict,
+    writer: &mut W,
+    errors: &mut E,
+) -> Status
+    ensures tells { TellsFound found.now (status_code result) writer.old writer.new (W.contents writer.old) (W.contents writer.new)
+        errors.old errors.new (E.contents errors.old) (E.contents errors.new) }
+    ensures gone { IsQuietIfGone (W.reader_gone writer.new) result errors.old errors.new }
+{
+    let Ok(line) = verdict_line(alloc, found) else {
+        say_status(errors, Status::OutOfMemory);
+        return Status::OutOfMemory;
+    };
+    match write_text(writer, line.as_bytes()) {
+        Ok(()) => verdict_status(found),
+        Err(_) => {
+            say_ended(errors, Status::WriteFault, writer.reader_is_gone());
+            Status::WriteFault
+        }
+    }
+}
+
+/// Writes what a journal's bytes are found to be, or says why nothing is found, and gives the status.
+fn verify_bytes<W: Output, E: Write>(
+    alloc: Global,
+    asked: Option<Matrix>,
+    bytes: &[u8],
+    writer: &mut W,
+    errors: &mut E,
+) -> Status
+    ensures runs { RunsFound asked bytes.now (status_code result) writer.old writer.new (W.contents writer.old) (W.contents writer.new)
+        errors.old errors.new (E.contents errors.old) (E.contents errors.new) }
+    ensures gone { IsQuietIfGone (W.reader_gone writer.new) result errors.old errors.new }
+{
+    match verify_journal(alloc, asked, bytes) {
+        Ok(found) => tell_found(alloc, &found, writer, errors),
+        Err(fault) => say_no_day(alloc, errors, &fault),
+    }
+}
+
+/// Writes what a journal is found to be, or says why nothing is found, and gives the status.
+fn run_found<R: Read, W: Output, E: Write>(
+    alloc: Global,
+    asked: Option<Matrix>,
+    reader: &mut R,
+    writer: &mut W,
+    errors: &mut E,
+) -> Status
+    ensures runs { Reads (λ bytes. RunsFound asked bytes (status_code result) writer.old writer.new (W.contents writer.old) (W.contents writer.new)
+        errors.old errors.new (E.contents errors.old) (E.contents errors.new))
+        (R.remaining reader.old) (status_code result) writer.old writer.new (E.contents errors.old) (E.contents errors.new) }
+    ensures gone { IsQuietIfGone (W.reader_gone writer.new) result errors.old errors.new }
+{
+    match read_all(alloc, reader) {
+        Ok(bytes) => verify_bytes(alloc, asked, &bytes, writer, errors),
+        Err(status) => {
+            say_ended(errors, status, writer.reader_is_gone());
+            status
+        }
+    }
+}
+
+/// Says that a word takes no journal, and gives the status.
+fn say_no_table<E: Write>(alloc: Global, errors: &mut E) -> Status
+    ensures status { result ≡ Bad }
+    ensures said { WritesPrefix no_table_line (E.contents errors.old) (E.contents errors.new) }
+{
+    let text = b"this is a journal, which report, tape, explain and verify take";
+    say_told(alloc, errors, text);
+    Status::Bad
+}
+
+/// Writes a text of a journal to `writer` and returns how that ended. The journal is read whole from `reader` before anything is written.
+///
+/// A report is the day's, a tape its readable tape, an explanation what became of its reports, and a verification whether all stands as it
+/// is written; a word that takes no journal says so. The journal goes by its own matrix, which has to be the one that is asked for, if any.
+/// `errors` has one line where a last group is cut off, or for what goes wrong, but none for a write fault if whoever read what was written
+/// is gone. The status is `Done` where all is done, `Differs` where a journal is not as it is written, `Bad` for one that has no day or goes
+/// by another matrix, `ReadFault`, `WriteFault`, and `OutOfMemory`.
+pub(crate) fn run_journal<R: Read, W: Output, E: Write>(
+    alloc: Global,
+    command: Command,
+    reader: &mut R,
+    writer: &mut W,
+    errors: &mut E,
+) -> Status
+    ensures answers { AnswersJournal command (status_code result) (R.remaining reader.old) writer.old writer.new
+        (W.contents writer.old) (W.contents writer.new) errors.old errors.new (E.contents errors.old) (E.contents errors.new) }
+    ensures gone { IsQuietIfGone (W.reader_gone writer.new) result errors.old errors.new }
+{
+    match command {
+        Command::Report(asked, _) => run_day(alloc, DayText::Report, asked, reader, writer, errors),
+        Command::Tape(asked, _) => run_day(alloc, DayText::Tape, asked, reader, writer, errors),
+        Command::Explain(asked, _) => run_day(
+            alloc,
+            DayText::Explained,
+            asked,
+            reader,
+            writer,
+            errors,
+        ),
+        Command::Verify(asked) => run_found(alloc, asked, reader, writer, errors),
+        Command::Check | Command::Encode | Command::Decode | Command::Line(_) => {
+            say_no_table(alloc, errors)
+        }
+    }
+}

@@ -1,0 +1,136 @@
+//! The journal of a day, opened.
+ghost use Rattle.std.specs.Prelude.{◌≡◌, IfErr};
+ghost use Rattle.journal_start.specs.Terms.{terms_of as journal_terms};
+ghost use Rattle.tapebox.specs.Journals.{IsJournalStatus, restored_of};
+
+use crate::file_journal::FileJournal;
+use crate::journal_fault::JournalFault;
+use crate::journal_held::{hold_journal, sync_folder};
+use crate::journal_place::JournalPlace;
+use crate::journal_texts::{say_cut, say_journal_fault, say_went_on};
+use feed_words::LiveWords;
+use journal_start::{DayTerms, Past, PastLine, Started, start_journal};
+use live_feed::{DayJournal, JournalFile, Restored};
+use program_words::Status;
+use std::alloc::Global;
+use std::fs::{File, Files};
+use std::io::Write;
+
+/// The journal of a day that is opened.
+#[derive(Drop)]
+pub struct OpenJournal {
+    /// Its path.
+    pub path: String,
+    /// The journal itself.
+    pub journal: DayJournal<FileJournal>,
+    /// How far the participants' lines had come.
+    pub lines: Vec<PastLine>,
+}
+
+/// What a journal had, as a running day is given it: nothing where it had no entry. And how far its lines had come.
+fn split_past(alloc: Global, held: u32, past: Option<Past>) -> (Option<Restored>, Vec<PastLine>)
+    ensures { result.0 ≡ restored_of held past }
+{
+    let Some(past) = past else {
+        return (None, Vec::new(alloc));
+    };
+    let Past {
+        journal,
+        from,
+        digest,
+        lines,
+    } = past;
+    if held == 0 {
+        return (None, lines);
+    }
+    let restored = Restored {
+        journal,
+        from,
+        digest,
+    };
+    (Some(restored), lines)
+}
+
+/// The journal of a day that was started so, in its file.
+fn day_journal<J: JournalFile>(
+    alloc: Global,
+    started: Started,
+    file: J,
+) -> (DayJournal<J>, Vec<PastLine>)
+    ensures groups { result.0.groups ≡ started.groups }
+    ensures file { result.0.file ≡ file }
+    ensures restored { result.0.restored ≡ restored_of started.groups.held started.past }
+{
+    let Started {
+        groups,
+        past,
+        cut_off: _,
+    } = started;
+    let (restored, lines) = split_past(alloc, groups.held(), past);
+    let journal = DayJournal {
+        groups,
+        file,
+        restored,
+    };
+    (journal, lines)
+}
+
+/// The terms that a day's journal has too.
+fn terms_of(words: &LiveWords) -> DayTerms<'_>
+    ensures { journal_terms result ≡ record { session = words.now.session; matrix = words.now.matrix; limit = words.now.limit; listing = words.now.listing } }
+{
+    DayTerms {
+        session: words.session,
+        matrix: words.matrix,
+        limit: words.limit,
+        listing: &words.listing,
+    }
+}
+
+/// Starts a day's journal in its file, or tells why it is not.
+fn start<R: Files<File = File>>(
+    rt: &R,
+    alloc: Global,
+    words: &LiveWords,
+    place: &JournalPlace,
+) -> Result<(Started, FileJournal), JournalFault> {
+    let file = hold_journal(rt, &place.path).map_err(|unheld| JournalFault::Unheld(unheld))?;
+    let mut file = FileJournal::new(file, place.is_synced);
+    match start_journal(alloc, &terms_of(words), &mut file) {
+        Ok(started) => {
+            if place.is_synced && started.past.is_none() {
+                sync_folder(rt, &place.path);
+            }
+            Ok((started, file))
+        }
+        Err(fault) => Err(JournalFault::Unstarted(fault, file.cause())),
+    }
+}
+
+/// Opens the journal of a day, which other programs then don't, and says where the day goes on, or why the journal is not opened, with the status.
+pub fn open_journal<R: Files<File = File>, E: Write>(
+    rt: &R,
+    alloc: Global,
+    words: &LiveWords,
+    place: JournalPlace,
+    errors: &mut E,
+) -> Result<OpenJournal, Status>
+    ensures { IfErr result IsJournalStatus }
+{
+    let (started, file) = match start(rt, alloc, words, &place) {
+        Ok(started) => started,
+        Err(fault) => return Err(say_journal_fault(alloc, errors, &place.path, fault)),
+    };
+    if started.cut_off > 0 {
+        say_cut(alloc, errors, &place.path, started.cut_off);
+    }
+    let (journal, lines) = day_journal(alloc, started, file);
+    if journal.groups.held() > 0 {
+        say_went_on(alloc, errors, journal.groups.held(), &lines);
+    }
+    Ok(OpenJournal {
+        path: place.path,
+        journal,
+        lines,
+    })
+}
