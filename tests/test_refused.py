@@ -24,18 +24,14 @@ SOON = 30
 
 
 class Calls(Sweeps):
-    def test_calls_of_one_thread(self):
-        """PROMISES, "What is only tested": what stands after each request of a call of the tape, the crates below it, packets, subscribers, the report
-        and a batch is refused; ROWS, "Drain without memory"."""
-        printed = self.sweep_all(CRATES / "memory_rows" / "out" / "memory_rows_tests")
+    def test_calls(self):
+        """PROMISES, "What is only tested": what stands after each request of a call of the tape, the crates below it, packets, subscribers, the report, a
+        batch, shared tapes and lines is refused, and that lines give back each seat; ROWS, "Drain without memory"."""
+        printed = self.sweep_all(CRATES / "test_memory" / "out" / "test_memory_tests")
         kinds = [f"a {kind} again" for kind in ("report", "correction", "cancel", "reinstatement")]
         self.assert_printed(printed, *kinds, "added again", "replaced again", "one answer 40 in a run", "1 drained, and then 2")
         self.assert_printed(printed, "answers up to a refusal 40, and then all", "all answers and no report, and then all")
         self.assert_printed(printed, "indexes: staged again", "indexes: swapped again", "indexes: replaced again", "replayed: a report again")
-
-    def test_calls_of_lines(self):
-        """PROMISES, "What is only tested": the same of shared tapes and of lines, which give back each seat."""
-        printed = self.sweep_all(CRATES / "memory_lines" / "out" / "memory_lines_tests")
         self.assert_printed(printed, "admitted again", "published again", "found again", "opened again", "told of 0, and then of all")
         self.assert_printed(printed, "not started: Memory", "not started: Worker")
         for pattern in (r"told of [1-9]\d*, and then of all$", r"a line again after \d+$"):

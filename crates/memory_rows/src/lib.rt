@@ -1,5 +1,0 @@
-//! Calls that take memory, and what stands where it is refused.
-#![tactic(auto)]
-
-#[cfg(test)]
-mod tests;

@@ -1,0 +1,5 @@
+//! Participants' lines over a shared tape, the feed that subscribers read and ask, and engines whose reader or writer fails.
+#![tactic(auto)]
+
+#[cfg(test)]
+mod tests;

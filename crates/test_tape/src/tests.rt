@@ -1,0 +1,9 @@
+//! Worked rows and vectors, layer by layer.
+
+mod books;
+mod dice;
+mod limits;
+mod report;
+mod steps;
+mod stores;
+mod tables;
