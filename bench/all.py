@@ -2,7 +2,8 @@
 """Measures everything that docs/SPEED.md shows, in one go, and writes its tables: bench/all.py [--quick] [--only PART,..] [--turns N] [--drafts] | --page
 
 Proves and builds the programs if they are not built from this tree, runs each measuring script, and writes the raw figures to docs/speed.json and the
-tables from them into docs/SPEED.md and docs/speed.svg, with the commit, the kit, the machine and the date. That takes some 20 minutes once the
+tables from them into docs/SPEED.md and docs/speed.svg, with the commit, the kit, the machine and the date, and what README.md and docs/SCALE.md
+show of them. That takes some 20 minutes once the
 programs are built, on a machine with no other work; run it by `chrt -r 10` to keep other work away. --quick takes smaller days, one turn and no figure of growth, and
 with it or --only the figures and the page go into bench/target/ alone. --drafts takes programs that are not proved, and the page says so. --page
 writes the page again from the figures that are there.
@@ -26,7 +27,9 @@ from common import BENCH, ROOT, build_plain, located
 PAGE = ROOT / "docs" / "SPEED.md"
 FIGURES = ROOT / "docs" / "speed.json"
 TRIED = BENCH / "target"
-PROGRAMS = ["tapebox", "feed_speed"]
+PROGRAMS = ["tapebox", "bench_feed"]
+# What git puts behind the commit of a tree with changes.
+CHANGED = "-dirty"
 # Of each part its script, its words, and those with --quick.
 PARTS = {
     "batch": ("measure.py", "", "--turns 1 one:1000000 busy:1000000 hostile:1000000"),
@@ -42,9 +45,13 @@ PARTS = {
     "live": ("live_load.py", "--lines 1,4,15,26 --turns 3", "--messages 20000"),
     "late": ("live_load.py", "--late --turns 2", ""),
     "long": ("long_day.py", "", "--messages 100000"),
+    "readers": ("readers.py", "", "--turns 1 --messages 20000"),
     "latency": ("latency.py", "", "--turns 1 --seconds 0.2 --lines 4 --rates 1000,10000"),
+    "journals": ("journals.py", "", "--turns 1 --messages 20000 --seconds 0.2 --rates 1000,10000 --entries 100000"),
 }
 WITHOUT_TURNS = {"counts", "long"}
+# Its readers never wait, and in the real-time class would leave the lines no processor.
+NEVER_FIRST = {"looks"}
 
 
 def said(*command):
@@ -57,10 +64,12 @@ def machine():
     """What is measured, where and when."""
     memory = int(re.search(r"MemTotal: +(\d+)", Path("/proc/meminfo").read_text(encoding="ascii"))[1])
     model = re.search(r"model name\s*: (.*)", Path("/proc/cpuinfo").read_text(encoding="utf-8"))
-    changed = said("git", "status", "--porcelain", "--", "crates", "crates.txt", "bench")
+    programs = located(*PROGRAMS)
+    # The commit that the program was built from, as it says itself.
+    commit = said(programs["tapebox"], "--version").split(", ")[1]
     return {
-        "commit": said("git", "rev-parse", "--short=10", "HEAD"),
-        "is_changed": bool(changed),
+        "commit": commit.removesuffix(CHANGED),
+        "is_changed": commit.endswith(CHANGED),
         "kit": said("rt", "version"),
         "date": datetime.datetime.now(datetime.timezone.utc).date().isoformat(),
         "processors": len(os.sched_getaffinity(0)),
@@ -70,8 +79,13 @@ def machine():
         "is_first": os.sched_getscheduler(0) in (os.SCHED_RR, os.SCHED_FIFO),
         "pandas": said("/usr/bin/python3", "-c", "import pandas; print(pandas.__version__)"),
         "SQLite": said("sqlite3", "--version").split(" ")[0],
-        "drafts": [name for name, path in located(*PROGRAMS).items() if path.suffix == ".draft"],
+        "drafts": [name for name, path in programs.items() if path.suffix == ".draft"],
     }
+
+
+def as_others():
+    """Leaves the real-time class."""
+    os.sched_setscheduler(0, os.SCHED_OTHER, os.sched_param(0))
 
 
 def measure_part(name, words, target):
@@ -80,7 +94,8 @@ def measure_part(name, words, target):
     command = [sys.executable, "-B", str(BENCH / script), "--no-build", "--json", str(target), *rest]
     print(f"all: {name}: bench/{script} {' '.join(rest)}", flush=True)
     began = time.monotonic()
-    if subprocess.run(command, cwd=ROOT, check=False).returncode:
+    begin = as_others if name in NEVER_FIRST else None
+    if subprocess.run(command, cwd=ROOT, check=False, preexec_fn=begin).returncode:
         print(f"all: {name} FAILED", flush=True)
         return None
     seconds = round(time.monotonic() - began, 1)
@@ -146,8 +161,13 @@ def main():
         if not figures:
             return 1
         kept.write_text(text_of(figures), encoding="utf-8")
+    written = [page]
     page.write_text(speed_page.written(PAGE.read_text(encoding="utf-8"), figures), encoding="utf-8")
-    print(f"all: written: {kept.relative_to(ROOT)}, {page.relative_to(ROOT)}")
+    if not words.is_tried:
+        for other in (ROOT / name for name in speed_page.OTHERS):
+            other.write_text(speed_page.written(other.read_text(encoding="utf-8"), figures), encoding="utf-8")
+            written.append(other)
+    print(f"all: written: {', '.join(str(path.relative_to(ROOT)) for path in [kept, *written])}")
     return 0
 
 

@@ -33,6 +33,7 @@ TESTS = ROOT / "tests"
 sys.path[:0] = [str(ROOT / "tools"), str(TESTS)]
 from free_ports import free_ports
 from send_day import HOST, connect, parse_batch
+from support import report_rows
 
 SESSION = "1"
 LIMIT_SECONDS = 600
@@ -217,9 +218,8 @@ def wire_seconds(day):
 
 
 def figures(report):
-    """A report's rows in what no order changes: symbol, who, volume and number of trades."""
-    rows = report[report.index("symbol,who") :].splitlines()
-    return [(*fields[:2], *fields[-2:]) for fields in (row.split(",") for row in rows)]
+    """A report's rows in what no order changes."""
+    return [tuple(row[column] for column in ("symbol", "who", "volume", "trades")) for row in report_rows(report)]
 
 
 def line_counts(text):
@@ -255,10 +255,10 @@ def compared(words, day, symbols, own):
     messages = sum(map(len, own.values()))
     batch, wired = batch_seconds(words, day), wire_seconds(day)
     print(f"{messages:,} messages of {len(own)} participants in {len(symbols)} symbols; batch: {batch:.3f} s, {messages / batch:,.0f} messages a second")
-    wanted = figures((DAYS / "live.batch").read_text())
+    wanted = figures((DAYS / "live.batch").read_bytes())
     for name, options in LATE if words.late else [("straight", []), (f"{words.lose} % lost on each line", ["--lose", words.lose])]:
         seconds, counted, reports = live_run(words, symbols, own, options)
-        live, *follows = (report.read_text() for report in reports)
+        live, *follows = (report.read_bytes() for report in reports)
         if any(live != follow for follow in follows) or figures(live) != wanted:
             raise Failed(f"{name}: the reports differ, or the volumes and trades are not the batch's")
         asked = [each.entries for each in counted]

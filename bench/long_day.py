@@ -24,8 +24,10 @@ from pathlib import Path
 from common import Failed, add_words, located, measured
 from live_load import Programs, wait_bound
 
+import plain_table
 from free_ports import free_ports
 from send_day import connect
+from support import report_rows
 
 PARTICIPANTS = "ABCDEFGHIJKLMNO"
 SYMBOLS = [f"SYM{number}" for number in range(400)]
@@ -36,7 +38,7 @@ NAMED = 64
 HEAD = struct.Struct(">HcBIQ8s")
 TARGET = struct.Struct(">I")
 CONTENT = struct.Struct(">QI4s")
-CONDITIONS = [b"@   ", b"@   ", b"@  I", b"@ Z ", b"@ L ", b"@F  "]
+CONDITIONS = [condition.replace("_", " ").encode() for condition in plain_table.CONDITIONS]
 
 
 class Report:
@@ -158,10 +160,10 @@ def records(words):
         tenths = send_day(participants, connect(list(PARTICIPANTS), port), words.messages)
         peaks = wait_all([live, follow])
         seconds = time.perf_counter() - began
-        written = [report.read_text() for report in reports]
+        written = [report.read_bytes() for report in reports]
     if live.returncode or follow.returncode:
         raise Failed(f"live ended with status {live.returncode} and follow with {follow.returncode}")
-    trades = sum(int(row.split(",")[11]) for row in written[0].splitlines() if ",ALL," in row)
+    trades = sum(int(row["trades"]) for row in report_rows(written[0]) if row["who"] == "ALL")
     wanted = sum(participant.trades for participant in participants.values())
     if written[0] != written[1] or trades != wanted:
         raise Failed(f"the reports differ, or count {trades:,} trades and not {wanted:,}")

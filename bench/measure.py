@@ -75,7 +75,7 @@ def growth(words):
 
 def feed(words):
     """Both feeds on a short and on a long busy day. What they print differs in its times alone."""
-    programs = located("feed_speed") | {"feed": RELEASE / "feed"}
+    programs = located("bench_feed") | {"feed": RELEASE / "feed"}
     for day in FEED_DAYS:
         source = make(day, words.seed)
         runs = {name: [] for name in programs}
@@ -97,8 +97,8 @@ def feed(words):
 
 
 def inside(words):
-    """What `feed_speed` tells of a day by one of its words: the figures of each run, and for rows what this machine's processors give for threads."""
-    program = located("feed_speed")["feed_speed"]
+    """What `bench_feed` tells of a day by one of its words: the figures of each run, and for rows what this machine's processors give for threads."""
+    program = located("bench_feed")["bench_feed"]
     kind = words.days[0]
     turns = [(day, make(day, words.seed)) for day in OTHER_DAYS[kind]]
     runs = {day: [] for day, _ in turns}
@@ -106,7 +106,7 @@ def inside(words):
         target = DAYS / f"{source.stem}.{kind}"
         status, *_ = run([program, kind], source, target)
         if status:
-            raise Failed(f"{day}: feed_speed {kind} ended with status {status}")
+            raise Failed(f"{day}: bench_feed {kind} ended with status {status}")
         runs[day].append(told(target))
     for day, own in runs.items():
         yield shown({"day": day, **{name: [turn[name] for turn in own] for name in own[0]}})

@@ -1,6 +1,6 @@
-"""The tables of docs/SPEED.md, from the figures that bench/all.py measured.
+"""The tables of docs/SPEED.md, from the figures that bench/all.py measured, and what README.md and docs/SCALE.md take from them.
 
-The page has each between two marks, `<!-- measured: NAME -->` and `<!-- end -->`. What stands there is written anew, and the rest is left as it is.
+A page has each between two marks, `<!-- measured: NAME -->` and `<!-- end -->`. What stands there is written anew, and the rest is left as it is.
 """
 
 import re
@@ -101,7 +101,7 @@ def counts(parts):
 
 def feed(parts):
     of = programs_of(parts["feed"], "day")[("busy",)]
-    mine, other = of["feed_speed"], of["feed"]
+    mine, other = of["bench_feed"], of["feed"]
     speed = rounded(mine["entries"] / min(mine["packets_alone"]))
     head = ["Entries over two lossy lines", "Asked for again", "Entries a second, packets alone", "Time, least runs", "Middle runs", "Peak memory", "Ratio"]
     return table(head, [[f"{mine['entries']:,.0f}", f"{mine['retransmitted']:,.0f}", speed, *of_pair(mine, other)]])
@@ -222,6 +222,29 @@ def long_day(parts):
     return table([f"A day of {own['messages']:,} messages", "Figure"], rows)
 
 
+READERS = {
+    "watch": "`watch`, into a file",
+    "redis": "`watch`, into a stream by `tools/tape_to_redis.py`",
+    "redis, from a file": "rows of a file, into a stream by `tools/tape_to_redis.py`",
+}
+
+
+def readers(parts):
+    own = [record for record in parts["readers"] if record["reader"] in READERS]
+    rows = []
+    for record in own:
+        speeds = [record["entries"] / seconds for seconds in record["seconds"]]
+        rows.append([READERS[record["reader"]], f"{record['entries']:,}", rounded(max(speeds)), rounded(statistics.median(speeds))])
+    lines_of = table(["Reader", "Entries", "Entries a second, most", "Middle"], rows)
+    (board,) = (record for record in parts["readers"] if record["reader"] == "board")
+    return [
+        *lines_of,
+        "",
+        f"A page of `tools/board.py` was told of each of {board['entries']:,} rows of 4,096 symbols, {board['a_second']:,.0f} a second,"
+        f" at most {span(board['late'], ratio)} seconds after it was due.",
+    ]
+
+
 def latency(parts):
     rows = []
     for (count, rate), of in programs_of(parts["latency"], "lines", "rate").items():
@@ -235,13 +258,121 @@ def latency(parts):
     return table(head, rows)
 
 
+def journals(parts):
+    whole, paces, (begun,) = ([record for record in parts["journals"] if key in record] for key in ("messages", "rate", "entries"))
+    without = statistics.median(next(record for record in whole if record["journal"] == "none")["a_second"])
+    speeds = [[record["journal"], max(record["a_second"]), statistics.median(record["a_second"])] for record in whole]
+    rows = [[kind, rounded(most), rounded(middle), ratio(middle / without)] for kind, most, middle in speeds]
+    waits = [
+        [record["journal"], f"{record['rate']:,}", *(f"{statistics.median(record[name]):,.0f}" for name in ("p50", "p99")), f"{sum(record['lost']):,.0f}"]
+        for record in paces
+    ]
+    read, sent, room = (statistics.median(begun[name]) for name in ("read", "sent", "live_bytes"))
+    return [
+        *table(["Journal", "Messages a second, most", "Middle", "To a day without"], rows),
+        "",
+        *table(["Journal", "Messages a second", "p50", "p99", "Lost by a line's reader"], waits),
+        "",
+        f"A journal of {begun['entries']:,} entries has {begun['bytes_an_entry']:.0f} bytes an entry. A `live` that goes on with it has read it after"
+        f" {read:.1f} seconds and has a new message on line A after {sent:.1f}, with {room / begun['entries']:,.0f} bytes an entry of peak memory.",
+    ]
+
+
+def bytes_each(record, count):
+    """The peak memory of a run by what it read."""
+    return min(record["kilobytes"]) * 1024 / count
+
+
+def quick_look(figures):
+    """The three figures of README: a report, how long a message takes beside a plain forwarder, and memory."""
+    parts = {name: part["records"] for name, part in figures["parts"].items()}
+    of_machine = figures["machine"]
+    report = max((record for record in parts["peers"] if record["program"] == "tapebox"), key=lambda record: record["rows"])
+    runs = programs_of(parts["latency"], "lines", "rate")
+    count, rate = min(runs, key=lambda of: (abs(of[0] - 4), abs(of[1] - 10_000)))
+    times = {
+        name: [f"{statistics.median(run[percentile] for run in record['runs']):,.0f}" for percentile in ("p50", "p99")] for name, record in runs[(count, rate)].items()
+    }
+    (own,) = parts["long"]
+    speed = rounded(report["rows"] / min(report["seconds"]))
+    rows = [
+        [f"the report of a table of {report['rows']:,} rows", f"{speed} rows a second, on one processor"],
+        [
+            f"a message from its participant's line to lines A and B, at {rate:,} a second over {count} lines",
+            f"p50 {times['tapebox'][0]} and p99 {times['tapebox'][1]} microseconds; a plain forwarder without a tape takes {times['forward'][0]} and"
+            f" {times['forward'][1]}",
+        ],
+        [
+            "memory",
+            f"{bytes_each(report, report['rows']):,.0f} bytes a row for that report; in a running day {own['live_bytes'] / own['messages']:,.0f} bytes an entry"
+            f" for `live` and {own['follow_bytes'] / own['messages']:,.0f} for `follow`",
+        ],
+    ]
+    at = f"Measured on {of_machine['date']} at commit `{of_machine['commit']}`, on {of_machine['processors']} processors ({of_machine['model']})"
+    drafts = ", with programs that are not proved" if of_machine["drafts"] else ""
+    return [*table(["What", "Figure"], rows), "", f"{at}{drafts}."]
+
+
+def one_tape(figures):
+    """What one tape takes, for SCALE."""
+    parts = {name: part["records"] for name, part in figures["parts"].items()}
+    batches = [record for record in parts["batch"] if record["program"] == "tapebox"]
+    runs = {name: [record["messages"] / record["seconds"] for record in own] for (name,), own in by(parts["live"], "run").items()}
+    (own,) = parts["long"]
+    rows = [
+        ["messages a second, batch, on one processor", span([record["messages"] / min(record["seconds"]) for record in batches]), "how much of the indexes a message strikes"],
+        [
+            "messages a second, lines that run at once, in memory",
+            span([record["messages"][0] / min(record["seconds_lines"]) for record in parts["lines"]]),
+            "admissions, one after another under one lock",
+        ],
+        *(
+            [f"messages a second to a follower, a day of 200,000, {'no packet lost' if name == 'straight' else name}", span(of), "sockets, and the sender's rests"]
+            for name, of in runs.items()
+        ),
+        [f"messages a second to a follower, a day of {own['messages']:,}", rounded(own["messages"] / own["seconds"]), "the same"],
+        ["bytes of memory a message, batch", span([bytes_each(record, record["messages"]) for record in batches], "{:,.0f}".format), "entries, books, the register, answers"],
+        ["bytes of memory an entry, `live`", f"{own['live_bytes'] / own['messages']:,.0f}", "the same but for the answers, cells, and what seats were told"],
+        ["bytes of memory an entry, `follow`", f"{own['follow_bytes'] / own['messages']:,.0f}", "a tape of its own"],
+    ]
+    return table(["What", "Measured", "What sets it"], rows)
+
+
+def market_day(figures):
+    """A day of 100 million messages over eight tapes, computed of the figures above."""
+    parts = {name: part["records"] for name, part in figures["parts"].items()}
+    batches = [record for record in parts["batch"] if record["program"] == "tapebox"]
+    (own,) = parts["long"]
+    each, tapes = 12_500_000, 8
+    speed, memory = min(record["messages"] / min(record["seconds"]) for record in batches), max(bytes_each(record, record["messages"]) for record in batches)
+    to_follower = own["messages"] / own["seconds"]
+    gigabytes = lambda bytes_of: f"{bytes_of * each / 1e9:.1f}"
+    all_of = lambda bytes_of: f"{bytes_of * each * tapes / 1e9:.0f}"
+    live, follow = own["live_bytes"] / own["messages"], own["follow_bytes"] / own["messages"]
+    rows = [
+        [
+            "time",
+            f"{each / speed:.0f} s on eight processors",
+            f"{each / to_follower:.0f} s to each follower, if all came at once; over six and a half hours it is {each / 23_400:.0f} messages a second on each tape",
+        ],
+        [
+            "memory",
+            f"{gigabytes(memory)} GB a tape, {all_of(memory)} GB in all",
+            f"{gigabytes(live)} GB for `live` and {gigabytes(follow)} GB for each follower; {all_of(live)} and {all_of(follow)} GB in all",
+        ],
+    ]
+    return table(["", "Batch", "Running day"], rows)
+
+
 # What stands between the marks, by name; the first two are of the machine.
 WRITERS = {"machine": machine, "versions": versions}
+# The same of the pages that take figures from there.
+OTHERS = {"README.md": {"quick": quick_look}, "docs/SCALE.md": {"tape": one_tape, "market": market_day}}
 TABLES = {
     "batch": (batch, "batch"), "growth": (growth, "growth"), "counts": (counts, "counts"), "feed": (feed, "feed"), "tables": (tables, "tables"),
     "least": (least, "tables"), "table_growth": (table_growth, "table_growth"), "peers": (peers, "peers"), "rows": (rows_of_workers, "rows"),
     "lines": (lines, "lines"), "looks": (looks, "looks"), "live": (live, "live"), "late": (late, "late"), "long": (long_day, "long"),
-    "latency": (latency, "latency"),
+    "readers": (readers, "readers"), "latency": (latency, "latency"), "journals": (journals, "journals"),
 }
 
 
@@ -249,10 +380,12 @@ def written(page, figures):
     """The page with each table that was measured; others stay as they are."""
     parts = {name: part["records"] for name, part in figures["parts"].items()}
 
+    writers = {**WRITERS, **{name: writer for own in OTHERS.values() for name, writer in own.items()}}
+
     def anew(mark):
         name = mark[2]
-        if name in WRITERS:
-            lines_of = WRITERS[name](figures)
+        if name in writers:
+            lines_of = writers[name](figures)
         else:
             writer, part = TABLES[name]
             if part not in parts:

@@ -137,12 +137,26 @@ const fn by_code(rows: [&[Row]; 4]) -> ByCode {
 }
 
 impl Matrix {
-    /// The least cells over the four codes; `None` where the matrix does not have one in its position.
-    pub fn cells(self, codes: [u8; 4]) -> Option<Cells> {
-        let table = match self {
+    fn by_code(self) -> &'static ByCode {
+        match self {
             Matrix::One => &OF_ONE,
             Matrix::Two => &OF_TWO,
-        };
+        }
+    }
+
+    /// The codes of each position, by their bytes.
+    pub fn codes(self) -> [Vec<u8>; 4] {
+        self.by_code().each_ref().map(|table| {
+            let codes = 0..=u8::MAX;
+            codes
+                .filter(|&code| table[usize::from(code)].is_some())
+                .collect()
+        })
+    }
+
+    /// The least cells over the four codes; `None` where the matrix does not have one in its position.
+    pub fn cells(self, codes: [u8; 4]) -> Option<Cells> {
+        let table = self.by_code();
         let first = table[0][codes[0] as usize]?;
         let second = table[1][codes[1] as usize]?;
         let third = table[2][codes[2] as usize]?;

@@ -113,9 +113,9 @@ const CHANGES: [Change; 8] = [
 
 /// Sale conditions as often as a day has them: mostly regular, then the others.
 const CONDITIONS: [&[u8; 4]; 32] = [
-    b"@   ", b"@   ", b"@   ", b"@   ", b"@   ", b"@   ", b"@   ", b"@   ", b"@F  ", b"@F  ",
-    b"@F  ", b"@F I", b"@  I", b"@  I", b"@  I", b"@ T ", b"@FT ", b"@ TI", b"@ U ", b"@ Z ",
-    b"@ L ", b"@4  ", b"@4 W", b"@7 V", b"@O X", b"@5  ", b"@6 X", b"@  P", b"C   ", b"@9  ",
+    b"@   ", b"@   ", b"@   ", b"@   ", b"@   ", b"@   ", b"@   ", b"@  1", b"@F  ", b"@F  ",
+    b"@F A", b"@F I", b"@  I", b"@  I", b"@  I", b"@ TH", b"RFT ", b"@ TI", b"N U ", b"@ Z ",
+    b"@ L ", b"@4 G", b"@4 W", b"@7 V", b"@O B", b"@5 D", b"@6 X", b"@  P", b"C  S", b"@9 Y",
     b"@  M", b"@  Q",
 ];
 
