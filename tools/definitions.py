@@ -1,10 +1,10 @@
 #!/usr/bin/env python3
-"""definitions.py: writes docs/DEFINITIONS.md anew after its marker, and its first line; leaves what is between them.
+"""definitions.py: prints the definitions that the proofs are about, with the comment over each: definitions.py [CRATE..]
 
-Each crate's public definitions are listed by file, with the comment over each; lemmas are left out. The order is that of `crates.txt`,
-of each `specs/Lib.antt`, and of the files.
+Each crate's public definitions are listed by file; lemmas are left out. Without words all crates that have some are printed, in the order of
+crates.txt. The order within a crate is that of its specs/Lib.antt, and of the files. Files are named from crates/.
 
-Statuses: 0 if the page is written; 2 if there are words.
+Statuses: 0 if they are printed; 1 if a crate has none; 2 if there is no such crate.
 """
 
 import argparse
@@ -13,9 +13,7 @@ import textwrap
 from pathlib import Path
 
 ROOT = Path(__file__).resolve().parent.parent
-PAGE = ROOT / "docs" / "DEFINITIONS.md"
-FIRST = "<!-- Written by tools/definitions.py: run it after a definition or its comment changes. Only what is above the next such mark is by hand. -->\n"
-MARKER = "<!-- What follows is written by tools/definitions.py. -->\n"
+CRATES = ROOT / "crates"
 WIDTH = 150
 
 # A comment and what it is over, which is a definition where a name is found.
@@ -40,26 +38,36 @@ def filled(text, indent=""):
 def lines_of(path):
     """What the page says of a file: what it is about, and each definition."""
     (about, _), *commented = COMMENTED.findall(path.read_text(encoding="utf-8"))
-    yield "\n" + filled(f"**`{path.relative_to(ROOT / 'crates')}`**: {sentence(about)}") + "\n"
+    yield "\n" + filled(f"**`{path.relative_to(CRATES)}`**: {sentence(about)}") + "\n"
     yield from (filled(f"- `{name}`: {sentence(comment)}", "  ") for comment, name in commented if name)
 
 
-def written():
-    """The part of the page after its marker."""
-    lines = []
-    for crate in names_in(ROOT / "crates.txt", r"^(\w+)[^:#]*:"):
-        specs = ROOT / "crates" / crate / "specs"
-        files = [specs / f"{name}.antt" for name in names_in(specs / "Lib.antt", r"^pub mod (\w+)$") if name != "Lemmas"]
-        if files:
-            lines += [f"\n## {crate}\n", *(line for file in files for line in lines_of(file))]
-    return "".join(lines)
+def lines_of_crate(crate):
+    """What is printed of a crate; nothing if it has no definition."""
+    specs = CRATES / crate / "specs"
+    files = [specs / f"{name}.antt" for name in names_in(specs / "Lib.antt", r"^pub mod (\w+)$") if name != "Lemmas"]
+    return [f"\n## {crate}\n", *(line for file in files for line in lines_of(file))] if files else []
+
+
+def crates():
+    """All crates, in the order of crates.txt."""
+    return names_in(ROOT / "crates.txt", r"^(\w+)[^:#]*:")
 
 
 def main():
-    argparse.ArgumentParser(description=__doc__, formatter_class=argparse.RawDescriptionHelpFormatter).parse_args()
-    by_hand, marker, _ = PAGE.read_text(encoding="utf-8").partition(MARKER)
-    PAGE.write_text(FIRST + by_hand.removeprefix(FIRST) + (marker or MARKER) + written(), encoding="utf-8")
+    parser = argparse.ArgumentParser(description=__doc__, formatter_class=argparse.RawDescriptionHelpFormatter)
+    parser.add_argument("crates", metavar="CRATE", nargs="*")
+    words = parser.parse_args()
+    unknown = [name for name in words.crates if not (CRATES / name).is_dir()]
+    if unknown:
+        parser.error(f"no crate: {', '.join(unknown)}")
+    status = 0
+    for name in words.crates or crates():
+        lines = lines_of_crate(name)
+        print("".join(lines), end="")
+        status = status or int(bool(words.crates and not lines))
+    return status
 
 
 if __name__ == "__main__":
-    main()
+    raise SystemExit(main())
