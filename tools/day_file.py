@@ -39,6 +39,7 @@ PORT = (1, 65_535)
 SYMBOL_TEXT = "1 to 8 of A to Z, 0 to 9 and ."
 LETTER_TEXT = "one letter A to Z"
 CONTROL_TEXT = "1 to 65535 or a path"
+JOURNAL_TEXT = "a path"
 
 
 class Fault(Exception):
@@ -47,8 +48,8 @@ class Fault(Exception):
 
 @dataclasses.dataclass(frozen=True)
 class Day:
-    """What a day's file says, in the order of its keys. `symbols` are names, also if they stand in a file of their own, and `control` is a
-    port, or a path from the current folder."""
+    """What a day's file says, in the order of its keys. `symbols` are names, also if they stand in a file of their own, `control` is a
+    port, or a path from the current folder, and so is `journal`."""
 
     symbols: list[str]
     participants: list[str]
@@ -63,6 +64,8 @@ class Day:
     connect_within: int | None = None
     followers_wait: int | None = None
     control: int | str | None = None
+    journal: str | None = None
+    journal_sync: bool = True
 
     def preferences(self):
         """The ports, as the preferences of tools/tapebox.lua have them."""
@@ -139,10 +142,23 @@ def control(value):
     return value
 
 
+def journal(value):
+    """The path of the journal."""
+    if kind(value) != "a string":
+        raise Fault(f"journal: {kind(value)}, not {JOURNAL_TEXT}")
+    if not value:
+        raise Fault(f"journal: not {JOURNAL_TEXT}")
+    return value
+
+
 def value_of(key, value):
     """The value at a key of a day."""
     if key == "control":
         return control(value)
+    if key == "journal":
+        return journal(value)
+    if key == "journal_sync":
+        return of_kind(key, value, "a boolean")
     if key == "symbols":
         return listed_symbols(value)
     if key == "participants":
@@ -210,8 +226,9 @@ def read(path):
     if isinstance(values["symbols"], str):
         values["symbols"] = file_symbols(symbols_text(path.parent / values["symbols"]))
     judge_names(values["symbols"], values["participants"])
-    if isinstance(values.get("control"), str):
-        values["control"] = str(path.parent / values["control"])
+    for key in ("control", "journal"):
+        if isinstance(values.get(key), str):
+            values[key] = str(path.parent / values[key])
     return Day(**values)
 
 
