@@ -1,6 +1,6 @@
 // Calls of the C library that fail. FAILING has rows with commas between them, each NAME:FIRST:LAST:ERROR: of the calls of NAME the FIRST to the
 // LAST one, counted from 1, fail with this number, and each is told on standard error. Of `read` the calls on standard input count, and of `write`
-// those on standard output.
+// those on standard output; `read_file` and `write_file` are those on what the program has opened.
 typedef __SIZE_TYPE__ size_t;
 typedef __PTRDIFF_TYPE__ ssize_t;
 typedef int accepting(int socket, void *address, unsigned *length, int flags);
@@ -8,6 +8,8 @@ typedef ssize_t receiving(int socket, void *bytes, size_t size, int flags, void 
 typedef ssize_t sending(int socket, const void *bytes, size_t size, int flags, const void *address, unsigned length);
 typedef ssize_t reading(int file, void *bytes, size_t size);
 typedef ssize_t writing(int file, const void *bytes, size_t size);
+typedef int syncing(int file);
+typedef int cutting(int file, long size);
 typedef int creating(void *thread, const void *attributes, void *(*routine)(void *), void *argument);
 
 void *dlsym(void *handle, const char *name);
@@ -76,12 +78,29 @@ int pthread_create(void *thread, const void *attributes, void *(*routine)(void *
     return error ? error : ((creating *)dlsym(NEXT, "pthread_create"))(thread, attributes, routine, argument);
 }
 
+// What a call is named on standard input or output, which has this number, and on what the program has opened; nothing elsewhere.
+static const char *name_of(int file, int standard, const char *name, const char *of_file) {
+    return file == standard ? name : file > 2 ? of_file : 0;
+}
+
 ssize_t read(int file, void *bytes, size_t size) {
-    static unsigned long calls;
-    return file == 0 && failed("read", &calls) ? -1 : ((reading *)dlsym(NEXT, "read"))(file, bytes, size);
+    static unsigned long calls[2];
+    const char *name = name_of(file, 0, "read", "read_file");
+    return name && failed(name, &calls[file > 2]) ? -1 : ((reading *)dlsym(NEXT, "read"))(file, bytes, size);
 }
 
 ssize_t write(int file, const void *bytes, size_t size) {
+    static unsigned long calls[2];
+    const char *name = name_of(file, 1, "write", "write_file");
+    return name && failed(name, &calls[file > 2]) ? -1 : ((writing *)dlsym(NEXT, "write"))(file, bytes, size);
+}
+
+int fdatasync(int file) {
     static unsigned long calls;
-    return file == 1 && failed("write", &calls) ? -1 : ((writing *)dlsym(NEXT, "write"))(file, bytes, size);
+    return failed("fdatasync", &calls) ? -1 : ((syncing *)dlsym(NEXT, "fdatasync"))(file);
+}
+
+int ftruncate(int file, long size) {
+    static unsigned long calls;
+    return failed("ftruncate", &calls) ? -1 : ((cutting *)dlsym(NEXT, "ftruncate"))(file, size);
 }

@@ -9,8 +9,8 @@ A day over sockets: lossy_day.sh [TABLE.csv]
 
 Starts `tapebox live`, a relay that loses, doubles and reorders packets and injects bytes that are no packet, and `tapebox follow`
 behind it, sends the table's messages (without an argument, those of samples/corrections.csv), and compares the two reports byte for
-byte. Prints the report once, and on standard error what the relay did. Needs python3 and Linux, whose /proc/net tells which ports
-are bound.
+byte. Prints the report once, and on standard error what the relay did and the follower's account: what came by each line, what was
+asked for again. Needs python3 and Linux, whose /proc/net tells which ports are bound.
 
     TAPEBOX   the program (what ../run --which tapebox prints, from here)
     FOLLOWED  1, or 0 for a day that nobody follows: `live` awaits no retransmission, and its report alone is printed (1)
@@ -97,6 +97,25 @@ bound() {
     grep -q ": [0-9A-F]*:$(printf %04X "$2") 00000000:0000 " "/proc/net/$1"
 }
 
+# Names with commas between them as a list of TOML: listed NAMES
+listed() {
+    echo "[\"$(echo "$1" | sed 's/,/", "/g')\"]"
+}
+
+# Writes the day's file of one side, whose lines are these ports: day NAME A B
+day() {
+    cat > "$work/$1.toml" << END
+symbols = $(listed "$symbols")
+participants = $(listed "$participants")
+port = $port
+a = [$2]
+b = [$3]
+retransmission = $retransmission
+followers = $followed
+session = $session
+END
+}
+
 # Whether the relay alone is left, or nothing where there is none.
 ended() {
     look
@@ -117,7 +136,9 @@ a=$((retransmission + 3))
 b=$((retransmission + 4))
 deadline=$(($(date +%s) + limit))
 
-start live "$tapebox" live "$symbols" "$participants" "$port" "$sent_a" "$sent_b" "$retransmission" "$followed" "$session"
+day live "$sent_a" "$sent_b"
+day follow "$a" "$b"
+start live "$tapebox" live "$work/live.toml"
 await bound tcp "$retransmission"
 if [ "$followed" -eq 0 ]; then
     start sender "$tools/send_day.py" --pause "$pause" "$table" "$port"
@@ -133,7 +154,7 @@ start relay "$tests/lossy_relay.py" --lose "$lose" --double 10 --reorder 10 --ga
 relay=relay:$!
 await bound udp "$sent_a"
 await bound udp "$sent_b"
-start follow "$tapebox" follow "$symbols" "$participants" "$a" "$b" "$retransmission" "$session"
+start follow "$tapebox" follow "$work/follow.toml"
 await bound udp "$a"
 await bound udp "$b"
 start sender "$tools/send_day.py" --pause "$pause" "$table" "$port"
@@ -141,7 +162,7 @@ await ended
 
 running=
 kill -TERM "${relay#*:}" && wait "${relay#*:}" || fail "the relay failed: $(cat "$work/relay.err")"
-cat "$work/relay.out" >&2
+cat "$work/relay.out" "$work/follow.err" >&2
 [ -s "$work/live.out" ] || fail "live wrote no report"
 diff "$work/live.out" "$work/follow.out" >&2 || fail "the reports differ"
 cat "$work/live.out"

@@ -17,8 +17,8 @@ REPORTS = [
 PARTICIPANTS = "NPQ"
 # The price, the size and the condition of a message that has none.
 NOTHING = ("", "", "")
-# What a report may be corrected to. The last one is of Matrix Two alone.
-CONDITIONS = ["@___", "@_L_", "@_Z_", "@4__", "@9__", "@__I", "@__M", "@__2"]
+# What a report may be corrected to.
+CONDITIONS = plain_table.CONDITIONS + plain_table.CONDITIONS_TWO
 # The refusals that the changes meet.
 REFUSALS = ["35 Stale", "36 UnknownSymbol", "37 NoSuchReport", "38 OtherSymbol", "39 Cancelled", "43 Standing", "44 NotInMatrix"]
 

@@ -21,12 +21,10 @@ RULES = {
     "size": "1 to 99999999 in at most 20 digits",
     "condition": "the four codes of a sale condition, with _ for a blank",
 }
-# The codes of each position of a condition, by either matrix.
+# The codes of each position of a condition, by either matrix, and those of the last position that Matrix Two alone has.
 POSITIONS = ["@CNR", "_FO56479", "_LZTU", "_ABDSXY1HIVWPGMQ23"]
-# Conditions that days are drawn from, the plain one more often: each way in which a code changes figures, and two codes in one. Then those of
-# Matrix Two alone.
-CONDITIONS = ["@___", "@___", "@___", "@F__", "@_Z_", "@_L_", "@__I", "C___", "@4__", "@__M", "@9__", "@__Q", "@FTI"]
-CONDITIONS_TWO = ["@__2", "@__3"]
+TWO_ALONE = "23"
+NEUTRAL = "@___"
 # The number of the row below the header row, and how many bytes of a field a fault shows.
 FIRST_ROW = 2
 SHOWN = 40
@@ -35,6 +33,17 @@ MARK = b"\xef\xbb\xbf"
 SEPARATORS = {";": "a semicolon", "\t": "a tab", "|": "a vertical bar"}
 
 csv.field_size_limit(1 << 30)
+
+
+def condition_of(position, code):
+    """The condition with this code, and with what restricts nothing in the other positions."""
+    return NEUTRAL[: position - 1] + code + NEUTRAL[position:]
+
+
+# Conditions that days are drawn from: one of each code, which is the neutral one four times, and several codes in one. Then those of Matrix Two alone.
+SINGLE = [condition_of(position, code) for position, codes in enumerate(POSITIONS, 1) for code in codes]
+CONDITIONS_TWO = [condition for condition in SINGLE if condition[-1] in TWO_ALONE]
+CONDITIONS = [condition for condition in SINGLE if condition not in CONDITIONS_TWO] + ["@FTI"]
 
 
 class TableFault(Exception):

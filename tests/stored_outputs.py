@@ -2,8 +2,9 @@
 """Makes the stored outputs anew by plain programs, and says what changed: stored_outputs.py [--check]
 
 Each is made of its input beside it or of a sample, and none by tapebox: answers and reports of batches, and the pictures of REPORTS, by the plain
-tape (tests/plain_tape.py) and tools/plot_day.py; what decode_lines reads, by a plain program of bench/, where cargo is; and the tables beside
-the captures, by tshark, where that is. What pages show of commands is compared by their cases, and is not made here. With --check nothing is written.
+tape (tests/plain_tape.py) and tools/plot_day.py; what decode_lines reads, by a plain program of bench/, where cargo is; and the tables beside the
+captures, by tshark, where that is. What example_day and bench_feed write has no plain twin, and what pages show of commands is compared by their cases:
+neither is made here. With --check nothing is written.
 
 Statuses: 0 if all are as they were; 1 if one is not, which is written anew, or if a plain program fails; 2 if the words are others.
 """
@@ -16,12 +17,11 @@ import shutil
 import subprocess
 import sys
 import tempfile
-from pathlib import Path
 
 import plain_explain
 import plain_table
 from plain_tape import Refused, Tape, decode, fold
-from support import CRATES, HEADINGS, ROOT, SAMPLES, STORED_DAYS, TAPE_COLUMNS, TESTS, TOOLS, table_of
+from support import CRATES, MARKS, ROOT, SAMPLES, STORED_DAYS, TAPE_COLUMNS, TESTS, TOOLS, report_row, report_text, table_of
 
 MATRIX, TAPE_MOST = "1", 1_048_576
 LINE = re.compile(r"([A-Z]) ((?:[0-9A-Fa-f]{2})*)")
@@ -29,7 +29,13 @@ LINE = re.compile(r"([A-Z]) ((?:[0-9A-Fa-f]{2})*)")
 
 def marks_of(summary):
     """The marks of a summary, by the order of the columns."""
-    return [summary.open, summary.high, summary.low, summary.last]
+    return [getattr(summary, name) for name in MARKS]
+
+
+def row_of(symbol, who, summary):
+    """The row of a summary in a report."""
+    marks = [(mark.price, mark.place) if mark else None for mark in marks_of(summary)]
+    return report_row(symbol, who, marks, summary.volume, summary.trades)
 
 
 def report_of(tape):
@@ -38,15 +44,13 @@ def report_of(tape):
     for report in tape.reports.values():
         if report.stands:
             standing[report.symbol].append(report)
-    rows = [HEADINGS.split(",")]
+    rows = []
     for symbol in tape.symbols:
         for who in ("ALL", *tape.participants):
             shown = [report for report in standing[symbol] if who in ("ALL", report.who)]
             if shown or who == "ALL":
-                summary = fold(tape.matrix, shown, who != "ALL")
-                figures = [value for mark in marks_of(summary) for value in ((mark.price, mark.place) if mark else ("", ""))]
-                rows.append([symbol, who, *figures, summary.volume, summary.trades])
-    return table_of(rows)
+                rows.append(row_of(symbol, who, fold(tape.matrix, shown, who != "ALL")))
+    return report_text(rows)
 
 
 def answer(tape, line):
@@ -111,16 +115,16 @@ def pictures():
 
 def outputs():
     """Each stored output of a program or a tool, with what it is made anew to."""
-    for day in STORED_DAYS:
-        yield day.with_suffix(".out"), batch(day.read_bytes())
-    crate = CRATES / "tapebox"
-    yield crate / "stdout", batch((crate / "stdin").read_bytes())
-    yield from pictures()
     if shutil.which("cargo"):
         import test_twin
 
         crate = CRATES / "decode_lines"
         yield crate / "stdout", test_twin.plain_run("read_lines", given=(crate / "stdin").read_bytes()).written
+    for day in STORED_DAYS:
+        yield day.with_suffix(".out"), batch(day.read_bytes())
+    crate = CRATES / "tapebox"
+    yield crate / "stdout", batch((crate / "stdin").read_bytes())
+    yield from pictures()
 
 
 def tables():

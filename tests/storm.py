@@ -1,5 +1,5 @@
 #!/usr/bin/env python3
-"""Runs whole days on loopback in which a seed decides what goes wrong: storm.py [--at-once N] SEED..
+"""Runs whole days on loopback in which a seed decides what goes wrong: storm.py [--at-once N] [--journal] [--program FILE] SEED..
 
 A day has one to five participants, whose messages are changes and repeated, refused and cut-off ones too, sent at their own pace; one to three
 followers, each of which writes a report (`follow`) or the tape (`watch`), behind a relay that loses, doubles, reorders, garbles and delays
@@ -14,9 +14,18 @@ At its end
 
 - `live` has ended with status 0 and a report, and said of each participant how many messages were admitted; its control socket is gone;
 - each follower that ended with status 0 has that report byte for byte, or a tape that is recorded as it should be and has its report's figures;
-- each other one ended with a status that it may have, and wrote no report, or the one of the first entries that it said, or the front of a tape;
+- each other one ended with a status that it may have, and wrote no report, or the one of the first entries that it said, or the front of a tape. A follower
+  that is neither killed nor given up has to end well, and reads as many packets of either line where nothing is lost;
 - the tape has, for each participant, the messages that a plain tape admits of what was sent, in their order, or the front of them if the
   day was ended.
+
+With --journal each day keeps a journal. `live` is killed up to three times, at any moment, and started again; each time the participants send all
+again, or from the number on that the day's status says, and followers stay or start anew. At its end
+
+- a plain reader of the journal finds each number once and every group whole, and each earlier journal is the front of the later one;
+- the report is that of the journal's messages in one batch, byte for byte, and so is that of each follower that ended well;
+- whatever a follower wrote, or lines A and B ever carried, is what the journal has under the same number;
+- each start said what it cut off and where it went on, as the plain reader has it, and so does the status of each line.
 
 A day that is not so is printed with its seed. What happens when is drawn from the seed, but threads and processes run as the system lets them.
 
@@ -24,510 +33,46 @@ Statuses: 0 if each day is so; 1 if one is not; 2 if the words are others.
 """
 
 import argparse
-import contextlib
-import random
-import re
-import signal
-import socket
 import subprocess
 import sys
-import tempfile
-import threading
 import time
 from concurrent.futures import ThreadPoolExecutor
-from dataclasses import dataclass, field
-from pathlib import Path
 
-from plain_table import CONDITIONS
-from plain_tape import Refused, Tape
-from support import HOST, LIMIT, Ended, desk, ended, message, ports, report_rows, run, started, wait_bound, wait_connected
+from journaled_day import JournaledDay
+from storm_day import Day, Taken, Wrong
+from support import TAPEBOX
 
-RELAY = Path(__file__).resolve().with_name("lossy_relay.py")
-SYMBOLS = ["AB", "BRK.B", "C", "DD", "EFGH", "ZZZ9"]
-SESSION, LIMIT_OF_TAPE = 7, 100_000
-# Seconds until a day must have ended.
-DAY_SECONDS = 120
-# What is said to a control socket that is no command, or not a whole one.
-NONSENSE = [b"", b"sta", b"en", b"status", b"end", b"END\n", b"status now\n", b"\n\n\n", b"\x00\xff\n", b"x" * 100_000]
-# How a follower may end: well, since its `live` is gone or serves it no longer, and that as a write that failed.
-WELL, LEFT, UNWRITTEN = 0, 3, 4
-PARTIAL = re.compile(rb"(?m)^tapebox: the report is of the first (\d+) entr(?:y|ies)$")
-ADMITTED = re.compile(rb"(?m)^tapebox: ([A-Z]): \d+ messages, (\d+) admitted")
 
-
-class Wrong(Exception):
-    """Says what of a day is not as it should be."""
-
-
-class Taken(Exception):
-    """Another program of this machine took a port first."""
-
-
-class Ports:
-    """The ports of the days that run at once."""
-
-    def __init__(self):
-        self.lock, self.taken = threading.Lock(), []
-
-    @contextlib.contextmanager
-    def of_day(self, count):
-        """So many ports in a row that no other day has."""
-        with self.lock:
-            while True:
-                row = ports(count)
-                if not any(set(row) & set(other) for other in self.taken):
-                    break
-            self.taken.append(row)
-        try:
-            yield row
-        finally:
-            with self.lock:
-                self.taken.remove(row)
-
-
-PORTS = Ports()
-
-
-@dataclass
-class Plan:
-    """What a seed decides of a day's messages."""
-
-    random: random.Random
-    participants: list = field(default_factory=list)
-    sent: dict = field(default_factory=dict)
-    tails: dict = field(default_factory=dict)
-
-    @staticmethod
-    def of(seed):
-        """The day of a seed."""
-        drawn = random.Random(seed)
-        plan = Plan(drawn, list("NPQVZ"[: drawn.randint(1, 5)]))
-        most = drawn.choice([20, 300, 2000])
-        for who in plan.participants:
-            plan.sent[who] = [plan.message(who, number) for number in range(1, drawn.randint(1, most) + 1)]
-            # A line may end within a message, or with bytes that are none.
-            plan.tails[who] = drawn.choice([b"", b"", b"", b"\x00\x26R", b"\xff\xff"])
-        return plan
-
-    def message(self, who, number):
-        """A participant's next message, which a tape may refuse."""
-        drawn = self.random
-        kind = drawn.choice(["report"] * 6 + ["cancel", "correct", "reinstate"])
-        number = max(number - (drawn.random() < 0.03), 1)
-        row = {"kind": kind, "participant": who, "number": number, "symbol": drawn.choice(SYMBOLS + ["NOT"] * (drawn.random() < 0.1))}
-        if kind != "report":
-            row["target"] = drawn.randint(1, number)
-        if kind in ("report", "correct"):
-            row |= {"price": f"{drawn.randint(1, 40)}.{drawn.randint(0, 99):02}", "size": drawn.randint(1, 500), "condition": drawn.choice(CONDITIONS)}
-        return message(**row)
-
-
-@dataclass
-class Operation:
-    """What a seed decides of a day that a file gives: what its file says more, and what its operator and strangers do."""
-
-    connect_within: int | None
-    followers_wait: int | None
-    ended_after: float | None
-    is_ended_twice: bool
-    # Whether the last participant never comes.
-    is_absent: bool
-    # Whether the control socket is a path, and not a port.
-    is_path: bool
-    flood: int
-
-    @staticmethod
-    def of(drawn):
-        """The operation of a day."""
-        within, ended_after = drawn.choice([None, 1, 2, 5]), drawn.choice([None, 0.0, drawn.random(), 3 * drawn.random()])
-        is_absent = drawn.random() < 0.2 and (ended_after is not None or within in (1, 2))
-        return Operation(within, drawn.choice([None, None, 0, 2]), ended_after, drawn.random() < 0.4, is_absent, drawn.random() < 0.7, drawn.choice([0, 0, 20, 256]))
-
-
-def admitted(plan, who, matrix):
-    """The messages of a participant that a tape admits: what a tape refuses depends on its own messages alone."""
-    tape, taken = Tape(SYMBOLS, [who], LIMIT_OF_TAPE, matrix), []
-    for each in plan.sent[who]:
-        with contextlib.suppress(Refused):
-            tape.admit(each)
-            taken.append(each)
-    return taken
-
-
-def figures_of(report):
-    """The rows of a report that have a trade, by their symbols and whom they are of: a table's report has the symbols in another order."""
-    return {(row["symbol"], row["who"]): row for row in report_rows(report) if row["trades"] != "0"}
-
-
-def send_line(port, messages, tail, drawn, is_held):
-    """Sends a participant's line at its own pace, in pieces of any length. One that is held stays open until `live` has closed it."""
-    with socket.create_connection((HOST, port), timeout=LIMIT) as line:
-        text, pause = b"".join(messages) + tail, drawn.choice([0, 0, 0.001, 0.01])
-        while text:
-            size = drawn.choice([1, 7, 40, 1000, 100_000])
-            line.sendall(text[:size])
-            text = text[size:]
-            time.sleep(pause if size > 40 else 0)
-        if is_held:
-            line.recv(1)
-
-
-def make_noise(targets, drawn, is_over):
-    """Sends datagrams that are no packet of the day to the ports of A and B."""
-    with socket.socket(socket.AF_INET, socket.SOCK_DGRAM) as sender:
-        while not is_over.wait(drawn.choice([0.01, 0.1, 0.3])):
-            text = drawn.choice([b"", drawn.randbytes(40), b"\x02H" + drawn.randbytes(13), b"\x02E" + drawn.randbytes(13)])
-            sender.sendto(text, (HOST, drawn.choice(targets)))
-
-
-def flood(place, count, drawn, is_over):
-    """Keeps so many connections to a control socket, which say what is no command; one after the other is closed and opened again."""
-    with contextlib.ExitStack() as stack:
-        held = []
-        while not is_over.wait(0.001 if len(held) < count else 0.05):
-            if len(held) == count:
-                held.pop(drawn.randrange(count)).close()
-            line = stack.enter_context(socket.socket(socket.AF_UNIX if isinstance(place, str) else socket.AF_INET))
-            line.settimeout(0.2)
-            with contextlib.suppress(OSError):
-                line.connect(place)
-                line.send(drawn.choice(NONSENSE))
-            held.append(line)
-
-
-class Follower:
-    """A follower, which may be stopped, killed and started again. Each start takes one connection of those that `live` serves."""
-
-    def __init__(self, word, words, drawn):
-        self.word, self.words = word, words
-        self.late = drawn.choice([0, 0, 0.2, 1.0])
-        self.starts = drawn.choice([1, 1, 1, 2])
-        self.stops = drawn.choice([0, 0, 1, 3])
-        self.random = random.Random(drawn.random())
-        self.ends = []
-
-    def run(self):
-        """Runs it to its end, and to as many starts before as it has."""
-        time.sleep(self.late)
-        for start in range(self.starts):
-            with started([self.word, *self.words]) as running:
-                taken = threading.Thread(target=self.disturb, args=(running, start + 1 < self.starts))
-                taken.start()
-                try:
-                    self.ends.append(ended(running, DAY_SECONDS))
-                except subprocess.TimeoutExpired:
-                    self.ends.append(Ended(None, b"", b""))
-                taken.join()
-
-    def disturb(self, running, is_killed):
-        """Stops and continues it a few times, and kills it if it is to be started again."""
-        for _ in range(self.stops):
-            time.sleep(self.random.random() * 0.5)
-            if running.poll() is None:
-                running.send_signal(signal.SIGSTOP)
-                time.sleep(self.random.random() * 0.4)
-                running.send_signal(signal.SIGCONT)
-        if is_killed:
-            time.sleep(self.random.random())
-            running.kill()
-
-    def is_partial(self):
-        """Whether it writes the report of what it holds."""
-        return "--partial" in self.words
-
-
-def plain_follower(word, words):
-    """A follower to which nothing happens."""
-    follower = Follower(word, words, random.Random(0))
-    follower.late, follower.starts, follower.stops = 0, 1, 0
-    return follower
-
-
-class Day:
-    """A day of a seed, as it runs."""
-
-    def __init__(self, seed):
-        self.seed, self.plan = seed, Plan.of(seed)
-        drawn = self.plan.random
-        self.matrix = str(drawn.randint(1, 2))
-        self.operation = Operation.of(drawn) if drawn.random() < 0.75 else None
-        self.killed_after = 2 * drawn.random() if drawn.random() < 0.1 else None
-        self.half_open = drawn.choice([0, 0, 1, 3])
-        # Of each follower its word and what is drawn for it.
-        self.drawn = [(drawn.choice(["follow", "watch"]), random.Random(drawn.random())) for _ in range(drawn.randint(1, 3))]
-        parts = ["lose", "double", "reorder", "garble"]
-        self.relay_words = [word for part in parts for word in (f"--{part}", f"{drawn.choice([0, 5, 30])},{drawn.choice([0, 5, 30, 60])}")]
-        self.relay_words += ["--late", f"0,{drawn.choice([0, 0, 5, 40])}", "--seed", seed % 1000]
-        self.heard = {"status": [], "end": []}
-        self.was_ended = False
-
-    def run(self):
-        """Runs the day, and returns how `live` ended."""
-        with PORTS.of_day(len(self.plan.participants) + 6 + 2 * len(self.drawn)) as row, tempfile.TemporaryDirectory() as folder:
-            self.folder = Path(folder)
-            self.line, rest = row[0], row[len(self.plan.participants) :]
-            # The control socket, the retransmission, the ways of A and B to the relay, those of the watch beside it, and the followers'.
-            self.control, self.retransmission, self.sent, self.beside, pairs = rest[0], rest[1], rest[2:4], rest[4:6], rest[6:]
-            self.pairs = [pairs[at : at + 2] for at in range(0, len(pairs), 2)]
-            words = self.words_of_file() if self.operation else self.words_in_a_row()
-            return self.play(words, [port for pair in self.pairs for port in pair])
-
-    def words_in_a_row(self):
-        """What `live` and its followers are given where there is no file."""
-        names = [",".join(SYMBOLS), ",".join(self.plan.participants)]
-        terms = [self.retransmission, SESSION, self.matrix, LIMIT_OF_TAPE]
-        self.followers = [Follower(word, [*names, *pair, *terms], drawn) for (word, drawn), pair in zip(self.drawn, self.pairs)]
-        self.followers.append(plain_follower("watch", [*names, *self.beside, *terms]))
-        ways = [f"{sent},{beside}" for sent, beside in zip(self.sent, self.beside)]
-        return ["live", *names, self.line, *ways, self.retransmission, self.serves(), SESSION, self.matrix, LIMIT_OF_TAPE]
-
-    def serves(self):
-        """How many connections `live` serves."""
-        return self.half_open + sum(it.starts for it in self.followers)
-
-    def words_of_file(self):
-        """What they are given where a file has the day: `live` has the relay's ports, and its followers have their own."""
-        self.followers = []
-        for place, (word, drawn) in enumerate(self.drawn, 2):
-            more = ["--partial"] if word == "follow" and drawn.random() < 0.6 else []
-            self.followers.append(Follower(word, ["--follower", place, *more, self.folder / "follow.toml"], drawn))
-        self.followers.append(plain_follower("watch", [self.folder / "follow.toml"]))
-        self.write_file("live.toml", [self.beside, self.sent])
-        self.write_file("follow.toml", [self.beside, *self.pairs])
-        return ["live", self.folder / "live.toml"]
-
-    def write_file(self, name, pairs):
-        """Writes the day's file for these pairs of ports of A and B."""
-        operation = self.operation
-        keys = {"symbols": SYMBOLS, "participants": self.plan.participants, "port": self.line}
-        keys |= {"a": [pair[0] for pair in pairs], "b": [pair[1] for pair in pairs], "retransmission": self.retransmission, "followers": self.serves()}
-        keys |= {"session": SESSION, "matrix": int(self.matrix), "limit": LIMIT_OF_TAPE, "control": "operator/control" if operation.is_path else self.control}
-        keys |= {key: value for key in ("connect_within", "followers_wait") if (value := getattr(operation, key)) is not None}
-        (self.folder / "operator").mkdir(mode=0o700, exist_ok=True)
-        (self.folder / name).write_text("".join(f"{key} = {value!r}\n".replace("'", '"') for key, value in keys.items()))
-
-    def play(self, words, targets):
-        """Plays the day, and returns how `live` ended."""
-        drawn, is_over = self.plan.random, threading.Event()
-        with contextlib.ExitStack() as stack:
-            live = stack.enter_context(started(words))
-            relay = stack.enter_context(started([RELAY, *self.relay_words, *self.sent, *targets], program=sys.executable))
-            wait_bound(relay, *self.sent)
-            tasks = [threading.Thread(target=self.send, args=(live, at, random.Random(drawn.random()))) for at in range(len(self.plan.participants))]
-            tasks += [threading.Thread(target=follower.run) for follower in self.followers]
-            others = [threading.Thread(target=make_noise, args=(targets, random.Random(drawn.random()), is_over))]
-            others += self.operators(live, is_over)
-            for task in [*tasks, *others]:
-                task.start()
-            self.wait_listening(live)
-            idle = self.open_idle(stack)
-            for task in tasks:
-                task.join()
-            for connection in idle:
-                connection.close()
-            self.use_up(live)
-            end = ended(live, DAY_SECONDS)
-            is_over.set()
-            for task in others:
-                task.join()
-        self.is_control_left = (self.folder / "operator" / "control").exists()
-        return end
-
-    def operators(self, live, is_over):
-        """Whoever does something to a running day."""
-        drawn = self.plan.random
-        if self.killed_after is not None:
-            yield threading.Thread(target=lambda: is_over.wait(self.killed_after) or live.kill())
-        if self.operation:
-            place = str(self.folder / "operator" / "control") if self.operation.is_path else (HOST, self.control)
-            yield threading.Thread(target=self.ask_status, args=(random.Random(drawn.random()), is_over))
-            if self.operation.flood:
-                yield threading.Thread(target=flood, args=(place, self.operation.flood, random.Random(drawn.random()), is_over))
-            if self.operation.ended_after is not None:
-                yield threading.Thread(target=self.end_day, args=(live, is_over))
-
-    def ask(self, word):
-        """How an operator's word ended."""
-        end = run([word, self.folder / "live.toml"])
-        self.heard[word].append(end)
-        return end.status == WELL
-
-    def ask_status(self, drawn, is_over):
-        """Asks how the day stands, now and then."""
-        while not is_over.wait(drawn.choice([0.1, 0.5, 1])):
-            self.ask("status")
-
-    def end_day(self, live, is_over):
-        """Ends the day, once or twice, once somebody hears it."""
-        is_over.wait(self.operation.ended_after)
-        for _ in range(1 + self.operation.is_ended_twice):
-            while not is_over.is_set() and not self.ask("end"):
-                is_over.wait(0.05)
-            # A day may be over by itself before.
-            self.was_ended |= not is_over.is_set()
-            is_over.wait(0.3)
-
-    def open_idle(self, stack):
-        """Connections to the retransmission that say nothing, as far as it can be reached."""
-        opened = []
-        with contextlib.suppress(OSError):
-            for _ in range(self.half_open):
-                opened.append(stack.enter_context(socket.create_connection((HOST, self.retransmission), timeout=LIMIT)))
-        return opened
-
-    def send(self, live, at, drawn):
-        """Sends a participant's line, once `live` listens. A line that `live` has ended is not sent to its end."""
-        who, until = self.plan.participants[at], time.monotonic() + LIMIT
-        if self.operation and self.operation.is_absent and who == self.plan.participants[-1]:
-            return
-        while live.poll() is None:
-            try:
-                send_line(self.line + at, self.plan.sent[who], self.plan.tails[who], drawn, drawn.random() < 0.5 and self.is_to_end())
-                return
-            except ConnectionRefusedError:
-                # A day that was ended takes no line any more.
-                if time.monotonic() > until or self.was_ended:
-                    return
-                time.sleep(0.02)
-            except OSError:
-                return
-
-    def is_to_end(self):
-        """Whether somebody will end the day."""
-        return self.operation is not None and self.operation.ended_after is not None or self.killed_after is not None
-
-    def wait_listening(self, live):
-        """Waits until `live` listens on the port of the retransmission."""
-        until = time.monotonic() + LIMIT
-        while live.poll() is None and time.monotonic() < until:
-            with contextlib.suppress(OSError), socket.create_server((HOST, self.retransmission)):
-                time.sleep(0.02)
-                continue
-            return
-
-    def use_up(self, live):
-        """Takes the connections that `live` still waits for, as of a follower that was killed before it connected."""
-        until = time.monotonic() + DAY_SECONDS
-        while live.poll() is None and time.monotonic() < until:
-            with contextlib.suppress(OSError), socket.create_connection((HOST, self.retransmission), timeout=1):
-                pass
-            time.sleep(0.1)
-
-    def is_given_up(self):
-        """Whether followers may find that `live` is gone, or has given them up."""
-        return self.killed_after is not None or self.was_ended or self.operation is not None and self.operation.followers_wait is not None
-
-    def check(self, end):
-        """Refuses a day that is not as it should be."""
-        self.check_live(end)
-        tapes = [one.written for follower in self.followers if follower.word == "watch" for one in follower.ends]
-        whole = max(tapes, key=len, default=b"")
-        # A last row may be cut short.
-        for tape in tapes:
-            if not whole.startswith(tape):
-                raise Wrong("a follower wrote rows that are not the front of another's tape")
-        rows = whole[: whole.rfind(b"\n") + 1]
-        for follower in self.followers:
-            for number, one in enumerate(follower.ends, 1):
-                self.check_follower(follower, number, one, end, rows)
-        is_whole = any(one.status == WELL for follower in self.followers if follower.word == "watch" for one in follower.ends)
-        self.check_tape(rows, end, is_whole)
-
-    def check_live(self, end):
-        """Refuses how `live` ended, and what its operator heard."""
-        if self.killed_after is not None and end.status == -signal.SIGKILL:
-            return
-        if b": address in use\n" in end.said:
-            raise Taken
-        if end.status != WELL or not re.fullmatch(rb"(?:tapebox: [^\n]+\n)*" if self.operation else b"", end.said):
-            raise Wrong(f"live ended with {end.status} and said {end.said!r}")
-        if not report_rows(end.written):
-            raise Wrong("live wrote no report")
-        if self.operation and (self.operation.is_path and self.is_control_left):
-            raise Wrong("the control socket's path is left")
-        for word, begins in (("status", b"since "), ("end", b"ending")):
-            for one in self.heard[word]:
-                if one.status not in (WELL, LEFT) or one.status == WELL and not one.written.startswith(begins):
-                    raise Wrong(f"{word} ended with {one.status}, wrote {one.written!r} and said {one.said!r}")
-
-    def check_follower(self, follower, number, one, end, rows):
-        """Refuses how a follower ended."""
-        allowed = {WELL, LEFT} | ({-signal.SIGKILL} if number < follower.starts else set()) | ({UNWRITTEN} if self.is_given_up() else set())
-        name = f"{follower.word}, start {number},"
-        if one.status not in allowed:
-            raise Wrong(f"{name} never ended" if one.status is None else f"{name} ended with {one.status} and said {one.said!r}")
-        if follower.word == "watch":
-            return
-        told = PARTIAL.search(one.said)
-        if one.status == WELL:
-            if told or end.status == WELL and one.written != end.written:
-                raise Wrong(f"{name} has another report than live")
-        elif not told:
-            if one.written:
-                raise Wrong(f"{name} failed and wrote a report")
-        elif not follower.is_partial():
-            raise Wrong(f"{name} has a report of a part that nobody asked for")
-        elif int(told[1]) < rows.count(b"\n") and figures_of(one.written) != figures_of(self.report_of(rows, int(told[1]))):
-            raise Wrong(f"{name} has another report than that of the first {told[1].decode()} entries")
-
-    def report_of(self, rows, count):
-        """The report of the first rows of a tape."""
-        front = b"".join(rows.splitlines(keepends=True)[: count + 1])
-        return desk("report", given=front, matrix=self.matrix).written if count else b""
-
-    def check_tape(self, rows, end, is_whole):
-        """Refuses a tape that is not that of what was sent, or whose figures are not the report's."""
-        if rows.count(b"\n") < 2:
-            if is_whole and end.status == WELL and figures_of(end.written):
-                raise Wrong("the report has trades, and the tape has none")
-            return
-        verdict = desk("verify", given=rows, matrix=self.matrix)
-        if verdict.status != WELL:
-            raise Wrong(f"verify ended with {verdict.status}: {verdict.written or verdict.said!r}")
-        on_tape = {who: [] for who in self.plan.participants}
-        for row in rows.splitlines()[1:]:
-            fields = row.decode().split(",")
-            names = ["kind", "participant", "number", "moment", "symbol", "target", "price", "size", "condition"]
-            on_tape[fields[3]].append(message(**dict(zip(names, fields[2:11]))))
-        is_all = is_whole and end.status == WELL
-        for who, messages in on_tape.items():
-            wanted = admitted(self.plan, who, self.matrix)
-            is_cut = not is_all or self.was_ended or self.operation and self.operation.is_absent
-            if messages != (wanted[: len(messages)] if is_cut else wanted):
-                raise Wrong(f"the tape does not have the messages of {who} that it should")
-        if is_all:
-            self.check_report(on_tape, end, rows)
-
-    def check_report(self, on_tape, end, rows):
-        """Refuses a report that is not the whole tape's, and counts that are not."""
-        if figures_of(end.written) != figures_of(desk("report", given=rows, matrix=self.matrix).written):
-            raise Wrong("the report is not that of the tape")
-        if self.operation:
-            told = {who.decode(): int(count) for who, count in ADMITTED.findall(end.said)}
-            if told != {who: len(messages) for who, messages in on_tape.items() if who in told or messages}:
-                raise Wrong(f"live said that {told} were admitted, and not what is on the tape")
-
-
-def tried(seed):
+def tried(seed, kind=Day):
     """Whether the day of a seed is as it should be, and a line about it."""
+    name = f"{seed} with a journal" if kind is JournaledDay else f"{seed}"
     try:
-        day, began = Day(seed), time.monotonic()
+        day, began = kind(seed), time.monotonic()
         day.check(day.run())
         statuses = "; ".join(f"{it.word} {', '.join(str(one.status) for one in it.ends)}" for it in day.followers)
-        return True, f"seed {seed}: as it should be in {time.monotonic() - began:.1f} s: {statuses}"
+        return True, f"seed {name}: as it should be in {time.monotonic() - began:.1f} s: {statuses}{day.told()}"
     except Taken:
-        return tried(seed)
+        return tried(seed, kind)
     except (Wrong, subprocess.TimeoutExpired, TimeoutError) as fault:
-        return False, f"seed {seed}: {fault}: tests/storm.py {seed}"
+        return False, f"seed {name}: {fault}: tests/storm.py {'--journal ' * (kind is JournaledDay)}{seed}"
+
+
+def tried_with_journal(seed):
+    """The same of a day that keeps a journal."""
+    return tried(seed, JournaledDay)
 
 
 def main():
     parser = argparse.ArgumentParser(description=__doc__, formatter_class=argparse.RawDescriptionHelpFormatter)
     parser.add_argument("--at-once", type=int, default=1, metavar="N", help="run so many days at once (1)")
+    parser.add_argument("--journal", action="store_true", help="each day keeps a journal, and goes on where `live` is killed")
+    parser.add_argument("--program", metavar="FILE", help="the program, in place of the one of ./run")
     parser.add_argument("seeds", nargs="+", type=int, metavar="SEED", help="the seed of a day")
     words, wrong = parser.parse_args(), 0
+    if words.program:
+        TAPEBOX.path = words.program
     with ThreadPoolExecutor(words.at_once) as days:
-        for is_right, line in days.map(tried, words.seeds):
+        for is_right, line in days.map(tried_with_journal if words.journal else tried, words.seeds):
             wrong += not is_right
             print(line, flush=True)
     return 1 if wrong else 0

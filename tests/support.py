@@ -28,6 +28,7 @@ HOST = "127.0.0.1"
 # Seconds until a program must have ended, unless a case says otherwise.
 LIMIT = 60
 HEADINGS = "symbol,who,open,open_at,high,high_at,low,low_at,last,last_at,volume,trades"
+MARKS = ["open", "high", "low", "last"]
 TAPE_COLUMNS = [*plain_table.ANSWER, *plain_table.COLUMNS, *plain_table.FIGURES]
 
 sys.dont_write_bytecode = True
@@ -84,7 +85,7 @@ def locate_all():
 
 
 TAPEBOX = Program("tapebox")
-FEED_SPEED = Program("feed_speed")
+BENCH_FEED = Program("bench_feed")
 
 
 @dataclass(frozen=True)
@@ -288,6 +289,28 @@ def report_rows(written):
     """The rows of a report by their columns. A batch's answers may stand before it; where there is no report there are none."""
     lines = written.decode().splitlines()
     return [*csv.DictReader(lines[lines.index(HEADINGS) :])] if HEADINGS in lines else []
+
+
+def report_row(symbol, who, marks, volume, trades):
+    """A row of a report by its columns. The marks are open, high, low and last, each a price and its place, or none."""
+    figures = {column: value for name, mark in zip(MARKS, marks) for column, value in zip((name, f"{name}_at"), mark or ("", ""))}
+    row = {"symbol": symbol, "who": who, "volume": volume, "trades": trades} | figures
+    return {column: str(row[column]) for column in HEADINGS.split(",")}
+
+
+def report_text(rows):
+    """The text of a report that has these rows."""
+    return table_of([HEADINGS.split(","), *(row.values() for row in rows)])
+
+
+def tape_row(**row):
+    """A row of a readable tape as its text has it. Columns that are not named are empty."""
+    return ",".join(str(row.get(column, "")) for column in TAPE_COLUMNS) + "\n"
+
+
+def without_places(written):
+    """The rows of a report without the places, which are the order in which messages came."""
+    return [{column: value for column, value in row.items() if not column.endswith("_at")} for row in report_rows(written)]
 
 
 def traded(written, symbol="AB", who="ALL"):

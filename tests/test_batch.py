@@ -7,7 +7,7 @@ import unittest
 from pathlib import Path
 
 import stored_outputs
-from support import HEADINGS, READ_FAULT, SAMPLES, STORED_DAYS, WRITE_FAULT, Case, batch_line, batch_of, report, run
+from support import READ_FAULT, SAMPLES, STORED_DAYS, WRITE_FAULT, Case, batch_line, batch_of, report, report_row, report_text, run, transcripts
 
 SYMBOLS = ["AB", *(f"S{at}" for at in range(1, 4_096))]
 PARTICIPANTS = string.ascii_uppercase
@@ -27,10 +27,9 @@ class Samples(Case):
                 self.assert_writes(run(["batch"], day.read_bytes()), day.with_suffix(".out").read_bytes())
 
     def test_corrected_day(self):
-        """README, "A day": the table's day has the answers and rows that README shows."""
-        ended = run(["batch"], batch_of(SAMPLES / "corrections.csv"))
-        rows = "AB,ALL,99500,1,100500,3,99500,1,99500,1,250,2\nAB,N,99500,1,100500,3,99500,1,99500,1,250,2\n"
-        self.assert_writes(ended, f"1\n2\n3\n4\nrefused 35 Stale\n5\n{HEADINGS}\n{rows}".encode())
+        """README, "Five minutes: a table": the table's day has the answers and rows that README shows."""
+        shown = dict(transcripts("../README.md"))["./run report samples/corrections.csv"]
+        self.assert_writes(run(["batch"], batch_of(SAMPLES / "corrections.csv")), f"1\n2\n3\n4\nrefused 35 Stale\n5\n{shown}".encode())
 
 
 class Headers(Case):
@@ -51,7 +50,7 @@ class Lengths(Case):
     def test_the_greatest_input(self):
         """FORMATS, "A batch": an input of the greatest length is answered, and one byte more is too large."""
         day = b"AB\nN\n".ljust(self.BYTES_MOST, b"A")
-        self.assert_writes(run(["batch"], day), f"refused 22 BadLine\n{HEADINGS}\nAB,ALL,,,,,,,,,0,0\n".encode())
+        self.assert_writes(run(["batch"], day), b"refused 22 BadLine\n" + report_text([report_row("AB", "ALL", [None] * 4, 0, 0)]))
         self.assert_fault(run(["batch"], day + b"A"), (2, b"tapebox: input too large\n"))
 
 
@@ -90,7 +89,7 @@ class WideDay(Case):
     def row(at, who, trades):
         """The row of so many trades, each its price and its place, in the order of places."""
         marks = (trades[0], max(trades), min(trades), trades[-1])
-        return ",".join([SYMBOLS[at], who, *(str(value) for mark in marks for value in mark), str(100 * len(trades)), str(len(trades))])
+        return report_row(SYMBOLS[at], who, marks, 100 * len(trades), len(trades))
 
     def rows(self):
         """The rows of the day."""
@@ -104,5 +103,5 @@ class WideDay(Case):
         lines = [self.line(who, at) for who, at in itertools.product(range(len(PARTICIPANTS)), range(len(SYMBOLS)))]
         header = f"{' '.join(SYMBOLS)}\n{' '.join(PARTICIPANTS)}\n".encode()
         day = header + lines[0].rstrip() + 140_000 * b"0" + b"\n" + b"".join(lines)
-        wanted = ["refused 23 ExtraBytes", *map(str, range(1, len(lines) + 1)), HEADINGS, *self.rows(), ""]
-        self.assert_writes(run(["batch"], day), "\n".join(wanted).encode())
+        wanted = "".join(f"{answer}\n" for answer in ["refused 23 ExtraBytes", *range(1, len(lines) + 1)])
+        self.assert_writes(run(["batch"], day), wanted.encode() + report_text(self.rows()))

@@ -11,11 +11,16 @@ import unittest
 from pathlib import Path
 
 from browser import Browser
-from support import HOST, LIMIT, TAPEBOX, TOOLS, Case, connect, message, ports, report, run, started, wait_bound
+from support import HOST, LIMIT, MARKS, TAPE_COLUMNS, TAPEBOX, TOOLS, Case, connect, message, ports, report, run, started, tape_row, wait_bound
 
 SCRIPT = TOOLS / "board.py"
-HEAD = "tape,refused,kind,participant,number,moment,symbol,target,price,size,condition,open,high,low,last,volume,trades\n"
-ROWS = "1,,report,N,1,0,AB,,10.00,100,@___,10.00,10.00,10.00,10.00,100,1\n2,,cancel,N,2,0,AB,1,,,,,,,,0,0\n"
+HEAD = f"{','.join(TAPE_COLUMNS)}\n"
+REPORT = {"price": "10.00", "size": 100, "condition": "@___"} | dict.fromkeys(MARKS, "10.00")
+NOTHING = {"volume": 0, "trades": 0}
+ROWS = tape_row(tape=1, kind="report", participant="N", number=1, moment=0, symbol="AB", volume=100, trades=1, **REPORT)
+ROWS += tape_row(tape=2, kind="cancel", participant="N", number=2, moment=0, symbol="AB", target=1, **NOTHING)
+# A cancel of another participant's report, which no tape has.
+FOREIGN = tape_row(tape=3, kind="cancel", participant="Q", number=1, moment=0, symbol="AB", target=1, **NOTHING)
 
 
 @contextlib.contextmanager
@@ -61,7 +66,7 @@ class Words(Case):
         """board.py: rows of another table, or a row that no followed tape has, end it with status 1."""
         for rows, why in [
             ("symbol,who\nAB,ALL\n", "the first row does not have the columns of a readable tape"),
-            (HEAD + ROWS + "3,,cancel,Q,1,0,AB,1,,,,,,,,0,0\n", "line 4 is no row of a followed tape"),
+            (HEAD + ROWS + FOREIGN, "line 4 is no row of a followed tape"),
         ]:
             with board("-", stdin=subprocess.PIPE) as (running, _):
                 _, said = running.communicate(rows, timeout=20)

@@ -15,7 +15,6 @@ DEFINITIONS = CRATES / "sale_matrix" / "specs" / "Matrix.antt"
 # The matrices by their names in code.
 MATRICES = {"One": "1", "Two": "2"}
 ORDINALS = ["first", "second", "third", "fourth"]
-NEUTRAL = "@___"
 # A blank restricts nothing, and is allowed after the first position.
 BLANKS = [(position, "_", "YYYYY") for position in (2, 3, 4)]
 # A row of RULES: its position, its codes, their meaning and their cells.
@@ -28,18 +27,20 @@ BENCH_CELLS = re.compile(r"const (\w+): Cells = Cells::new\(\[([^]]+)\], \[([^]]
 BENCH_ROWS = re.compile(r"const (\w+): &\[Row\] = &\[(.*?)\];", re.DOTALL)
 BENCH_ROW = re.compile(r'\(b"(.+?)", (\w+)\)')
 BENCH_MATRIX = re.compile(r"static OF_(ONE|TWO): ByCode = by_code\(\[(.*?)\]\);")
+# A row of a peer in SQL: its position, its codes and their cells, of which N is 0 and Y is 3.
+PEER_ROW = re.compile(r"\(([1-4]), '(.+?)'((?:, [0-3]){5})\)")
+PEER_LETTERS = str.maketrans("0123", "NFSY")
 # A code of the dissector with its meaning.
 DISSECTED = re.compile(r'(?:\["(.)"\]|\b(\w)) = "[^"]+"')
 LETTERS = {"Always": "Y", "SameMarket": "S", "FirstOnly": "F", "Never": "N", "true": "Y", "false": "N"}
 # The columns of an explanation, in the order of RULES, and their words.
 COLUMNS = ["high_low", "last", "own_high_low", "own_last", "volume"]
 WORDS = {"no": "N", "if first": "F", "same market": "S", "yes": "Y"}
-# A list of conditions from which a day is drawn, in Python, Rust or C, or of codes by position.
+# A list of conditions from which a day is drawn, in Python, Rust, Rattle or C.
 MADE = re.compile(r"(?i)\b(conditions\w*)(?:(?:: [^=\n]+)? = \[|\[\] = \{)(.*?)[\]}]", re.DOTALL)
-MADE_CODES = re.compile(r"const CODES: \[&\[u8\]; 4\] = \[(.*?)\];")
 QUOTED = re.compile('"([^"\n]*)"')
-# Files that are known to have such a list, so that none is looked for in vain.
-MAKERS = {"plain_table.py", "plain_orders.py", "long_day.py", "make_day.rs", "batches.rs", "calls.c"}
+# The files that have such a list: all others draw from those of plain_table.
+MAKERS = {"make_day.rs", "batches.rs", "calls.c", "seeded.rt"}
 
 
 def text_of(path):
@@ -60,11 +61,6 @@ def by_code(rows):
     if len(dict(pairs)) < len(pairs):
         raise ValueError(f"a code stands twice: {pairs}")
     return dict(pairs)
-
-
-def condition_of(position, code):
-    """The condition with this code, and with what restricts nothing in the other positions."""
-    return NEUTRAL[: position - 1] + code + NEUTRAL[position:]
 
 
 def printed(table):
@@ -93,7 +89,7 @@ def of_definitions():
 def of_plain_tape():
     """The matrices as the plain tape has them."""
     places = [(position, code) for position, codes in enumerate(plain_table.POSITIONS, 1) for code in codes]
-    found = {matrix: {place: plain_tape.listed_cells(matrix, condition_of(*place)) for place in places} for matrix in MATRICES.values()}
+    found = {matrix: {place: plain_tape.listed_cells(matrix, plain_table.condition_of(*place)) for place in places} for matrix in MATRICES.values()}
     return {matrix: {place: cells for place, cells in of.items() if cells} for matrix, of in found.items()}
 
 
@@ -114,6 +110,12 @@ def of_bench():
         MATRICES[name.title()]: by_code((position, codes, cells[of]) for position, row in enumerate(names.split(", "), 1) for codes, of in rows[row])
         for name, names in BENCH_MATRIX.findall(text)
     }
+
+
+def of_peer():
+    """Matrix One as SQLite's report has it, without blanks."""
+    listed = re.search(r"(?s)INSERT INTO code VALUES\n(.*?);", text_of(BENCH / "peers" / "report_sqlite.sql")).group(1)
+    return by_code((int(position), codes, re.sub(r"\W", "", cells).translate(PEER_LETTERS)) for position, codes, cells in all_of(PEER_ROW, listed))
 
 
 def of_dissector():
@@ -138,11 +140,17 @@ def explained(matrix, conditions):
 
 def made():
     """The lists of conditions that days are made of: for each its file's and its own name, and its conditions."""
-    files = [path for folder in (TESTS, BENCH) for path in sorted(folder.glob("*.py"))] + sorted(BENCH.glob("src/**/*.rs")) + sorted(BENCH.glob("tests/*.rs"))
-    files += sorted((ROOT / "clib" / "fuzz").glob("*.c"))
+    files = [path for folder in (TESTS, BENCH, TOOLS) for path in sorted(folder.glob("*.py"))] + sorted(BENCH.glob("src/**/*.rs"))
+    files += [*sorted(BENCH.glob("tests/*.rs")), *sorted((ROOT / "clib" / "fuzz").glob("*.c")), *sorted(CRATES.glob("*/src/**/*.rt"))]
     for path in files:
         for name, listed in MADE.findall(text_of(path)):
-            yield path.name, name, [condition.replace(" ", "_") for condition in QUOTED.findall(listed)]
+            if (conditions := QUOTED.findall(listed)) and " for " not in listed:
+                yield path.name, name, [condition.replace(" ", "_") for condition in conditions]
+
+
+def codes_in(conditions):
+    """The codes of conditions, each with its position."""
+    return {place for condition in conditions for place in enumerate(condition, 1)}
 
 
 class Codes(Case):
@@ -172,8 +180,8 @@ class Codes(Case):
         """RULES: each code of a matrix has its cells in the program, and one that is only the other's is refused."""
         for matrix, of in self.rules.items():
             with self.subTest(matrix):
-                wanted = [(condition_of(*place), of[place]) for place in self.rules["2"] if place in of]
-                self.assertEqual(explained(matrix, [condition_of(*place) for place in self.rules["2"]]), wanted)
+                wanted = [(plain_table.condition_of(*place), of[place]) for place in self.rules["2"] if place in of]
+                self.assertEqual(explained(matrix, [plain_table.condition_of(*place) for place in self.rules["2"]]), wanted)
 
     def test_plain_tape(self):
         """RULES: the plain reader of tables has its codes, and the plain tape their cells."""
@@ -181,11 +189,13 @@ class Codes(Case):
         self.assertEqual(of_plain_tape(), self.rules)
 
     def test_drawn_conditions(self):
-        """tests/plain_table.py: a seeded day is drawn from conditions of each way in which a code of a matrix changes figures."""
-        listed = {"1": plain_table.CONDITIONS, "2": plain_table.CONDITIONS + plain_table.CONDITIONS_TWO}
-        for matrix, of in self.rules.items():
-            drawn = {plain_tape.listed_cells(matrix, condition) for condition in listed[matrix]}
-            self.assertLessEqual(set(of.values()), drawn, matrix)
+        """tests/, bench/: seeded days are drawn from all codes of their matrix, and of no other."""
+        [one, two] = [[of for file, _, of in made() if file == "make_day.rs"][at] for at in (0, 1)]
+        for first, more in [(plain_table.CONDITIONS, plain_table.CONDITIONS_TWO), (one, two)]:
+            self.assertEqual(codes_in(first), self.rules["1"].keys())
+            self.assertEqual(codes_in(first + more), self.rules["2"].keys())
+            for condition in more:
+                self.assertFalse(codes_in([condition]) <= self.rules["1"].keys(), f"{condition} is of Matrix One too")
 
     def test_import(self):
         """IMPORT: the reader of a vendor's file has the codes of each position."""
@@ -201,25 +211,20 @@ class Codes(Case):
         for matrix, of in self.rules.items():
             for place, cells in of.items():
                 with self.subTest(matrix=matrix, place=place):
-                    self.assertEqual(rows.get((matrix, condition_of(*place))), cells)
+                    self.assertEqual(rows.get((matrix, plain_table.condition_of(*place))), cells)
 
     def test_bench(self):
-        """bench/: the plain matrices are those of RULES, and the maker of lines draws from all codes."""
+        """bench/: the plain matrices are those of RULES, and so is that of the report in SQL, which has no blanks."""
         self.assertEqual(of_bench(), self.rules)
-        [codes] = MADE_CODES.findall(text_of(BENCH / "src" / "bin" / "make_lines.rs"))
-        self.assert_positions([listed.replace(" ", "_") for listed in QUOTED.findall(codes)])
+        self.assertEqual(of_peer(), {place: cells for place, cells in self.rules["1"].items() if place[1] != "_"})
 
     def test_makers_of_days(self):
-        """tests/, bench/: the days are made of conditions that there are, those of Matrix Two alone of no other, and a bad code is none."""
-        known = {matrix: {tuple(place) for place in of} for matrix, of in self.rules.items()}
+        """tests/, bench/, clib/, crates/: no more lists of conditions are kept than there have to be, of codes that exist, and a bad code is none."""
         for file, name, conditions in (lists := list(made())):
-            self.assertTrue(conditions, (file, name))
             for condition in conditions:
                 with self.subTest(file=file, list=name, condition=condition):
-                    places = set(enumerate(condition, 1))
                     self.assertEqual(len(condition), len(self.positions))
-                    self.assertEqual(places - known["2"], set())
-                    self.assertFalse(name.endswith("TWO") and places <= known["1"], "it is of Matrix One too")
-        self.assertLessEqual(MAKERS, {file for file, _, _ in lists})
+                    self.assertLessEqual(codes_in([condition]), self.rules["2"].keys())
+        self.assertEqual({file for file, _, _ in lists}, MAKERS)
         [bad] = re.findall(r"Fault::BadCondition => body\[34\] = b'(.)'", text_of(BENCH / "src" / "bin" / "make_day.rs"))
         self.assertNotIn(bad, self.positions[0])

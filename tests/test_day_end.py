@@ -38,7 +38,8 @@ class DayEnds(Case):
     def wait_written(self, live, written):
         """Waits until the report is written, while the day still runs."""
         until = time.monotonic() + LIMIT
-        while not written.read_bytes().endswith(b",3\n"):
+        wanted = self.report_of_three()
+        while written.read_bytes() != wanted:
             self.assertIsNone(live.poll(), "the day ended first")
             self.assertLess(time.monotonic(), until, "no report")
             time.sleep(0.02)
@@ -52,7 +53,7 @@ class DayEnds(Case):
             self.assertIsNone(live.poll())
             follower.close()
             self.assertEqual(ended(live).status, 0)
-            self.assertEqual(written.read_bytes().count(b"AB,"), 2)
+            self.assertEqual(written.read_bytes(), self.report_of_three())
 
     def test_followers_are_waited_for_as_long_as_the_file_says(self):
         """A connection that stays open, and one that never comes, are given up some seconds after the end, with status 0 and an account."""
@@ -63,7 +64,7 @@ class DayEnds(Case):
             self.assertEqual(follower.recv(2), b"\0\1")
             end = ended(live)
             self.assertEqual(end.status, 0)
-            self.assertIn(b"followers were waited for no longer", end.said)
+            self.assertIn(b"tapebox: 1 follower was waited for no longer\n", end.said)
             self.assertLess(time.monotonic() - since, 8)
             self.assertGreater(time.monotonic() - since, 1)
 
@@ -71,7 +72,7 @@ class DayEnds(Case):
         """Without seconds to wait the day ends once its report is written, though a follower is awaited."""
         with self.day(1, "followers_wait = 0\n") as (live, _, written):
             self.assertEqual(ended(live).status, 0)
-            self.assertEqual(written.read_bytes().count(b"AB,"), 2)
+            self.assertEqual(written.read_bytes(), self.report_of_three())
 
     def test_words_in_a_row_write_the_report_at_last(self):
         """Words in a row wait for their followers first, and say nothing."""

@@ -21,6 +21,8 @@ limit = 16777216
 connect_within = 86400
 followers_wait = 0
 control = "day.control"
+journal = "day.journal"
+journal_sync = false
 """
 # A text of the file, what stands in its place, and the fault.
 FAULTS = [
@@ -57,6 +59,9 @@ FAULTS = [
     ('control = "day.control"', 'control = ""', "control: not 1 to 65535 or a path"),
     ('control = "day.control"', "control = 0", "control: not 1 to 65535 or a path"),
     ('control = "day.control"', "control = [9300]", "control: a list, not a number or a path"),
+    ('journal = "day.journal"', 'journal = ""', "journal: not a path"),
+    ('journal = "day.journal"', "journal = true", "journal: a boolean, not a path"),
+    ("journal_sync = false", "journal_sync = 0", "journal_sync: a number, not a boolean"),
     ('["AB", "CD"]', "7", "symbols: a number, not a list or a file's name"),
     ('["AB", "CD"]', "[]", "symbols: empty"),
     ('["AB", "CD"]', '["AB", 7]', "symbols, entry 2: a number, not a string"),
@@ -106,11 +111,13 @@ class DayFiles(Case):
         day = day_file.read(self.file(DAY))
         self.assertEqual((day.symbols, day.participants, day.matrix, day.limit), (["AB", "CD"], ["N", "Q"], 2, 16_777_216))
         self.assertEqual((day.connect_within, day.followers_wait, day.control), (86_400, 0, str(self.folder / "day.control")))
+        self.assertEqual((day.journal, day.journal_sync), (str(self.folder / "day.journal"), False))
         self.assertEqual(day_file.read(self.changed('["AB", "CD"]', '"good.txt"')), day)
         self.assertEqual(day_file.read(self.changed('"day.control"', "9300")).control, 9_300)
         sample = day_file.read(SAMPLES / "day.toml")
         self.assertEqual((sample.matrix, sample.limit, sample.a, sample.b), (1, 1_048_576, [9_101], [9_102]))
-        self.assertEqual((sample.connect_within, sample.followers_wait, sample.control), (None, None, None))
+        self.assertEqual((sample.connect_within, sample.followers_wait, sample.control), (None, None, 9_300))
+        self.assertEqual((sample.journal, sample.journal_sync), (None, True))
 
     def test_the_tools_name_a_fault(self):
         """FORMATS, "A day's file": each fault has its text."""
@@ -128,7 +135,7 @@ class DayFiles(Case):
     def test_the_program_says_where_it_is_no_toml(self):
         """FORMATS, "A day's file": a fault of syntax has a line and a column, which counts characters."""
         path = self.changed("port = 9000", '"é" = 9000')
-        for text, place in [(path.read_text() + "limit = 1\n", "line 15, column 1: "), (DAY.replace("= 7", "= = 7"), "line 9, column 11: ")]:
+        for text, place in [(path.read_text() + "limit = 1\n", "line 17, column 1: "), (DAY.replace("= 7", "= = 7"), "line 9, column 11: ")]:
             with self.subTest(place):
                 end = run(["follow", self.file(text)])
                 self.assertEqual((end.status, end.written), (2, b""))

@@ -6,14 +6,9 @@ import tempfile
 from contextlib import ExitStack
 from pathlib import Path
 
-from support import LIMIT, ROOT, SAMPLES, TAPEBOX, TOOLS, Case, desk, ended, listens, ports, report_rows, run, started, wait_bound, wait_for
+from support import LIMIT, ROOT, SAMPLES, TAPEBOX, TOOLS, Case, desk, ended, listens, ports, report_rows, run, started, wait_bound, wait_for, without_places
 
 CORRECTIONS = SAMPLES / "corrections.csv"
-
-
-def figures_of(report):
-    """The rows of a report without the places, which depend on how the lines' messages came."""
-    return [{column: value for column, value in row.items() if not column.endswith("_at")} for row in report_rows(report)]
 
 
 class DayFile(Case):
@@ -59,11 +54,11 @@ class DayFile(Case):
         self.assert_accounts(live)
         self.assert_accounts(follow, live.written)
         batch = desk("report", given=CORRECTIONS.read_bytes()).written
-        self.assertEqual([figures_of(text) for text in (shown.encode(), live.written)], [figures_of(batch)] * 2)
+        self.assertEqual([without_places(text) for text in (shown.encode(), live.written)], [without_places(batch)] * 2)
 
     def test_the_sample(self):
-        """README, "A running day": the sample differs from the day of these cases in its ports alone."""
-        own = re.sub(r"\d{4,}", "PORT", self.day()[0].read_text(encoding="utf-8"))
+        """README, "A running day": the sample differs from the day of these cases in its ports alone, and has a control socket."""
+        own = re.sub(r"\d{4,}", "PORT", self.day(more="control = 9300\n")[0].read_text(encoding="utf-8"))
         lines = [line.split("#")[0].rstrip() for line in (SAMPLES / "day.toml").read_text(encoding="utf-8").splitlines()]
         sample = "".join(f"{line}\n" for line in lines if line)
         self.assertEqual(re.sub(r"\d{4,}", "PORT", sample), own)

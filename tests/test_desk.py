@@ -15,7 +15,7 @@ import plain_explain
 from plain_table import COLUMNS, dollars
 from preloaded import CALL_FAILED, failing
 from refused import run_refused
-from support import HEADINGS, LIMIT, OUT_OF_MEMORY, READ_FAULT, SAMPLES, TAPE_COLUMNS, WRITE_FAULT, Case, desk, started, table_of
+from support import LIMIT, OUT_OF_MEMORY, READ_FAULT, SAMPLES, TAPE_COLUMNS, WRITE_FAULT, Case, desk, report_row, report_text, started, table_of, tape_row
 
 WORDS = ("report", "tape", "explain")
 # Seconds until the longest table must have been read, on a busy machine.
@@ -27,31 +27,37 @@ class Rising(Case):
 
     @staticmethod
     def row(at):
-        """The canonical row of the report of this number."""
-        return f"report,N,{at},0,AB,,{dollars(10_000 + at)},100,@___"
+        """The canonical row of the report of this number, by its columns."""
+        price = dollars(10_000 + at)
+        return {"kind": "report", "participant": "N", "number": at, "moment": 0, "symbol": "AB", "target": "", "price": price, "size": 100, "condition": "@___"}
 
     def table(self, count):
         """So many rows."""
-        return ("\n".join([",".join(COLUMNS), *map(self.row, range(1, count + 1))]) + "\n").encode()
+        return table_of([COLUMNS, *([row[name] for name in COLUMNS] for row in map(self.row, range(1, count + 1)))])
 
     def tape(self, count):
         """The tape of these rows."""
-        rows = (f"{at},,{self.row(at)},1.0001,{last},1.0001,{last},{100 * at},{at}" for at in range(1, count + 1) for last in [dollars(10_000 + at)])
-        return ("\n".join([",".join(TAPE_COLUMNS), *rows]) + "\n").encode()
+        rows = []
+        for row in map(self.row, range(1, count + 1)):
+            at, marks = row["number"], {"open": "1.0001", "high": row["price"], "low": "1.0001", "last": row["price"]}
+            rows.append(tape_row(tape=at, volume=100 * at, trades=at, **row, **marks))
+        return f"{','.join(TAPE_COLUMNS)}\n{''.join(rows)}".encode()
 
-    @staticmethod
-    def explained(count):
+    def explained(self, count):
         """What became of the reports of these rows."""
         sets = {1: "open low"} | {count: "high last"} if count > 1 else {1: "open high low last"}
-        rows = (f"AB,{at},{at + 1},N,{at},0,{dollars(10_000 + at)},100,@___,standing,,yes,yes,yes,{set_},yes,yes,{set_}"
-                for at in range(1, count + 1) for set_ in [sets.get(at, "")])
-        return ("\n".join([",".join(plain_explain.COLUMNS), *rows]) + "\n").encode()
+        rows = []
+        for row in map(self.row, range(1, count + 1)):
+            at = row["number"]
+            row |= {"tape": at, "row": at + 1, "state": "standing", "changed": "", "sets": sets.get(at, ""), "own_sets": sets.get(at, "")}
+            rows.append([row.get(column, "yes") for column in plain_explain.COLUMNS])
+        return table_of([plain_explain.COLUMNS, *rows])
 
     @staticmethod
     def report(count):
         """The report of these rows."""
-        figures = f"10001,1,{10_000 + count},{count},10001,1,{10_000 + count},{count},{100 * count},{count}"
-        return f"{HEADINGS}\nAB,ALL,{figures}\nAB,N,{figures}\n".encode()
+        first, last = (10_001, 1), (10_000 + count, count)
+        return report_text(report_row("AB", who, [first, last, first, last], 100 * count, count) for who in ("ALL", "N"))
 
 
 class Long(Rising):
@@ -189,6 +195,34 @@ class RefusedMemory(Case):
             self.assertGreater(ends["nothing"], 0, ends)
             self.assertTrue(word == "report" or ends["a front"], ends)
             self.assertGreater(ends["no lines"], 0, ends)
+
+    def refused_requests(self, word, given):
+        """How often a word wrote nothing and told want of memory, where each request that is met is refused in turn; else the request was not missed."""
+        whole, refused = desk(word, given=given), 0
+        for request in range(1, self.MOST):
+            was_met, ended = run_refused([word], request, given=given)
+            if not was_met:
+                break
+            if ended != whole:
+                refused += 1
+                with self.subTest(word, request=request):
+                    self.assert_fault(ended, OUT_OF_MEMORY)
+        return refused
+
+    def test_each_request_of_what_is_found(self):
+        """OPERATING, "Statuses", 5: whichever request of `check` or `verify` is refused, nothing is written; or it was not missed."""
+        rows = [["N", at, f"S{at % 3}", "10.00", 100, "@___"] for at in range(1, self.ROWS)]
+        head = ["participant", "number", "symbol", "price", "size", "condition"]
+        tape = desk("tape", given=table_of([head, *rows])).written
+        # No fault, and more faults than are told one by one; a tape as it is recorded, one that differs from its first figures on, and one that is cut.
+        for word, given in (
+            ("check", table_of([head, *rows])),
+            ("check", table_of([head, *([who, 0, *rest] for who, _, *rest in rows)])),
+            ("verify", tape),
+            ("verify", tape.replace(b",100,1\n", b",100,2\n")),
+            ("verify", tape[:-1]),
+        ):
+            self.assertGreater(self.refused_requests(word, given), 0)
 
     def kind_of(self, word, ended, whole):
         """How a run ended one of whose requests was refused, beside the whole run."""

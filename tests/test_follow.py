@@ -19,7 +19,7 @@ from pathlib import Path
 import plain_feed
 from preloaded import CALL_FAILED, failing
 from support import DISAGREES, HOST, LIMIT, READ_FAULT, SAMPLES, TAPEBOX, WRITE_FAULT, Case, Ended
-from support import connect, ended, message, ports, report, reports, run, started, tried, wait_bound, wait_connected, wait_for, wait_read
+from support import connect, ended, message, ports, report, report_row, report_rows, reports, run, started, tried, wait_bound, wait_connected, wait_for, wait_read
 
 SESSION = 7
 LOSSY_DAY = Path(__file__).resolve().with_name("lossy_day.sh")
@@ -57,7 +57,8 @@ def answer_of(*packets):
 
 def row_of(count):
     """The consolidated row of so many reports at 10.00."""
-    return f"AB,ALL,100000,1,100000,1,100000,1,100000,{count},{100 * count},{count}\n".encode()
+    first = (100_000, 1)
+    return report_row("AB", "ALL", [first, first, first, (100_000, count)], 100 * count, count)
 
 
 class Follower:
@@ -177,7 +178,7 @@ class Packets(Case):
             peer.by_b(packet(b"E", 2))
             end = ended(peer.follow)
         self.assertEqual((end.status, end.said), (0, 10 * CALL_FAILED))
-        self.assertIn(row_of(2), end.written)
+        self.assertIn(row_of(2), report_rows(end.written))
 
     def test_packets_that_are_refused(self):
         """RULES, "A subscriber": another entry under a number that waits, one past the end, and another end change nothing: the follower drops
@@ -190,7 +191,7 @@ class Packets(Case):
             peer.connection.sendall(answer_of(entries(2, 2)))
             end = ended(peer.follow)
         self.assertEqual((end.status, end.said), (0, b""))
-        self.assertIn(row_of(4), end.written)
+        self.assertIn(row_of(4), report_rows(end.written))
 
     def test_a_byte_beyond_the_longest_packet(self):
         """FORMATS, "Packets": the longest packet and a byte more are no packet. The follower drops them and asks for the entries, which come by the
@@ -204,7 +205,7 @@ class Packets(Case):
             peer.connection.sendall(answer_of(longest))
             end = ended(peer.follow)
         self.assertEqual((end.status, end.said), (0, b""))
-        self.assertIn(row_of(16), end.written)
+        self.assertIn(row_of(16), report_rows(end.written))
 
     def test_all_is_held_while_a_request_waits(self):
         """OPERATING: a follower that holds all and knows the end closes its connection and ends, though its request was not
@@ -217,7 +218,7 @@ class Packets(Case):
             self.assertIsNone(peer.request())
             end = ended(peer.follow)
         self.assertEqual((end.status, end.said), (0, b""))
-        self.assertIn(row_of(3), end.written)
+        self.assertIn(row_of(3), report_rows(end.written))
 
 
 class LateLines(Case):
@@ -248,7 +249,7 @@ class LateLines(Case):
             send(peer.by_a, peer.by_b)
             ended_well = ended(peer.follow)
             self.assertEqual((ended_well.status, ended_well.said), (0, b""))
-            self.assertIn(row_of(count), ended_well.written)
+            self.assertIn(row_of(count), report_rows(ended_well.written))
             return asked.result()
 
     @tried(5)
@@ -298,7 +299,7 @@ class LateLines(Case):
             peer.by_a(packet(b"E", number + 1))
             end = ended(peer.follow)
         self.assertEqual((end.status, end.said), (0, b""))
-        self.assertIn(row_of(number + 1), end.written)
+        self.assertIn(row_of(number + 1), report_rows(end.written))
         self.assertLess(statistics.median(seconds), self.AT_ONCE)
 
     def bring(self, peer, last):
@@ -329,7 +330,7 @@ class LateLines(Case):
             peer.by_a(packet(b"E", number + self.AHEAD))
             end = ended(peer.follow)
         self.assertEqual((end.status, end.said), (0, b""))
-        self.assertIn(row_of(number + self.AHEAD), end.written)
+        self.assertIn(row_of(number + self.AHEAD), report_rows(end.written))
         self.assertLess(statistics.median(seconds), self.AT_ONCE)
 
 
@@ -406,7 +407,7 @@ class Tails(Case):
                 participant.close()
                 ends = [ended(live), ended(follow)]
         self.assertEqual([(end.status, end.said) for end in ends], [(0, 2 * CALL_FAILED), (0, b"")])
-        self.assertIn(row_of(1), ends[1].written)
+        self.assertIn(row_of(1), report_rows(ends[1].written))
 
 
 class LateDays(Case):
@@ -670,7 +671,7 @@ class LossyDays(Case):
         self.assert_traded(done.stdout, trades, volume)
 
     def test_lossy_lines(self):
-        """README, "A running day": both reports are equal where packets of both lines are lost, and where all of line A or B is."""
+        """README, "Two minutes: a lossy day": both reports are equal where packets of both lines are lost, and where all of line A or B is."""
         for lose in ("30", "100,10", "0,100"):
             with self.subTest(lose):
                 self.assert_day(LOSE=lose)

@@ -2,11 +2,12 @@
 
 import contextlib
 import socket
+import struct
 import tempfile
 import time
 from pathlib import Path
 
-from support import DISAGREES, HOST, LIMIT, READ_FAULT, Case, ended, ports, started, wait_read
+from support import DISAGREES, HOST, LIMIT, READ_FAULT, WRITE_FAULT, Case, ended, ports, report_rows, started, wait_read
 from test_follow import SESSION, Follower, answer_of, entries, packet, row_of
 
 DAY = """\
@@ -69,9 +70,28 @@ class Conflicts(Case):
             peer.connection.sendall(answer_of(entries(2, 2)))
             end = ended(peer.follow)
         self.assertEqual(end.status, 0)
-        self.assertIn(row_of(2), end.written)
+        self.assertIn(row_of(2), report_rows(end.written))
         self.assertIn(b"tapebox: two senders of session 7: number 2 was told of in two ways\n", end.said)
         self.assertIn(b"tapebox: line A: 3 packets, 1 dropped: 1 with another entry\n", end.said)
+
+    def test_stray_packets_far_apart(self):
+        """OPERATING, "What `follow` does": each number of which a stray packet tells otherwise is asked for, also where the answer takes several packets."""
+        for price, status in [("10.00", 0), ("99.00", DISAGREES[0])]:
+            with self.subTest(price), day() as peer:
+                for first in (1, 9, 17, 26):
+                    peer.by_a(entries(first, first + 7))
+                self.assertEqual(peer.request(), (25, 1))
+                for number in (2, 23):
+                    peer.by_b(entries(number, number, "99.00"))
+                wait_read(peer.follow, peer.ports[1])
+                # What is read by now is taken too.
+                time.sleep(0.3)
+                peer.connection.sendall(answer_of(entries(25, 25)))
+                self.assertEqual(peer.request(), (2, 22))
+                peer.by_a(packet(b"E", 33))
+                wait_read(peer.follow, peer.ports[0])
+                peer.connection.sendall(answer_of(entries(2, 8), entries(9, 16), entries(17, 23, price)))
+                self.assertEqual(ended(peer.follow).status, status)
 
     def test_an_end_that_is_not_the_day_s(self):
         """OPERATING: a packet past the known end has the retransmission asked for the number above it."""
@@ -103,7 +123,7 @@ class Conflicts(Case):
             peer.connection.sendall(answer_of(entries(9, 9)))
             end = ended(peer.follow)
         self.assertEqual(end.status, 0)
-        self.assertIn(row_of(9), end.written)
+        self.assertIn(row_of(9), report_rows(end.written))
 
 
 class Accounts(Case):
@@ -122,7 +142,7 @@ class Accounts(Case):
             peer.connection.sendall(BEYOND)
             end = ended(peer.follow)
         self.assertEqual(end.status, DISAGREES[0])
-        self.assertIn(row_of(1), end.written)
+        self.assertIn(row_of(1), report_rows(end.written))
         self.assertIn(b"tapebox: line A: 4 packets, 2 dropped: 1 no packet, 1 of another session\n", end.said)
         self.assertIn(b"tapebox: session 9 is heard, and session 7 was asked for\n", end.said)
         self.assertIn(b"tapebox: the report is of the first 1 entry\n", end.said)
@@ -148,7 +168,18 @@ class Connections(Case):
                 peer.connection.sendall(answer_of(entries(2, 2)))
                 end = ended(peer.follow)
         self.assertEqual(end.status, 0)
-        self.assertIn(row_of(2), end.written)
+        self.assertIn(row_of(2), report_rows(end.written))
+
+    def test_a_request_that_is_not_written(self):
+        """OPERATING, "Statuses", 4: a request that can't be written, after which there is no other connection, is a write fault, and of no output."""
+        with day(within=1) as peer:
+            peer.server.close()
+            peer.connection.setsockopt(socket.SOL_SOCKET, socket.SO_LINGER, struct.pack("ii", 1, 0))
+            peer.connection.close()
+            peer.by_a(packet(b"H", 2))
+            end = ended(peer.follow)
+        self.assertEqual((end.status, end.written), (WRITE_FAULT[0], b""))
+        self.assertTrue(end.said.endswith(b" by retransmission\ntapebox: write fault\n"), end.said)
 
     def test_a_retransmission_that_never_comes(self):
         """OPERATING, "Statuses", 3: after that time the retransmission is named."""

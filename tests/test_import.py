@@ -14,7 +14,8 @@ from pathlib import Path
 import plain_explain
 import plain_table
 import plain_tape
-from support import HEADINGS, ROOT, SAMPLES, TAPEBOX, TOOLS, Case, desk, run, transcripts
+import stored_outputs
+from support import MARKS, ROOT, SAMPLES, TAPEBOX, TOOLS, Case, desk, report_rows, run, transcripts
 from test_reports import OWN_PYTHON, has_pandas
 
 SCRIPT = TOOLS / "from_taq.py"
@@ -82,11 +83,6 @@ def left_out(count, why, row):
     return f"from_taq.py: {count} row{'s' * (count > 1)} left out: {why}, first at row {row}\n".encode()
 
 
-def figures(mark):
-    """A figure with its place, as a report has them."""
-    return [mark.price, mark.place] if mark else ["", ""]
-
-
 def plain_report(table):
     """The report of a table, as the plain tape has it."""
     messages = plain_table.read(table)
@@ -95,13 +91,7 @@ def plain_report(table):
     tape = plain_tape.Tape(symbols, participants, len(messages), "1")
     for message in messages:
         tape.admit(message)
-    rows = [HEADINGS.split(",")]
-    for symbol, who in product(symbols, [None, *participants]):
-        told = tape.summary(symbol, who)
-        if who is None or told.trades:
-            marks = [field for mark in (told.open, told.high, told.low, told.last) for field in figures(mark)]
-            rows.append([symbol, who or "ALL", *marks, told.volume, told.trades])
-    return "".join(",".join(map(str, row)) + "\n" for row in rows).encode()
+    return stored_outputs.report_of(tape)
 
 
 class Imports(Case):
@@ -121,8 +111,8 @@ class Imports(Case):
 
     def all_figures(self, table):
         """The consolidated figures of the first symbol: open, high, low, last, volume and trades."""
-        fields = desk("report", given=table).written.decode().splitlines()[1].split(",")
-        return [*fields[2:10:2], *fields[10:]]
+        row = report_rows(desk("report", given=table).written)[0]
+        return [row[name] for name in (*MARKS, "volume", "trades")]
 
 
 class Trades(Imports):

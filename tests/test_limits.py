@@ -2,13 +2,18 @@
 
 import array
 import contextlib
+import json
 import sys
+import tempfile
+from pathlib import Path
 
 from support import DISAGREES, Case, connect, ended, ports, report, reports, started, wait_bound, wait_connected
 
 SESSION = 7
 # The entries of a day that names no limit.
 FEED_TAPE_MOST = 1_048_576
+# Seconds until a day of so many entries, all of which are written out as rows, must have ended.
+LONG = 240
 # Where a message has its number, and in how many bytes.
 NUMBER_AT, NUMBER_BYTES = 4, 4
 
@@ -80,3 +85,45 @@ class Limits(Case):
         self.assertEqual(ends[0].written, ends[1].written)
         for end in ends:
             self.assert_counts(end, most)
+
+    @contextlib.contextmanager
+    def day_of_a_file(self, limit):
+        """A day of N and Q whose file has this limit: `live`, the connections of N and Q, and for each of three followers its arguments and its ports.
+        The first two take the file, and the last one, a `watch`, its words in a row."""
+        line, other_line, retransmission, *row = ports(9)
+        a, b = row[:3], row[3:]
+        keys = {"symbols": ["AB"], "participants": ["N", "Q"], "port": line, "retransmission": retransmission, "a": a, "b": b}
+        keys |= {"followers": 3, "session": SESSION, "limit": limit}
+        with contextlib.ExitStack() as stack:
+            path = Path(stack.enter_context(tempfile.TemporaryDirectory()), "day.toml")
+            path.write_text("".join(f"{key} = {json.dumps(value)}\n" for key, value in keys.items()), encoding="utf-8")
+            live = stack.enter_context(started(["live", path]))
+            participants = [stack.enter_context(connect(port)) for port in (line, other_line)]
+            words = [["follow", path], ["watch", "--follower", 2, path]]
+            words.append(["watch", "AB", "N,Q", a[2], b[2], retransmission, SESSION, 1, limit])
+            yield live, participants, list(zip(words, zip(a, b))), retransmission
+
+    def test_more_entries_by_a_file(self):
+        """FORMATS, `limit`: so is one of a day's file, by `live`, `follow` and `watch`; and a LIMIT of `watch` in a row."""
+        most = FEED_TAPE_MOST + 1
+        with contextlib.ExitStack() as stack:
+            live, participants, followers, retransmission = stack.enter_context(self.day_of_a_file(most))
+            # What followers write goes to files, which no reader keeps from growing.
+            texts = [stack.enter_context(tempfile.TemporaryFile()) for _ in followers]
+            follows = []
+            for (words, bound), text in zip(followers, texts):
+                follows.append(stack.enter_context(started(words, stdout=text)))
+                wait_bound(follows[-1], *bound)
+            wait_connected(live, retransmission, len(follows))
+            participants[0].settimeout(LONG)
+            participants[0].sendall(many_reports("N", most + 1))
+            for participant in participants:
+                participant.close()
+            ends = [ended(program, LONG) for program in (live, *follows)]
+            for text in texts:
+                text.seek(0)
+            self.assertEqual([end.status for end in ends], [0] * len(ends))
+            self.assert_traded(ends[0].written, most)
+            self.assertEqual(texts[0].read(), ends[0].written)
+            # The names of the columns stand before the rows.
+            self.assertEqual([sum(1 for _ in text) for text in texts[1:]], [1 + most] * 2)

@@ -334,9 +334,8 @@ class LongDay(Case):
             text, other = lived.read(), followed.read()
         self.assertEqual(statuses, [0, 0])
         self.assertTrue(text == other, "the reports differ")
-        rows = text.splitlines()
-        self.assertEqual(len(rows), len(self.SYMBOLS) + 2)
-        self.assertTrue(rows[1].endswith(f",{100 * self.REPORTS},{self.REPORTS}".encode()), rows[1])
+        self.assertEqual(len(report_rows(text)), len(self.SYMBOLS) + 1)
+        self.assert_traded(text, self.REPORTS)
 
 
 class Terms(Case):

@@ -4,16 +4,21 @@ import contextlib
 import os
 import re
 import socket
+import struct
 import tempfile
 import threading
 import time
+import unittest
 from pathlib import Path
 
-from support import DISAGREES, HOST, READ_FAULT, Case, connect, ended, ports, report, reports, run, started, wait_bound, wait_for, wait_read
+from support import DISAGREES, HOST, READ_FAULT, WRITE_FAULT, Case
+from support import connect, ended, ports, report, reports, run, started, traded, wait_bound, wait_for, wait_read
 
 SESSION = 7
 # A report of a symbol that the day does not have.
 UNLISTED = "ZZ"
+# Seconds for which nobody connects.
+ALONE = 2
 
 
 class Day:
@@ -21,8 +26,8 @@ class Day:
 
     def __init__(self, folder, **keys):
         self.folder = Path(folder)
-        self.port, self.next_port, *lines, self.retransmission = ports(7)
-        self.a, self.b = lines[:2], lines[2:]
+        self.port, self.next_port, *lines, self.retransmission = ports(9)
+        self.a, self.b = lines[:3], lines[3:]
         self.path = self.write("day.toml", **keys)
 
     def write(self, name, **keys):
@@ -43,13 +48,13 @@ class Day:
         path.write_text("".join(f"{key} = {value!r}\n".replace("'", '"') for key, value in values.items() if value is not None))
         return path
 
-    def live(self):
+    def live(self, **options):
         """`live` of the day."""
-        return started(["live", self.path])
+        return started(["live", self.path], **options)
 
-    def follow(self, *options, follower=1):
+    def follow(self, *options, follower=1, **streams):
         """`follow` of the day at a follower's place."""
-        return started(["follow", "--follower", follower, *options, self.path])
+        return started(["follow", "--follower", follower, *options, self.path], **streams)
 
     def wait_followed(self, follow, follower=1):
         """Waits until a follower has its lines."""
@@ -93,15 +98,16 @@ class Ends(Case):
         """OPERATING: `end` ends the day as if each line had ended: what was read is admitted, and its followers have the whole of it."""
         with day(followers=1, followers_wait=30) as it, it.live() as live, it.follow() as follow:
             it.wait_followed(follow)
-            with sent(it.port, reports("N", 50)), sent(it.next_port, reports("Q", 30)):
+            with sent(it.port, reports("N", 50)), sent(it.next_port, reports("Q", 30) + report("Q", 31)[:5]):
                 it.wait_status(live, "tape number 80,")
                 self.assertEqual(run(["end", it.path]).written, b"ending\n")
                 over = ended(live)
             followed = ended(follow)
         self.assertEqual((over.status, followed.status), (0, 0))
         self.assertEqual(followed.written, over.written)
-        self.assertIn(b"tapebox: N: 50 messages, 50 admitted, last number 50\n", over.said)
-        self.assertIn(b"AB,Q,", over.written)
+        self.assertIn(b"tapebox: N: 50 messages, 50 admitted, last number 50\ntapebox: N: the day was ended while the line was open\n", over.said)
+        self.assertIn(b"tapebox: Q: 30 messages, 30 admitted, last number 30\ntapebox: Q: the day was ended within a message\n", over.said)
+        self.assertEqual(traded(over.written, who="Q"), (30, 3_000))
 
     def test_end_under_load(self):
         """OPERATING: `end` under load has a report of what was admitted, and of nothing else."""
@@ -124,8 +130,7 @@ class Ends(Case):
                 sender.join()
         self.assertEqual(over.status, 0)
         admitted = [int(count) for count in re.findall(rb"[NQ]: \d+ messages, (\d+) admitted", over.said)]
-        row = next(row for row in over.written.splitlines() if row.startswith(b"AB,ALL,"))
-        self.assertEqual(int(row.split(b",")[-1]), sum(admitted))
+        self.assert_traded(over.written, sum(admitted))
 
     def test_a_second_end(self):
         """OPERATING: a second `end` has the day wait for its followers no longer."""
@@ -133,12 +138,12 @@ class Ends(Case):
             with sent(it.port, reports("N", 3)), sent(it.next_port, b""):
                 it.wait_status(live, "tape number 3,")
                 self.assertEqual(run(["end", it.path]).written, b"ending\n")
-                it.wait_status(live, "all lines have ended")
+                it.wait_status(live, "the day was ended\nall lines have ended\n")
                 self.assertIsNone(live.poll())
                 self.assertEqual(run(["end", it.path]).written, b"ending without waiting for followers\n")
                 over = ended(live)
         self.assertEqual(over.status, 0)
-        self.assertIn(b"AB,ALL,", over.written)
+        self.assert_traded(over.written, 3)
 
     def test_an_end_before_all_have_connected(self):
         """OPERATING: `end` before all participants have connected ends the day with those that did."""
@@ -147,6 +152,7 @@ class Ends(Case):
             self.assertEqual(run(["end", it.path]).status, 0)
             over = ended(live)
         self.assertEqual(over.status, 0)
+        self.assertIn(b"tapebox: Q: did not connect before the day was ended\n", over.said)
 
     def test_the_report_comes_before_the_last_follower_has_gone(self):
         """OPERATING: the report is written once the lines have ended and the end was sent, whoever still asks."""
@@ -156,7 +162,7 @@ class Ends(Case):
                     sent(port, data).close()
                 os.set_blocking(live.stdout.fileno(), False)
                 written = bytearray()
-                wait_for(live, "the report", lambda: written.extend(live.stdout.read() or b"") or b"AB,N," in written)
+                wait_for(live, "the report", lambda: written.extend(live.stdout.read() or b"") or traded(written, who="N") == (4, 400))
                 self.assertIsNone(live.poll())
                 run(["end", it.path])
             self.assertEqual(ended(live).status, 0)
@@ -168,7 +174,7 @@ class Ends(Case):
                 sent(port, data).close()
             over = ended(live)
         self.assertEqual(over.status, 0)
-        self.assertIn(b"AB,N,", over.written)
+        self.assert_traded(over.written, 4)
 
 
 class Missing(Case):
@@ -180,7 +186,17 @@ class Missing(Case):
             sent(it.port, reports("N", 2)).close()
             over = ended(live)
         self.assertEqual(over.status, 0)
-        self.assertRegex(over.said, rb"(?m)^tapebox: Q: .*(not connected|did not connect|never connected)")
+        self.assertIn(b"tapebox: Q: did not connect within 1 seconds\n", over.said)
+
+    def test_whoever_connects_last(self):
+        """OPERATING, "What `live` does": no line is read until all participants have connected, whichever is the last."""
+        for who, first, last in (("N", "next_port", "port"), ("Q", "port", "next_port")):
+            with self.subTest(who), day() as it, it.live() as live:
+                with sent(getattr(it, first), b""):
+                    it.wait_status(live, ": connected ")
+                    sent(getattr(it, last), reports(who, 3)).close()
+                over = ended(live)
+                self.assertEqual((over.status, traded(over.written, who=who)), (0, (3, 300)))
 
     def test_a_status_names_who_is_missing(self):
         """OPERATING: `status` names the participants that are not there, and which were."""
@@ -189,6 +205,65 @@ class Missing(Case):
             said = it.status()
         self.assertIn("the end waits for the lines of N Q\n", said)
         self.assertIn("Q: not connected\n", said)
+        self.assertNotIn("follower", said)
+
+    def test_a_second_connection_of_a_participant(self):
+        """OPERATING: a participant's port takes one connection, also while others are waited for."""
+        with day() as it, it.live() as live, sent(it.port, reports("N", 2)):
+            it.wait_status(live, "(?s)N: connected.*Q: not connected")
+            with self.assertRaises(ConnectionRefusedError):
+                socket.create_connection((HOST, it.port)).close()
+            self.assertEqual(run(["end", it.path]).status, 0)
+            self.assertEqual(ended(live).status, 0)
+
+    def test_a_status_says_how_many_followers_are_missing(self):
+        """OPERATING: `status` says for how many of the followers the end waits, and how many of these have not connected."""
+        with day(followers=3) as it, it.live() as live, it.follow() as follow:
+            it.wait_followed(follow)
+            with sent(it.port, reports("N", 5)), sent(it.next_port, b""):
+                it.wait_status(live, "follower 1: ")
+                said = it.status()
+            self.assertEqual(ended(follow).status, 0)
+            it.wait_status(live, r"follower 1: .*, ended\n")
+            left = it.status()
+            self.assertEqual(run(["end", it.path]).written, b"ending\n")
+            self.assertEqual(run(["end", it.path]).written, b"ending without waiting for followers\n")
+            self.assertEqual(ended(live).status, 0)
+        self.assertIn("the end waits for the lines of N Q\nthe end waits for 3 of 3 followers: 2 not connected, 1 served\nN: ", said)
+        self.assertIn("all lines have ended\nthe end waits for 2 of 3 followers: 2 not connected, 0 served\nN: ", left)
+
+    def test_a_status_says_since_when(self):
+        """OPERATING, "How a day is operated": a status says for how many seconds the day runs, and after how many participants and followers connected."""
+        began = time.monotonic()
+        with day(followers=1) as it, it.live() as live:
+            it.wait_status(live, "tape number 0,")
+            time.sleep(ALONE)
+            with sent(it.port, b""), sent(it.next_port, b""), connect(it.retransmission):
+                it.wait_status(live, "(?m)^follower 1: ")
+                status = it.status()
+                most = time.monotonic() - began
+            self.assertEqual(ended(live).status, 0)
+        for begins in ("", "N: connected ", "Q: connected ", "follower 1: "):
+            with self.subTest(begins):
+                seconds = re.search(rf"(?m)^{begins}since (\d+) s, ", status)
+                self.assertTrue(seconds, status)
+                self.assertTrue(ALONE <= int(seconds[1]) <= most, status)
+
+    def test_a_status_counts_what_a_follower_asks_for(self):
+        """OPERATING: `status` says how often a follower has asked and was answered, and how many bytes it was given."""
+        request = struct.pack(">QIH", SESSION, 1, 8)
+        with day(followers=1) as it, it.live() as live, connect(it.retransmission) as follower:
+            with sent(it.port, reports("N", 3)), sent(it.next_port, b""):
+                it.wait_status(live, "tape number 3,")
+                follower.sendall(request + request[:5])
+                it.wait_status(live, "answered 1 times")
+                given = len(follower.recv(65_536))
+                self.assertRegex(it.status(), rf"follower 1: since \d+ s, asked 1 times, answered 1 times, {given} bytes, served\n")
+                follower.sendall(request[5:])
+                it.wait_status(live, f"asked 2 times, answered 2 times, {2 * given} bytes, served")
+                for _ in range(2):
+                    self.assertEqual(run(["end", it.path]).status, 0)
+                self.assertEqual(ended(live).status, 0)
 
     def test_a_port_that_is_taken(self):
         """OPERATING, "Statuses", 3: a port that is taken is named, with what it is for."""
@@ -218,6 +293,15 @@ class Missing(Case):
                 self.assertEqual((asked.status, asked.written), (READ_FAULT[0], b""))
                 self.assertRegex(asked.said.decode(), rf"\Atapebox: control {re.escape(str(it.folder))}/day.control: [^\n]+\n\Z")
 
+    def test_nobody_at_a_control_port(self):
+        """OPERATING: a port is named as one."""
+        port = ports(1)[0]
+        for word in ("status", "end"):
+            with self.subTest(word), day(control=port) as it:
+                asked = run([word, it.path])
+                self.assertEqual((asked.status, asked.written), (READ_FAULT[0], b""))
+                self.assertEqual(asked.said.decode(), f"tapebox: control port {port}: connection refused\n")
+
     def test_a_day_without_a_control_socket(self):
         """FORMATS: a file without `control` has none to ask, which is told as a missing key."""
         with day(control=None) as it:
@@ -239,11 +323,11 @@ class Said(Case):
     """What is said of a day at its end."""
 
     def test_unlisted_symbols(self):
-        """OPERATING: messages that were refused are told by number and name, with the first one's number."""
+        """OPERATING: messages that were refused are told by number and name, with the first one's number, in the status and at the end."""
         data = b"".join(report("N", number, UNLISTED if number in (2, 3, 5) else "AB") for number in range(1, 7))
         with day() as it, it.live() as live:
-            for port, bytes_of in [(it.port, data), (it.next_port, b"")]:
-                sent(port, bytes_of).close()
+            with sent(it.port, data), sent(it.next_port, b""):
+                it.wait_status(live, r"N: [^\n]*, 6 messages, 3 admitted, last number 6\nN: 3 refused by \d+ \w+, the first with number 2\n")
             over = ended(live)
         self.assertEqual(over.status, 0)
         self.assertIn(b"tapebox: N: 6 messages, 3 admitted, last number 6\n", over.said)
@@ -253,10 +337,71 @@ class Said(Case):
         """OPERATING: a line that did not end cleanly is told, with how it ended."""
         with day() as it, it.live() as live:
             with sent(it.port, reports("N", 2) + b"\xff\xff"), sent(it.next_port, b""):
-                it.wait_status(live, "N: .*ended|N: ended")
+                it.wait_status(live, "N: ended")
             over = ended(live)
         self.assertEqual(over.status, 0)
-        self.assertRegex(over.said, rb"(?m)^tapebox: N: (its line|the line|line) .*")
+        self.assertIn(b"tapebox: N: 2 messages, 2 admitted, last number 2\ntapebox: N: the line ended at a length that no message has\n", over.said)
+
+    def test_a_line_that_is_reset(self):
+        """OPERATING: so is one whose participant resets it, and one that ends within a message."""
+        with day() as it, it.live() as live:
+            with sent(it.port, reports("N", 2)) as participant, sent(it.next_port, reports("Q", 1) + report("Q", 2)[:5]):
+                it.wait_status(live, "tape number 3,")
+                participant.setsockopt(socket.SOL_SOCKET, socket.SO_LINGER, struct.pack("ii", 1, 0))
+            over = ended(live)
+        self.assertEqual(over.status, 0)
+        self.assertIn(b"tapebox: N: 2 messages, 2 admitted, last number 2\ntapebox: N: the line ended at a read that failed\n", over.said)
+        self.assertIn(b"tapebox: Q: 1 messages, 1 admitted, last number 1\ntapebox: Q: the line ended within a message\n", over.said)
+
+    def test_participants_that_are_swapped(self):
+        """OPERATING: messages that came by another participant's line are refused, and told."""
+        with day() as it, it.live() as live:
+            for port, bytes_of in [(it.port, reports("Q", 5)), (it.next_port, reports("N", 4))]:
+                sent(port, bytes_of).close()
+            over = ended(live)
+        self.assertEqual(over.status, 0)
+        for who, count in [("N", 5), ("Q", 4)]:
+            self.assertIn(f"tapebox: {who}: {count} messages, 0 admitted, last number 0\n".encode(), over.said)
+            self.assertIn(f"tapebox: {who}: {count} refused by 33 WrongLine, the first with number 1\n".encode(), over.said)
+
+
+@contextlib.contextmanager
+def closed_pipe():
+    """A pipe to be written to, which nobody reads."""
+    read, write = os.pipe()
+    os.close(read)
+    try:
+        yield write
+    finally:
+        os.close(write)
+
+
+class Unwritten(Case):
+    """Reports that can't be written."""
+
+    def run_both(self, output):
+        """How `live` and `follow` end that write to this output."""
+        with day(followers=1) as it, it.live(stdout=output) as live, it.follow(stdout=output) as follow:
+            it.wait_followed(follow)
+            for port, data in [(it.port, reports("N", 9)), (it.next_port, reports("Q", 4))]:
+                sent(port, data).close()
+            return ended(live), ended(follow)
+
+    def test_a_report_that_nobody_reads(self):
+        """OPERATING, "Statuses", 4: of a report that nobody reads any more nothing is said."""
+        with closed_pipe() as output:
+            over, followed = self.run_both(output)
+        for end, last in [(over, b"last number 4\n"), (followed, b" by retransmission\n")]:
+            self.assertEqual(end.status, WRITE_FAULT[0])
+            self.assertTrue(end.said.endswith(last), end.said)
+
+    @unittest.skipUnless(Path("/dev/full").is_char_device(), "no /dev/full")
+    def test_a_report_that_finds_no_room(self):
+        """OPERATING, "Statuses", 4: what can't be written is named, and why."""
+        with open("/dev/full", "wb") as output:
+            for end in self.run_both(output):
+                self.assertEqual(end.status, WRITE_FAULT[0])
+                self.assertTrue(end.said.endswith(b"\ntapebox: standard output: no space left\n"), end.said)
 
 
 class Followers(Case):
@@ -284,7 +429,7 @@ class Followers(Case):
                 live.kill()
                 followed = ended(follow)
         self.assertEqual(followed.status, READ_FAULT[0])
-        self.assertIn(b"AB,N,", followed.written)
+        self.assert_traded(followed.written, 20)
         self.assertIn(b"tapebox: the report is of the first 20 entries\n", followed.said)
 
     def test_a_wrong_session(self):
@@ -318,13 +463,14 @@ class Followers(Case):
 
     def test_three_followers(self):
         """OPERATING: several followers are served at once, and hold the same."""
-        with day(followers=2, followers_wait=30) as it, it.live() as live, it.follow() as first, it.follow(follower=2) as second:
-            it.wait_followed(first)
-            it.wait_followed(second, 2)
+        with day(followers=3, followers_wait=30) as it, it.live() as live, contextlib.ExitStack() as followed:
+            follows = [followed.enter_context(it.follow(follower=place)) for place in (1, 2, 3)]
+            for place, follow in enumerate(follows, 1):
+                it.wait_followed(follow, place)
             for port, data in [(it.port, reports("N", 300)), (it.next_port, reports("Q", 200))]:
                 sent(port, data).close()
-            over, others = ended(live), [ended(first), ended(second)]
-        self.assertEqual([end.status for end in (over, *others)], [0, 0, 0])
+            over, others = ended(live), [ended(follow) for follow in follows]
+        self.assertEqual([end.status for end in (over, *others)], [0, 0, 0, 0])
         for end in others:
             self.assertEqual(end.written, over.written)
 
@@ -347,7 +493,39 @@ class Floods(Case):
                     self.assertEqual(run(["end", it.path]).written, b"ending\n")
             over = ended(live)
         self.assertEqual(over.status, 0)
-        self.assertIn(b"AB,Q,", over.written)
+        self.assertEqual(traded(over.written, who="Q"), (10, 1_000))
+
+    def asking(self, it):
+        """A connection to a day's control socket."""
+        client = socket.socket(socket.AF_UNIX, socket.SOCK_STREAM)
+        client.settimeout(15)
+        client.connect(str(it.folder / "day.control"))
+        return client
+
+    def test_a_silent_connection(self):
+        """FORMATS: a connection ends after ten seconds without a byte, and others are answered meanwhile."""
+        with day() as it, it.live() as live:
+            it.wait_status(live, "tape number 0,")
+            with self.asking(it) as client:
+                began = time.monotonic()
+                client.sendall(b"stat")
+                it.wait_status(live, r"\Asince [1-9]\d* s, tape number 0,")
+                self.assertEqual(client.recv(100), b"")
+                self.assertGreater(time.monotonic() - began, 8)
+
+    def test_answers_that_nobody_takes(self):
+        """FORMATS: a connection ends if it takes nothing of an answer for a second."""
+        with day() as it, it.live() as live:
+            it.wait_status(live, "tape number 0,")
+            with self.asking(it) as client:
+                client.sendall(b"status\n" * 5_000)
+                time.sleep(2)
+                got = bytearray()
+                with contextlib.suppress(ConnectionResetError):
+                    while piece := client.recv(65_536):
+                        got += piece
+            self.assertIn(b"tape number 0,", got)
+            self.assertLess(got.count(b"\n\n"), 5_000)
 
     def test_a_bad_line(self):
         """FORMATS: a line that is no command is answered, and changes nothing."""

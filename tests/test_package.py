@@ -2,13 +2,14 @@
 
 import os
 import re
+import shlex
 import shutil
 import subprocess
 import tempfile
 import unittest
 from pathlib import Path
 
-from support import ROOT, SAMPLES, TAPEBOX, TOOLS, Case, Ended, run
+from support import ROOT, SAMPLES, TAPEBOX, TOOLS, Case, Ended, connect, ended, ports, report, run, started, traded, wait_bound, wait_for
 
 import board
 
@@ -22,6 +23,14 @@ def called(*words, **options):
     if done.returncode:
         raise AssertionError(f"{words}: status {done.returncode}: {done.stdout}{done.stderr}")
     return done.stdout
+
+
+def command(unit, key, folder):
+    """A command of a unit for the day `day`, with the program at hand, and a folder in the place of the system's."""
+    (line,) = re.findall(rf"(?m)^{key}=-?(.*)$", (ROOT / "packaging" / unit).read_text())
+    for written, meant in [("/usr/bin/tapebox", TAPEBOX), ("/etc/tapebox", folder), ("%S", folder), ("%i", "day"), ("$$", "$")]:
+        line = line.replace(written, str(meant))
+    return shlex.split(line)
 
 
 @unittest.skipUnless(shutil.which("dpkg-deb"), "no dpkg-deb")
@@ -131,6 +140,28 @@ class Package(Case):
                 done = subprocess.run(["systemd-analyze", "verify", unit], capture_output=True, text=True, check=False)
                 lines = [line for line in done.stderr.splitlines() if "is not executable" not in line and "Command 'man " not in line]
                 self.assertEqual(lines, [])
+
+    def test_a_day_by_the_units(self):
+        """packaging: by its units' commands a day hears no signal, is followed, and is ended by the word that stops it, with report and tape in their files."""
+        with tempfile.TemporaryDirectory() as name:
+            line, a, b, retransmission = ports(4)
+            files = [Path(name, unit, "day.csv") for unit in ("tapebox-live", "tapebox-watch")]
+            for file in files:
+                file.parent.mkdir()
+            keys = f'symbols = ["AB"]\nparticipants = ["N"]\nport = {line}\na = [{a}]\nb = [{b}]\nretransmission = {retransmission}\n'
+            Path(name, "day.toml").write_text(f'{keys}followers = 1\nsession = 7\ncontrol = "control"\nconnect_within = 30\n')
+            (live, *words), (watch, *rest) = (command(f"{file.parent.name}@.service", "ExecStart", name) for file in files)
+            end, *last = command("tapebox-live@.service", "ExecStop", name)
+            with started(words, program=live) as living, started(rest, program=watch) as watching, connect(line) as participant:
+                wait_bound(watching, a, b)
+                participant.sendall(report("N", 1))
+                living.terminate()
+                wait_for(watching, "a row", lambda: b"\n1," in files[1].read_bytes())
+                self.assertEqual(run(last, program=end).status, 0)
+                for running in (living, watching):
+                    self.assert_accounts(ended(running), b"")
+            self.assertEqual(traded(files[0].read_bytes(), "AB"), (1, 100))
+            self.assertTrue(files[1].read_bytes().splitlines()[1].startswith(b"1,,report,N,1,"))
 
     def test_without_a_proved_program(self):
         """tools/package.sh, 1: a program that is not there, or a folder, is named; 2: other words."""

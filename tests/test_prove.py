@@ -52,13 +52,13 @@ class Prove(Case):
             return ended, (kit / "begun").read_text(encoding="utf-8").splitlines()
 
     def test_a_crate_that_is_not_proved(self):
-        """README, "Prove it": it says what is left, and ends then, however long the others would take."""
+        """README, "How to check the proofs": it says what is left, and ends then, however long the others would take."""
         ended, _ = self.proved([("slow", SLOW, 0, ""), ("wrong", 0.2, 1, ""), ("tapebox", 0, 0, "slow, wrong")])
         self.assertEqual(ended.status, 1)
         self.assertRegex(ended.said, rb"\Arun: wrong is not proved \(status 1\)\nrun: left: [^\n]*slow[^\n]*; the next time it goes on there\n\Z")
 
     def test_processes(self):
-        """README, "Prove it": crates that can be proved at once share the processors, and one alone has all."""
+        """README, "How to check the proofs": crates that can be proved at once share the processors, and one alone has all."""
         ended, begun = self.proved([("lower", 1, 0, ""), ("beside", 0.1, 0, ""), ("upper", 0, 0, "lower"), ("tapebox", 0, 0, "upper, beside")])
         self.assertEqual(ended.status, 0, ended.said)
         self.assertEqual(sorted(begun[:2]), ["beside --jobs 2", "lower --jobs 2"])

@@ -8,13 +8,14 @@ import signal
 import sys
 import unittest
 
+import plain_table
 from support import LIMIT, ROOT, TESTS, Case, connect, desk, ended, ports, started, wait_bound, wait_connected
 
 EXAMPLES = ROOT / "clib" / "examples"
 LIBRARY = ROOT / "clib" / "libtapebox.so"
 HEAD = "kind,participant,number,moment,symbol,target,price,size,condition\n"
-# How many columns of a readable tape the receivers write, without its second, which is the refusal.
-COLUMNS = 11
+# The columns of a readable tape that the receivers write.
+COLUMNS = ["tape", *plain_table.COLUMNS]
 
 
 def table(count):
@@ -54,8 +55,8 @@ class Receivers(Case):
 
     def assert_followed(self, receivers, given, *relay):
         """Each receiver writes the columns of the table's readable tape up to the condition."""
-        tape = csv.reader(io.StringIO(desk("tape", given=given).written.decode()))
-        wanted = [[row[0], *row[2:COLUMNS]] for row in tape if not row[1] or row[1] == "refused"]
+        tape = csv.DictReader(io.StringIO(desk("tape", given=given).written.decode()))
+        wanted = [COLUMNS, *([row[name] for name in COLUMNS] for row in tape if not row["refused"])]
         for (script, _), end in zip(receivers, self.written(receivers, given, *relay)):
             with self.subTest(script):
                 self.assertEqual((end.status, end.said), (0, b""))

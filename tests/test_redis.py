@@ -1,6 +1,7 @@
 """tools/tape_to_redis.py and tools/tape_from_redis.py, over a server of Redis that the case starts."""
 
 import contextlib
+import csv
 import os
 import shutil
 import signal
@@ -129,7 +130,7 @@ class Redis(Case):
         rows = self.tape.splitlines(keepends=True)
         with self.add() as adding:
             adding.communicate(b"".join(rows[:10]), LIMIT)
-        rows[9] = rows[9].replace(b",0,", b",1,", 1)
+        rows[9] = rows[9].replace(b"\n", b"0\n")
         with self.add() as adding:
             _, said = adding.communicate(b"".join(rows), LIMIT)
             self.assertEqual(adding.returncode, 1)
@@ -150,7 +151,7 @@ class Redis(Case):
                 self.assert_accounts(ended(adding))
                 self.assertEqual(live.wait(LIMIT), 0)
         done = run([FROM, "tapebox:7", "--redis", self.url], program=PYTHON)
-        self.assertEqual([row.split(b",")[2] for row in done.written.splitlines()[1:]], [b"report", b"cancel"])
+        self.assertEqual([row["kind"] for row in csv.DictReader(done.written.decode().splitlines())], ["report", "cancel"])
 
     def wait(self, what, holds):
         """Waits until this holds."""

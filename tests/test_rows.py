@@ -7,11 +7,14 @@ import re
 import shutil
 import sys
 import tempfile
+import types
 import unittest
 from pathlib import Path
 
+import plain_feed
 import plain_orders
 import play_rows
+from plain_tape import Refused, Summary
 from support import ROOT, TESTS, Case, run
 
 FILES = sorted((ROOT / "rows").glob("*.rows"))
@@ -52,6 +55,61 @@ PLANTED = [
     ("plain_feed.py", "self.entries[-1] != entry", "False", "Another summary than the feed's stops a subscriber for good"),
     ("plain_feed.py", "raise Refused(42, drained)", "raise Refused(42, drained - 1)", "Another summary than the feed's stops a subscriber for good"),
     ("plain_feed.py", "    if asked != session:\n", "    if False:\n", "A request is answered by packets of what is published, or by a refusal"),
+]
+
+# Steps that can't be taken at the beginning of a row.
+NO_STEPS = [
+    "tap AB / N",
+    "tape AB / N more",
+    "N 1 report AB 10.00 100 @___ -> 1",
+    "drain -> 0",
+    "read packet",
+    "close now",
+    "spell hex 0",
+    "spell X",
+]
+
+
+class OtherSummaries(plain_feed.Subscriber):
+    """A subscriber whose summaries are those of no report."""
+
+    def summary(self, symbol, who=None):
+        return Summary(None, None, None, None, 0, 0)
+
+
+def other_decode(data):
+    """A reader of messages that calls no bytes at all too many."""
+    if not data:
+        raise Refused(11)
+    return plain_feed.decode(data)
+
+
+def other_is_listed(matrix, condition):
+    """A matrix with one code more, whose byte is above those of ASCII."""
+    return condition == "\xe9___" or plain_feed.is_listed(matrix, condition)
+
+
+# A tape of one report, which subscribers hold.
+HELD = """tape AB / N
+N 1 report AB 10.00 100 @___ -> 1
+subscriber
+A packets 1..1 -> fresh 1
+drain -> 1
+held -> all 1
+"""
+# What the player answers where rules answer otherwise, or entries differ: what is otherwise in the plain rules, and the steps.
+OTHERS = [
+    ({"Subscriber": OtherSummaries}, HELD.replace("all 1", "all 1 with other summaries")),
+    ({}, f"{HELD}tape AB / N\nN 1 report AB 10.01 100 @___ -> 1\nheld -> others\n"),
+    (
+        {},
+        f"{HELD}N 2 cancel AB 1 -> 2\nread packet packet 1..2 -> version 1, session 7, entry 1 N 1 report AB 10.00 100 @___, "
+        "entry 2 N 2 cancel AB 1 after it volume 0, trades 0\n",
+    ),
+    ({}, f"{HELD}entry 0 -> none\nentry 1 -> N 1 report AB 10.00 100 @___\nentry 2 -> none\n"),
+    ({"decode": other_decode}, "fronts message message N 1 report AB 10.00 100 @___ -> 11 Oversize or 12 Short\n"),
+    ({"is_listed": other_is_listed}, "codes 1 1 -> @CNR\xe9\n"),
+    ({}, f"{HELD}A beat 1 with 00200000 at 10 -> 54 BadCount / nothing / 54 BadCount / nothing\n"),
 ]
 
 
@@ -103,7 +161,7 @@ class Rows(Case):
 
     def test_a_step_that_is_none_is_a_difference(self):
         """rows/README.md, "Lines": a step that can't be taken is a difference too, whether it wants an answer or not."""
-        for step in ["tap AB / N", "N 1 report AB 10.00 100 @___ -> 1", "drain -> 0", "read packet", "close now", "spell hex 0", "spell X"]:
+        for step in NO_STEPS:
             with self.subTest(step):
                 ended = play("--over", self.RULES, "-", given=f"row One\n{step}\n")
                 self.assertEqual(ended.status, 1)
@@ -124,7 +182,7 @@ class RowsOfTheLibrary(Rows):
         self.assertEqual(ended.written.decode().splitlines()[-1], f"{script.count(' -> ')} answers of 2 rows, 0 differ")
         for refusal in plain_orders.REFUSALS:
             with self.subTest(refusal):
-                self.assertGreater(script.count(f" -> {refusal}\n"), 100)
+                self.assertGreater(script.count(f" -> {refusal}\n"), 50)
 
 
 class RowsOfReports(Case):
@@ -160,7 +218,7 @@ class RowsOfReports(Case):
 class Page(Case):
     def test_each_row_is_named_once(self):
         """ROWS, "The suite": it names the rows of each file in their order, and no two rows have one name."""
-        page = " ".join((ROOT / "docs" / "ROWS.md").read_text(encoding="utf-8").split())
+        page = " ".join((ROOT / "rows" / "ROWS.md").read_text(encoding="utf-8").split())
         names = [title for _, title, _ in rows()]
         self.assertEqual(len(set(names)), len(names))
         for file in FILES:
@@ -169,6 +227,14 @@ class Page(Case):
 
 
 class Player(Case):
+    def test_what_is_otherwise_is_told(self):
+        """rows/README.md, "Players": summaries, entries, fronts, codes and ways that differ are told, each by an answer of its own."""
+        for names, steps in OTHERS:
+            rules = types.SimpleNamespace(**(vars(plain_feed) | names))
+            with self.subTest(steps), contextlib.redirect_stdout(io.StringIO()) as written:
+                [(_, played)] = play_rows.play("-", f"row One\n{steps}", rules)
+                self.assertEqual((played.differ, written.getvalue()), (0, ""))
+
     def test_bad_arguments(self):
         """tests/play_rows.py: a module or a file that can't be read, or another word, ends it with status 2 before anything is played."""
         for words in (["--over", "no_module", *FILES], [*FILES, "none.rows"], ["--other"]):

@@ -1,10 +1,12 @@
 """The sockets of a running day's programs, as the kernel's tables have them."""
 
 import contextlib
+import json
 import os
 import re
 import socket
 import sys
+import tempfile
 from pathlib import Path
 
 from support import HOST, Case, addresses, connect, ended, listens, ports, report, started, wait_bound, wait_connected, wait_for
@@ -14,8 +16,8 @@ PROTOCOLS = ("tcp", "tcp6", "udp", "udp6")
 # The address of the host in these tables, and what stands there for no peer.
 HERE = f"{int.from_bytes(socket.inet_aton(HOST), sys.byteorder):08X}"
 NOBODY = "00000000"
-# Where a row has the number by which a process has the socket.
-NUMBER = 9
+# Where a row has the number by which a process has the socket, and where one of a UNIX socket does, before its path.
+NUMBER, UNIX_NUMBER = 9, 6
 
 
 def numbers(process):
@@ -33,6 +35,12 @@ def sockets(process):
     own = numbers(process)
     rows = {row[NUMBER]: (protocol, *row[1:3]) for protocol in PROTOCOLS for row in addresses(protocol)}
     return {number: rows.get(number) for number in own & numbers(process)}
+
+
+def numbers_at(path):
+    """The number of each socket in the kernel's table of UNIX sockets that has this path."""
+    rows = [row.split() for row in Path("/proc/net/unix").read_text(encoding="utf-8").splitlines()[1:]]
+    return {row[UNIX_NUMBER] for row in rows if row[UNIX_NUMBER + 1 :] == [str(path)]}
 
 
 def is_here(found):
@@ -56,19 +64,17 @@ class Sockets(Case):
         own = {(protocol, port_of(address)) for protocol, address, _ in found.values()}
         self.assertLessEqual(wanted, own | {(protocol, -port_of(peer)) for protocol, _, peer in found.values()})
 
-    def test_a_running_day(self):
-        """README: all sockets of a running day are on 127.0.0.1: those of `live` before the participants come and while it runs, and those of its
-        followers."""
-        line, other_line, a, b, other_a, other_b, retransmission = ports(7)
-        lines = {("tcp", line), ("tcp", other_line), ("tcp", retransmission)}
-        words = ["live", "AB", "N,Q", line, f"{a},{other_a}", f"{b},{other_b}", retransmission, 2, SESSION]
+    def assert_day_here(self, row, words, control=()):
+        """All sockets are on 127.0.0.1 of a day of N and Q on this row of ports: those of `live` before the participants come and while it runs, and those
+        of its followers, by the words of the three programs. It may have a control port."""
+        line, other_line, a, b, other_a, other_b, retransmission = row
+        listeners = {("tcp", port) for port in (line, other_line, retransmission, *control)}
         with contextlib.ExitStack() as stack:
-            live = stack.enter_context(started(words))
-            wait_for(live, "its listeners", lambda: all(listens(port) for port in (line, other_line, retransmission)))
-            self.assert_here(live, lines)
+            live = stack.enter_context(started(words[0]))
+            wait_for(live, "its listeners", lambda: all(listens(port) for _, port in listeners))
+            self.assert_here(live, listeners)
             participants = [stack.enter_context(connect(port)) for port in (line, other_line)]
-            follow = stack.enter_context(started(["follow", "AB", "N,Q", a, b, retransmission, SESSION]))
-            watch = stack.enter_context(started(["watch", "AB", "N,Q", other_a, other_b, retransmission, SESSION]))
+            follow, watch = (stack.enter_context(started(of_follower)) for of_follower in words[1:])
             wait_bound(follow, a, b)
             wait_bound(watch, other_a, other_b)
             wait_connected(live, retransmission, 2)
@@ -76,13 +82,47 @@ class Sockets(Case):
             # The names of the columns, and the entry that has gone the whole way.
             for _ in range(2):
                 self.assertTrue(watch.stdout.readline())
-            self.assert_here(live, lines)
+            self.assert_here(live, listeners)
             self.assertIn("udp", {protocol for protocol, _, _ in sockets(live.pid).values()})
             self.assert_here(follow, {("udp", a), ("udp", b), ("tcp", -retransmission)})
             self.assert_here(watch, {("udp", other_a), ("udp", other_b), ("tcp", -retransmission)})
             for participant in participants:
                 participant.close()
             self.assertEqual([ended(program).status for program in (live, follow, watch)], [0, 0, 0])
+
+    @contextlib.contextmanager
+    def file_of_a_day(self, row, control):
+        """The path of a day's file of this row of ports, with a control socket, in a folder that only its owner can enter."""
+        line, _, a, b, other_a, other_b, retransmission = row
+        keys = {"symbols": ["AB"], "participants": ["N", "Q"], "port": line, "a": [a, other_a], "b": [b, other_b], "retransmission": retransmission}
+        keys |= {"followers": 2, "session": SESSION, "control": control}
+        with tempfile.TemporaryDirectory() as folder:
+            path = Path(folder, "day.toml")
+            path.write_text("".join(f"{key} = {json.dumps(value)}\n" for key, value in keys.items()), encoding="utf-8")
+            yield path
+
+    def test_a_running_day(self):
+        """README: all sockets of a running day are on 127.0.0.1."""
+        line, other_line, a, b, other_a, other_b, retransmission = row = ports(7)
+        live = ["live", "AB", "N,Q", line, f"{a},{other_a}", f"{b},{other_b}", retransmission, 2, SESSION]
+        follow = ["follow", "AB", "N,Q", a, b, retransmission, SESSION]
+        watch = ["watch", "AB", "N,Q", other_a, other_b, retransmission, SESSION]
+        self.assert_day_here(row, [live, follow, watch])
+
+    def test_a_day_of_a_file(self):
+        """OPERATING: so are all of a day that its file gives; FORMATS, "A control socket": its control port too."""
+        *row, control = ports(8)
+        with self.file_of_a_day(row, control) as path:
+            self.assert_day_here(row, [["live", path], ["follow", path], ["watch", "--follower", 2, path]], [control])
+
+    def test_a_control_socket_of_a_path(self):
+        """FORMATS, "A control socket": the one of a path is in that path's folder, and is no port."""
+        row = ports(7)
+        with self.file_of_a_day(row, "day.control") as path, started(["live", path]) as live:
+            wait_for(live, "its listeners", lambda: all(listens(port) for port in (*row[:2], row[-1])))
+            found = sockets(live.pid)
+            self.assertEqual({number for number, place in found.items() if place is None}, numbers_at(path.parent / "day.control"))
+            self.assertEqual([place for place in found.values() if place and not is_here(place)], [])
 
     def test_other_sockets_are_seen(self):
         """A socket that listens on every address, is bound to it, speaks version 6, or is in no table of the four, is not taken for one of the host."""

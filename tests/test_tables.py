@@ -7,8 +7,8 @@ from collections import Counter
 
 import plain_explain
 import plain_table
-from plain_table import COLUMNS, CONDITIONS, CONDITIONS_TWO, FIRST_ROW, TableFault
-from support import HEADINGS, SAMPLES, STORED_DAYS, TAPE_COLUMNS, Case, desk, run, table_of
+from plain_table import ANSWER, COLUMNS, CONDITIONS, CONDITIONS_TWO, FIGURES, FIRST_ROW, TableFault
+from support import HEADINGS, MARKS, SAMPLES, STORED_DAYS, TAPE_COLUMNS, Case, desk, run, table_of
 
 WORDS = ("report", "tape", "explain")
 
@@ -44,6 +44,11 @@ def refusal_lines(answers, messages):
     return "".join(sorted(lines, key=lambda line: int(re.search(r"refused: (\d+)", line)[1]))).encode()
 
 
+def columns_of(row, *names):
+    """The fields of a readable tape's row in these columns."""
+    return [row[TAPE_COLUMNS.index(name)] for name in names]
+
+
 class Days(Case):
     def assert_table(self, table, matrix="1"):
         """A table has the report and the answers that the batch gives its messages, as the plain reader reads them, and its reports became what they
@@ -59,7 +64,7 @@ class Days(Case):
         head, *rows = csv.reader(ended.written.decode().splitlines())
         self.assertEqual(head, TAPE_COLUMNS)
         wanted = [answer + [str(field) for field in plain_table.row_of(text)] for answer, text in zip(answers, messages)]
-        self.assertEqual([row[:-6] for row in rows], wanted)
+        self.assertEqual([columns_of(row, *ANSWER, *COLUMNS) for row in rows], wanted)
         self.assert_last_figures(rows, ended_report=report_in(batch))
         explained = desk("explain", matrix=matrix, given=table)
         self.assertEqual((explained.status, explained.said), (0, said))
@@ -68,10 +73,10 @@ class Days(Case):
 
     def assert_last_figures(self, rows, ended_report):
         """The last row of each symbol has the figures of the report."""
-        last = {row[TAPE_COLUMNS.index("symbol")]: row[-6:] for row in rows}
+        last = {symbol: columns_of(row, *FIGURES) for row in rows for symbol in columns_of(row, "symbol")}
         for row in csv.DictReader(ended_report.decode().splitlines()):
             if row["who"] == "ALL":
-                prices = [plain_table.dollars(int(row[name])) if row[name] else "" for name in ("open", "high", "low", "last")]
+                prices = [plain_table.dollars(int(row[name])) if row[name] else "" for name in MARKS]
                 self.assertEqual(last[row["symbol"]], [*prices, row["volume"], row["trades"]])
 
     def test_stored_days(self):
@@ -83,7 +88,7 @@ class Days(Case):
                 self.assert_table(plain_table.table([text for text in texts if plain_table.is_message(text)]))
 
     def test_tables_of_the_samples(self):
-        """README, "A day": the tables of the samples, by either matrix."""
+        """README, "Five minutes: a table": the tables of the samples, by either matrix."""
         for table in sorted(SAMPLES.glob("*.csv")):
             for matrix in "12":
                 with self.subTest(table.name, matrix=matrix):
@@ -94,8 +99,8 @@ class Days(Case):
         for matrix in "12":
             with self.subTest(matrix):
                 rows = self.assert_table(SeededDay(int(matrix)).table(), matrix)
-                self.assertEqual({row[TAPE_COLUMNS.index("kind")] for row in rows}, set(plain_table.WORDS.values()))
-                refused = {int(row[1].split()[0]) for row in rows if row[1]}
+                self.assertEqual({kind for row in rows for kind in columns_of(row, "kind")}, set(plain_table.WORDS.values()))
+                refused = {int(told.split()[0]) for row in rows for told in columns_of(row, "refused") if told}
                 self.assertEqual(refused, {35, 37, 38, 39, 43} | ({44} if matrix == "1" else set()))
 
 
@@ -275,7 +280,7 @@ class Forms(Case):
             tape = desk("tape", given=table).written
             rows = list(csv.reader(tape.decode().splitlines()))
             turned = table_of([row[::-1] for row in rows])
-            others = table_of([[*row[2:14], row[0], row[0]] for row in rows])
+            others = table_of([columns_of(row, *COLUMNS, "open", "high", "low", "tape", "tape") for row in rows])
             for again in (tape, turned, others):
                 for words in [*([word] for word in WORDS), ["encode"], ["line", "Q"]]:
                     self.assertEqual(desk(*words, given=again), desk(*words, given=table))

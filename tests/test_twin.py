@@ -14,7 +14,8 @@ from dataclasses import replace
 from pathlib import Path
 
 from plain_table import COLUMNS, CONDITIONS
-from support import BENCH, FEED_SPEED, SAMPLES, TAPEBOX, TOOLS, Case, Program, batch_line, batch_of, desk, report, run
+from support import BENCH, BENCH_FEED, SAMPLES, TAPEBOX, TOOLS, Case, Program
+from support import batch_line, batch_of, desk, report, report_row, report_text, run, without_places
 
 sys.path.append(str(BENCH))
 
@@ -48,7 +49,7 @@ class Measuring(Case):
     DAY = b"AB CD\nN Q\n" + b"".join(batch_line(report("N", number)) for number in range(1, 241))
 
     def test_counts(self):
-        """The README of feed_speed, "The feed": what the measuring program counts in each of its ways, over 240 reports in fifteen packets of which both lines lose
+        """The README of bench_feed, "The feed": what the measuring program counts in each of its ways, over 240 reports in fifteen packets of which both lines lose
         the last."""
         for words, wanted in [
             ([], "entries 240 packets 15 retransmitted 16 held 240"),
@@ -57,32 +58,37 @@ class Measuring(Case):
             (["looks"], "lines 2 messages 240 entries 240"),
         ]:
             with self.subTest(words):
-                self.assertEqual(counts(run(words, self.DAY, program=FEED_SPEED).written), wanted)
+                self.assertEqual(counts(run(words, self.DAY, program=BENCH_FEED).written), wanted)
+
+    def test_bad_arguments(self):
+        """The README of bench_feed: other arguments than those of its ways are said to be bad, with status 2."""
+        for words in (["row"], ["rows", "lines"], [""]):
+            with self.subTest(words):
+                self.assert_fault(run(words, self.DAY, program=BENCH_FEED), (2, b"bench_feed: bad arguments\n"))
 
 
 class Tables(Case):
-    def assert_day(self, matrix, table, wanted):
-        """A batch over the table by this matrix writes these answers and, without the first row, this report."""
-        ended = run(["batch", *matrix], batch_of(table))
-        self.assertEqual((ended.status, ended.said), (0, b""))
-        self.assertEqual([line for line in ended.written.decode().splitlines() if not line.startswith("symbol,")], wanted)
+    def assert_day(self, matrix, table, answers, rows):
+        """A batch over the table by this matrix writes these answers and a report of these rows."""
+        wanted = "".join(f"{answer}\n" for answer in answers).encode() + report_text(report_row("AB", *row) for row in rows)
+        self.assert_writes(run(["batch", *matrix], batch_of(table)), wanted)
 
     def test_a_day_by_either_matrix(self):
         """rows/tape.rows, "Matrix Two has odd lots among the prices and two codes more": the table's day by each matrix."""
         table = SAMPLES / "matrix-two.csv"
-        two = ["AB,ALL,101000,2,101000,2,99000,3,101000,2,250,3", "AB,N,99000,3,100000,1,99000,3,99000,3,150,2"]
-        self.assert_day(["2"], table, ["1", "2", "3", *two, "AB,Q,101000,2,101000,2,101000,2,101000,2,100,1"])
-        one = ["1", "refused 44 NotInMatrix", "refused 44 NotInMatrix", "AB,ALL,,,,,,,,,50,1", "AB,N,,,,,,,,,50,1"]
-        self.assert_day(["1"], table, one)
+        first, second, third = (100_000, 1), (101_000, 2), (99_000, 3)
+        rows = [("ALL", [second, second, third, second], 250, 3), ("N", [third, first, third, third], 150, 2), ("Q", [second] * 4, 100, 1)]
+        self.assert_day(["2"], table, "123", rows)
+        self.assert_day(["1"], table, ["1", *["refused 44 NotInMatrix"] * 2], [(who, [None] * 4, 50, 1) for who in ("ALL", "N")])
 
     def test_a_cancel_is_taken_back(self):
-        """README, "A day": with a reinstatement the table's cancelled report stands again in its first place."""
+        """README, "Five minutes: a table": with a reinstatement the table's cancelled report stands again in its first place."""
         with tempfile.NamedTemporaryFile(suffix=".csv") as file:
             file.write((SAMPLES / "corrections.csv").read_bytes() + b"reinstate,Q,3,AB,1,,,\n")
             file.flush()
-            rows = ["AB,ALL,99500,1,101000,2,99500,1,101000,2,450,3", "AB,N,99500,1,100500,3,99500,1,99500,1,250,2"]
-            wanted = [*"1234", "refused 35 Stale", *"56", *rows, "AB,Q,101000,2,101000,2,101000,2,101000,2,200,1"]
-            self.assert_day([], file.name, wanted)
+            first, second, third = (99_500, 1), (101_000, 2), (100_500, 3)
+            rows = [("ALL", [first, second, first, second], 450, 3), ("N", [first, third, first, first], 250, 2), ("Q", [second] * 4, 200, 1)]
+            self.assert_day([], file.name, [*"1234", "refused 35 Stale", *"56"], rows)
 
 
 @unittest.skipUnless(shutil.which("cargo"), "no cargo")
@@ -129,7 +135,7 @@ class PlainPrograms(Case):
         day = plain_run("make_day", "busy", 1, BYTES_MOST).written
         wanted = counts(plain_run("feed", given=day).written)
         self.assertEqual(wanted, "entries 201331 packets 12584 retransmitted 13408 held 201331")
-        self.assertEqual(counts(run([], day, program=FEED_SPEED).written), wanted)
+        self.assertEqual(counts(run([], day, program=BENCH_FEED).written), wanted)
 
     def test_lines_of_bytes(self):
         """FORMATS, "Packets", "A message's bytes" and "Requests and answers": the readers and plain ones read the same of 210,000 lines of bytes, most
@@ -190,13 +196,6 @@ class Maker:
 @unittest.skipUnless(shutil.which("parallel"), "no GNU parallel")
 class SplitDay(Case):
     ROWS = 6_000
-    # The columns of a report's row that are places.
-    PLACES = {3, 5, 7, 9}
-
-    def figures(self, written):
-        """The rows of the report in what was written, without their places."""
-        rows = csv.reader(written[written.index("symbol,who") :].splitlines())
-        return [[field for column, field in enumerate(row) if column not in self.PLACES] for row in rows]
 
     def test_parts_have_the_figures_of_the_whole(self):
         """SCALE, "A day over several tapes": a seeded day of 12 symbols by 1, 3 and 4 parts has the figures of one tape, places aside."""
@@ -205,11 +204,12 @@ class SplitDay(Case):
         with tempfile.NamedTemporaryFile("w", suffix=".csv", newline="") as table:
             csv.writer(table, lineterminator="\n").writerows([columns, *(maker.row() for _ in range(self.ROWS))])
             table.flush()
-            whole = run(["batch"], batch_of(table.name)).written.decode()
-            self.assertNotIn("refused", whole)
+            whole = run(["batch"], batch_of(table.name)).written
+            self.assertNotIn(b"refused", whole)
             for parts in (1, 3, 4):
                 with self.subTest(parts):
                     environment = os.environ | {"TAPEBOX": str(TAPEBOX)}
                     split = run([table.name, parts], program=TOOLS / "split_day.py", env=environment)
                     self.assertEqual((split.status, split.said), (0, b""))
-                    self.assertEqual(self.figures(split.written.decode()), self.figures(whole))
+                    self.assertTrue(without_places(whole))
+                    self.assertEqual(without_places(split.written), without_places(whole))

@@ -1,9 +1,12 @@
 """Recorded tapes through the built `tapebox verify`, beside what `tapebox tape` writes of the messages in them."""
 
 import csv
+import os
+import unittest
+from pathlib import Path
 
 import plain_table
-from support import SAMPLES, TAPE_COLUMNS, Case, Ended, desk, table_of
+from support import READ_FAULT, SAMPLES, TAPE_COLUMNS, WRITE_FAULT, Case, Ended, desk, table_of
 from test_tables import SeededDay
 
 ALL = b"all as recorded"
@@ -117,6 +120,17 @@ class Verify(Case):
         """FORMATS, "A readable tape": a row that is recorded as refused for a name is a difference, since a table's own tape lists each name."""
         tape = desk("tape", given=self.SAMPLE).written.replace(b",35 Stale,", b",36 UnknownSymbol,")
         self.assertEqual(desk("verify", given=tape), Ended(1, b'line 6: refused is "36 UnknownSymbol" and should be "35 Stale"\n', b""))
+
+    @unittest.skipUnless(Path("/dev/full").is_char_device(), "no /dev/full")
+    def test_a_full_disk_and_a_folder(self):
+        """OPERATING, "Statuses", 3 and 4: an output that is full, and a tape that is a folder."""
+        with open("/dev/full", "wb") as full:
+            self.assert_fault(desk("verify", given=desk("tape", given=self.SAMPLE).written, stdout=full), WRITE_FAULT)
+        folder = os.open(SAMPLES, os.O_RDONLY)
+        try:
+            self.assert_fault(desk("verify", given=folder), READ_FAULT)
+        finally:
+            os.close(folder)
 
     def test_bad_tapes(self):
         """OPERATING, "Statuses", 2: a recorded tape that is no table is told as any other, on standard error."""

@@ -103,7 +103,7 @@ class TableWords(Case):
     TABLES = [SAMPLES / "corrections.csv", SAMPLES / "matrix-two.csv"]
 
     def test_a_named_file(self):
-        """README, "Your own data": a word writes the same of a file that is named, of standard input and of standard input by the name -."""
+        """README, "Five minutes: a table": a word writes the same of a file that is named, of standard input and of standard input by the name -."""
         for table in self.TABLES:
             for words in TABLE_WORDS:
                 with self.subTest(words, table=table.name):
@@ -133,7 +133,7 @@ class TableWords(Case):
                     self.assertEqual(run([*words, *more]), two)
 
     def test_strict(self):
-        """README, "Your own data": with --strict a row that the tape refuses ends a word with 2; the rows are counted and nothing is written."""
+        """README, "Five minutes: a table": with --strict a row that the tape refuses ends a word with 2; the rows are counted and nothing is written."""
         table = self.TABLES[0]
         for words in MATRIX_WORDS:
             with self.subTest(words):
