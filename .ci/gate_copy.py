@@ -1,9 +1,9 @@
 #!/usr/bin/env python3
-"""Copies the tree for the gate, without the edits that need no try: gate_copy.py FOLDER NAMES
+"""Copies the tree for the gate, and sets the edits apart that need no try: gate_copy.py FOLDER NAMES
 
-A crate's must-fail edits are left out if .ci/refused.txt has the crate as it is, but for an eighth of such crates. Which eighth it is moves on
-with each commit of the record: so each is tried again within eight of these, and a false record doesn't last. All are copied if git does
-not tell how many there are.
+A crate's must-fail edits go to .ci/untried/ in the copy, where nothing tries them, if .ci/refused.txt has the crate as it is, but for an eighth of such
+crates. Which eighth it is moves on with each commit of the record: so each is tried again within eight of these, and a false record doesn't last.
+All are tried if git does not tell how many there are.
 What git ignores is not copied. Two lines for a reader go to the file NAMES: the crates whose edits are tried, and those that are taken
 from the record. Statuses: 0; 2 for bad words.
 """
@@ -55,6 +55,13 @@ def due(commits):
     return tried, [name for name in sums if name not in tried]
 
 
+def place_in_copy(path, taken):
+    """Where a file of the tree goes in the copy: an edit that is taken from the record goes where nothing tries it."""
+    if path.parts[:1] == ("crates",) and path.parts[2:3] == ("must-fail",) and path.parts[1] in taken:
+        return Path(".ci", "untried", path.parts[1], *path.parts[3:])
+    return path
+
+
 def main():
     parser = argparse.ArgumentParser(description=__doc__, formatter_class=argparse.RawDescriptionHelpFormatter)
     parser.add_argument("folder", type=Path, help="an empty folder outside the tree")
@@ -62,10 +69,9 @@ def main():
     words = parser.parse_args()
     tried, taken = due(commits_of_record())
     for path in tree_files():
-        if path.parts[:1] == ("crates",) and path.parts[2:3] == ("must-fail",) and path.parts[1] in taken:
-            continue
-        (words.folder / path).parent.mkdir(parents=True, exist_ok=True)
-        shutil.copy2(ROOT / path, words.folder / path)
+        copy = words.folder / place_in_copy(path, taken)
+        copy.parent.mkdir(parents=True, exist_ok=True)
+        shutil.copy2(ROOT / path, copy)
     lines = [f"ci: edits tried: {' '.join(tried) or 'none'}", f"ci: edits taken from the record: {' '.join(taken) or 'none'}"]
     words.names.write_text("".join(f"{line}\n" for line in lines), encoding="utf-8")
     return 0
