@@ -161,7 +161,9 @@ def rows_under(heading):
 
 def written_texts():
     """The files that show a report or a readable tape, or find one by its first line: pages, examples, scripts, code and its tests."""
-    yield from [*PAGES, ROOT / "python" / "README.md", *sorted(TOOLS.glob("*.py")), *sorted((ROOT / "clib" / "examples").iterdir())]
+    # What is built of the examples stands beside them, under names without an ending.
+    examples = sorted(path for path in (ROOT / "clib" / "examples").iterdir() if path.suffix)
+    yield from [*PAGES, ROOT / "python" / "README.md", *sorted(TOOLS.glob("*.py")), *examples]
     yield from [*sorted(CRATES.glob("*/src/**/*.rt")), *sorted(BENCH.glob("src/**/*.rs")), *sorted(BENCH.glob("tests/*.rs"))]
 
 
