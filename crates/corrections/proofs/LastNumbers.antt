@@ -1,4 +1,4 @@
--- The row of the last message numbers.
+-- A lemma about the row of the last message numbers, which begins as zeros.
 use Rattle.std.proofs.Common.{◌≡◌, ℕ, zero, suc, refl}
 use Rattle.std.specs.Prelude.{replicate, slice_index}
 

@@ -1,4 +1,4 @@
--- The rows of the participants seen as one finite map.
+-- Lemmas about the rows of the participants seen as one finite map: what it holds at a key, and how an insertion changes it.
 use Rattle.std.proofs.Common.{map as map_list, ◌≡◌, ◌≢◌, ℕ, zero, suc, ◌+◌, ◌-◌, ◌<◌, cond, List, [], ◌∷◌, ◌++◌, length, get_or, set, Some, None, refl, sym, ap}
 use Rattle.std.proofs.Common.{◌∙◌, inl, inr, arith}
 use Rattle.std.specs.Ordering.{nat_cmp, eq_by_cmp}
@@ -19,14 +19,14 @@ use Rattle.tape_types.specs.Ranges.{FIRST_PARTICIPANT, row_index}
 abbrev tagged : ℕ → List (ℕ × Target) → List ((ℕ × ℕ) × Target)
 tagged who es = map_list (λ e. ((who, e.0), e.1)) es
 
--- another participant's key is not among them
+-- another participant's key is not among these entries
 find-other : (w n who : ℕ) (es : List (ℕ × Target)) (rest : List ((ℕ × ℕ) × Target)) → w ≢ who
     → find pair_cmp (w, n) (tagged who es ++ rest) ≡ find pair_cmp (w, n) rest
 find-other w n who [] rest other = refl
 find-other w n who (e ∷ es) rest other =
     ap (λ b. cond b (Some e.1) (find pair_cmp (w, n) (tagged who es ++ rest))) (tied-other w n who e.0 other) ∙ find-other w n who es rest other
 
--- a key of this participant is among them, or nowhere
+-- a key of this participant is among these entries or nowhere
 find-same : (w n who : ℕ) (es : List (ℕ × Target)) (rest : List ((ℕ × ℕ) × Target)) → w ≡ who → find pair_cmp (w, n) rest ≡ None
     → find pair_cmp (w, n) (tagged who es ++ rest) ≡ find nat_cmp n es
 find-same w n who [] rest same none = none
@@ -34,13 +34,13 @@ find-same w n who (e ∷ es) rest same none =
     ap (λ b. cond b (Some e.1) (find pair_cmp (w, n) (tagged who es ++ rest))) (tied-same w n who e.0 same)
     ∙ ap (λ o. cond (eq_by_cmp nat_cmp n e.0) (Some e.1) o) (find-same w n who es rest same none)
 
--- a participant before the first row has nothing
+-- a participant before the first row has no entry
 find-before : (w n who : ℕ) (rows : List ReportRow) → w < who → find pair_cmp (w, n) (row_entries who rows) ≡ None
 find-before w n who [] before = refl
 find-before w n who (row ∷ rows) before =
     find-other w n who (map.entries row.values) (row_entries (who + 1) rows) (λ same. omega arith) ∙ find-before w n (who + 1) rows (omega arith)
 
--- the others have what their row has
+-- any other participant has what its row has
 find-row : (w n who i : ℕ) (rows : List ReportRow) → who + i ≡ w → find pair_cmp (w, n) (row_entries who rows) ≡ map.get (get_or rows i empty_row).values n
 find-row w n who i [] at = sym (map.get-empty nat_cmp n)
 find-row w n who zero (row ∷ rows) at =
@@ -56,7 +56,7 @@ get-row rows w n i d at inside =
     map.get-from_entries pair_total (row_entries FIRST_PARTICIPANT rows) (w, n) ∙ find-row w n FIRST_PARTICIPANT i rows (omega arith)
     ∙ ap (λ (r : ReportRow). map.get r.values n) (get_or_default rows i empty_row d inside)
 
--- so it is in the register that has these rows
+-- the same holds in the register that has these rows
 pub get-seen : (rows : List ReportRow) (last_numbers : List ℕ) (register : RegisterState) → record { rows = rows; last_numbers = last_numbers } ≡ register
     → (w n i : ℕ) (d : ReportRow) → i + FIRST_PARTICIPANT ≡ w → i < length rows → map.get (targets_of register) (w, n) ≡ map.get (get_or rows i d).values n
 get-seen rows last_numbers register is w n i d at inside = ap (λ r. map.get (targets_of r) (w, n)) (sym is) ∙ get-row rows w n i d at inside
@@ -67,15 +67,15 @@ pub row-seen : (rows : List ReportRow) (last_numbers : List ℕ) (register : Reg
 row-seen rows last_numbers register is w i d at inside =
     ap (λ r. row_of r w) (sym is) ∙ ap (λ n. get_or rows n empty_row) (sym at) ∙ get_or_default rows i empty_row d inside
 
--- or nothing, where it has none
+-- what is found is what the row has, or nothing if there is no row
 get-else : (rows : List ReportRow) (w n i : ℕ) → FIRST_PARTICIPANT + i ≡ w → map.get (targets_of_rows rows) (w, n) ≡ map.get (get_or rows i empty_row).values n
 get-else rows w n i at = map.get-from_entries pair_total (row_entries FIRST_PARTICIPANT rows) (w, n) ∙ find-row w n FIRST_PARTICIPANT i rows at
 
--- there is nothing by a letter before the first participant's
+-- nothing is found for a letter before the first participant's
 get-before : (rows : List ReportRow) (w n : ℕ) → w < FIRST_PARTICIPANT → map.get (targets_of_rows rows) (w, n) ≡ None
 get-before rows w n before = map.get-from_entries pair_total (row_entries FIRST_PARTICIPANT rows) (w, n) ∙ find-before w n FIRST_PARTICIPANT rows before
 
--- rows that answer alike are the same targets
+-- rows that have the values of a map at each key are that map
 same_rows : (rows : List ReportRow) (m : map.FinMap pair_cmp Target) → ((w n : ℕ) → w < FIRST_PARTICIPANT → map.get m (w, n) ≡ None)
     → ((i n : ℕ) → map.get (get_or rows i empty_row).values n ≡ map.get m (FIRST_PARTICIPANT + i, n)) → targets_of_rows rows ≡ m
 same_rows rows m before rest = map.same_map pair_total pair_exact _ _ (λ q. elim (cases_lt q.0 FIRST_PARTICIPANT) [
@@ -92,7 +92,7 @@ targets-empty rows empty = same_rows rows map.empty (λ w n lt. map.get-empty pa
     elim (cases_lt i (length rows)) [ inl lt ↦ empty i lt | inr le ↦ ap (λ (r : ReportRow). r.values) (get_or_past rows i empty_row le) ] in
     ap (λ row. map.get row n) none ∙ map.get-empty nat_cmp n ∙ sym (map.get-empty pair_cmp (FIRST_PARTICIPANT + i, n)))
 
--- one more target in a row is one more of the day
+-- one more target in a row is one more target of the day
 pub targets-insert : (rows : List ReportRow) (who n i : ℕ) (d row : ReportRow) (v : Target) → i + FIRST_PARTICIPANT ≡ who → i < length rows
     → row.values ≡ map.insert (get_or rows i d).values n v → targets_of_rows (set rows i row) ≡ map.insert (targets_of_rows rows) (who, n) v
 targets-insert rows who n i d row v at inside is = same_rows (set rows i row) (map.insert (targets_of_rows rows) (who, n) v)

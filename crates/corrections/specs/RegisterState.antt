@@ -1,4 +1,4 @@
--- What a contract sees of the register.
+-- The state of the register as contracts see it.
 use Rattle.std.specs.Prelude.{ℕ, List, slice_index, slice_index_or, refl}
 use Rattle.std.specs.Coded.{Coded, code_by, coded_ℕ, coded_list, coded×}
 use Rattle.corrections.specs.declared.target.Target.{Target}
@@ -26,6 +26,6 @@ targets_of register = targets_of_rows register.rows
 abbrev pub row_of : RegisterState → ℕ → ReportRow
 row_of register who = slice_index_or register.rows (row_index who) empty_row
 
--- a participant's greatest message number, 0 for none
+-- a participant's greatest message number, or 0 for none
 abbrev pub last_number_of : RegisterState → ℕ → ℕ
 last_number_of register who = slice_index register.last_numbers (row_index who)

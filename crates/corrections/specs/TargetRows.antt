@@ -6,11 +6,11 @@ use Rattle.corrections.specs.Targets.{Targets}
 use Rattle.tape_types.specs.Ranges.{FIRST_PARTICIPANT}
 use Rattle.tape_types.specs.RisingState.{RisingState}
 
--- the reports of one participant by their message numbers, and the room left beside them
+-- the reports of one participant by their message numbers, and the spare capacity
 abbrev pub ReportRow : Type 0
 ReportRow = RisingState Target
 
--- a row without a report, and without room
+-- a row without a report and without spare capacity
 abbrev pub empty_row : ReportRow
 empty_row = record { values = map.empty; spare = 0 }
 

@@ -1,4 +1,4 @@
--- The targets of the day as a finite map.
+-- The targets of the day as a finite map, the result of looking up a target, and each change of one.
 use Rattle.std.specs.Prelude.{◌≡◌, ℕ, cond, not, List, Option, Some, None, Result, Ok, Err, IsSomeAnd}
 use Rattle.std.specs.FinMap as map
 use Rattle.tape_types.specs.Names.{symbol_eq}
@@ -27,55 +27,55 @@ IsStanding target = IsSomeAnd target (λ t. t.standing ≡ Stands)
 abbrev pub IsCancelled : Option Target → Type 0
 IsCancelled target = IsSomeAnd target (λ t. t.standing ≡ IsGone)
 
--- ## What a target is answered
+-- ## The result of looking up a target
 
--- a report as it is found: how it stands, and its place and content
+-- a report as it is found: whether it stands, and its place and content
 abbrev pub Found : Type 0
 Found = Standing × (ℕ × Content)
 
--- the report that the key of a target under a symbol names, if this is one and is of the symbol
+-- the report that the key of a target under a symbol names, if there is one and it is of the symbol
 abbrev pub named_answer : List ℕ → Option Target → Result Found TargetFault
 named_answer symbol None = Err NoSuchReport
 named_answer symbol (Some t) = cond (not (symbol_eq symbol t.symbol)) (Err OtherSymbol) (Ok (t.standing, (t.place, t.content)))
 
--- a report that has to stand
+-- the report if it stands, else the fault
 abbrev pub if_standing : Result Found TargetFault → Result (ℕ × Content) TargetFault
 if_standing (Ok (Stands, report)) = Ok report
 if_standing (Ok (IsGone, report)) = Err Cancelled
 if_standing (Err fault) = Err fault
 
--- a report that has to be cancelled
+-- the report if it is cancelled, else the fault
 abbrev pub if_cancelled : Result Found TargetFault → Result (ℕ × Content) TargetFault
 if_cancelled (Ok (Stands, report)) = Err StandsAlready
 if_cancelled (Ok (IsGone, report)) = Ok report
 if_cancelled (Err fault) = Err fault
 
--- what a cancel or a correction is answered where the key of its target names this report, or none: its place and content
+-- the result for a cancel or a correction if the key of its target names this report, or none: its place and content
 abbrev pub target_answer : List ℕ → Option Target → Result (ℕ × Content) TargetFault
 target_answer symbol target = if_standing (named_answer symbol target)
 
--- what a reinstatement is answered
+-- the result for a reinstatement: the report's place and content
 abbrev pub cancelled_answer : List ℕ → Option Target → Result (ℕ × Content) TargetFault
 cancelled_answer symbol target = if_cancelled (named_answer symbol target)
 
--- an answer by its place alone
+-- a result with its place alone
 abbrev pub answered_place : {E : Type 0} → Result (ℕ × Content) E → Result ℕ E
 answered_place (Ok report) = Ok report.0
 answered_place (Err fault) = Err fault
 
--- what was located, by its place and content
+-- a located report with its place and content alone
 abbrev pub located_report : {E : Type 0} → Result Located E → Result (ℕ × Content) E
 located_report (Ok located) = Ok (located.place, located.content)
 located_report (Err fault) = Err fault
 
--- what was located, and how it stands
+-- a located report without its index, and whether it stands
 abbrev pub located_found : Result (Located × Standing) TargetFault → Result Found TargetFault
 located_found (Ok (located, standing)) = Ok (standing, (located.place, located.content))
 located_found (Err fault) = Err fault
 
--- ## What is noted of a report
+-- ## The changes of a report
 
--- the same report, which no longer stands
+-- the same report, cancelled
 abbrev pub cancelled_target : Target → Target
 cancelled_target t = record t { standing = IsGone }
 
@@ -83,11 +83,11 @@ cancelled_target t = record t { standing = IsGone }
 abbrev pub corrected_target : Content → Target → Target
 corrected_target content t = record t { content = content }
 
--- the same report, which stands again
+-- the same report, standing
 abbrev pub reinstated_target : Target → Target
 reinstated_target t = record t { standing = Stands }
 
--- the targets where the report that the key names, if any, is changed
+-- the targets with the report that the key names, if any, changed
 abbrev pub with_changed : (Target → Target) → Targets → ℕ × ℕ → Option Target → Targets
 with_changed change targets key None = targets
 with_changed change targets key (Some t) = map.insert targets key (change t)

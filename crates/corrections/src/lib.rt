@@ -1,4 +1,5 @@
-//! The register of a day's reports: what a cancel, a correction or a reinstatement names, and each participant's last message number.
+//! The register of a day's reports, in which the target of a cancel, a correction or a reinstatement is looked up, and of each
+//! participant's last message number.
 #![tactic(auto)]
 
 mod register;

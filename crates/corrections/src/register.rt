@@ -1,4 +1,5 @@
-//! Which report a participant's message number names, and how far each participant has numbered.
+//! The register of a day's reports, kept as one map per participant from message number to report, with each participant's
+//! last message number.
 ghost use Rattle.std.specs.Prelude.{◌≡◌, ◌<◌, ℕ, IfOk, IfSome, OnOk, OnErr, MatchOption, Some, None, if◌then◌else◌, ◌==◌};
 ghost use Rattle.std.specs.FinMap as map;
 ghost use Rattle.tape_types.specs.Ranges.{IsParticipant};
@@ -38,7 +39,7 @@ impl Model for Register {
 }
 
 impl Register {
-    /// An empty register, in which no participant has a message. It takes no memory.
+    /// An empty register, in which no participant has a message. It does not allocate.
     pub fn new(alloc: Global) -> Self
         ensures targets { targets_of result ≡ map.empty }
         ensures last_numbers { (who : ℕ) → last_number_of result who ≡ 0 }
@@ -49,8 +50,8 @@ impl Register {
         }
     }
 
-    /// Notes a report that stands, at the place of its admission and with its content. It fails only out of memory, which it asks
-    /// for only where the vector of the participant's reports is full, and then the register is unchanged.
+    /// Records a report that stands, at the place of its admission and with its content. It fails only if memory runs out, and
+    /// leaves the register unchanged then. It allocates only if the vector of the participant's reports is full.
     pub fn record(
         &mut self,
         who: Participant,
@@ -75,10 +76,10 @@ impl Register {
         self.rows[who.row_index()].insert(number, target)
     }
 
-    /// The place of the report that the target of a cancel or a correction names, where it is of the symbol and stands.
+    /// The place of the report that the target of a cancel or a correction names, if it is of the symbol and stands.
     ///
-    /// Refused, the first that applies: `NoSuchReport` where no report of the participant has the number, `OtherSymbol`
-    /// where the report is of another symbol, and `Cancelled` where it is cancelled.
+    /// Errors, the first that applies: `NoSuchReport` if no report of the participant has the number, `OtherSymbol` if the
+    /// report is of another symbol, and `Cancelled` if it is cancelled.
     pub fn find(
         &self,
         who: Participant,
@@ -91,10 +92,10 @@ impl Register {
         Ok(located.place)
     }
 
-    /// The place and the latest content of the report that the target of a reinstatement names, where it is of the symbol and
+    /// The place and the latest content of the report that the target of a reinstatement names, if it is of the symbol and
     /// cancelled.
     ///
-    /// Refused, the first that applies: `NoSuchReport` and `OtherSymbol` as in `find`, and `Standing` where the report stands.
+    /// Errors, the first that applies: `NoSuchReport` and `OtherSymbol` as in `find`, and `Standing` if the report stands.
     pub fn find_cancelled(
         &self,
         who: Participant,
@@ -107,8 +108,8 @@ impl Register {
         Ok((located.place, located.content))
     }
 
-    /// The report that the target of a cancel or a correction names, and where it lies among the participant's reports. The
-    /// refusals are those of `find`.
+    /// The report that the target of a cancel or a correction names, and its index among the participant's reports. The errors
+    /// are those of `find`.
     pub fn locate(
         &self,
         who: Participant,
@@ -125,8 +126,8 @@ impl Register {
         }
     }
 
-    /// The report that the target of a reinstatement names, and where it lies among the participant's reports. The refusals are
-    /// those of `find_cancelled`.
+    /// The report that the target of a reinstatement names, and its index among the participant's reports. The errors are those
+    /// of `find_cancelled`.
     pub fn locate_cancelled(
         &self,
         who: Participant,
@@ -143,7 +144,7 @@ impl Register {
         }
     }
 
-    /// The report that a target names, where it is of the symbol, and whether it stands.
+    /// The report that a target names, if it is of the symbol, and whether it stands.
     fn named(
         &self,
         who: Participant,
@@ -169,14 +170,14 @@ impl Register {
         Ok((located, held.standing))
     }
 
-    /// The report that a participant sent under a message number, whether it stands or is cancelled. It takes no memory.
+    /// The report that a participant sent under a message number, whether it stands or is cancelled. It does not allocate.
     pub fn report(&self, who: Participant, number: MsgNumber) -> Option<Target>
         ensures report { result ≡ map.get (targets_of self.now) (who, number) }
     {
         self.rows[who.row_index()].get(number)
     }
 
-    /// Notes that a standing report is cancelled. It takes no memory.
+    /// Marks a standing report as cancelled. It does not allocate.
     pub fn cancel(&mut self, who: Participant, target: MsgNumber)
         requires standing { IsStanding (map.get (targets_of self.old) (who, target)) }
         ensures cancelled { targets_of self.new ≡ targets_changed cancelled_target (targets_of self.old) (who, target) }
@@ -185,9 +186,9 @@ impl Register {
         self.cancel_at(who, target, 0);
     }
 
-    /// Notes that a standing report is cancelled, as `cancel` does. It looks at the index first, and searches only where another
-    /// report is there: with the index that `locate` gave, only where a report with a lower number was recorded in between. It
-    /// takes no memory.
+    /// Marks a standing report as cancelled, as `cancel` does. It looks at the index first, and searches only if another report
+    /// is there: with the index from `locate`, only if a report with a lower number was recorded in between. It does not
+    /// allocate.
     pub fn cancel_at(&mut self, who: Participant, target: MsgNumber, index: usize)
         requires standing { IsStanding (map.get (targets_of self.old) (who, target)) }
         ensures cancelled { targets_of self.new ≡ targets_changed cancelled_target (targets_of self.old) (who, target) }
@@ -202,7 +203,7 @@ impl Register {
         }
     }
 
-    /// Notes the content that a standing report is given. It takes no memory.
+    /// Replaces the content of a standing report. It does not allocate.
     pub fn correct(&mut self, who: Participant, target: MsgNumber, content: &Content)
         requires standing { IsStanding (map.get (targets_of self.old) (who, target)) }
         ensures corrected { targets_of self.new
@@ -212,8 +213,8 @@ impl Register {
         self.correct_at(who, target, 0, content);
     }
 
-    /// Notes the content that a standing report is given, as `correct` does. It looks at the index first, as `cancel_at` does. It
-    /// takes no memory.
+    /// Replaces the content of a standing report, as `correct` does. It looks at the index first, as `cancel_at` does. It does
+    /// not allocate.
     pub fn correct_at(
         &mut self,
         who: Participant,
@@ -235,7 +236,7 @@ impl Register {
         }
     }
 
-    /// Notes that a cancelled report stands again, with the content that it has. It takes no memory.
+    /// Marks a cancelled report as standing again, with the content that it has. It does not allocate.
     pub fn reinstate(&mut self, who: Participant, target: MsgNumber)
         requires cancelled { IsCancelled (map.get (targets_of self.old) (who, target)) }
         ensures reinstated { targets_of self.new ≡ targets_changed reinstated_target (targets_of self.old) (who, target) }
@@ -244,8 +245,8 @@ impl Register {
         self.reinstate_at(who, target, 0);
     }
 
-    /// Notes that a cancelled report stands again, as `reinstate` does. It looks at the index first, as `cancel_at` does. It takes
-    /// no memory.
+    /// Marks a cancelled report as standing again, as `reinstate` does. It looks at the index first, as `cancel_at` does. It
+    /// does not allocate.
     pub fn reinstate_at(&mut self, who: Participant, target: MsgNumber, index: usize)
         requires cancelled { IsCancelled (map.get (targets_of self.old) (who, target)) }
         ensures reinstated { targets_of self.new ≡ targets_changed reinstated_target (targets_of self.old) (who, target) }
@@ -260,8 +261,8 @@ impl Register {
         }
     }
 
-    /// The report that a participant's number names and its index among the participant's reports, if there is one. It looks at the
-    /// index first, and searches only where another report is there.
+    /// The report that a participant's number names, with its index among the participant's reports, if there is one. It looks
+    /// at the index first, and searches only if another report is there.
     #[inline(always)]
     pub fn held_near(
         &self,
@@ -279,7 +280,7 @@ impl Register {
         Some((index, held))
     }
 
-    /// Puts another note of a report in the place of the one at this index.
+    /// Replaces the entry of the report at this index.
     #[inline(always)]
     fn set_at(&mut self, who: Participant, target: MsgNumber, index: usize, report: Target)
         requires index { StandsIn target (map.entries (row_of self.old who).values) index }
@@ -289,7 +290,7 @@ impl Register {
         self.rows[who.row_index()].set_at(index, report);
     }
 
-    /// Notes a participant's newest message number. It takes no memory.
+    /// Records a participant's newest message number. It does not allocate.
     pub fn advance(&mut self, who: Participant, number: MsgNumber)
         requires above { last_number_of self.old who < number }
         ensures rows { self.new.rows ≡ self.old.rows }
@@ -299,7 +300,7 @@ impl Register {
         self.last_numbers[who.row_index()] = number.value();
     }
 
-    /// A participant's greatest message number so far, 0 for none.
+    /// A participant's greatest message number so far, or 0 for none.
     pub fn last_number(&self, who: Participant) -> u32
         ensures value { result ≡ last_number_of self.now who }
     {

@@ -1,4 +1,4 @@
-//! A report as a message that names it finds it.
+//! A report as the register keeps it for the messages that name it: symbol, place, standing and latest content.
 
 use sale_matrix::Content;
 use tape_types::{Symbol, TapeNumber};
@@ -8,7 +8,7 @@ use tape_types::{Symbol, TapeNumber};
 pub enum Standing {
     /// The report counts in the summaries.
     Standing,
-    /// A cancel took the report out, and nothing has reinstated it.
+    /// The report was cancelled and has not been reinstated.
     Cancelled,
 }
 
@@ -25,14 +25,14 @@ pub struct Target {
     pub content: Content,
 }
 
-/// Where a report is that a target names.
+/// The report that a target names, and where the register keeps it.
 #[derive(Clone, Copy, Debug, PartialEq, Eq)]
 pub struct Located {
     /// The tape number of the report's admission.
     pub place: TapeNumber,
     /// The report's latest content.
     pub content: Content,
-    /// The index of the report among its participant's reports by rising message number. A report recorded below it moves it, so
-    /// it only tells where to look first.
+    /// The index of the report among its participant's reports by rising message number. A report recorded below it moves it,
+    /// so it is only the index to look at first.
     pub index: usize,
 }

@@ -1,11 +1,11 @@
-//! Why a target cannot be cancelled, corrected or reinstated.
+//! The reasons why a target is refused, each with its number and name.
 ghost use Rattle.std.specs.Prelude.{◌≡◌, Some};
 ghost use Rattle.corrections.specs.TargetFaults.{target_fault_code, target_fault_name};
 
 use std::fmt;
 use thiserror::Error;
 
-/// Why a target names no report that can be cancelled, corrected or reinstated. The first that applies is answered.
+/// Why a target names no report that can be cancelled, corrected or reinstated: the first fault that applies.
 #[derive(Clone, Copy, Debug, PartialEq, Eq, Error)]
 pub enum TargetFault {
     /// No report of the participant has the target's number.

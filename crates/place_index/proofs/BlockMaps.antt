@@ -33,7 +33,7 @@ module _ {V : Type 0} (m : map.FinMap nat_cmp V) (es : List (ℕ × V)) (is : ma
   pub entries-rise : HasRisingKeys es
   entries-rise = subst HasRisingKeys is (map.entries_sorted m)
 
-  -- the entries as a slice has them
+  -- the entries as a slice holds them
   pub slice-is : (items : List (ℕ × V)) → keyed (λ n. n) items ≡ map.entries m → items ≡ es
   slice-is items e = sym (keyed-itself items) ∙ e ∙ is
 
@@ -42,22 +42,22 @@ module _ {V : Type 0} (m : map.FinMap nat_cmp V) (es : List (ℕ × V)) (is : ma
     pub vacant-seen : map.get (values_in es) k ≡ None → map.get m k ≡ None
     vacant-seen vacant = ap (λ n. map.get n k) seen ∙ vacant
 
-    -- and one with a value has it there
+    -- and a place with a value has it there
     pub some-seen : IsSome (map.get (values_in es) k) → IsSome (map.get m k)
     some-seen some = subst (λ n. IsSome (map.get n k)) (sym seen) some
 
-    -- the entries once a value was put in at a position
+    -- the entries once a value was inserted at a position
     pub put-in : (n : map.FinMap nat_cmp V) (v : V) (i : ℕ) → n ≡ map.insert m k v → map.get (values_in es) k ≡ None → IsPosition k es i
         → map.entries n ≡ insert es i (k, v)
     put-in n v i new vacant p =
         ap map.entries new ∙ entries-inserted m k i (subst (λ l. IsPosition k l i) (sym is) p) v (vacant-seen vacant) ∙ ap (λ l. insert l i (k, v)) is
 
-    -- and once it was put behind all others
+    -- and once it was added after all others
     pub put-behind : (n : map.FinMap nat_cmp V) (v : V) → n ≡ map.insert m k v → AllBelow (values_in es) k → map.entries n ≡ es ++ (k, v) ∷ []
     put-behind n v new above =
         put-in n v (length es) new (vacant-above k (values_in es) above) (position-above k es entries-rise above) ∙ insert_end es (k, v)
 
-    -- once another value was written
+    -- and once a value was replaced
     pub written-over : (n : map.FinMap nat_cmp V) (v : V) (i : ℕ) → n ≡ map.insert m k v → StandsIn k es i → map.entries n ≡ set es i (k, v)
     written-over n v i new at =
         ap map.entries new
@@ -65,7 +65,7 @@ module _ {V : Type 0} (m : map.FinMap nat_cmp V) (es : List (ℕ × V)) (is : ma
         (ap (λ (l : List (ℕ × V)). (get_or {A = ℕ × V} l i (k, v)).0) is ∙ at.has_key (k, v))
         ∙ ap (λ l. set l i (k, v)) is
 
-    -- and once one was taken out
+    -- and once one was removed
     pub taken-out : (n : map.FinMap nat_cmp V) (i : ℕ) → n ≡ map.remove m k → StandsIn k es i → map.entries n ≡ remove es i
     taken-out n i new at = with-item es i at.within (λ d.
         ap map.entries new
@@ -73,11 +73,11 @@ module _ {V : Type 0} (m : map.FinMap nat_cmp V) (es : List (ℕ × V)) (is : ma
         (ap (λ (l : List (ℕ × V)). (get_or {A = ℕ × V} l i d).0) is ∙ at.has_key d)
         ∙ ap (λ l. remove l i) is)
 
-    -- a place without a value is taken out without a change
+    -- removing a place without a value changes nothing
     pub absent-same : (n : map.FinMap nat_cmp V) → n ≡ map.remove m k → map.get m k ≡ None → map.entries n ≡ es
     absent-same n new none = ap map.entries (new ∙ sym (removed-absent m k none)) ∙ is
 
-    -- how many there are then
+    -- the number of entries after an edit
     pub length-put : (n : map.FinMap nat_cmp V) (v : V) → n ≡ map.insert m k v → length (map.entries n) ≤ length es + 1
     length-put n v new =
         let many = sym (map.len-entries n) ∙ ap map.len new ∙ map.len-insert nat_cmp_total m k v in
@@ -89,7 +89,7 @@ module _ {V : Type 0} (m : map.FinMap nat_cmp V) (es : List (ℕ × V)) (is : ma
               omega (arith, before)
         ])
 
-    -- as many as before where a value was written over
+    -- as many as before if a value was replaced
     pub length-written : (n : map.FinMap nat_cmp V) (v : V) → n ≡ map.insert m k v → IsSome (map.get (values_in es) k) → length (map.entries n) ≡ length es
     length-written n v new some =
         sym (map.len-entries n) ∙ ap map.len new ∙ map.len-insert nat_cmp_total m k v
@@ -100,7 +100,7 @@ module _ {V : Type 0} (m : map.FinMap nat_cmp V) (es : List (ℕ × V)) (is : ma
         has (Some x) h = refl
         has None h = absurd (cc)
 
-    -- no more than before where one was taken out
+    -- no more than before if one was removed
     pub length-out : (n : map.FinMap nat_cmp V) → n ≡ map.remove m k → length (map.entries n) ≤ length es
     length-out n new =
         let many = sym (map.len-entries n) ∙ ap map.len new ∙ map.len-remove nat_cmp_total m k in
@@ -112,7 +112,7 @@ module _ {V : Type 0} (m : map.FinMap nat_cmp V) (es : List (ℕ × V)) (is : ma
     pub values-put : (n : map.FinMap nat_cmp V) (v : V) → n ≡ map.insert m k v → values_in (map.entries n) ≡ map.insert (values_in es) k v
     values-put n v new = itself-seen n ∙ new ∙ ap (λ m2. map.insert m2 k v) seen
 
-    -- the values after one was taken out
+    -- the values after one was removed
     pub values-removed : (n : map.FinMap nat_cmp V) → n ≡ map.remove m k → values_in (map.entries n) ≡ map.remove (values_in es) k
     values-removed n new = itself-seen n ∙ new ∙ ap (λ m2. map.remove m2 k) seen
 
@@ -127,7 +127,7 @@ module _ {V : Type 0} where
   ends-last [] place rise at = absurd (omega (arith, at.0))
   ends-last (e ∷ es) place rise at = subst (IsLastPlace (values_in (e ∷ es))) (sym (at.1 e)) (last-in (e ∷ es) e rise at.0)
 
-  -- what is found at a place is what its block has there
+  -- a search for a place finds what its block has there
   pub found-in_block : (k : ℕ) (bs : List (List (ℕ × V))) → IsBlockList bs → (b : ℕ) → IsBlockFor k bs b → b < length bs
       → map.get (values_of bs) k ≡ map.get (values_in (get_or bs b [])) k
   found-in_block k bs valid b at lt =
@@ -164,15 +164,15 @@ module _ {V : Type 0} where
     pub some-in_block : IsSome (map.get (values_of bs) k) → IsSome (map.get (values_in y) k)
     some-in_block some = subst (λ x. IsSome (map.get (values_in x) k)) (sym is) (subst IsSome (found-in_block k bs valid b at lt) some)
 
-    -- a place that has a value stands at an index of that block
+    -- a place that has a value is at an index of that block
     standing : IsSome (map.get (values_of bs) k) → (i : ℕ) × StandsIn k (get_or bs b []) i
     standing some = stands-exists k (get_or bs b []) rises (subst IsSome (found-in_block k bs valid b at lt) some)
 
-    -- a value of the whole stands in that block, where it stands among the block's entries
+    -- a value of the whole is in that block, at its place among the block's entries
     stands : (some : IsSome (map.get (values_of bs) k)) → StandsAt k bs b (standing some).0
     stands some = let s = standing some in record { block = at; within = lt; position = s.1.position; has_place = s.1.has_key }
 
-    -- another value written there
+    -- a value is replaced there
     pub set-in_block : IsSome (map.get (values_of bs) k) → (v : V) → ((i : ℕ) → StandsIn k y i → y2 ≡ set y i (k, v))
         → IsBlockList (set bs b y2) × (values_of (set bs b y2) ≡ map.insert (values_of bs) k v)
     set-in_block some v written =
@@ -180,7 +180,7 @@ module _ {V : Type 0} where
         let new = written s.0 (subst (λ x. StandsIn k x s.0) (sym is) s.1) ∙ ap (λ x. set x s.0 (k, v)) is in
         subst (λ x. IsBlockList (set bs b x) × (values_of (set bs b x) ≡ map.insert (values_of bs) k v)) (sym new) (stands-set k bs valid b s.0 (stands some) v)
 
-    -- a value taken from there
+    -- a value is removed there
     pub remove-in_block : IsSome (map.get (values_of bs) k) → ((i : ℕ) → StandsIn k y i → y2 ≡ remove y i)
         → HasRisingKeys (joined (set bs b y2)) × ((values_of (set bs b y2) ≡ map.remove (values_of bs) k) × (length y2 ≤ length (get_or bs b [])))
     remove-in_block some taken =
@@ -192,11 +192,11 @@ module _ {V : Type 0} where
           (ap (λ x. values_of (set bs b x)) new ∙ done.1, omega (arith, ap length new, length-remove (get_or bs b []) s.0 s.1.within)),
         ))
 
-    -- a value put in at a vacant place
+    -- a value is inserted at a vacant place
     pub vacant-in_block : map.get (values_of bs) k ≡ None → map.get (values_in y) k ≡ None
     vacant-in_block vacant = ap (λ x. map.get (values_in x) k) is ∙ sym (found-in_block k bs valid b at lt) ∙ vacant
 
-    -- a value is put in at a vacant place of a block with room, or nothing changes
+    -- a value is inserted at a vacant place of a block with room, or nothing changes
     pub insert-in_block : {E : Type 0} (r : Result (Unit {0}) E) (v : V) → map.get (values_of bs) k ≡ None → length (get_or bs b []) < BLOCK_MOST
         → ((i : ℕ) → IsPosition k y i → OnOk r (y2 ≡ insert y i (k, v))) → OnErr r (y2 ≡ y)
         → IsBlockList (set bs b y2) × OnOk r (values_of (set bs b y2) ≡ map.insert (values_of bs) k v)

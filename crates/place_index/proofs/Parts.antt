@@ -39,22 +39,22 @@ either-cond true (Some v) x y some = refl
 either-cond true None x y some = absurd (cc)
 either-cond false v x y some = refl
 
--- what is found where either is
+-- it is found if either is
 some-either : {A : Type 0} (x y : Option A) → IsSome x → IsSome (either x y)
 some-either (Some x) y some = refl
 some-either None y some = absurd (cc)
 
--- one is found where the second is
+-- it is found if the second is
 some-other : {A : Type 0} (x y : Option A) → IsSome y → IsSome (either x y)
 some-other (Some x) y some = refl
 some-other None y some = some
 
--- where neither is found
+-- it is not found if neither is
 none-first : {A : Type 0} (x y : Option A) → either x y ≡ None → x ≡ None
 none-first (Some x) y e = e
 none-first None y e = refl
 
--- where neither is found, the second is not
+-- if neither is found, the second is not
 none-other : {A : Type 0} (x y : Option A) → either x y ≡ None → y ≡ None
 none-other (Some x) y e = absurd (cc)
 none-other None y e = e
@@ -124,7 +124,7 @@ module _ {V : Type 0} where
         | false ↦ λ _ some. parts-apart xs ys (and_rest (below_all nat_cmp x.0 (xs ++ ys)) _ h) q r some other
       ] refl there
 
-  -- two rising parts are one rising list where each key of the first is below each of the second
+  -- two rising parts are one rising list if each key of the first is below each of the second
   pub parts-rise : (xs ys : List (ℕ × V)) → T (is_sorted nat_cmp xs) → T (is_sorted nat_cmp ys)
       → ((q r : ℕ) → IsSome (find nat_cmp q xs) → IsSome (find nat_cmp r ys) → q < r) → T (is_sorted nat_cmp (xs ++ ys))
   parts-rise [] ys h g all = g
@@ -150,7 +150,7 @@ module _ {V : Type 0} where
   in-map : (q : ℕ) (es : List (ℕ × V)) → IsSome (find nat_cmp q es) → IsSome (map.get (map.from_entries {R = nat_cmp} es) q)
   in-map q es some = subst IsSome (sym (map.get-from_entries nat_cmp_total es q)) some
 
-  -- a map that has the values of a first one, and else those of a second
+  -- a map that has the values of a first one, or else those of a second
   abbrev pub IsBoth : map.FinMap nat_cmp V → map.FinMap nat_cmp V → map.FinMap nat_cmp V → Type 0
   IsBoth m n j = (q : ℕ) → map.get j q ≡ either (map.get m q) (map.get n q)
 
@@ -162,11 +162,11 @@ module _ {V : Type 0} where
       ∙ ap (λ o. either o (find nat_cmp q ys)) (sym (map.get-from_entries nat_cmp_total xs q))
       ∙ ap (λ o. either (map.get (map.from_entries {R = nat_cmp} xs) q) o) (sym (map.get-from_entries nat_cmp_total ys q))
 
-  -- nor has one that is below all
+  -- nor has a key that is below all
   pub none-below : (m : map.FinMap nat_cmp V) (k : ℕ) → AllAbove m k → map.get m k ≡ None
   none-below m k all = none-unless (map.get m k) (λ some. let less : k < k = all k some in omega arith)
 
-  -- a key that has a value once one is put in is that one, or had a value
+  -- a key that has a value after an insert is the inserted one, or had a value before
   some-insert : (m : map.FinMap nat_cmp V) (k : ℕ) (v : V) (P : ℕ → Type 0) → P k → ((q : ℕ) → IsSome (map.get m q) → P q) → (q : ℕ)
       → IsSome (map.get (map.insert m k v) q) → P q
   some-insert m k v P here all q some = elim (eq_by_cmp nat_cmp q k) as (λ b. eq_by_cmp nat_cmp q k ≡ b → IsSome (cond b (Some v) (map.get m q)) → P q) [
@@ -174,7 +174,7 @@ module _ {V : Type 0} where
     | false ↦ λ _ there. all q there
   ] refl (subst IsSome (map.get-insert nat_cmp_total m k v q) some)
 
-  -- a key that has a value once one is taken out had it
+  -- a key that has a value after a removal had it before
   some-remove : (m : map.FinMap nat_cmp V) (k q : ℕ) → IsSome (map.get (map.remove m k) q) → IsSome (map.get m q)
   some-remove m k q some = elim (eq_by_cmp nat_cmp q k) as (λ b. IsSome (cond b None (map.get m q)) → IsSome (map.get m q)) [
     | true ↦ λ never. not-none {A = V} None never refl
@@ -206,7 +206,7 @@ module _ {V : Type 0} where
     pub some-second : (k : ℕ) → IsSome (map.get n k) → IsSome (map.get j k)
     some-second k some = subst IsSome (sym (both k)) (some-other (map.get m k) (map.get n k) some)
 
-    -- what holds of the keys of both parts holds of those of the whole
+    -- what holds for the keys of both parts holds for those of the whole
     pub some-whole : (P : ℕ → Type 0) → ((q : ℕ) → IsSome (map.get m q) → P q) → ((q : ℕ) → IsSome (map.get n q) → P q) → (q : ℕ) → IsSome (map.get j q) → P q
     some-whole P first second q some = elim (map.get m q) as (λ o. map.get m q ≡ o → P q) [
       | None ↦ λ none. second q (subst IsSome (get-second q none) some)
@@ -215,7 +215,7 @@ module _ {V : Type 0} where
 
     -- edits of one part are edits of the whole
     module _ (j2 : map.FinMap nat_cmp V) (k : ℕ) where
-      -- a value that is put into the first part is put into the whole
+      -- a value inserted into the first part is inserted into the whole
       pub insert-first : (v : V) (m2 : map.FinMap nat_cmp V) → m2 ≡ map.insert m k v → IsBoth m2 n j2 → j2 ≡ map.insert j k v
       insert-first v m2 is both2 = map.same_map nat_cmp_total map.nat_cmp-IsAntisymmetric _ _ (λ q.
           both2 q
@@ -225,7 +225,7 @@ module _ {V : Type 0} where
           ∙ ap (λ o. cond (eq_by_cmp nat_cmp q k) (Some v) o) (sym (both q))
           ∙ sym (map.get-insert nat_cmp_total j k v q))
 
-      -- so is a value that is put into the second part, at a key without a value in the first
+      -- so is a value inserted into the second part, at a key without a value in the first
       pub insert-second : (v : V) (n2 : map.FinMap nat_cmp V) → map.get m k ≡ None → n2 ≡ map.insert n k v → IsBoth m n2 j2 → j2 ≡ map.insert j k v
       insert-second v n2 none is both2 = map.same_map nat_cmp_total map.nat_cmp-IsAntisymmetric _ _ (λ q.
           both2 q
@@ -239,7 +239,7 @@ module _ {V : Type 0} where
           ∙ ap (λ o. cond (eq_by_cmp nat_cmp q k) (Some v) o) (sym (both q))
           ∙ sym (map.get-insert nat_cmp_total j k v q))
 
-      -- a key that is taken out of the first part, with no value in the second, is taken out of the whole
+      -- a key removed from the first part, with no value in the second, is removed from the whole
       pub remove-first : (m2 : map.FinMap nat_cmp V) → map.get n k ≡ None → m2 ≡ map.remove m k → IsBoth m2 n j2 → j2 ≡ map.remove j k
       remove-first m2 none is both2 = map.same_map nat_cmp_total map.nat_cmp-IsAntisymmetric _ _ (λ q.
           both2 q
@@ -253,7 +253,7 @@ module _ {V : Type 0} where
           ∙ ap (λ o. cond (eq_by_cmp nat_cmp q k) None o) (sym (both q))
           ∙ sym (map.get-remove nat_cmp_total j k q))
 
-      -- so is a key that is taken out of the second part, with no value in the first
+      -- so is a key removed from the second part, with no value in the first
       pub remove-second : (n2 : map.FinMap nat_cmp V) → map.get m k ≡ None → n2 ≡ map.remove n k → IsBoth m n2 j2 → j2 ≡ map.remove j k
       remove-second n2 none is both2 = map.same_map nat_cmp_total map.nat_cmp-IsAntisymmetric _ _ (λ q.
           both2 q
@@ -285,7 +285,7 @@ module _ {V : Type 0} where
     pub blocks-apart : (q r : ℕ) → IsSome (map.get (values_of bs) q) → IsSome (map.get (values_in es) r) → q < r
     blocks-apart q r there other = parts-apart (joined bs) es valid.rising q r (in-list q (joined bs) there) (in-list r es other)
 
-    -- a place from which the last block begins, or before, is above the blocks
+    -- a place at or after the start of the last block is above the blocks
     pub begun : (k : ℕ) → begins_by k es ≡ true → AllBelow (values_of bs) k
     begun k is q some = begun_by es is (blocks-apart q)
       where
@@ -297,7 +297,7 @@ module _ {V : Type 0} where
             let less : q < x.0 = far x.0 some (in-map x.0 (x ∷ xs) (found-head x xs)) in
             omega arith
 
-    -- a place from which it does not begin is below it
+    -- any other place is below the last block
     pub not-begun : (k : ℕ) → begins_by k es ≡ false → AllAbove (values_in es) k
     not-begun k is = not-begun_by es last-rises is
       where
@@ -322,7 +322,7 @@ module _ {V : Type 0} where
     pub below-second : (k : ℕ) → AllBelow (all_values bs es) k → AllBelow (values_in es) k
     below-second k all q some = all q (some-second _ _ _ both-of q some)
 
-    -- a value put into the last block
+    -- a value inserted into the last block
     pub last-insert : (k : ℕ) (v : V) (es2 : List (ℕ × V)) → AllBelow (values_of bs) k → T (is_sorted nat_cmp es2) → length es2 ≤ BLOCK_MOST
         → values_in es2 ≡ map.insert (values_in es) k v → HasLastBlock bs es2 × (all_values bs es2 ≡ map.insert (all_values bs es) k v)
     last-insert k v es2 below h short is = (
@@ -336,7 +336,7 @@ module _ {V : Type 0} where
       insert-second _ _ _ both-of (all_values bs es2) k v (values_in es2) (vacant-above k (values_of bs) below) is (both-parts (joined bs) es2),
     )
 
-    -- a value put into the blocks before it
+    -- a value inserted into the blocks before it
     pub blocks-insert_before : (k : ℕ) (v : V) (bs2 : List (List (ℕ × V))) → AllAbove (values_in es) k → IsBlockList bs2
         → values_of bs2 ≡ map.insert (values_of bs) k v → HasLastBlock bs2 es × (all_values bs2 es ≡ map.insert (all_values bs es) k v)
     blocks-insert_before k v bs2 above valid2 is = (
@@ -364,7 +364,7 @@ module _ {V : Type 0} where
           both-parts (joined bs2) es q ∙ ap (λ (o : map.FinMap nat_cmp V). either (map.get o q) (map.get (values_in es) q)) is ∙ sym (both-of q)),
     )
 
-    -- a value taken from the last block
+    -- a value removed from the last block
     pub last-remove : (k : ℕ) (es2 : List (ℕ × V)) → AllBelow (values_of bs) k → T (is_sorted nat_cmp es2) → length es2 ≤ length es
         → values_in es2 ≡ map.remove (values_in es) k → HasLastBlock bs es2 × (all_values bs es2 ≡ map.remove (all_values bs es) k)
     last-remove k es2 below h fewer is = (
@@ -378,7 +378,7 @@ module _ {V : Type 0} where
       remove-second _ _ _ both-of (all_values bs es2) k (values_in es2) (vacant-above k (values_of bs) below) is (both-parts (joined bs) es2),
     )
 
-    -- a value taken from the blocks before it
+    -- a value removed from the blocks before it
     pub blocks-remove_before : (k : ℕ) (bs2 : List (List (ℕ × V))) → AllAbove (values_in es) k → IsBlockList bs2 → values_of bs2 ≡ map.remove (values_of bs) k
         → HasLastBlock bs2 es × (all_values bs2 es ≡ map.remove (all_values bs es) k)
     blocks-remove_before k bs2 above valid2 is = (
@@ -392,7 +392,7 @@ module _ {V : Type 0} where
       remove-first _ _ _ both-of (all_values bs2 es) k (values_of bs2) (none-below (values_in es) k above) is (both-parts (joined bs2) es),
     )
 
-    -- the last block cut in two, the lower part of it put after the others
+    -- the last block split in two, its lower part added after the others
     pub last-cut : (i : ℕ) → 0 < i → i ≤ length es → let bs2 = bs ++ take i es ∷ [] in
         HasLastBlock bs2 (drop i es) × (all_values bs2 (drop i es) ≡ all_values bs es)
     last-cut i some within =
@@ -409,35 +409,35 @@ module _ {V : Type 0} where
           ap (λ l. map.from_entries {R = nat_cmp} l) is,
         )
 
-    -- the first place of the blocks is the first of all, and without one that of the last block
+    -- the first place of the blocks is the first of all; without one, that of the last block is
     pub first-before : (k : ℕ) → IsFirstPlace (values_of bs) k → IsFirstPlace (all_values bs es) k
     first-before k at = record {
       present = some-first _ _ _ both-of k at.present;
       least = some-whole _ _ _ both-of (λ n. k ≤ n) at.least (λ n some. let less : k < n = blocks-apart k n at.present some in omega arith);
     }
 
-    -- where the blocks before are vacant, the first place of the last block is the first of all
+    -- if the blocks before are vacant, the first place of the last block is the first of all
     pub first-in_last : (k : ℕ) → IsVacant (values_of bs) → IsFirstPlace (values_in es) k → IsFirstPlace (all_values bs es) k
     first-in_last k vacant at = record {
       present = some-second _ _ _ both-of k at.present;
       least = some-whole _ _ _ both-of (λ n. k ≤ n) (λ n some. not-none (map.get (values_of bs) n) some (vacant n)) at.least;
     }
 
-    -- the last place of the last block is the last of all, and without one that of the blocks
+    -- the last place of the last block is the last of all; without one, that of the blocks is
     pub last-in_last : (k : ℕ) → IsLastPlace (values_in es) k → IsLastPlace (all_values bs es) k
     last-in_last k at = record {
       present = some-second _ _ _ both-of k at.present;
       greatest = some-whole _ _ _ both-of (λ n. n ≤ k) (λ n some. let less : n < k = blocks-apart n k some at.present in omega arith) at.greatest;
     }
 
-    -- where the last block is vacant, the last place of the blocks before is the last of all
+    -- if the last block is vacant, the last place of the blocks before is the last of all
     pub last-before : (k : ℕ) → IsVacant (values_in es) → IsLastPlace (values_of bs) k → IsLastPlace (all_values bs es) k
     last-before k vacant at = record {
       present = some-first _ _ _ both-of k at.present;
       greatest = some-whole _ _ _ both-of (λ n. n ≤ k) at.greatest (λ n some. not-none (map.get (values_in es) n) some (vacant n));
     }
 
-    -- where the blocks before and the last block are vacant, all are
+    -- if the blocks before and the last block are vacant, all are
     pub all-vacant : IsVacant (values_of bs) → IsVacant (values_in es) → IsVacant (all_values bs es)
     all-vacant first second q = both-of q ∙ ap (λ o. either o (map.get (values_in es) q)) (first q) ∙ second q
 
@@ -457,7 +457,7 @@ module _ {V : Type 0} where
   first-in [] d h some = absurd (omega arith)
   first-in (e ∷ es) d h some = first-entry e es h
 
-  -- the last of some entries that rise has the last place
+  -- the last of some rising entries has the last place
   pub last-in : (es : List (ℕ × V)) (d : ℕ × V) → T (is_sorted nat_cmp es) → 0 < length es → IsLastPlace (values_in es) (get_or es (length es - 1) d).0
   last-in es d h some = subst (IsLastPlace (values_in es)) (sym (top-at es d some)) (record {
     present = in-map (top es) es (find-top es h some);
@@ -467,7 +467,7 @@ module _ {V : Type 0} where
     ];
   })
 
--- the last of some blocks written anew
+-- the last of some blocks replaced
 pub set-last : {A : Type 0} (bs : List A) (x y : A) (i : ℕ) → i ≡ length bs → set (bs ++ x ∷ []) i y ≡ bs ++ y ∷ []
 set-last [] x y zero e = refl
 set-last [] x y (suc i) e = absurd (omega arith)
@@ -481,7 +481,7 @@ get-last [] x d (suc i) e = absurd (omega arith)
 get-last (b ∷ bs) x d zero e = absurd (omega arith)
 get-last (b ∷ bs) x d (suc i) e = get-last bs x d i (omega arith)
 
--- what is said of an option's two cases, weakened
+-- an option's two cases, weakened
 pub match-weaker : {A : Type 0} (P P2 : Type 0) (Q Q2 : A → Type 0) (o : Option A) → (P → P2) → ((a : A) → Q a → Q2 a) → MatchOption o P Q → MatchOption o P2 Q2
 match-weaker P P2 Q Q2 None f g m = f m
 match-weaker P P2 Q Q2 (Some a) f g m = g a m

@@ -1,4 +1,4 @@
-//! All entries of an index by rising place: some blocks, and the last one apart from them, since most entries come at a
+//! All entries of an index by rising place: a list of blocks, and the last block apart from it, since most entries come at a
 //! place above all others and are found there at once.
 ghost use Rattle.std.specs.Prelude.{◌≡◌, ◌<◌, ◌≤◌, ◌++◌, ◌∷◌, [], length, take, drop, OnOk, OnErr, MatchOption, Some, None, IsSome};
 ghost use Rattle.std.specs.FinMap as map;
@@ -25,8 +25,8 @@ pub fn find<V: Copy>(blocks: &[Block<V>], last: &Block<V>, place: TapeNumber) ->
     }
 }
 
-/// Puts a value at a vacant place: in the last block where the place is above those of the others, and else in the block
-/// where it goes. Out of memory, the values are unchanged.
+/// Inserts a value at a vacant place: into the last block if the place is above those of the other blocks, or else into the
+/// block where it belongs. Out of memory, the values are unchanged.
 pub fn insert<V: Copy>(
     alloc: Global,
     blocks: &mut Vec<Block<V>>,
@@ -47,7 +47,7 @@ pub fn insert<V: Copy>(
         return block_list::insert(alloc, blocks, place, value);
     }
     make_room(alloc, blocks, last, BLOCK_MOST / 2)?;
-    // Where the block was cut, the place may belong below the cut, so it is asked again.
+    // If the last block was split, the place may belong below the split, so it is checked again.
     if goes_last(blocks, last, place) {
         last.insert(place, value)
     } else {
@@ -55,7 +55,7 @@ pub fn insert<V: Copy>(
     }
 }
 
-/// Puts a value at a place above all others. Out of memory, the values are unchanged.
+/// Adds a value at a place above all others. Out of memory, the values are unchanged.
 fn push<V: Copy>(
     alloc: Global,
     blocks: &mut Vec<Block<V>>,
@@ -73,8 +73,7 @@ fn push<V: Copy>(
     last.push(place, value)
 }
 
-/// Whether a place that is put in goes into the last block: it is above those of all other blocks. Otherwise it is below
-/// those of the last.
+/// Whether a new place goes into the last block: it is above all other blocks. Otherwise it is below the last block.
 fn goes_last<V: Copy>(blocks: &[Block<V>], last: &Block<V>, place: TapeNumber) -> bool
     requires { HasLastBlock blocks.now last.now }
     ensures { GoesLast result blocks.now last.now place }
@@ -85,8 +84,8 @@ fn goes_last<V: Copy>(blocks: &[Block<V>], last: &Block<V>, place: TapeNumber) -
     block_list::is_above_all(blocks, place)
 }
 
-/// Cuts the last block at an index if it is full, so that it takes one entry more. The values are unchanged, also out of
-/// memory.
+/// Splits the last block at an index if it is full, so that it has room for one more entry. The values are unchanged, also out
+/// of memory.
 fn make_room<V: Copy>(
     alloc: Global,
     blocks: &mut Vec<Block<V>>,
@@ -105,8 +104,8 @@ fn make_room<V: Copy>(
     cut(alloc, blocks, last, index)
 }
 
-/// Moves the entries of the last block before an index into a block of their own after the others. Out of memory, the
-/// blocks are unchanged: the upper part is copied and finds its place before the lower one is shortened.
+/// Moves the entries of the last block before an index into a block of their own after the others. Out of memory, the blocks
+/// are unchanged: the upper part is copied and added before the lower one is shortened.
 fn cut<V: Copy>(
     alloc: Global,
     blocks: &mut Vec<Block<V>>,
@@ -126,7 +125,7 @@ fn cut<V: Copy>(
     Ok(())
 }
 
-/// Takes the value from a place, if it has one. It takes no memory.
+/// Removes the value at a place, if it has one. It allocates nothing.
 pub fn remove<V: Copy>(
     blocks: &mut Vec<Block<V>>,
     last: &mut Block<V>,
@@ -144,7 +143,7 @@ pub fn remove<V: Copy>(
     }
 }
 
-/// Writes another value at a place that has one, and answers the one that stood there. It takes no memory.
+/// Replaces the value at a place that has one, and returns the former value. It allocates nothing.
 pub fn set<V: Copy>(
     blocks: &mut Vec<Block<V>>,
     last: &mut Block<V>,

@@ -1,6 +1,6 @@
--- Numbers in three bytes.
+-- The range of numbers in three bytes.
 use Rattle.std.specs.Prelude.{ℕ}
 
--- how many numbers three bytes have
+-- how many numbers three bytes hold
 abbrev pub THREE_BYTE_NUMBERS : ℕ
 THREE_BYTE_NUMBERS = 16777216

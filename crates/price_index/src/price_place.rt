@@ -1,4 +1,4 @@
-//! A price with a place.
+//! A price with a place, kept in eight bytes and compared as one number.
 ghost use Rattle.std.specs.Prelude.{◌≡◌};
 ghost use Rattle.std.specs.Ordering.{eq_by_cmp, as_partial_cmp};
 ghost use Rattle.std.specs.Cmp.{eq_by_cmp_equiv, partial_equiv_from_equiv, partial_order_from_total};
@@ -13,12 +13,12 @@ use std::cmp::Ordering;
 use std::marker::Model;
 use tape_types::{Price, TapeNumber};
 
-/// A price with a place where a report has it, in the order of the prices and then of the places.
+/// A price with a place where a report has it, ordered by price and then by place.
 ///
-/// Both are kept in eight bytes, the place's below the price's, so that two are compared as one number each.
+/// Both are kept in eight bytes, those of the place below those of the price, so that each pair is compared as one number.
 #[derive(Clone, Copy)]
 pub struct PricePlace {
-    /// How many places are before this one.
+    /// The number of places before this one.
     before: ThreeBytes,
     price: Price,
 }
@@ -109,7 +109,7 @@ impl Ord for PricePlace {
 
     #[inline(always)]
     fn cmp(&self, other: &PricePlace) -> Ordering {
-        // Two tests of numbers, since the compiler keeps `Ord::cmp` of them as a value that is tested again.
+        // Two tests of numbers, since the compiler would keep the result of `Ord::cmp` as a value and test it again.
         let rank = self.rank();
         let other_rank = other.rank();
         if rank > other_rank {

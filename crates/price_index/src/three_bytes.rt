@@ -1,4 +1,4 @@
-//! A number in three bytes.
+//! A 24-bit number kept in three bytes without alignment.
 ghost use Rattle.std.specs.Prelude.{◌≡◌, ◌<◌};
 ghost use Rattle.price_index.specs.ThreeBytes.{THREE_BYTE_NUMBERS};
 

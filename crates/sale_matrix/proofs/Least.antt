@@ -1,4 +1,4 @@
--- The least rank is the rank of the weaker rule.
+-- Proofs that joining cells pair by pair yields the least cell of each column, by the rank of each rule.
 use Rattle.std.proofs.Common.{◌≡◌, ℕ, ◌==◌, Bool, true, false, ◌&&◌, if◌then◌else◌, List, [], ◌∷◌, Option, Some, None, unwrap_or, is_some, map, fold}
 use Rattle.std.proofs.Common.{slice_index, min, refl, sym, ap, ◌∙◌}
 use Rattle.std.specs.Option.{option_map}
@@ -35,7 +35,7 @@ rank_weaker Always FirstOnly = refl
 rank_weaker Always SameMarket = refl
 rank_weaker Always Always = refl
 
--- the rule whose rank a letter has
+-- the rule that has the rank of a cell's letter
 letter : (cell : ℕ) → (a : LastRule) × (rank_of cell ≡ rank a)
 letter cell = by (cell == 78) (cell == 70) (cell == 83)
   where
@@ -45,14 +45,14 @@ letter cell = by (cell == 78) (cell == 70) (cell == 83)
     by false false true = (SameMarket, refl)
     by false false false = (Always, refl)
 
--- the rule of a rule's rank is the rule
+-- the rule of a rule's rank is that rule
 rule_of-rank : (a : LastRule) → rule_of (rank a) ≡ a
 rule_of-rank Never = refl
 rule_of-rank FirstOnly = refl
 rule_of-rank SameMarket = refl
 rule_of-rank Always = refl
 
--- the weaker of two rules is a yes where both are
+-- the weaker of two rules is a yes exactly if both are
 is_yes-weaker : (a b : LastRule) → is_yes (rank (weaker a b)) ≡ (is_yes (rank a) && is_yes (rank b))
 is_yes-weaker Never b = refl
 is_yes-weaker FirstOnly Never = refl
@@ -91,7 +91,7 @@ module _ (w x y z : ℕ) where
           ∙ sym (λ j. weaker (weaker (weaker ((ap rule_of p ∙ rule_of-rank a) j) ((ap rule_of q ∙ rule_of-rank b) j)) ((ap rule_of r ∙ rule_of-rank c) j))
           ((ap rule_of s ∙ rule_of-rank d) j))
 
-  -- the least rank of four cells is a yes where all four are
+  -- the least rank of four cells is a yes exactly if all four are
   least_flag : is_yes (least4 (rank_of w) (rank_of x) (rank_of y) (rank_of z))
       ≡ (((is_yes (rank_of w) && is_yes (rank_of x)) && is_yes (rank_of y)) && is_yes (rank_of z))
   least_flag = of (letter w) (letter x) (letter y) (letter z)
@@ -144,6 +144,6 @@ pub row_found : (o : Option (List ℕ)) (cells : Cells) → Some cells ≡ optio
 row_found None cells h = cc
 row_found (Some row) cells h = refl
 
--- four that are true are true together
+-- a conjunction of four holds if each holds
 pub and_four : (p q r s : Bool) → p ≡ true → q ≡ true → r ≡ true → s ≡ true → (p && (q && (r && (s && true)))) ≡ true
 and_four p q r s hp hq hr hs = λ j. hp j && (hq j && (hr j && (hs j && true)))

@@ -1,7 +1,6 @@
--- The sale condition matrices, as they are printed: for each of the four positions the rows of each matrix, each row
--- with its codes and its cells in the columns consolidated high/low, consolidated last, participant high/low, participant
--- last, volume. The two differ in the fourth position alone. A space restricts nothing and is allowed after the first
--- position.
+-- The sale condition matrices as they are printed: the rows of each matrix for each of the four positions. A row has its
+-- codes and its cells in the columns consolidated high/low, consolidated last, participant high/low, participant last,
+-- volume. The two differ in the fourth position alone. A space restricts nothing and is allowed after the first position.
 use Rattle.std.specs.Prelude.{◌≡◌, ℕ, Bool, true, ◌==◌, nat_le, ◌&&◌, List, [], ◌∷◌, length, Option, Some, None, unwrap_or, is_some, min, fold, map}
 use Rattle.std.specs.Prelude.{if◌then◌else◌, codes, slice_index}
 use Rattle.std.specs.List.{list_any, list_all}
@@ -38,7 +37,7 @@ third_rows =
     (codes "L", codes "YSYSY") ∷
     (codes "Z", codes "YFYFY") ∷ []
 
--- the detail that a market asks for
+-- the detail that a market requires
 unfoldable pub fourth_rows : Matrix → List MatrixRow
 fourth_rows One =
     (codes " ", codes "YYYYY") ∷
@@ -70,11 +69,11 @@ cells_of_codes matrix condition =
     cells_in third_rows (slice_index condition 2) ∷
     cells_in (fourth_rows matrix) (slice_index condition 3) ∷ []
 
--- whether each code of a condition is one of its position's rows in a matrix
+-- whether each code of a condition is in its position's rows of a matrix
 unfoldable pub is_within : Matrix → List ℕ → Bool
 is_within matrix condition = list_all is_some (cells_of_codes matrix condition)
 
--- four codes, each one of its position's rows in Matrix Two, which has every code of Matrix One
+-- four codes, each in its position's rows of Matrix Two, which has every code of Matrix One
 pub record IsCondition (condition : List ℕ) : Type 0 where
   pub four : length condition ≡ 4
   pub coded : is_within Two condition ≡ true
@@ -84,16 +83,16 @@ abbrev pub rank_of : ℕ → ℕ
 rank_of cell =
     if cell == 78 then 0 else (if cell == 70 then 1 else (if cell == 83 then 2 else 3))
 
--- what a high/low or a volume cell of this rank says
+-- whether a high/low or a volume cell of this rank is a yes
 abbrev pub is_yes : ℕ → Bool
 is_yes rank = nat_le 3 rank
 
--- what a last cell of this rank says
+-- the rule of a last cell of this rank
 abbrev pub rule_of : ℕ → LastRule
 rule_of rank =
     if rank == 0 then Never else (if rank == 1 then FirstOnly else (if rank == 2 then SameMarket else Always))
 
--- five ranks, column by column, as cells
+-- the cells of five ranks, one for each column
 abbrev pub cells_by : (ℕ → ℕ) → Cells
 cells_by rank = record {
   ch = is_yes (rank 0);

@@ -1,4 +1,4 @@
-//! A sale condition.
+//! A sale condition, kept as its four codes, and the cells that it has in a matrix.
 ghost use Rattle.std.specs.Prelude.{◌≡◌, true, ◌↔◌, IsSome, IfSome};
 ghost use Rattle.sale_matrix.specs.Matrix.{is_within, cells_of, IsCondition};
 ghost use Rattle.sale_matrix.specs.declared.matrix.Matrix.TheVariants.{Two};
@@ -7,7 +7,7 @@ use crate::matrix::{first_position, fourth_position, second_position, third_posi
 use crate::{Cells, Matrix};
 use std::marker::Model;
 
-/// A sale condition: four codes, each one of its position's in Matrix Two, which has every code of Matrix One.
+/// A sale condition: four codes, each listed for its position in Matrix Two, which has every code of Matrix One.
 ///
 /// Position 1 is the settlement type and is never blank, position 2 the exemption, position 3 extended hours or sold,
 /// position 4 a detail of the market. A blank (a space) in positions 2 to 4 restricts nothing.
@@ -31,7 +31,7 @@ impl Model for Condition {
 }
 
 impl Condition {
-    /// The condition of four codes, or `None` where one is not in its position's rows of Matrix Two.
+    /// The condition of four codes, or `None` if one is not in its position's rows of Matrix Two.
     pub fn try_new(codes: [u8; 4]) -> Option<Self>
         ensures valid { IsSome result ↔ IsCondition codes }
         ensures value { IfSome result (λ c. c ≡ codes) }
@@ -51,7 +51,7 @@ impl Condition {
         self.codes
     }
 
-    /// Whether each code is one of the matrix's. Every condition is within Matrix Two.
+    /// Whether each code is one of the matrix. Every condition is within Matrix Two.
     pub fn within(self, matrix: Matrix) -> bool
         ensures within { result ≡ is_within matrix self }
         ensures widest { is_within Two self ≡ true }
@@ -60,7 +60,7 @@ impl Condition {
     }
 }
 
-/// Whether each of the four codes has a row in its position of a matrix. No cells are joined for it.
+/// Whether each of the four codes has a row in its position of a matrix. It joins no cells.
 #[tactic(auto, unfolding(crate::specs::Matrix::is_within))]
 fn have_rows(matrix: Matrix, codes: [u8; 4]) -> bool
     ensures { result ≡ is_within matrix codes }
@@ -71,7 +71,7 @@ fn have_rows(matrix: Matrix, codes: [u8; 4]) -> bool
         && fourth_position(matrix, codes[3]).is_some()
 }
 
-/// The cells of the four codes in a matrix joined, where each has a row.
+/// The joined cells of the four codes in a matrix, or `None` if a code has no row.
 #[tactic(auto, unfolding(crate::specs::Matrix::is_within))]
 fn joined(matrix: Matrix, codes: [u8; 4]) -> Option<Cells>
     ensures found { IsSome result ↔ (is_within matrix codes ≡ true) }
@@ -84,7 +84,7 @@ fn joined(matrix: Matrix, codes: [u8; 4]) -> Option<Cells>
     Some(first.and(second).and(third).and(fourth))
 }
 
-/// What a trade of this condition changes by a matrix: the least cell in each column over its codes, with N < F < S < Y.
+/// What a trade of this condition changes under a matrix: the least cell in each column over its codes, with N < F < S < Y.
 pub fn cells(matrix: Matrix, condition: &Condition) -> Cells
     requires within { is_within matrix condition.now ≡ true }
     ensures cells { result ≡ cells_of matrix condition.now }

@@ -1,10 +1,10 @@
-//! The cells of each code, and how they are joined.
+//! The two sale condition matrices: the cells of each code in its position, and the least of several cells.
 ghost use Rattle.std.specs.Prelude.{◌≡◌};
 ghost use Rattle.std.specs.Option.{option_map};
 ghost use Rattle.sale_matrix.specs.Matrix.{first_rows, second_rows, third_rows, fourth_rows, cells_in, cells_of_row, least_cells, weaker};
 ghost use Rattle.sale_matrix.specs.declared.matrix.Matrix.TheVariants.{One, Two};
 
-/// Which sale condition matrix a day goes by. Every code of One is one of Two.
+/// The sale condition matrix of a day. Every code of One is also a code of Two.
 #[derive(Clone, Copy, Debug, PartialEq, Eq)]
 pub enum Matrix {
     /// An odd lot counts for the volume alone.
@@ -13,14 +13,14 @@ pub enum Matrix {
     Two,
 }
 
-/// When a trade becomes the last one: what a last cell of the matrix says. The weakest rule comes first.
+/// When a trade becomes the last one, as a last cell of the matrix says. The weakest rule comes first.
 #[derive(Clone, Copy, Debug, PartialEq, Eq, PartialOrd, Ord)]
 pub enum LastRule {
     /// It never does (`N`).
     Never,
-    /// Where there is no last yet (`F`).
+    /// If there is no last yet (`F`).
     FirstOnly,
-    /// Where there is no last yet, or the present last is of the same participant (`S`).
+    /// If there is no last yet, or the present last is of the same participant (`S`).
     SameMarket,
     /// It always does (`Y`).
     Always,
@@ -41,7 +41,7 @@ pub struct Cells {
     pub volume: bool,
 }
 
-/// The code restricts nothing, as a blank.
+/// The code restricts nothing, like a blank.
 const NEUTRAL: Cells = Cells {
     ch: true,
     cl: LastRule::Always,
@@ -59,7 +59,7 @@ const HIGH_LOW_AND_VOLUME: Cells = Cells {
     volume: true,
 };
 
-/// The trade counts for the volume, and its price for nothing.
+/// The trade counts for the volume, and its price does not count.
 const VOLUME_ALONE: Cells = Cells {
     ch: false,
     cl: LastRule::Never,
@@ -68,7 +68,7 @@ const VOLUME_ALONE: Cells = Cells {
     volume: true,
 };
 
-/// The price may lag behind the market: it is the last only where there is none.
+/// The price may lag behind the market: it is the last only if there is none.
 const OUT_OF_SEQUENCE: Cells = Cells {
     ch: true,
     cl: LastRule::FirstOnly,
@@ -77,7 +77,7 @@ const OUT_OF_SEQUENCE: Cells = Cells {
     volume: true,
 };
 
-/// The trade may be told late: it is the last only after one of its own participant, or where there is none.
+/// The trade may be reported late: it is the last only after one of its own participant, or if there is none.
 const SOLD_LAST: Cells = Cells {
     ch: true,
     cl: LastRule::SameMarket,
@@ -86,7 +86,7 @@ const SOLD_LAST: Cells = Cells {
     volume: true,
 };
 
-/// The price counts in the consolidated figures alone, the size nowhere.
+/// The price counts in the consolidated figures alone, and the size does not count.
 const CORRECTED_CLOSE: Cells = Cells {
     ch: true,
     cl: LastRule::Always,
@@ -95,7 +95,7 @@ const CORRECTED_CLOSE: Cells = Cells {
     volume: false,
 };
 
-/// The price counts in the participant's own figures alone, the size nowhere.
+/// The price counts in the participant's own figures alone, and the size does not count.
 const OFFICIAL_CLOSE: Cells = Cells {
     ch: false,
     cl: LastRule::Never,
@@ -104,7 +104,7 @@ const OFFICIAL_CLOSE: Cells = Cells {
     volume: false,
 };
 
-/// As the official close, but never the last.
+/// Like the official close, but never the last.
 const OFFICIAL_OPEN: Cells = Cells {
     ch: false,
     cl: LastRule::Never,
@@ -113,7 +113,7 @@ const OFFICIAL_OPEN: Cells = Cells {
     volume: false,
 };
 
-/// The cells of a code in the first position, where it is one of its codes.
+/// The cells of a code in the first position, or `None` if the code is not one of that position's.
 #[tactic(auto, unfolding(crate::specs::Matrix::first_rows))]
 pub(crate) fn first_position(code: u8) -> Option<Cells>
     ensures { result ≡ option_map cells_of_row (cells_in first_rows code) }
@@ -125,7 +125,7 @@ pub(crate) fn first_position(code: u8) -> Option<Cells>
     }
 }
 
-/// The cells of a code in the second position, where it is one of its codes.
+/// The cells of a code in the second position, or `None` if the code is not one of that position's.
 #[tactic(auto, unfolding(crate::specs::Matrix::second_rows))]
 pub(crate) fn second_position(code: u8) -> Option<Cells>
     ensures { result ≡ option_map cells_of_row (cells_in second_rows code) }
@@ -139,7 +139,7 @@ pub(crate) fn second_position(code: u8) -> Option<Cells>
     }
 }
 
-/// The cells of a code in the third position, where it is one of its codes.
+/// The cells of a code in the third position, or `None` if the code is not one of that position's.
 #[tactic(auto, unfolding(crate::specs::Matrix::third_rows))]
 pub(crate) fn third_position(code: u8) -> Option<Cells>
     ensures { result ≡ option_map cells_of_row (cells_in third_rows code) }
@@ -153,7 +153,7 @@ pub(crate) fn third_position(code: u8) -> Option<Cells>
     }
 }
 
-/// The cells of a code in the fourth position of a matrix, where it is one of its codes.
+/// The cells of a code in the fourth position of a matrix, or `None` if the code is not one of that position's.
 pub(crate) fn fourth_position(matrix: Matrix, code: u8) -> Option<Cells>
     ensures { result ≡ option_map cells_of_row (cells_in (fourth_rows matrix) code) }
 {
@@ -178,7 +178,7 @@ fn fourth_of_one(code: u8) -> Option<Cells>
     }
 }
 
-/// The fourth position of Matrix Two: an odd lot has other cells than in Matrix One, and stopped stock has two codes more.
+/// The fourth position of Matrix Two: an odd lot has other cells than in Matrix One, and stopped stock has two more codes.
 #[tactic(auto, unfolding(crate::specs::Matrix::fourth_rows))]
 fn fourth_of_two(code: u8) -> Option<Cells>
     ensures { result ≡ option_map cells_of_row (cells_in (fourth_rows Two) code) }

@@ -1,4 +1,4 @@
--- The places of a list of reports rise, so none is below its index.
+-- Lemmas that no place in a list of reports is below its index, since the places rise.
 use Rattle.std.proofs.Common.{◌≡◌, ℕ, zero, suc, ◌+◌, ◌<◌, ◌≤◌, List, length, slice_index, get_or, map, subst, sym, ap, ◌∙◌, arith}
 use Rattle.std.proofs.lemmas.List.{get_or-map, length-map}
 use Rattle.scratch_fold.specs.Fold.{PlacedEffect, PlacesRise}

@@ -1,4 +1,4 @@
--- The shares that a report adds to a volume.
+-- A lemma about the shares that a report adds to a volume.
 use Rattle.std.proofs.Common.{ℕ, ◌≤◌, Bool, true, false, if◌then◌else◌, arith}
 
 -- a report adds no more than its size

@@ -1,4 +1,4 @@
--- What one report does to a summary, and the summary of a list of reports.
+-- The effect of one report on a summary, and the summary of a list of reports.
 use Rattle.std.specs.Prelude.{ℕ, ◌+◌, ◌==◌, nat_lt, Bool, true, false, ◌&&◌, List, Option, Some, None, is_none, fold, map, if◌then◌else◌}
 use Rattle.std.specs.List.Sorted.{IsStrictlyIncreasing}
 use Rattle.scratch_fold.specs.declared.summary.Mark.{Mark}
@@ -7,11 +7,11 @@ use Rattle.scratch_fold.specs.declared.summary.Effect.{Effect}
 use Rattle.sale_matrix.specs.declared.matrix.LastRule.{LastRule}
 use Rattle.sale_matrix.specs.declared.matrix.LastRule.TheVariants.{Always, SameMarket, FirstOnly, Never}
 
--- a report that stands: its place, and what it does
+-- a report that stands: its place and its effect
 abbrev pub PlacedEffect : Type 0
 PlacedEffect = ℕ × Effect
 
--- each report stands after those before it on the tape
+-- the place of each report is above those of the reports before it
 abbrev pub PlacesRise : List PlacedEffect → Type 0
 PlacesRise reports = IsStrictlyIncreasing (map (λ r. r.0) reports)
 

@@ -1,9 +1,9 @@
--- Which places a summary names.
+-- Bounds on the places that a summary names.
 use Rattle.std.specs.Prelude.{ℕ, ◌≤◌, Option, IfSome}
 use Rattle.scratch_fold.specs.declared.summary.Mark.{Mark}
 use Rattle.scratch_fold.specs.declared.summary.Summary.{Summary}
 
--- a mark, where there is one, has a place that is at most this
+-- a mark, if there is one, has a place that is at most this
 abbrev pub IsPlacedUpTo : ℕ → Option Mark → Type 0
 IsPlacedUpTo most figure = IfSome figure (λ m. m.place ≤ most)
 

@@ -1,4 +1,4 @@
-//! What a day comes to, and what one report does to it.
+//! The summary of a day, and the effect of one report on it: each added report updates the figures in place.
 
 ghost use Rattle.tape_types.specs.Ranges.{SIZE_MOST};
 
@@ -16,7 +16,7 @@ pub struct Mark {
     pub place: TapeNumber,
 }
 
-/// The figures of a day: what the reports that stand come to, in the order of their places.
+/// The figures of a day, over the reports that stand, in the order of their places.
 #[derive(Clone, Copy, Debug, PartialEq, Eq)]
 pub struct Summary {
     /// The report that set the first last (the open).
@@ -27,19 +27,19 @@ pub struct Summary {
     pub low: Option<Mark>,
     /// The report that set the last by its rule.
     pub last: Option<Mark>,
-    // The number of trades stands before the volume, which so stands at a multiple of eight without padding.
-    /// How many reports stand, whether they change a figure or not.
+    // The number of trades comes before the volume, which is thus aligned to eight bytes without padding.
+    /// The number of reports that stand, whether or not they change a figure.
     pub trades: u32,
     /// The shares of the reports whose volume counts.
     pub volume: u64,
 }
 
-/// What one report does to a summary: its figures, and the cells of its sale condition in the summary's columns.
+/// The effect of one report on a summary: its figures, and the cells of its sale condition in the summary's columns.
 #[derive(Clone, Copy, Debug, PartialEq, Eq)]
 pub struct Effect {
     /// Its price, in ten-thousandths of a dollar.
     pub price: Price,
-    /// Its shares.
+    /// Its number of shares.
     pub size: Size,
     /// The participant that reported it.
     pub who: Participant,
@@ -55,8 +55,8 @@ impl Effect {
     ghost use Rattle.std.specs.Prelude.{◌≡◌, ◌≤◌, ◌&&◌, Some, if◌then◌else◌};
     ghost use Rattle.scratch_fold.specs.Fold.{becomes_last, is_higher, is_lower, mark_of};
 
-    /// Makes it the report of a figure, where it counts there. The figure is written in place and only then, since
-    /// most reports change few of them.
+    /// Makes it the report of a figure, if it counts there. The figure is written in place, and only if it changes, since most
+    /// reports change few of them.
     fn mark_where(&self, counts: bool, place: TapeNumber, figure: &mut Option<Mark>)
         ensures { figure.new ≡ (if counts then Some (mark_of (place, self.now)) else figure.old) }
     {
@@ -75,7 +75,7 @@ impl Effect {
     {
         match last {
             None => self.last != LastRule::Never,
-            // Both are looked at, since which rule comes next is not to be foreseen.
+            // Both are evaluated, since a branch on the rule would be unpredictable.
             Some(mark) => {
                 (self.last == LastRule::Always)
                     | ((self.last == LastRule::SameMarket) & (mark.who == self.who))
@@ -105,7 +105,7 @@ impl Effect {
             }
     }
 
-    /// How many of its shares count.
+    /// The number of its shares that count.
     fn counted(&self) -> u64
         ensures counted { result ≡ (if self.now.volume then self.now.size else 0) }
         ensures few { result ≤ SIZE_MOST }
@@ -136,7 +136,7 @@ impl Summary {
         }
     }
 
-    /// Counts one report more, at a place after all those before it; its volume and the number of trades have to fit.
+    /// Adds one more report, at a place after all those before it. The resulting volume and number of trades must fit.
     pub fn add(&mut self, place: TapeNumber, effect: &Effect)
         requires volume { (step self.old (place, effect.now)).volume < 2 ^ 64 }
         requires trades { self.old.trades + 1 < 2 ^ 32 }

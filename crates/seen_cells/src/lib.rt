@@ -1,4 +1,4 @@
-//! What a cell that is set once was seen to hold: a fact that can be copied and compared behind a `&`.
+//! What a set-once cell was seen to hold, as a fact of no bytes that can be copied and compared behind a `&`.
 #![tactic(auto)]
 
 ghost use Rattle.std.specs.Prelude.{◌≡◌, ℕ, IfSome};
@@ -12,8 +12,8 @@ use std::marker::{Model, PhantomData};
 
 /// What a cell was seen to hold, or that nothing was seen in it yet. It takes no bytes.
 ///
-/// `once_cell`'s own `Note` says the same of its cell, but is known and copied through a `&mut` alone; this is known, copied
-/// and compared through a `&`, in any thread.
+/// `once_cell`'s own `Note` says the same of its cell, but is known and copied only through a `&mut`; this is known, copied and
+/// compared through a `&`, in any thread.
 pub struct Seen<T> {
     marker: PhantomData<*const T>,
     /// The name of the cell.
@@ -29,7 +29,7 @@ impl<T> Model for Seen<T> {
 }
 
 impl<T> Seen<T> {
-    /// What the note knows of its cell. The note is left as it is.
+    /// What the note knows of its cell. The note is unchanged.
     pub fn of(note: &mut Note<T>) -> Seen<T>
         ensures known { (note.new ≡ note.old) × (result.cell ≡ note.old.cell) × (result.known ≡ note.old.known) }
     {
@@ -47,14 +47,14 @@ impl<T> Seen<T> {
         }
     }
 
-    /// Tells a note of the same cell what is known. A read of the cell by this note then finds it: a cell that was seen to be set is
-    /// never seen empty.
+    /// Tells a note of the same cell what is known. A read of the cell by this note then finds it: a cell that was seen to be
+    /// set is never seen empty.
     pub fn tell(&self, note: &mut Note<T>)
         requires { note.old.cell ≡ self.now.cell }
         ensures told { (note.new.cell ≡ note.old.cell) × (note.new.known ≡ self.now.known) }
     {}
 
-    /// A cell is set once: where both know what one cell holds, they know the same value.
+    /// A cell is set once: if both know what one cell holds, they know the same value.
     pub fn agrees(&self, other: &Seen<T>)
         requires { other.now.cell ≡ self.now.cell }
         ensures agrees { IfSome other.now.known (Agrees self.now.known) }

@@ -1,4 +1,4 @@
--- Sets of keys with one key more or less.
+-- Sets of keys with one key inserted or removed.
 use Rattle.std.specs.Prelude.{◌≡◌, ℕ, Bool, cond, ◌⊎◌}
 use Rattle.std.specs.Ordering.{nat_cmp}
 use Rattle.std.specs.FinMap as map
@@ -9,19 +9,19 @@ use Rattle.price_index.specs.Pairs.{PairSet}
 abbrev pub PlaceSet : Type 0
 PlaceSet = map.FinMap nat_cmp (Unit {0})
 
--- the set with this pair too, where it is wanted
+-- the set with this pair too, if `wanted`
 abbrev pub with_pair : Bool → PairSet → ℕ × ℕ → PairSet
 with_pair wanted s k = cond wanted (set.insert s k) s
 
--- the set without this pair, where it is to go
+-- the set without this pair, if `wanted`
 abbrev pub without_pair : Bool → PairSet → ℕ × ℕ → PairSet
 without_pair wanted s k = cond wanted (set.remove s k) s
 
--- the set with this place too, where it is wanted
+-- the set with this place too, if `wanted`
 abbrev pub with_place : Bool → PlaceSet → ℕ → PlaceSet
 with_place wanted s n = cond wanted (map.insert s n tt) s
 
--- the set without this place, where it is to go
+-- the set without this place, if `wanted`
 abbrev pub without_place : Bool → PlaceSet → ℕ → PlaceSet
 without_place wanted s n = cond wanted (map.remove s n) s
 

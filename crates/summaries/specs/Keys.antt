@@ -21,11 +21,11 @@ is_conditional_effect e = is_conditional e.last
 abbrev pub is_same_market_of : ℕ → Effect → Bool
 is_same_market_of who e = is_same_market e.last && (who == e.who)
 
--- whether the effect has this price and may become the high and the low
+-- whether the effect has this price and may become the high or the low
 abbrev pub is_priced_at : ℕ → Effect → Bool
 is_priced_at price e = e.high_low && (price == e.price)
 
--- whether an effect passes where the one beside it, if there is one, does not
+-- whether an effect passes and the one beside it, if there is one, does not
 abbrev pub is_fresh : (Effect → Bool) → Effect → Option Effect → Bool
 is_fresh p e beside = p e && not (passes p beside)
 

@@ -1,4 +1,4 @@
--- What the plain store holds beside its effects.
+-- The invariant of the plain store: its staged change replaces an effect.
 use Rattle.std.specs.Prelude.{Some, None, IsSome}
 use Rattle.std.specs.FinMap as map
 use Rattle.summaries.specs.Effects.{Effects, Change}

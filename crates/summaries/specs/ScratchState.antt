@@ -1,11 +1,11 @@
--- What a contract sees of the plain store.
+-- The state of the plain store, as a contract sees it.
 use Rattle.std.specs.Prelude.{ℕ, refl}
 use Rattle.std.specs.Coded.{Coded, code_by, coded_ℕ, coded×, coded_option}
 use Rattle.std.specs.FinMap as map
 use Rattle.scratch_fold.specs.declared.summary.Effect.{Effect}
 use Rattle.summaries.specs.Effects.{Effects, Change}
 
--- the effects by place, the change that waits, and how many effects more the store takes before it asks for memory
+-- the effects by place, the staged change, and how many more effects the store takes before it allocates
 pub record ScratchState : Type 0 where
   pub effects : Effects
   pub staged : Change

@@ -1,4 +1,4 @@
--- What a contract sees of a book.
+-- The state of a book, as a contract sees it.
 use Rattle.std.specs.Prelude.{refl}
 use Rattle.std.specs.Coded.{Coded, code_by, coded_ℕ, coded×}
 use Rattle.std.specs.FinMap as map
@@ -6,7 +6,7 @@ use Rattle.sale_matrix.specs.declared.matrix.Matrix.{Matrix}
 use Rattle.symbol_book.specs.declared.trade.Trade.{Trade}
 use Rattle.symbol_book.specs.Columns.{Trades}
 
--- the matrix that it goes by, and the trades that stand
+-- the matrix that it uses, and the standing trades
 pub record BookState : Type 0 where
   pub matrix : Matrix
   pub trades : Trades

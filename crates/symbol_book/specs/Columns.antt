@@ -1,4 +1,4 @@
--- One map of the reports that stand, under two sets of columns.
+-- The standing reports as one map of trades, seen in the consolidated and in the participant columns.
 use Rattle.std.specs.Prelude.{ℕ, Bool, cond, ◌==◌, List, map, Option, Some, None}
 use Rattle.std.specs.List.{filter}
 use Rattle.std.specs.Ordering.{nat_cmp}
@@ -16,7 +16,7 @@ use Rattle.symbol_book.specs.declared.trade.Trade.{Trade}
 abbrev pub content_of : ℕ → ℕ → List ℕ → Content
 content_of price size condition = record { price = price; size = size; condition = condition }
 
--- the trade of a report by a matrix
+-- the trade of a report, with the cells of its sale condition in the matrix
 abbrev pub reported_trade : Matrix → ℕ → Content → Trade
 reported_trade matrix who content =
     record { who = who; price = content.price; size = content.size; cells = cells_of matrix content.condition }
@@ -29,7 +29,7 @@ consolidated_effect_of t = consolidated_effect t.who t.price t.size t.cells
 abbrev pub own_effect_of : Trade → Effect
 own_effect_of t = participant_effect t.who t.price t.size t.cells
 
--- the trades that stand, by place
+-- the standing trades, by place
 abbrev pub Trades : Type 0
 Trades = map.FinMap nat_cmp Trade
 

@@ -13,7 +13,7 @@ use Rattle.symbol_book.specs.Columns.{Trades, consolidated_effect_of, own_effect
 abbrev pub participant_effects : {S : Type 0} → (S → Effects) → List S → ℕ → Effects
 participant_effects effects_in stores who = cond (nat_le FIRST_PARTICIPANT who) (get_or (map effects_in stores) (row_index who) map.empty) map.empty
 
--- the trade whose effects these are; with none of its own, which no book has, any columns do
+-- the trade whose effects these are; without one of its own, which no book has, any columns do
 abbrev pub trade_of : Effect → Option Effect → Trade
 trade_of all None = record {
   who = all.who;
@@ -55,7 +55,8 @@ pub record IsBook {S : Type 0} (effects_in : S → Effects) (change_in : S → C
 abbrev pub participant_effects_with : (ℕ → Effects) → ℕ → Effects → ℕ → Effects
 participant_effects_with of_who who new w = cond (eq_by_cmp nat_cmp w who) new (of_who w)
 
--- the participants' own stores changed: that of `who` holds these effects now, the others hold what they held, and nothing is staged
+-- the participants' own stores changed: that of `who` holds these effects, the others hold what they held, and nothing is
+-- staged
 pub record OwnBecomes {S : Type 0} (effects_in : S → Effects) (change_in : S → Change) (old new : List S) (who : ℕ) (effects : Effects) : Type 0 where
   pub held_now : (w : ℕ) → participant_effects effects_in new w ≡ participant_effects_with (participant_effects effects_in old) who effects w
   pub settled : AllSettled change_in new

@@ -1,4 +1,4 @@
-//! A symbol's book.
+//! A symbol's book: its standing reports in a consolidated store and in one store for each participant, changed together.
 ghost use Rattle.std.specs.Prelude.{◌≡◌, true, OnOk, OnErr, IsSome, IsSomeAnd, None};
 ghost use Rattle.std.specs.FinMap as map;
 ghost use Rattle.sale_matrix.specs.Matrix.{is_within};
@@ -14,9 +14,9 @@ use std::marker::Model;
 use summaries::Store;
 use tape_types::{Participant, Price, Size, TapeNumber};
 
-/// The reports of a symbol that stand, by place: a store in the consolidated columns of a matrix, and a row of stores in
-/// its participant columns, one for each letter, as far as a report has needed the row. Each call makes a counter of
-/// searches of its own.
+/// The standing reports of a symbol, by place: a store in the consolidated columns of a matrix, and a row of stores in its
+/// participant columns, one for each letter, as long as the reports so far have needed. Each call makes its own counter of
+/// searches.
 #[derive(Drop)]
 pub struct Book<S: Store> {
     alloc: Global,
@@ -43,7 +43,7 @@ impl<S: Store> Model for Book<S> {
 }
 
 impl<S: Store> Book<S> {
-    /// An empty book, whose reports change the summaries by this matrix. It takes no memory.
+    /// An empty book, whose reports change the summaries by this matrix. It allocates nothing.
     pub fn new(alloc: Global, matrix: Matrix) -> Self
         ensures empty { result ≡ empty_book matrix }
     {
@@ -55,7 +55,8 @@ impl<S: Store> Book<S> {
         }
     }
 
-    /// Adds a report at a vacant place. Its sale condition has to be one of the book's matrix. Out of memory, what both of its stores hold is unchanged.
+    /// Adds a report at a vacant place. Its sale condition must be one of the book's matrix. Out of memory, what both of its
+    /// stores hold is unchanged.
     pub fn add(
         &mut self,
         place: TapeNumber,
@@ -76,19 +77,36 @@ impl<S: Store> Book<S> {
             size,
             condition: *condition,
         };
-        let trade = Trade::new(self.matrix, who, &content);
+        self.enter(place, who, &content)
+    }
+
+    /// Adds a report with this content at a vacant place, as `add` does, and with the same condition and error.
+    pub fn enter(
+        &mut self,
+        place: TapeNumber,
+        who: Participant,
+        content: &Content,
+    ) -> Result<(), AllocError>
+        requires vacant { map.get self.old.trades place ≡ None }
+        requires within { is_within self.old.matrix content.now.condition ≡ true }
+        ensures ok { OnOk result (self.new ≡ record self.old {
+          trades = map.insert self.old.trades place (reported_trade self.old.matrix who content.now);
+        }) }
+        ensures err { OnErr result (self.new ≡ self.old) }
+    {
+        let added = Trade::new(self.matrix, who, content);
         let mut searches = Searches::new();
         participant_stores::put(
             &mut self.own,
             self.alloc,
             who,
             place,
-            trade.own(),
+            added.own(),
             &mut searches,
         )?;
         match self
             .consolidated
-            .put(place, trade.consolidated(), &mut searches)
+            .put(place, added.consolidated(), &mut searches)
         {
             Ok(()) => Ok(()),
             Err(refused) => {
@@ -98,9 +116,8 @@ impl<S: Store> Book<S> {
         }
     }
 
-    /// Gives the report at a place another content, whose sale condition has to be one of the book's matrix; its participant
-    /// stays. Out of memory, both of its stores are
-    /// unchanged.
+    /// Replaces the content of the report at a place; its participant stays. The new sale condition must be one of the
+    /// book's matrix. Out of memory, both of its stores are unchanged.
     pub fn replace(
         &mut self,
         place: TapeNumber,
@@ -133,8 +150,8 @@ impl<S: Store> Book<S> {
         )
     }
 
-    /// Gives the report at a place, which is this participant's, another content, as `replace` does, and looks nothing up for
-    /// it. Out of memory, both of its stores are unchanged.
+    /// Replaces the content of the report at a place, which must be this participant's, as `replace` does but without
+    /// looking the report up. Out of memory, both of its stores are unchanged.
     pub fn correct(
         &mut self,
         place: TapeNumber,
@@ -159,7 +176,7 @@ impl<S: Store> Book<S> {
         )
     }
 
-    /// Takes the report at a place away. It takes no memory.
+    /// Removes the report at a place. It allocates nothing.
     pub fn remove(&mut self, place: TapeNumber)
         requires present { IsSome (map.get self.old.trades place) }
         ensures removed { self.new ≡ record self.old { trades = map.remove self.old.trades place } }
@@ -169,14 +186,14 @@ impl<S: Store> Book<S> {
         participant_stores::take(&mut self.own, effect.who, place, &mut searches);
     }
 
-    /// The consolidated summary of the reports by rising place. It takes no memory.
+    /// The consolidated summary of the reports by rising place. It allocates nothing.
     pub fn consolidated(&self) -> Summary
         ensures summary { result ≡ consolidated_summary self.now.trades }
     {
         self.consolidated.summary(&mut Searches::new())
     }
 
-    /// The participant's own summary of its reports by rising place, empty where it has none. It takes no memory.
+    /// The participant's own summary of its reports by rising place, empty if it has none. It allocates nothing.
     pub fn of(&self, who: Participant) -> Summary
         ensures summary { result ≡ own_summary self.now.trades who }
     {

@@ -1,4 +1,5 @@
-//! A symbol's book: the reports that stand, with the consolidated summary and each participant's own.
+//! A symbol's book: its standing reports by place, with the consolidated summary and each participant's own, in stores that
+//! keep them up to date.
 #![tactic(auto)]
 
 mod book;

@@ -1,5 +1,5 @@
-//! The participants' own stores of a book, in a row by letter, from `A`, as far as a report has needed it. The store of a
-//! letter in the row that has not reported is empty.
+//! The participants' own stores of a book, in a row by letter from `A`, as long as the reports so far have needed. The store of
+//! a letter in the row that has not reported is empty.
 ghost use Rattle.std.specs.Prelude.{◌≡◌, ◌<◌, ℕ, length, OnOk, OnErr, IsSome, None};
 ghost use Rattle.std.specs.FinMap as map;
 ghost use Rattle.summaries.specs.Effects.{map_summary};
@@ -36,8 +36,7 @@ pub fn put<S: Store>(
     own[index].put(place, effect, searches)
 }
 
-/// Lengthens the row to an index by empty stores. That changes nothing that is held, also where memory runs out on the
-/// way.
+/// Lengthens the row with empty stores until it has `index`. What is held is unchanged, also if memory runs out on the way.
 #[cold]
 fn make_room<S: Store>(own: &mut Vec<S>, alloc: Global, index: usize) -> Result<(), AllocError>
     requires { AllSettled S.staged_change own.old.items }
@@ -52,7 +51,7 @@ fn make_room<S: Store>(own: &mut Vec<S>, alloc: Global, index: usize) -> Result<
     Ok(())
 }
 
-/// Takes the effect at a place out of the participant's store.
+/// Removes the effect at a place from the participant's store.
 pub fn take<S: Store>(
     own: &mut Vec<S>,
     who: Participant,
@@ -67,7 +66,7 @@ pub fn take<S: Store>(
     own[who.row_index()].take(place, searches);
 }
 
-/// Replaces a participant's trade in the consolidated store and in its own: in both, or in none.
+/// Replaces a participant's trade in the consolidated store and in the participant's own: in both, or in neither.
 pub fn replace<S: Store>(
     consolidated: &mut S,
     own: &mut Vec<S>,
@@ -98,7 +97,7 @@ pub fn replace<S: Store>(
     )
 }
 
-/// Replaces a trade in the consolidated store and in its participant's: in both, or in none.
+/// Replaces a trade in the consolidated store and in its participant's: in both, or in neither.
 fn replace_both<S: Store>(
     consolidated: &mut S,
     own: &mut S,
@@ -132,7 +131,7 @@ fn replace_both<S: Store>(
     }
 }
 
-/// The summary of the participant's own store, the empty one where the row has none.
+/// The summary of the participant's own store; empty if the row has none.
 pub fn summary<S: Store>(own: &[S], who: Participant) -> Summary
     requires settled { AllSettled S.staged_change own.now }
     ensures { result ≡ map_summary (participant_effects S.effects own.now who) }

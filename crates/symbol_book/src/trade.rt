@@ -1,10 +1,10 @@
-//! A report as a book sees it.
+//! A report as a book keeps it, and what it does to the consolidated summary and to its participant's own.
 
 use sale_matrix::{Cells, Content, Matrix, cells};
 use scratch_fold::Effect;
 use tape_types::{Participant, Price, Size};
 
-/// What was reported at a place: whose report it is, its content, and what its sale condition lets it do.
+/// A report at a place: its participant, its price and size, and the cells of its sale condition.
 #[derive(Clone, Copy, Debug, PartialEq, Eq)]
 pub struct Trade {
     /// The price, in ten-thousandths of a dollar.
@@ -22,7 +22,7 @@ impl Trade {
     ghost use Rattle.sale_matrix.specs.Matrix.{is_within};
     ghost use Rattle.symbol_book.specs.Columns.{consolidated_effect_of, own_effect_of, reported_trade};
 
-    /// The trade of a report by a matrix.
+    /// The trade of a report, with the cells of its sale condition in the matrix.
     #[inline(always)]
     pub(crate) fn new(matrix: Matrix, who: Participant, content: &Content) -> Trade
         requires { is_within matrix content.now.condition ≡ true }

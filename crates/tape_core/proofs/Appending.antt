@@ -1,4 +1,5 @@
--- A message of any kind: its book and register take its change, its entry is the next one, and what a tape's fields keep stays kept.
+-- Shows for a message of any kind that its book and register take its change, its entry is the next one, and a tape's fields
+-- keep what they must.
 use Rattle.std.proofs.Common.{◌≡◌, ℕ, ◌≤◌, ◌==◌, if◌then◌else◌, Bool, true, false, List, get_or, set, Option, Some, None, refl, sym, ap, subst, ◌∙◌}
 use Rattle.std.specs.Option.{option_map}
 use Rattle.std.proofs.lemmas.Option.{same_Some}
@@ -29,13 +30,13 @@ use Rattle.tape_core.specs.Lemmas.LegalNext.{admissible}
 use Rattle.tape_core.proofs.NamedTargets.{IsTarget, IsTarget-faultless, IsTarget-standing, IsTarget-cancelled}
 use Rattle.std.specs.FinMap as map
 
--- a change of the report that a message's target names, cancelled where the message reinstates it, and standing where it is another message
+-- a change of the report that a message's target names, cancelled if the message reinstates it, and else standing
 abbrev pub ChangesNamed : List NumberedMessage → Bool → Header → ℕ → (NamedReport → Content → Change) → ℕ → Change → Type 0
 ChangesNamed tape gone header target made index change =
     (place : ℕ) × (content : Content) × IsTarget tape gone header.participant target header.symbol place content
     × (change_at made target index (place, content) ≡ change)
 
--- what a change has to be to be a message's that the tape does not refuse
+-- what a change of a message must be if the tape does not refuse the message
 abbrev pub IsMade : List NumberedMessage → Message → ℕ → Change → Type 0
 IsMade tape (Report header content) index change = make.Enter content ≡ change
 IsMade tape (Cancel header target) index change = ChangesNamed tape false header target (λ named latest. make.Cancel named) index change
@@ -115,7 +116,7 @@ module _ (t : TapeState) (kept : List BookState) (register : RegisterState) (row
       ∙ entry-reinstate t kept register row keeps header target report.0 route.book report.1 book is.book read report.2 route.number
       (consolidated_summary changed.trades) changed is.number refl (change ∙ ap (book_after book route.number header) (sym report.3))
 
-  -- what the fields keep stays kept
+  -- the fields keep what they must
   pub KeepsTape-message : (m : Message) → refusal t m ≡ None → IsRoute t m route → (register' : RegisterState) (row' : Totals) (changed : BookState)
       → changed ≡ book_after book route.number (header_of m) route.change
       → targets_of register' ≡ targets_after (targets_of register) route.number (header_of m) route.change

@@ -1,4 +1,4 @@
--- A list with one element replaced.
+-- Shows what a list with one element replaced has at each index.
 use Rattle.std.proofs.Common.{◌≡◌, ◌≢◌, ℕ, ◌<◌, ◌≤◌, zero, suc, List, [], ◌∷◌, ◌++◌, length, slice_get, slice_set, Option, Some, None, IfSome, inl, inr}
 use Rattle.std.proofs.Common.{ap, ◌∙◌, sym, subst, arith}
 use Rattle.std.proofs.lemmas.Bool.{cases_lt}
@@ -20,12 +20,12 @@ get-set_other xs k j x other = elim (cases_lt j (length xs)) [
   | inr past ↦ slice_get_past (slice_set xs k x) j (subst (λ n. n ≤ j) (sym (length-set xs k x)) past) ∙ sym (slice_get_past xs j past)
 ]
 
--- a fact of what is there follows
+-- a fact of the element that is there follows
 pub IfSome-then : {X : Type 0} (P Q : X → Type 0) → ((x : X) → P x → Q x) → (o : Option X) → IfSome o P → IfSome o Q
 IfSome-then P Q then None holds = tt
 IfSome-then P Q then (Some x) holds = then x holds
 
--- one element more for which a fact holds, as for the others
+-- a fact holds of one more element, as of the others
 pub All-push : {X : Type 0} (P : X → Type 0) (xs : List X) (x : X) → All P xs → P x → All P (xs ++ x ∷ [])
 All-push {X} P xs x holds here = All-append P xs (x ∷ []) holds one
   where

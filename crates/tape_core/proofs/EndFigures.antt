@@ -1,4 +1,4 @@
--- The figures of a symbol with one report more.
+-- Shows the figures of a symbol with one more report.
 use Rattle.std.proofs.Common.{◌≡◌, ℕ, ◌+◌, ◌<◌, ◌≤◌, ◌==◌, Bool, true, false, cond, List, [], ◌∷◌, ◌++◌, length, map, filter, replicate, slice_get, slice_set, slice_index_or, Some, IfSome}
 use Rattle.std.proofs.Common.{refl, ap, ◌∙◌, sym, subst, arith, eq-eqb}
 use Rattle.std.proofs.lemmas.Bool.Decides.{nat_tests}
@@ -22,11 +22,11 @@ pub slice_get-row : (z : Summary) (k : ℕ) → k < PARTICIPANTS_MOST → slice_
 slice_get-row z k inside =
     slice_get-get_or (replicate PARTICIPANTS_MOST z) k z (omega arith) ∙ ap Some (get_or-replicate PARTICIPANTS_MOST k z z inside)
 
--- no report is of at most none
+-- the summary of no report is of at most none
 pub IsOfAtMost-empty : (z : Summary) → z ≡ empty_summary → IsOfAtMost 0 z
 IsOfAtMost-empty z is = subst (IsOfAtMost 0) (sym is) (record { volume = omega arith; trades = omega arith })
 
--- one report more
+-- one more report
 pub summary-push : (xs : List PlacedEffect) (x : PlacedEffect) → summary_of (xs ++ x ∷ []) ≡ step (summary_of xs) x
 summary-push xs x = fold_push step empty_summary xs x
 
@@ -72,15 +72,15 @@ own-other matrix reports r who other = ap (λ l. summary_of (map (placed_partici
           | false ↦ apart xs
         ]
 
--- what a summary at an index is, is what the one there is
+-- what holds of the summary at an index holds of the one found there
 pub at-index : (P : Summary → Type 0) (zs : List Summary) (k : ℕ) (d : Summary) → k < length zs → IfSome (slice_get zs k) P → P (slice_index_or zs k d)
 at-index P zs k d inside holds = subst (λ o. IfSome o P) (slice_get-get_or zs k d inside) holds
 
--- and that it is one
+-- and there is one
 pub is-at-index : (zs : List Summary) (k : ℕ) (d z : Summary) → k < length zs → slice_get zs k ≡ Some z → slice_index_or zs k d ≡ z
 is-at-index zs k d z inside there = same_Some (slice_index_or zs k d) z (sym (slice_get-get_or zs k d inside) ∙ there)
 
--- one report more is counted at most
+-- at most one more report is counted
 pub IsOfAtMost-step : (most : ℕ) (old new : Summary) → IsOfAtMost most old → new.trades ≡ old.trades + 1 → new.volume ≤ old.volume + SIZE_MOST
     → IsOfAtMost (most + 1) new
 IsOfAtMost-step most old new was trades volume = record {
@@ -88,14 +88,14 @@ IsOfAtMost-step most old new was trades volume = record {
   trades = let before = was.trades in omega arith;
 }
 
--- and so one that it was before
+-- and it stays so if it was so before
 pub IsOfAtMost-more : (most : ℕ) (z : Summary) → IsOfAtMost most z → IsOfAtMost (most + 1) z
 IsOfAtMost-more most z was = record {
   volume = let before = was.volume in omega arith;
   trades = let before = was.trades in omega arith;
 }
 
--- figures of few reports are those of at most more
+-- figures of few reports are also figures of at most more
 pub AreOfAtMost-up : (few many : ℕ) (figures : SymbolFigures) → few ≤ many → AreOfAtMost few figures → AreOfAtMost many figures
 AreOfAtMost-up few many figures less was = record {
   all = up figures.all was.all;
@@ -108,11 +108,11 @@ AreOfAtMost-up few many figures less was = record {
 -- ## A figure in the row of the participants
 
 module _ (own : List Summary) (who : ℕ) (is : IsParticipant who) (new : Summary) (inside : row_index who < length own) where
-  -- the participant's own is the new one
+  -- the participant's own summary is the new one
   pub set-mine : slice_get (slice_set own (row_index who) new) (row_index who) ≡ Some new
   set-mine = get-set_same own (row_index who) new inside
 
-  -- another's stays
+  -- another participant's stays
   pub set-other : (other : ℕ) → IsParticipant other → (who == other) ≡ false → slice_get (slice_set own (row_index who) new) (row_index other) ≡ slice_get own (row_index other)
   set-other other of apart =
       get-set_other own (row_index who) (row_index other) new
@@ -128,7 +128,7 @@ module _ (own : List Summary) (who : ℕ) (is : IsParticipant who) (new : Summar
     | false ↦ λ apart. subst (λ o. IfSome o Q) (sym (set-other w of apart)) (IfSome-then P Q up (slice_get own (row_index w)) (were w of))
   ] refl
 
-  -- the participants' own summaries with one report more
+  -- the participants' own summaries with one more report
   pub own-summaries : (matrix : Matrix) (reports : List StandingReport) (r : StandingReport) → r.who ≡ who
       → new ≡ own_summary_of matrix (reports ++ r ∷ []) who
       → ((w : ℕ) → IsParticipant w → slice_get own (row_index w) ≡ Some (own_summary_of matrix reports w))

@@ -1,4 +1,4 @@
--- The figures of all symbols, one message after another.
+-- Shows the figures of all symbols, one message after another.
 use Rattle.std.proofs.Common.{◌≡◌, ℕ, ◌+◌, ◌<◌, ◌==◌, ◌&&◌, Bool, true, false, cond, not, if◌then◌else◌, List, [], ◌∷◌, ◌++◌, length, take, drop, get_or, slice_get, slice_set, Option, Some, None, IsSome, IfSome, is_some}
 use Rattle.std.proofs.Common.{refl, ap, ◌∙◌, sym, subst, arith}
 use Rattle.std.specs.FinMap as map
@@ -36,7 +36,7 @@ use Rattle.tape_core.proofs.list.Reinstatements.{latest-there}
 
 -- ## What a message is on the whole tape
 
--- a message whose report is not there, is of another symbol, or is gone, gives nothing
+-- a message that is no report, is of another symbol or is cancelled gives nothing
 standing-if : (reported of_symbol gone : Bool) (now : Option Content) (place who : ℕ) → (reported && (of_symbol && not gone)) ≡ false
     → ◌≡◌ {A = Option StandingReport} (if reported && (of_symbol && not gone) then option_map (λ c. record { place = place; who = who; content = c }) now else None) None
 standing-if reported of_symbol gone now place who is =
@@ -78,7 +78,7 @@ module _ (tape : List NumberedMessage) (symbol : List ℕ) (n : NumberedMessage)
 
 -- ## One message more
 
--- the reports of a symbol among messages, with those of one message more
+-- the reports of a symbol among messages, with those of one more message
 more-reports : (tape : List NumberedMessage) (symbol : List ℕ) (first : List NumberedMessage) (n : NumberedMessage) (o : Option StandingReport)
     → standing_report tape symbol n ≡ o
     → filter_map (standing_report tape symbol) (first ++ n ∷ []) ≡ filter_map (standing_report tape symbol) first ++ cons_option o []
@@ -116,7 +116,7 @@ module _ (t : TapeState) (first : List NumberedMessage) (n : NumberedMessage) wh
             (figures-skip symbol (slice_get old index) (standing-other tape symbol n is) (was symbol index at))
       ] refl
 
-  -- so nothing changes where its symbol has no figures
+  -- so nothing changes if its symbol has no figures
   pub table-unlisted : (table : List SymbolFigures) → ((index : ℕ) → position (symbol_eq (header_of n.1).symbol) t.listing.symbols ≡ Some index
       → slice_get table index ≡ None) → AreTableOf t first table → AreTableOf t (first ++ n ∷ []) table
   table-unlisted table none was = table-step table table
@@ -124,7 +124,7 @@ module _ (t : TapeState) (first : List NumberedMessage) (n : NumberedMessage) wh
       (sym (none index (ap (λ s. position (symbol_eq s) t.listing.symbols) is ∙ at))) tt)
       (λ symbol index at other. refl) was
 
--- two symbols that are listed at one index are one
+-- two symbols that are listed at one index are equal
 one_symbol : (a b : List ℕ) (symbols : List (List ℕ)) (index : ℕ) → position (symbol_eq a) symbols ≡ Some index → position (symbol_eq b) symbols ≡ Some index
     → symbol_eq a b ≡ true
 one_symbol a b symbols index at also =
@@ -159,7 +159,7 @@ module _ (t : TapeState) (e : EndTape) (keeps : KeepsEnd t e) where
       → map.get (targets_of e.register) (s.who, s.number) ≡ target → target ≡ Some (target_of (messages_of t.entries) n)
   registered n s target named there = sym there ∙ keeps.targets s.who s.number ∙ ap (option_map (target_of (messages_of t.entries))) named
 
-  -- so what the register has for what is kept of a message is that
+  -- so the register has that report for what is kept of the message
   pub target-is : (n : NumberedMessage) (s : Sent) (sent : Option Sent) → sent ≡ Some s → IsSentOf t n sent → (target : Target)
       → map.get (targets_of e.register) (s.who, s.number) ≡ Some target → target ≡ target_of (messages_of t.entries) n
   target-is n s sent some is target there = same_Some target (target_of (messages_of t.entries) n)
@@ -179,7 +179,7 @@ module _ (t : TapeState) (e : EndTape) (keeps : KeepsEnd t e) where
           ∙ latest-within t.matrix (messages_of t.entries) n.0 (latest_content (messages_of t.entries) n.0) (IsLegal-within t keeps.tape.legal)
           (latest-there (messages_of t.entries) who number n named)
 
--- a report that is kept of a message is one, of the message's participant
+-- if a report is kept of a message, the message is a report of that participant
 pub sent-is : (n : NumberedMessage) (s : Sent) → Some s ≡ sent_of n → (is_some (reported_content n.1) ≡ true) × (s.who ≡ (header_of n.1).participant)
 sent-is n s is = by (reported_content n.1) is
   where
@@ -196,7 +196,7 @@ sent-none n is = by (reported_content n.1) is
     by None is = refl
     by (Some content) is = absurd (cc)
 
--- a report that stands, or not, as the register keeps it
+-- whether a report stands, as the register keeps it
 pub stands-as : (gone : Bool) → (◌≡◌ {A = Stands} (if gone then Cancelled else Standing) Cancelled → gone ≡ true)
     × ((◌≡◌ {A = Stands} (if gone then Cancelled else Standing) Cancelled → ⊥) → gone ≡ false)
 stands-as true = (λ _. refl, λ other. absurd (other refl))
@@ -222,7 +222,7 @@ module _ (t : TapeState) (e : EndTape) (keeps : KeepsEnd t e) (k : ℕ) (n : Num
           let fact = (admissible (tape_before t k) n.1 none).above in
           grind (arith, nat_tests)
 
-  -- so its name is its own
+  -- so no other message has its name
   named-itself : is_some (reported_content n.1) ≡ true → named_report whole (header_of n.1).participant (header_of n.1).number ≡ Some n
   named-itself reported =
       let who = (header_of n.1).participant in
@@ -241,7 +241,7 @@ module _ (t : TapeState) (e : EndTape) (keeps : KeepsEnd t e) (k : ℕ) (n : Num
           → (b && (is_of (header_of n.1).participant n.1 && (header_of n.1).number == (header_of n.1).number)) ≡ true
       its_name b is = grind (arith, nat_tests)
 
-  -- what is kept of it is its own
+  -- so what is kept of it names it
   pub IsSentOf-itself : IsSentOf t n (sent_of n)
   IsSentOf-itself = (refl, by (reported_content n.1) (λ reported. named-itself reported))
     where
@@ -251,7 +251,7 @@ module _ (t : TapeState) (e : EndTape) (keeps : KeepsEnd t e) (k : ℕ) (n : Num
       by None named = tt
       by (Some content) named = named refl
 
--- what is kept at an index is that of the message there
+-- what is kept at an index is what is kept of the message there
 pub sent-at : (t : TapeState) (e : EndTape) → KeepsEnd t e → (k : ℕ) (n : NumberedMessage) → slice_get (messages_of t.entries) k ≡ Some n
     → (sent : Option Sent) → sent ≡ get_or e.reports.items k sent → sent ≡ sent_of n
 sent-at t e keeps k n at sent is =

@@ -1,4 +1,4 @@
--- What is kept of a tape of which only the end is asked: at the start, where a message goes, and after each kind of message.
+-- Shows that an `EndTape` keeps what it must of a tape: at the start, for where a message goes, and after each kind of message.
 use Rattle.std.proofs.Common.{◌≡◌, ℕ, ◌+◌, ◌<◌, ◌≤◌, ◌==◌, nat_le, Bool, true, false, cond, not, if◌then◌else◌, List, [], ◌∷◌, ◌++◌, length, map, Some, None, Result, Ok}
 use Rattle.std.proofs.Common.{refl, ap, ◌∙◌, sym, subst, arith}
 use Rattle.std.specs.FinMap as map
@@ -136,7 +136,7 @@ module _ (t : TapeState) (e : EndTape) (keeps : KeepsEnd t e) where
   abbrev before : List (ℕ × Message)
   before = messages_of t.entries
 
-  -- a message's number is above its participant's last
+  -- the message's number is above its participant's last
   number-above : (m : Message) → refusal t m ≡ None → last_number before (header_of m).participant < (header_of m).number
   number-above m none = let fact = (admissible t m none).above in grind (arith, nat_tests)
 
@@ -194,7 +194,7 @@ module _ (t : TapeState) (e : EndTape) (keeps : KeepsEnd t e) where
       (IsRegister-reinstate before (targets_of e.register) (length t.entries + 1) header target report.2.report (IsLegal-numbered t keeps.tape.legal)
       (IsLegal-targets t keeps.tape.legal) report.2.named keeps.targets)
 
-  -- what is kept with a message more
+  -- what is kept with one more message
   pub KeepsEnd-next : (m : Message) → refusal t m ≡ None → (route : EndRoute) → IsEndRoute t m route → (e' : EndTape) → e'.matrix ≡ e.matrix
       → targets_of e'.register ≡ targets_after (targets_of e.register) route.number (header_of m) route.change
       → ((other : ℕ) → IsParticipant other

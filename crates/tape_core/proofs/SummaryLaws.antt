@@ -1,4 +1,4 @@
--- What a message that a tape admits does to the symbols' consolidated summaries.
+-- Shows what a message that a tape admits does to the symbols' consolidated summaries.
 use Rattle.std.proofs.Common.{◌≡◌, ℕ, ◌+◌, Bool, true, false, not, List, [], ◌∷◌, ◌++◌, map, Option, Some, None, length, refl, sym, ap, ◌∙◌}
 use Rattle.std.proofs.lemmas.Bool.{not-false}
 use Rattle.std.proofs.lemmas.List.{map-append}
@@ -28,12 +28,12 @@ use Rattle.tape_core.proofs.list.Reports.{book_of-report, book_of-report-other}
 abbrev effects_of : List (ℕ × Trade) → List PlacedEffect
 effects_of trades = map (λ r. (r.0, consolidated_effect_of r.1)) trades
 
--- a symbol comes to what its book comes to
+-- a symbol's summary is that of its book
 book-sum : (matrix : Matrix) (tape : List NumberedMessage) (symbol : List ℕ)
     → symbol_summary matrix tape symbol ≡ summary_of (effects_of (book_of matrix tape symbol))
 book-sum matrix tape symbol = sym (ap summary_of (in_columns matrix (standing_reports tape symbol)))
 
--- one trade more, after all others, is one step more
+-- one more trade, after all others, is one more step
 sum-push : (trades : List (ℕ × Trade)) (trade : ℕ × Trade)
     → summary_of (effects_of (trades ++ trade ∷ [])) ≡ step (summary_of (effects_of trades)) (trade.0, consolidated_effect_of trade.1)
 sum-push trades trade =

@@ -1,5 +1,5 @@
--- What a change does to its symbol's book and to the register, under an entry's number and a message's header. The index of a report in
--- the register is only where to look first, so nothing here depends on it.
+-- Defines what a change does to its symbol's book and to the register, under an entry's number and a message's header. The
+-- index of a report in the register is only where to look first, so nothing here depends on it.
 use Rattle.std.specs.Prelude.{◌≡◌, ℕ, Option, true, None, Some, IsSome, IsSomeAnd}
 use Rattle.std.specs.FinMap as map
 use Rattle.sale_matrix.specs.Matrix.{is_within}
@@ -13,12 +13,13 @@ use Rattle.tape_core.specs.declared.change.Change.{Change}
 use Rattle.tape_core.specs.declared.change.Change.TheVariants.{Enter, Cancel, Correct, Reinstate}
 use Rattle.tape_core.specs.declared.change.NamedReport.{NamedReport}
 
--- a change of a report that a message names by a target, where it is at this place with this content, and at this index in the register
+-- a change of a report that a message names by a target, if it is at this place with this content, and at this index in the
+-- register
 abbrev pub change_at : (NamedReport → Content → Change) → ℕ → ℕ → ℕ × Content → Change
 change_at change target index report = change (record { target = target; place = report.0; index = index }) report.1
 
--- the book has room at the place of a report that enters or comes back, and has the one that another change names, a corrected one as
--- its participant's; the register too; and the content that the book takes is of its matrix
+-- the book has room at the place of a report that enters or comes back, and has the one that another change names, a corrected
+-- one as its participant's; the register too; and the content that the book takes is of its matrix
 abbrev pub CanChange : BookState → Targets → ℕ → Header → Change → Type 0
 CanChange book targets number header (Enter content) =
     (map.get book.trades number ≡ None) × (map.get targets (header.participant, header.number) ≡ None) × (is_within book.matrix content.condition ≡ true)
@@ -48,7 +49,7 @@ targets_after targets number header (Cancel named) = targets_changed cancelled_t
 targets_after targets number header (Correct named content) = targets_changed (corrected_target content) targets (header.participant, named.target)
 targets_after targets number header (Reinstate named content) = targets_changed reinstated_target targets (header.participant, named.target)
 
--- what the entry carries, where this is the book after the change: its summary, but nothing where a report enters
+-- what the entry carries, if this is the book after the change: its summary, or `None` if a report enters
 abbrev pub summary_after : BookState → Change → Option Summary
 summary_after book (Enter content) = None
 summary_after book (Cancel named) = Some (consolidated_summary book.trades)

@@ -1,4 +1,4 @@
--- A tape of which only the end is asked, and what it keeps of the tape that the same messages make.
+-- Defines what an `EndTape` keeps of the tape that the same messages make, how it answers messages, and the figures at its end.
 use Rattle.std.specs.Prelude.{◌≡◌, ℕ, ◌+◌, ◌*◌, ◌≤◌, ◌==◌, true, false, List, [], ◌∷◌, ◌++◌, map, filter, length, position, slice_get, Option, Some, None, IfSome, Result, Ok, Err, unwrap_or}
 use Rattle.std.specs.List.{filter_map}
 use Rattle.std.specs.Option.{option_map}
@@ -26,12 +26,12 @@ use Rattle.tape_core.specs.declared.end_tape.Sent.{Sent}
 use Rattle.tape_core.specs.declared.refusal.Refusal.{Refusal}
 use Rattle.tape_core.specs.declared.refusal.Refusal.TheVariants.{OutOfMemory}
 
--- the report that a message is, by who sent it and its number; nothing for a message of another kind
+-- the report that a message is, by who sent it and its number; `None` for a message of another kind
 abbrev pub sent_of : NumberedMessage → Option Sent
 sent_of n = option_map (λ _. record { who = (header_of n.1).participant; number = (header_of n.1).number }) (reported_content n.1)
 
--- what is kept is that of this tape, which is open, has the greatest limit and any listing: its register, each participant's last number,
--- and by tape number which report a message is
+-- what is kept is that of this tape, which is open and has the greatest limit and any listing: its register, each participant's
+-- last number, and by tape number which report a message is
 pub record KeepsEnd (t : TapeState) (e : EndTape) : Type 0 where
   pub tape : IsTape t
   pub unclosed : t.closed ≡ false
@@ -91,7 +91,8 @@ pub record IsSameEnd (old new : EndTape) : Type 0 where
   pub register : new.register ≡ old.register
   pub reports : new.reports.items ≡ old.reports.items
 
--- the register can make a change: no report has the number of one that enters, and the one that another change names stands, or is cancelled
+-- the register can make a change: no report has the number of one that enters, and the one that another change names stands, or
+-- is cancelled for a reinstatement
 abbrev pub CanNote : Targets → Header → Change → Type 0
 CanNote targets header (Enter content) = map_by.get targets (header.participant, header.number) ≡ None
 CanNote targets header (Cancel named) = IsStanding (map_by.get targets (header.participant, named.target))

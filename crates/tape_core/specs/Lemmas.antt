@@ -1,3 +1,4 @@
+pub mod Answered
 pub mod Equality
 pub mod LegalNext
 pub mod LegalPrefix

@@ -1,4 +1,4 @@
--- The reports of a tape as they are now: where each stands, or that it is cancelled, and its latest content.
+-- Defines the reports of a tape as they are now: each one's place, whether it stands, and its latest content.
 use Rattle.std.specs.Prelude.{ℕ, Option, Some, None, is_some, slice_get, unwrap_or, if◌then◌else◌}
 use Rattle.std.specs.Option.{option_map}
 use Rattle.corrections.specs.declared.target.Target.{Target}

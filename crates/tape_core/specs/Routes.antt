@@ -1,4 +1,4 @@
--- Where a message that a tape does not refuse goes.
+-- Defines where a message that a tape does not refuse goes: its symbol's book, the number of its entry, and its change.
 use Rattle.std.specs.Prelude.{◌≡◌, ℕ, ◌+◌, List, length, position, Option, Some}
 use Rattle.std.specs.Option.{option_map}
 use Rattle.tape_types.specs.Names.{symbol_eq}
@@ -14,11 +14,11 @@ use Rattle.tape_core.specs.Books.{latest_content}
 use Rattle.tape_core.specs.Changes.{change_at}
 use Rattle.tape_core.specs.Tape.{TapeState, messages_of}
 
--- where the report is that a target names, and its latest content
+-- the place of the report that a target names, and its latest content
 abbrev pub placed_report : List NumberedMessage → ℕ → ℕ → Option (ℕ × Content)
 placed_report tape who target = option_map (λ r. (r.0, latest_content tape r.0)) (named_report tape who target)
 
--- what a message changes after these, where the register has the report that it names at this index
+-- what a message changes after these, if the register has the report that it names at this index
 abbrev pub message_change : List NumberedMessage → Message → ℕ → Option Change
 message_change tape (Report header content) index = Some (make.Enter content)
 message_change tape (Cancel header target) index =

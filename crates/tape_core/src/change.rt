@@ -1,4 +1,4 @@
-//! What a message changes beside the list of entries.
+//! Holds what a message changes in its symbol's book and in the register, once the report that it names is looked up.
 
 use reports::Content;
 use tape_types::{MsgNumber, TapeNumber};
@@ -10,11 +10,11 @@ pub struct NamedReport {
     pub target: MsgNumber,
     /// The tape number of its admission.
     pub place: TapeNumber,
-    /// At which index the register had it, so that a change there need not search for it again.
+    /// The index at which the register had it, so that a change there need not search for it again.
     pub index: usize,
 }
 
-/// What a message changes in its symbol's book and in the register: for each kind all that its change reads beside the message's
+/// What a message changes in its symbol's book and in the register: for each kind, what the change needs besides the message's
 /// header and the number of its entry.
 #[derive(Clone, Copy)]
 pub enum Change {

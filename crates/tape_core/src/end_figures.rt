@@ -1,4 +1,4 @@
-//! What the reports of a symbol come to, all at once.
+//! Adds up a symbol's reports by rising place, and keeps its consolidated summary and each participant's own.
 ghost use Rattle.std.specs.Prelude.{◌≡◌, ℕ, ◌+◌, ◌-◌, ◌++◌, ◌∷◌, List, [], All, IfOk, length};
 ghost use Rattle.tape_core.specs.Ending.{AreFigures, AreOfAtMost};
 ghost use Rattle.tape_types.specs.Ranges.{TAPE_MOST};
@@ -11,7 +11,7 @@ use scratch_fold::{Effect, Mark, Summary};
 use std::alloc::{AllocError, Global};
 use tape_types::{PARTICIPANTS_MOST, Participant, SIZE_MOST, TapeNumber};
 
-/// What the reports of a symbol come to: the consolidated summary, and each participant's own.
+/// The summaries of a symbol's reports: the consolidated one, and each participant's own.
 #[derive(Clone, Copy, Debug, PartialEq, Eq)]
 pub struct SymbolFigures {
     /// The consolidated summary.
@@ -32,7 +32,7 @@ impl SymbolFigures {
         }
     }
 
-    /// Counts one report more, at a place after all those before it.
+    /// Counts one more report, whose place is after those of all before it.
     pub fn count(&mut self, place: TapeNumber, who: Participant, content: &Content, cells: Cells)
         requires few { AreOfAtMost (TAPE_MOST - 1) self.old }
         ensures figures { (matrix : SaleMatrix) (reports : List StandingReport) → cells ≡ cells_of matrix content.now.condition
@@ -62,13 +62,13 @@ impl SymbolFigures {
     }
 }
 
-/// The figures of no report for so many symbols.
+/// Returns the figures of no report for each of `count` symbols.
 pub fn empty_table(alloc: Global, count: usize) -> Result<Vec<SymbolFigures>, AllocError>
     ensures figures { (matrix : SaleMatrix) → IfOk result (λ table. All (AreFigures matrix []) table.items) }
     ensures none { IfOk result (λ table. All (AreOfAtMost 0) table.items) }
     ensures count { IfOk result (λ table. length table.items ≡ count) }
 {
-    // For the proof alone: the check knows of the types of a function's own values, and of the values in these.
+    // For the proof alone: the check knows the types of a function's own values and of the values in them.
     let _ = high_of(Summary::empty());
     let mut table = Vec::new(alloc);
     for _ in 0..count {

@@ -1,4 +1,4 @@
-//! Where a message goes on a tape of which only the end is asked.
+//! Holds where a message goes on an `EndTape`: the number of its entry, and what it changes in the register.
 
 use crate::change::Change;
 use tape_types::TapeNumber;

@@ -1,4 +1,5 @@
-//! A tape of which only the end is asked.
+//! Admits messages to a tape of which only the final summaries are needed. It keeps the register and which messages are
+//! reports, and makes the summaries in one pass at the end.
 ghost use Rattle.std.specs.Prelude.{◌≡◌, ℕ, ◌+◌, ◌-◌, ◌<◌, [], length, All, IfOk, OnOk, OnErr};
 ghost use Rattle.tape_types.specs.Names.{Names};
 ghost use Rattle.tape_types.specs.Ranges.{TAPE_MOST};
@@ -21,23 +22,23 @@ use tape_types::{Listing, MsgNumber, PARTICIPANTS_MOST, Participant, TAPE_MOST, 
 pub struct Sent {
     /// The participant.
     pub who: Participant,
-    /// The participant's number of it.
+    /// The message number under which the participant sent it.
     pub number: MsgNumber,
 }
 
-/// A tape of which only the end is asked: it answers messages as a tape of the same matrix does, with the greatest limit and any listing
-/// that has the messages' names, which need not be known before the end. It keeps the register that the answers need, and by tape number
-/// which report a message is. No summary is kept: they are all made at once.
+/// A tape of which only the final summaries are needed: it answers messages as a tape does that has the same matrix, the
+/// greatest limit and any listing with the messages' names, which need not be known before the end. It keeps the register that
+/// the answers need, and by tape number which report a message is. It keeps no summary: all are made at once.
 #[derive(Drop)]
 pub struct EndTape {
     matrix: Matrix,
     register: Register,
-    /// By tape number: the report that the message is, or nothing.
+    /// By tape number: the report that the message is, or `None` for a message of another kind.
     reports: Vec<Option<Sent>>,
 }
 
 impl EndTape {
-    /// An empty one. It takes no memory.
+    /// Returns an empty tape. It does not allocate.
     pub fn new(alloc: Global, matrix: Matrix) -> EndTape
         ensures { (listing : Names) → KeepsEnd (empty_tape listing TAPE_MOST matrix) result }
     {
@@ -48,8 +49,8 @@ impl EndTape {
         }
     }
 
-    /// Admits a message and gives the number of its entry, or says why not, as the `admit` of a tape does whose listing has the message's
-    /// names. Nothing has changed on a refusal.
+    /// Admits a message and returns the number of its entry, or the refusal that `admit` returns on a tape whose listing has
+    /// the message's names. Nothing is changed on a refusal.
     pub fn admit(&mut self, message: Message) -> Result<TapeNumber, Refusal>
         requires kept { IsKeptFor self.old message }
         ensures answers { AnswersEnd self.old message result self.new }
@@ -84,7 +85,7 @@ impl EndTape {
         }
     }
 
-    /// Appends a message's entry and gives its number. Where memory runs out, nothing has changed.
+    /// Appends a message's entry and returns its number. If memory runs out, nothing is changed.
     fn append(&mut self, route: EndRoute, message: &Message) -> Result<TapeNumber, AllocError>
         requires routed { IsRouted self.old message.now route }
         ensures number { IfOk result (λ number. number ≡ route.number) }
@@ -99,7 +100,8 @@ impl EndTape {
         Ok(route.number)
     }
 
-    /// What the reports that stand come to, for each symbol in the order of a listing. One pass goes over the reports by rising place.
+    /// Returns the summaries of the reports that stand, for each symbol in the order of a listing. It goes over the reports
+    /// once, by rising place.
     pub fn figures(
         &self,
         alloc: Global,
@@ -129,8 +131,8 @@ impl EndTape {
         }
     }
 
-    /// Counts what is kept of a message, where it is a report and stands. The register has it at or after the index near which the last
-    /// one of the participant was found.
+    /// Counts what is kept of a message, if it is a report that stands. The register has it at or after the index near which
+    /// the participant's last one was found.
     fn count(
         &self,
         listing: &Listing,
@@ -166,7 +168,7 @@ impl EndTape {
     }
 }
 
-/// The report that a message is.
+/// The sender and number of a report; `None` for a message of another kind.
 fn sent_of(message: &Message) -> Option<Sent>
     ensures { (number : ℕ) → result ≡ sent_of (number, message.now) }
 {
@@ -179,7 +181,7 @@ fn sent_of(message: &Message) -> Option<Sent>
     }
 }
 
-/// The number of the entry after so many.
+/// The number of the entry after `count` entries.
 fn number_after(count: usize) -> TapeNumber
     requires { count < TAPE_MOST }
     ensures { result ≡ count + 1 }

@@ -1,6 +1,6 @@
-//! What a tape has of one participant.
+//! Holds a participant's count of messages, sum of sizes and last number on a tape.
 
-/// A participant's figures on a tape. All three are 0 where the tape has no message of it.
+/// A participant's figures on a tape. All three are 0 if the tape has no message of it.
 #[derive(Clone, Copy, Debug, PartialEq, Eq)]
 pub struct Figures {
     /// How many of its messages the tape has, of every kind.

@@ -1,4 +1,4 @@
-//! A message's change made in the register alone.
+//! Makes a message's change in the register alone, for an `EndTape`, which has no books.
 ghost use Rattle.std.specs.Prelude.{◌≡◌, OnOk, OnErr};
 ghost use Rattle.corrections.specs.RegisterState.{targets_of};
 ghost use Rattle.tape_core.specs.Changes.{targets_after};
@@ -10,7 +10,7 @@ use corrections::Register;
 use reports::Header;
 use std::alloc::AllocError;
 
-/// Makes a route's change in the register. Where memory runs out, it is unchanged; a report alone takes any.
+/// Makes a route's change in the register. If memory runs out, the register is unchanged; only a report allocates.
 pub fn note_change(
     register: &mut Register,
     route: &EndRoute,

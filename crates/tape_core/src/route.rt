@@ -1,4 +1,4 @@
-//! Where a message goes.
+//! Holds where a message goes on a tape: its symbol's book, the number of its entry, and what it changes.
 
 use crate::change::Change;
 use tape_types::TapeNumber;

@@ -6,7 +6,7 @@ use Rattle.std.proofs.lemmas.Nat.{be_bytes_8}
 use Rattle.std.proofs.lemmas.Bool.Decides.{Decides-eqb}
 use Rattle.std.proofs.lemmas.Slice.Eq.{bytes_eq-Decides}
 
--- the numbers are equal exactly where the bytes are
+-- the numbers are equal exactly if the bytes are
 pub number_eq : (xs ys : List ℕ) (m n : ℕ) → length xs ≡ 8 → length ys ≡ 8 → ((i : ℕ) → get_or xs i 0 < 256) → ((i : ℕ) → get_or ys i 0 < 256)
     → m ≡ from_be_bytes w64 xs → n ≡ from_be_bytes w64 ys → nat_eq m n ≡ bytes_eq xs ys
 number_eq xs ys m n eight_x eight_y small_x small_y read_x read_y =

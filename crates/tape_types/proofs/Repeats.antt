@@ -1,4 +1,4 @@
--- Whether a list repeats an element, one element after another.
+-- Lemmas that find out whether a list repeats an element by going through it one element after another.
 use Rattle.std.proofs.Common.{◌≡◌, ℕ, ◌+◌, ◌<◌, Bool, true, false, ◌||◌, List, [], ◌∷◌, ◌++◌, length, take, drop, get_or, cond, not, refl, sym, ap, ◌∙◌}
 use Rattle.std.proofs.Common.{true≢false, inl, inr}
 use Rattle.std.specs.List.{list_any}
@@ -8,7 +8,7 @@ use Rattle.std.proofs.lemmas.Bool.{cases_Bool, or_parts, or_from}
 use Rattle.indexmap.specs.IndexSet.{insert_key}
 use Rattle.tape_types.specs.Names.{has_repeat}
 
--- whether one of four is true is the same in other pairs
+-- a disjunction of four does not depend on how they are paired
 or_four : (a b c d : Bool) → ((a || (b || false)) || (c || d)) ≡ ((a || c) || (b || d))
 or_four true b c d = refl
 or_four false true true d = refl
@@ -42,11 +42,11 @@ module _ {A : Type 0} (eq : A → A → Bool) where
       (or_parts (list_any (λ z. eq z x) xs) (list_any (λ z. eq z x) ys) (sym (list_any-append (λ z. eq z x) xs ys) ∙ split.0)).0
       (has_repeat-front xs ys split.1)
 
-  -- the first names and the next one are the first names by one more
+  -- the first `i` names and the next one are the first `i + 1` names
   next_names : (names : List A) (i : ℕ) (x : A) → i < length names → x ≡ get_or names i x → take (i + 1) names ≡ take i names ++ x ∷ []
   next_names names i x inside at = take_more names i x inside ∙ ap (λ y. take i names ++ y ∷ []) (sym at)
 
-  -- a name that stands among those before it is a repeat of the whole list
+  -- if a name stands among those before it, the whole list repeats a name
   pub has_repeat-found : (names : List A) (i : ℕ) (x : A) → i < length names → x ≡ get_or names i x
       → list_any (eq x) (take i names) ≡ true → has_repeat eq names ≡ true
   has_repeat-found names i x inside at found = elim (cases_Bool (has_repeat eq names)) [
@@ -56,7 +56,7 @@ module _ {A : Type 0} (eq : A → A → Bool) where
         ∙ has_repeat-front (take (i + 1) names) (drop (i + 1) names) (ap (has_repeat eq) (take-append-drop (i + 1) names) ∙ none))).1))
   ]
 
-  -- a name that is new goes last, and nothing stands twice
+  -- a name that is new goes last, and no name stands twice
   pub insert_key-next : (names keys : List A) (i : ℕ) (x : A) → i < length names → x ≡ get_or names i x
       → keys ≡ take i names → has_repeat eq (take i names) ≡ false → list_any (eq x) keys ≡ false
       → (insert_key eq keys x ≡ take (i + 1) names) × (has_repeat eq (take (i + 1) names) ≡ false)

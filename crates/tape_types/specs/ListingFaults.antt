@@ -1,4 +1,4 @@
--- The faults of a listing by number and name.
+-- The number and the name of each listing fault.
 use Rattle.std.specs.Prelude.{ℕ, List, codes}
 use Rattle.tape_types.specs.declared.listing_fault.ListingFault.{ListingFault}
 use Rattle.tape_types.specs.declared.listing_fault.ListingFault.TheVariants.{Empty, TooMany, Repeated, OutOfMemory}

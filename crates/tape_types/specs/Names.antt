@@ -6,7 +6,7 @@ use Rattle.tape_types.specs.declared.listing_fault.ListingFault.{ListingFault}
 use Rattle.tape_types.specs.declared.listing_fault.ListingFault.TheVariants.{Empty, TooMany, Repeated}
 use Rattle.tape_types.specs.Ranges.{SYMBOLS_MOST, PARTICIPANTS_MOST, is_name_byte}
 
--- what a contract sees of a listing
+-- a listing as contracts see it
 pub record Names : Type 0 where
   pub symbols : List (List ℕ)
   pub participants : List ℕ
@@ -32,7 +32,7 @@ abbrev pub first_fault : {F : Type 0} → List (Bool × F) → Option F
 first_fault [] = None
 first_fault (c ∷ cases) = cond c.0 (Some c.1) (first_fault cases)
 
--- whether a list has nothing
+-- whether a list is empty
 abbrev pub is_nil : {A : Type 0} → List A → Bool
 is_nil [] = true
 is_nil (x ∷ xs) = false

@@ -1,4 +1,4 @@
--- Pairs of numbers in order.
+-- The order of pairs of numbers, first by the first part and then by the second.
 use Rattle.std.specs.Prelude.{ℕ}
 use Rattle.std.specs.declared.cmp.Ordering.{Ordering}
 use Rattle.std.specs.Ordering.{nat_cmp, ordering_then}

@@ -61,7 +61,7 @@ IsTapeNumber n = (1 ≤ n) × (n ≤ TAPE_MOST)
 abbrev pub FIRST_PARTICIPANT : ℕ
 FIRST_PARTICIPANT = 65
 
--- `Z`, the last one
+-- `Z`, the last letter that a participant can be
 abbrev pub LAST_PARTICIPANT : ℕ
 LAST_PARTICIPANT = 90
 

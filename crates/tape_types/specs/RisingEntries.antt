@@ -8,17 +8,17 @@ use Rattle.std.specs.FinMap as map
 abbrev pub HasRisingKeys : {X : Type 0} → List (ℕ × X) → Type 0
 HasRisingKeys es = T (map.is_sorted nat_cmp es)
 
--- where a key stands in the order of the entries: all before are below it, and none from here on is
+-- the position of a key in the order of the entries: all before it are below the key, and none from there on is
 pub record IsPosition {X : Type 0} (key : ℕ) (es : List (ℕ × X)) (i : ℕ) : Type 0 where
   pub in_range : i ≤ length es
   pub below : AllWithin (λ (e : ℕ × X). e.0 < key) es 0 i
   pub not_below : AllWithin (λ (e : ℕ × X). key ≤ e.0) es i (length es)
 
--- entries whose keys are numbers in another form, by these numbers
+-- entries with each key replaced by its number
 abbrev pub keyed : {K X : Type 0} → (K → ℕ) → List (K × X) → List (ℕ × X)
 keyed number es = map_list (λ e. (number e.0, e.1)) es
 
--- where a key stands that has a value
+-- the index at which a key that has a value stands
 pub record StandsIn {X : Type 0} (key : ℕ) (es : List (ℕ × X)) (i : ℕ) : Type 0 where
   pub position : IsPosition key es i
   pub within : i < length es

@@ -1,10 +1,10 @@
--- What a contract sees of a map in one vector.
+-- The state of a map in one vector as contracts see it.
 use Rattle.std.specs.Prelude.{ℕ, refl}
 use Rattle.std.specs.Coded.{Coded, code_by, coded_ℕ, coded×}
 use Rattle.std.specs.Ordering.{nat_cmp}
 use Rattle.std.specs.FinMap as map
 
--- the values by key, and how many entries more the vector takes before it asks for memory
+-- the values by key, and how many more entries the vector takes before it allocates
 pub record RisingState (X : Type 0) : Type 0 where
   pub values : map.FinMap nat_cmp X
   pub spare : ℕ

@@ -1,4 +1,4 @@
-//! A number in four bytes.
+//! A 32-bit number kept in four bytes without alignment, and compared and hashed as a number.
 ghost use Rattle.std.specs.Prelude.{◌≡◌, ◌==◌, Some};
 ghost use Rattle.std.specs.Cmp.Rules.{comparing, hashing};
 ghost use Rattle.std.specs.Hash as fed;
@@ -15,7 +15,7 @@ pub const FOUR_BYTE_NUMBERS: u64 = 4_294_967_296;
 
 /// A number of 32 bits in its four bytes, the lowest first.
 ///
-/// It needs no place at a multiple of four, so that what holds it has no padding for it: a day keeps millions of them. Longer
+/// It needs no alignment to four bytes, so that what holds it has no padding for it: a day keeps millions of them. Longer
 /// numbers are kept in two parts, of which the low one is such a number.
 #[derive(Clone, Copy)]
 pub struct FourBytes {
@@ -57,7 +57,7 @@ impl FourBytes {
     }
 }
 
-// A number is compared and hashed whole, since a derive goes byte by byte, and the lowest byte comes first.
+// A number is compared and hashed whole, since a derive would go byte by byte, and the lowest byte comes first.
 impl PartialEq for FourBytes {
     ghost eq = { λ a b. a == b };
 

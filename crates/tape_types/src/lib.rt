@@ -1,5 +1,5 @@
-//! The small values of a trade tape, each in its range, the listing of a day, a map in one vector, and the gate between the
-//! steps of workers.
+//! The small values of a trade tape, each kept in its range, the listing of a day, a sorted map in one vector, and the gate
+//! between the steps of workers.
 #![tactic(auto)]
 
 mod four_bytes;

@@ -1,4 +1,4 @@
-//! The greatest values, each once in the code and once in the definitions, which the prover holds together.
+//! The greatest values, each stated once in the code and once in the definitions; the prover checks that the two agree.
 
 /// The greatest price, in ten-thousandths of a dollar.
 pub const PRICE_MOST: u64 = 999_999_999_999;

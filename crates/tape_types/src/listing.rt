@@ -1,4 +1,4 @@
-//! The listing of a day.
+//! The symbols and participants of a day, kept in two hash sets that remember their order.
 ghost use Rattle.std.specs.Prelude.{◌≡◌, position, None, unwrap_or, ◌==◌, false, IfOk, IfErr, OnOk, if◌then◌else◌};
 ghost use Rattle.std.specs.List.{list_any};
 ghost use Rattle.tape_types.specs.Names.{names_fault, symbol_eq, has_repeat};
@@ -33,8 +33,8 @@ impl Model for Listing {
 impl Listing {
     /// A listing of 1 to `SYMBOLS_MOST` symbols and 1 to `PARTICIPANTS_MOST` participants, each list in its order.
     ///
-    /// Refused, the first that applies: `Empty` where a list has no name, `TooMany` where one is too long, `Repeated`
-    /// where a name stands twice in one, and `OutOfMemory` last.
+    /// Errors, the first that applies: `Empty` if a list has no name, `TooMany` if one is too long, `Repeated` if a name
+    /// occurs twice in one, and `OutOfMemory` last.
     pub fn new(
         alloc: Global,
         symbols: &[Symbol],
@@ -52,7 +52,7 @@ impl Listing {
         }
         let symbols = match in_order(alloc, symbols) {
             Ok(symbols) => symbols,
-            // A name that stands twice is told of before OutOfMemory, in either list.
+            // `Repeated` takes precedence over `OutOfMemory`, in either list.
             Err(ListingFault::OutOfMemory) if has_repeat(participants) => {
                 return Err(ListingFault::Repeated);
             }
@@ -65,7 +65,7 @@ impl Listing {
         })
     }
 
-    /// The symbol's position in the listing, from 0, or `None` where it is not listed. It is looked up by its hash.
+    /// The symbol's position in the listing, from 0, or `None` if it is not listed. It is looked up by its hash.
     pub fn position(&self, symbol: Symbol) -> Option<usize>
         ensures position { result ≡ position (symbol_eq symbol) self.now.symbols }
         ensures distinct { names_fault self.now.symbols self.now.participants ≡ None }
@@ -97,7 +97,7 @@ impl Listing {
     }
 }
 
-/// Whether some name stands twice, found without memory by comparing all pairs: asked for only where memory ran out.
+/// Whether some name occurs twice. It compares all pairs and does not allocate, and is called only when memory ran out.
 fn has_repeat<T: Eq>(names: &[T]) -> bool
     ensures { result ≡ has_repeat T.eq names.now }
 {
@@ -109,7 +109,7 @@ fn has_repeat<T: Eq>(names: &[T]) -> bool
     false
 }
 
-/// A set of the names in their order: `Repeated` where a name stands twice, else `OutOfMemory` where memory runs out.
+/// A set of the names in their order. Errors: `Repeated` if a name occurs twice, else `OutOfMemory` if memory runs out.
 fn in_order<T: Copy + Eq + Hash>(alloc: Global, names: &[T]) -> Result<IndexSet<T>, ListingFault>
     ensures names { IfOk result (λ set. set.keys ≡ names.now) }
     ensures distinct { OnOk result (has_repeat T.eq names.now ≡ false) }

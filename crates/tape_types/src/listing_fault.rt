@@ -1,18 +1,18 @@
-//! Why no listing was made.
+//! The reasons why a listing is refused, each with its number and name.
 ghost use Rattle.std.specs.Prelude.{◌≡◌, Some};
 ghost use Rattle.tape_types.specs.ListingFaults.{listing_fault_code, listing_fault_name};
 
 use std::fmt;
 use thiserror::Error;
 
-/// Why no listing was made, the first that applies.
+/// Why no listing was made: the first fault that applies.
 #[derive(Clone, Copy, Debug, PartialEq, Eq, Error)]
 pub enum ListingFault {
     /// There is no symbol, or no participant.
     Empty = 1,
     /// There are more than `SYMBOLS_MOST` symbols, or more than `PARTICIPANTS_MOST` participants.
     TooMany = 2,
-    /// A symbol or a participant stands twice.
+    /// A symbol or a participant is listed twice.
     Repeated = 3,
     /// Memory ran out.
     OutOfMemory = 4,

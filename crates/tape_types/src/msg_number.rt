@@ -1,4 +1,4 @@
-//! A message number.
+//! A message number, which a participant assigns to its message, kept in four bytes.
 ghost use Rattle.std.specs.Prelude.{◌≡◌, ℕ, ◌↔◌, IsSome, IfSome};
 ghost use Rattle.tape_types.specs.Ranges.{IsMessageNumber};
 
@@ -6,7 +6,7 @@ use crate::NumberKey;
 use crate::four_bytes::FourBytes;
 use std::marker::Model;
 
-/// The number that a participant gave its message, of the message itself or of a target: any `u32` but 0.
+/// The number that a participant gave to its message, as the message's own number or as a target: any `u32` but 0.
 #[derive(Clone, Copy, Debug, PartialEq, Eq, PartialOrd, Ord, Hash)]
 pub struct MsgNumber {
     number: FourBytes,

@@ -1,4 +1,4 @@
-//! A participant.
+//! A participant, kept as its capital letter, and its index in a row by letter.
 ghost use Rattle.std.specs.Prelude.{◌≡◌, ◌+◌, ◌<◌, ℕ, ◌↔◌, IsSome, IfSome};
 ghost use Rattle.tape_types.specs.Ranges.{FIRST_PARTICIPANT, IsParticipant, PARTICIPANTS_MOST, row_index};
 
@@ -21,7 +21,7 @@ impl Model for Participant {
 }
 
 impl Participant {
-    /// The participant of the letter, or `None` where it is no capital letter.
+    /// The participant of the letter, or `None` if it is not a capital letter.
     pub fn try_new(letter: u8) -> Option<Self>
         ensures valid { IsSome result ↔ IsParticipant letter }
         ensures value { IfSome result (λ p. p ≡ letter) }

@@ -1,4 +1,4 @@
-//! A price.
+//! A price in ten-thousandths of a dollar, kept in five bytes, and compared and hashed as a number.
 ghost use Rattle.std.specs.Prelude.{◌≡◌, ◌==◌, Some, ◌↔◌, IsSome, IfSome};
 ghost use Rattle.std.specs.Cmp.Rules.{comparing, hashing};
 ghost use Rattle.std.specs.Hash as fed;
@@ -15,8 +15,8 @@ use std::marker::Model;
 
 /// A price, in ten-thousandths of a dollar: 1 to `PRICE_MOST`.
 ///
-/// Its forty bits are kept in five bytes, so that a price needs no place at a multiple of eight, and a figure of a summary
-/// no padding for it: a day keeps millions of them.
+/// Its forty bits are kept in five bytes, so that a price needs no alignment to eight bytes and a figure of a summary no
+/// padding for it: a day keeps millions of them.
 #[derive(Clone, Copy)]
 pub struct Price {
     low: FourBytes,
@@ -37,7 +37,7 @@ impl Model for Price {
 }
 
 impl Price {
-    /// The price of so many ten-thousandths of a dollar, or `None` outside 1 to `PRICE_MOST`.
+    /// The price of this many ten-thousandths of a dollar, or `None` outside 1 to `PRICE_MOST`.
     pub fn try_new(ten_thousandths: u64) -> Option<Self>
         ensures valid { IsSome result ↔ IsPrice ten_thousandths }
         ensures value { IfSome result (λ p. p ≡ ten_thousandths) }

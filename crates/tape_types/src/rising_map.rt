@@ -1,4 +1,4 @@
-//! A finite map in one vector.
+//! A finite map kept in one vector sorted by key, and searched by halving.
 ghost use Rattle.std.specs.Prelude.{◌≡◌, ◌↔◌, ◌-◌, ◌<◌, ◌≤◌, ℕ, length, take, drop, vec_len, vec_capacity};
 ghost use Rattle.std.specs.Prelude.{IfOk, OnOk, OnErr, MatchOption, IsSome, IsTrue, Some, None};
 ghost use Rattle.std.specs.Ordering.{nat_cmp};
@@ -11,15 +11,15 @@ use std::marker::Model;
 
 /// A key that is a number.
 pub trait NumberKey: Copy {
-    /// The number that it is.
+    /// The key's number.
     ghost number: { Self → ℕ };
 
-    /// The number.
+    /// The key's number, as a `u32`.
     fn number(self) -> u32
         ensures value { result ≡ number self };
 }
 
-/// A map in one vector, by rising key: a key is found by halving, and an entry above all others goes to the end.
+/// A map in one vector, sorted by key: a key is found by halving, and an entry above all others goes to the end.
 #[derive(Drop)]
 pub struct RisingMap<K: NumberKey, V> {
     entries: Vec<(K, V)>,
@@ -39,7 +39,7 @@ impl<K: NumberKey, V> Model for RisingMap<K, V> {
 }
 
 impl<K: NumberKey, V: Copy> RisingMap<K, V> {
-    /// An empty map. It takes no memory.
+    /// An empty map. It does not allocate.
     pub fn new(alloc: Global) -> Self
         ensures empty { result.values ≡ map.empty }
     {
@@ -48,7 +48,7 @@ impl<K: NumberKey, V: Copy> RisingMap<K, V> {
         }
     }
 
-    /// How many entries it has.
+    /// The number of entries.
     pub fn len(&self) -> usize
         ensures length { result ≡ map.len self.now.values }
     {
@@ -79,8 +79,8 @@ impl<K: NumberKey, V: Copy> RisingMap<K, V> {
         locate(&self.entries, key)
     }
 
-    /// The index of a key's entry as `position` answers it. It looks at the index `hint` first, and searches only where another
-    /// entry stands there, or none.
+    /// The index of a key's entry, as `position` returns it. It looks at the index `hint` first, and searches only if another
+    /// entry or none stands there.
     pub fn position_near(&self, key: K, hint: usize) -> Option<usize>
         ensures position { MatchOption result (map.get self.now.values (K.number key) ≡ None)
             (λ i. StandsIn (K.number key) (map.entries self.now.values) i) }
@@ -91,8 +91,8 @@ impl<K: NumberKey, V: Copy> RisingMap<K, V> {
         }
     }
 
-    /// Gives a value to a key that has none. It fails only out of memory, which it asks for only where the vector is full, and
-    /// then the map is unchanged.
+    /// Inserts a value for a key that has none. It fails only if memory runs out, and leaves the map unchanged then. It
+    /// allocates only if the vector is full.
     #[inline(always)]
     pub fn insert(&mut self, key: K, value: V) -> Result<(), AllocError>
         requires vacant { map.get self.old.values (K.number key) ≡ None }
@@ -110,8 +110,8 @@ impl<K: NumberKey, V: Copy> RisingMap<K, V> {
         Ok(())
     }
 
-    /// Gives a value to a key that is above all others, and looks at none of them. It fails only out of memory, which it asks
-    /// for only where the vector is full, and then the map is unchanged.
+    /// Inserts a value for a key that is above all others, without a search. It fails only if memory runs out, and leaves the
+    /// map unchanged then. It allocates only if the vector is full.
     pub fn push(&mut self, key: K, value: V) -> Result<(), AllocError>
         requires above { AllBelow self.old.values (K.number key) }
         ensures ok { OnOk result (self.new.values ≡ map.insert self.old.values (K.number key) value) }
@@ -124,7 +124,7 @@ impl<K: NumberKey, V: Copy> RisingMap<K, V> {
         Ok(())
     }
 
-    /// Gives another value to a key that has one, and answers the former. It takes no memory.
+    /// Replaces the value of a key that has one, and returns the former value. It does not allocate.
     pub fn set(&mut self, key: K, value: V) -> V
         requires present { IsSome (map.get self.old.values (K.number key)) }
         ensures former { Some result ≡ map.get self.old.values (K.number key) }
@@ -137,7 +137,7 @@ impl<K: NumberKey, V: Copy> RisingMap<K, V> {
         former
     }
 
-    /// Gives another value to the key of the entry at an index. It takes no memory.
+    /// Replaces the value of the entry at an index. It does not allocate.
     pub fn set_at(&mut self, index: usize, value: V)
         requires within { index < map.len self.old.values }
         ensures changed { (n : ℕ) → StandsIn n (map.entries self.old.values) index → self.new.values ≡ map.insert self.old.values n value }
@@ -147,7 +147,7 @@ impl<K: NumberKey, V: Copy> RisingMap<K, V> {
         self.entries[index] = (key, value);
     }
 
-    /// Takes a key out with its value, if it has one. It takes no memory.
+    /// Removes a key and returns its value, if it has one. It does not allocate.
     pub fn remove(&mut self, key: K) -> Option<V>
         ensures value { result ≡ map.get self.old.values (K.number key) }
         ensures removed { self.new.values ≡ map.remove self.old.values (K.number key) }
@@ -157,7 +157,7 @@ impl<K: NumberKey, V: Copy> RisingMap<K, V> {
         Some(value)
     }
 
-    /// A copy of the entries from an index on, as a map of their own. It fails only where memory runs out.
+    /// A copy of the entries from an index on, as a map of their own. It fails only if memory runs out.
     pub fn copy_from(&self, alloc: Global, index: usize) -> Result<Self, AllocError>
         requires { index ≤ map.len self.now.values }
         ensures entries { IfOk result (λ m. map.entries m.values ≡ drop index (map.entries self.now.values)) }
@@ -166,7 +166,7 @@ impl<K: NumberKey, V: Copy> RisingMap<K, V> {
         Ok(RisingMap { entries })
     }
 
-    /// Removes all entries from an index on. It takes no memory.
+    /// Removes all entries from an index on. It does not allocate.
     pub fn truncate(&mut self, index: usize)
         ensures entries { map.entries self.new.values ≡ take index (map.entries self.old.values) }
     {
@@ -174,7 +174,7 @@ impl<K: NumberKey, V: Copy> RisingMap<K, V> {
     }
 }
 
-/// Whether a key is above those of all entries, whose keys rise: above the last.
+/// Whether a key is above the keys of all entries. The keys rise, so it compares with the last alone.
 #[inline(always)]
 fn is_above_all<K: NumberKey, V>(entries: &[(K, V)], key: K) -> bool
     requires rising { HasRisingKeys (keyed K.number entries.now) }
@@ -186,7 +186,7 @@ fn is_above_all<K: NumberKey, V>(entries: &[(K, V)], key: K) -> bool
     }
 }
 
-/// The index of a key among entries whose keys rise, or the one at which it would go in.
+/// The index of a key among entries whose keys rise, or the index at which it would be inserted.
 fn position_of<K: NumberKey, V>(entries: &[(K, V)], key: K) -> usize
     requires rising { HasRisingKeys (keyed K.number entries.now) }
     ensures { IsPosition (K.number key) (keyed K.number entries.now) result }
@@ -208,7 +208,7 @@ fn locate<K: NumberKey, V>(entries: &[(K, V)], key: K) -> Option<usize>
     }
 }
 
-/// The items of a slice from an index on. It fails only out of memory.
+/// A copy of the items of a slice from an index on. It fails only if memory runs out.
 fn copied_from<T: Copy>(alloc: Global, items: &[T], index: usize) -> Result<Vec<T>, AllocError>
     requires { index ≤ length items.now }
     ensures { IfOk result (λ copied. copied.items ≡ drop index items.now) }

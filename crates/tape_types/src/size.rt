@@ -1,4 +1,4 @@
-//! A size.
+//! A number of shares, kept in four bytes.
 ghost use Rattle.std.specs.Prelude.{◌≡◌, ℕ, ◌↔◌, IsSome, IfSome};
 ghost use Rattle.tape_types.specs.Ranges.{IsSize};
 
@@ -23,7 +23,7 @@ impl Model for Size {
 }
 
 impl Size {
-    /// So many shares, or `None` outside 1 to `SIZE_MOST`.
+    /// A size of this many shares, or `None` outside 1 to `SIZE_MOST`.
     pub fn try_new(shares: u32) -> Option<Self>
         ensures valid { IsSome result ↔ IsSize shares }
         ensures value { IfSome result (λ s. s ≡ shares) }

@@ -1,4 +1,4 @@
-//! A symbol.
+//! A symbol in eight bytes, padded with spaces, and compared and hashed whole.
 ghost use Rattle.std.specs.Prelude.{◌≡◌, ◌≤◌, ℕ, List, [], ◌∷◌, length, All, ◌↔◌, IsSome, IfSome, IsTrue};
 ghost use Rattle.std.specs.Cmp.Rules.{comparing, hashing};
 ghost use Rattle.std.proofs.Common.{rules};
@@ -8,7 +8,7 @@ ghost use Rattle.tape_types.specs.Ranges.{IsSymbol, is_name_byte, name_of};
 use std::hash::{Hash, Hasher};
 use std::marker::Model;
 
-/// A symbol: a name of one to eight of `A` to `Z`, `0` to `9` and `.`, with spaces to the end of its eight bytes.
+/// A symbol: a name of one to eight characters, each `A` to `Z`, `0` to `9` or `.`, padded with spaces to eight bytes.
 #[derive(Clone, Copy, Debug, Eq, PartialOrd, Ord)]
 pub struct Symbol {
     bytes: [u8; 8],
@@ -25,7 +25,7 @@ impl Model for Symbol {
 }
 
 impl Symbol {
-    /// The symbol that the eight bytes spell, or `None` where they spell none.
+    /// The symbol that the eight bytes spell, or `None` if they spell none.
     pub fn try_new(bytes: [u8; 8]) -> Option<Self>
         ensures valid { IsSome result ↔ IsSymbol bytes }
         ensures value { IfSome result (λ s. s ≡ bytes) }
@@ -38,7 +38,7 @@ impl Symbol {
         }
     }
 
-    /// The symbol of a name without padding, or `None` where it is no name of one to eight bytes.
+    /// The symbol of a name without padding, or `None` if it is not a name of one to eight bytes.
     pub fn of_name(name: &[u8]) -> Option<Self>
         ensures named { result ≡ symbol_named name.now }
     {
@@ -50,14 +50,14 @@ impl Symbol {
         let Some(symbol) = Symbol::try_new(bytes) else {
             return None;
         };
-        // A space at the end of a name would pass for padding.
+        // A space at the end of the name would pass for padding.
         if symbol.name() != name {
             return None;
         }
         Some(symbol)
     }
 
-    /// The eight bytes: the name, and spaces to the end.
+    /// The eight bytes: the name, padded with spaces.
     pub fn value(self) -> [u8; 8]
         ensures value { result ≡ self }
         ensures in_range { IsSymbol self }
@@ -65,7 +65,7 @@ impl Symbol {
         self.bytes
     }
 
-    /// Its name: the bytes before the padding.
+    /// The name: the bytes before the padding.
     pub fn name(&self) -> &[u8]
         ensures name { result.now ≡ name_of self.now }
     {
@@ -73,7 +73,7 @@ impl Symbol {
     }
 }
 
-// A symbol is looked up for every message: it is compared and hashed whole, since a derive goes byte by byte.
+// A symbol is looked up for every message: it is compared and hashed whole, since a derive would go byte by byte.
 impl PartialEq for Symbol {
     ghost eq = { symbol_eq };
 
@@ -94,7 +94,7 @@ impl Hash for Symbol {
     }
 }
 
-/// How many bytes stand before the padding.
+/// The number of bytes before the padding.
 fn name_length(bytes: &[u8]) -> usize
     ensures length { result ≡ length (name_of bytes.now) }
     ensures within { result ≤ length bytes.now }

@@ -1,4 +1,4 @@
-//! A tape number.
+//! A position on the tape, kept in four bytes.
 ghost use Rattle.std.specs.Prelude.{◌≡◌, ℕ, ◌↔◌, IsSome, IfSome};
 ghost use Rattle.tape_types.specs.Ranges.{IsTapeNumber};
 

@@ -1,4 +1,4 @@
--- When two keys of the targets, each a participant and a number, are equal.
+-- Lemmas about when two keys of the targets, each a participant and a number, are equal.
 use Rattle.std.proofs.Common.{◌≡◌, ◌≢◌, ℕ, ◌==◌, Bool, false, ◌&&◌, arith}
 use Rattle.std.specs.Ordering.{nat_cmp, eq_by_cmp}
 use Rattle.std.proofs.lemmas.Bool.Decides.{nat_tests}
@@ -12,10 +12,10 @@ key_eq p q = (p.0 == q.0) && (p.1 == q.1)
 pub ties : (p q : ℕ × ℕ) → eq_by_cmp pair_cmp p q ≡ key_eq p q
 ties p q = grind (arith, nat_tests)
 
--- keys of one participant are equal where their numbers are
+-- keys of one participant are equal exactly if their numbers are
 pub tied-same : (w n v m : ℕ) → w ≡ v → eq_by_cmp pair_cmp (w, n) (v, m) ≡ eq_by_cmp nat_cmp n m
 tied-same w n v m same = grind (arith, nat_tests)
 
--- those of two are not equal
+-- keys of two participants are not equal
 pub tied-other : (w n v m : ℕ) → w ≢ v → eq_by_cmp pair_cmp (w, n) (v, m) ≡ false
 tied-other w n v m other = grind (arith, nat_tests)

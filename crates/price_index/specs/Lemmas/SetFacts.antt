@@ -1,4 +1,4 @@
--- A `BTreeSet` seen as a finite set.
+-- Lemmas about a `BTreeSet` seen as a finite set: its members, insertion, removal, and the ends of a set of prices.
 use Rattle.std.proofs.Common.{◌≡◌, ℕ, ◌<◌, ◌≤◌, ◌↔◌, Bool, true, false, cond, List, [], ◌∷◌, Option, Some, None, refl, sym, ap, subst, ◌∙◌, arith, length, Bor}
 use Rattle.std.proofs.Common.{IsTrue, IsSome, IfSome, MatchOption, slice_get}
 use Rattle.std.specs.Prelude.{◌&&◌, ◌||◌, not}
@@ -60,7 +60,7 @@ module _ {K : Type 0} (R : K → K → Ordering) (o : IsTotalOrder R) (exact : s
 pub pair_le : (p q : ℕ × ℕ) → is_gt (pair_cmp p q) ≡ false → p.0 ≤ q.0
 pair_le p q e = grind (arith, nat_tests)
 
--- of one key, what comes no later has no later place
+-- among pairs of one key, what comes no later has no later place
 pair_then : (p q : ℕ × ℕ) → is_gt (pair_cmp p q) ≡ false → q.0 ≡ p.0 → p.1 ≤ q.1
 pair_then p q e same = grind (arith, nat_tests)
 
@@ -68,7 +68,7 @@ pair_then p q e same = grind (arith, nat_tests)
 pub pair_not_lt : (p q : ℕ × ℕ) → is_lt (pair_cmp p q) ≡ false → q.0 ≤ p.0
 pair_not_lt p q e = grind (arith, nat_tests)
 
--- of one key, an earlier place does not come later
+-- among pairs of one key, an earlier or equal place does not come later
 pub pair_from : (p q : ℕ × ℕ) → p.0 ≡ q.0 → p.1 ≤ q.1 → is_gt (pair_cmp p q) ≡ false
 pair_from p q h k = grind (arith, nat_tests)
 
@@ -81,7 +81,7 @@ module _ (s : BTreeSet (ℕ × ℕ)) where
   pub has : (q : ℕ × ℕ) → set.contains (set.from_list {R = pair_cmp} s.keys) q ≡ sorted.contains pair_cmp s q
   has q = contains-view pair_cmp pair_total pair_exact s q
 
-  -- what `first` gives is the lowest
+  -- what `first` returns is the lowest
   pub lowest_is : (o : Option (Bor (ℕ × ℕ))) → IsSome o ↔ (0 < sorted.btree_set_len s) → IfSome o (λ k. IsTrue (sorted.contains pair_cmp s k.now))
       → IfSome o (λ k. sorted.IsLowerBound pair_cmp s k.now)
       → MatchOption (option_copied o) (HasNone (set.from_list s.keys)) (IsLowest (set.from_list s.keys))
@@ -92,7 +92,7 @@ module _ (s : BTreeSet (ℕ × ℕ)) where
     earliest = λ q in_s. pair_then k.now q (least q (sym (has q) ∙ in_s));
   }
 
-  -- the earliest place of the greatest price, from what `last` and a range from that price's first place give
+  -- the earliest place of the greatest price, from what `last` and a range from that price's first place return
   pub highest_is : (m : ℕ × ℕ) (n : ℕ) → n ≡ 1 → (places : (q : ℕ × ℕ) → sorted.contains pair_cmp s q ≡ true → IsTapeNumber q.1)
       → IsTrue (sorted.contains pair_cmp s m) → sorted.IsUpperBound pair_cmp s m
       → (r rest : List (ℕ × ℕ)) → sorted.IsKeyRangeOf pair_cmp (Included (m.0, n)) Unbounded s r
@@ -128,19 +128,19 @@ same_or p q b e one h =
       | false ↦ λ _ is. h is
     ] refl e
 
--- a pair with a tape number put in: all places are tape numbers
+-- after a pair with a tape number is inserted, all places are tape numbers
 pub HasTapeNumbers-insert : (s : PairSet) (p : ℕ × ℕ) → HasTapeNumbers s → IsTapeNumber p.1 → HasTapeNumbers (set.insert s p)
 HasTapeNumbers-insert s p h one q e = same_or p q (set.contains s q) (sym (set.contains-insert pair_total s p q) ∙ e) one (h q)
 
--- of a conjunction that holds, its second part
+-- the second part of a conjunction that holds
 and_right : (a b : Bool) → (a && b) ≡ true → b ≡ true
 and_right true b e = e
 and_right false b e = absurd (cc)
 
--- a pair taken out: all places are tape numbers
+-- after a pair is removed, all places are tape numbers
 pub HasTapeNumbers-remove : (s : PairSet) (p : ℕ × ℕ) → HasTapeNumbers s → HasTapeNumbers (set.remove s p)
 HasTapeNumbers-remove s p h q e = h q (and_right _ _ (sym (set.contains-remove pair_total s p q) ∙ e))
 
--- no pair, no place that is none
+-- all places of the empty set are tape numbers
 pub HasTapeNumbers-empty : HasTapeNumbers (set.empty {R = pair_cmp})
 HasTapeNumbers-empty q e = let none : set.contains (set.empty {R = pair_cmp}) q ≡ false = set.contains-empty pair_cmp q in absurd (cc)

@@ -1,4 +1,4 @@
--- The two laws of messages: what is read is spelled so, and what is spelled so is read.
+-- The two laws of messages: the bytes that are read spell the message, and a spelling is read as its message.
 use Rattle.std.proofs.Common.{◌≡◌, ℕ, ◌+◌, ◌^◌, ◌<◌, ◌≤◌, false, cond, ltb, List, [], ◌∷◌, ◌++◌, length, take, drop, ◌==◌, ◌%◌, inl, inr, length-append}
 use Rattle.std.proofs.Common.{take-add, lit<, length-take, length-drop, append-nil, ◌||◌, Result, Ok, Err, refl, sym, ap, subst, ◌∙◌, append_assoc, arith}
 use Rattle.std.specs.Prelude.{IfOk, if◌then◌else◌, nat_lt}
@@ -184,7 +184,7 @@ reinstatement_again h n header target = rw (header_reader.again h (target_text n
 
 -- ---- the length of a kind, and its fields
 
--- how long a body of the kind is
+-- the length of a body of the kind
 abbrev pub body_length : ℕ → ℕ
 body_length kind =
     if kind == REPORT then REPORT_LENGTH
@@ -209,7 +209,7 @@ length-body (Correct h n c) fits =
     omega (arith, length-append (header_text h) (target_text n ++ content_text c), length-header h fits.0, length-content c fits.1.1)
 length-body (Reinstate h n) fits = omega (arith, length-append (header_text h) (target_text n), length-header h fits.0)
 
--- a message has as many bytes as its kind asks for: those of its body, and two for their number
+-- a message has as many bytes as its kind requires: those of its body, and two for their number
 pub length-spelling : (m : Message) → IsMessage m → length (spelling m) ≡ 2 + body_length (kind_byte m)
 length-spelling m fits = omega (arith, length-body m fits)
 
@@ -217,7 +217,7 @@ length-spelling m fits = omega (arith, length-body m fits)
 pub spelling-parts : (m : Message) → IsMessage m → spelling m ≡ to_be_bytes w16 (body_length (kind_byte m)) ++ body m
 spelling-parts m fits = ap (λ (n : ℕ). to_be_bytes w16 n ++ body m) (length-body m fits)
 
--- where all went well, the length was the one that is due
+-- if reading succeeded, the length was the one that is due
 length_is_due : (due len : ℕ) (r : Result (Message × List ℕ) MessageFault) (x : Message × List ℕ) → fields_of_length due len r ≡ Ok x
     → (len ≡ due) × (r ≡ Ok x)
 length_is_due due len r x e = elim (cases_Bool (len == due)) [
@@ -225,7 +225,7 @@ length_is_due due len r x e = elim (cases_Bool (len == due)) [
   | inr other ↦ absurd (cc (rw other at e))
 ]
 
--- where the body has the kind's length, the fields are all of it
+-- if the body has the kind's length, the fields are all of it
 all_taken : (kind : ℕ) (bytes : List ℕ) (x : Message × List ℕ) → length bytes + 1 ≡ body_length kind
     → Takes bytes (fields_text x.0) x.1 × IsOfKind kind x.0
     → IsOfKind kind x.0 × (bytes ≡ fields_text x.0)
@@ -324,7 +324,7 @@ message_takes bytes x fits e =
     subst (λ (y : Message × ℕ). IsMessage y.0 × (y.1 ≤ length bytes) × (take y.1 bytes ≡ spelling y.0)) {x = (m, 2 + len)}
     (ok_is Short (m, 2 + len) x b.2) (text.0, long, whole)
 
--- what is read is spelled so
+-- the bytes that are read spell the message
 pub message_at-Ok : (bytes : List ℕ) (r : Result (Message × ℕ) MessageFault) → AreBytes bytes → r ≡ message_at bytes
     → IfOk r (λ x. (x.1 ≤ length bytes) × Spells (take x.1 bytes) x.0)
 message_at-Ok bytes (Ok x) fits read = let t = message_takes bytes x fits (sym read) in (t.1, (t.0, t.2))
@@ -341,7 +341,7 @@ pub announced_length-append : (head rest : List ℕ) → 2 ≤ length head → a
 unfolding announced_length
 announced_length-append head rest two = ap (from_be_bytes w16) (take-append-le 2 head rest two)
 
--- a body of a length that is allowed is read after its length
+-- a body of an allowed length is read after its length
 framed : (len : ℕ) (bytes inner : List ℕ) (m : Message) → announced_length bytes ≡ len → 0 < len → len ≤ LONGEST_BODY → 2 + len ≤ length bytes
     → take len (drop 2 bytes) ≡ inner
     → body_message inner ≡ Ok m
@@ -366,7 +366,7 @@ body_length-le (Cancel h n) = omega arith
 body_length-le (Correct h n c) = omega arith
 body_length-le (Reinstate h n) = omega arith
 
--- what is spelled is read, whatever follows it
+-- a spelling is read as its message, whatever follows it
 pub message_at-spelling : (m : Message) (rest : List ℕ) → IsMessage m → message_at (spelling m ++ rest) ≡ Ok (m, length (spelling m))
 message_at-spelling m rest fits =
     let n = length (body m) in

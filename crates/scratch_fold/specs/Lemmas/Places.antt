@@ -1,4 +1,4 @@
--- A fold names no place but those of its reports.
+-- Lemmas that a fold names no places except those of its reports.
 use Rattle.std.proofs.Common.{ℕ, ◌≤◌, Bool, true, false, List, [], ◌∷◌, Option, Some, None, if◌then◌else◌, arith}
 use Rattle.std.specs.Prelude.{All, fold, is_none, ◌&&◌}
 use Rattle.std.proofs.lemmas.List.Elements.{All-head, All-tail}
@@ -13,12 +13,12 @@ figure-after : (most : ℕ) (counts : Bool) (r : PlacedEffect) (figure : Option 
 figure-after most true r figure low before = low
 figure-after most false r figure low before = before
 
--- a place that is at most some number is at most a greater one
+-- a mark's place that is at most some number is at most a greater one
 figure-more : (less most : ℕ) (figure : Option Mark) → less ≤ most → IsPlacedUpTo less figure → IsPlacedUpTo most figure
 figure-more less most None order low = tt
 figure-more less most (Some m) order low = omega (arith, order, low)
 
--- the same of all marks
+-- the same holds for all marks of a summary
 pub HasPlacesUpTo-more : (less most : ℕ) (z : Summary) → less ≤ most → HasPlacesUpTo less z → HasPlacesUpTo most z
 HasPlacesUpTo-more less most z order low = record {
   opening = figure-more less most z.opening order low.opening;
@@ -27,7 +27,7 @@ HasPlacesUpTo-more less most z order low = record {
   last = figure-more less most z.last order low.last;
 }
 
--- one more report brings its own place alone
+-- one more report adds its own place alone
 step-places : (most : ℕ) (z : Summary) (r : PlacedEffect) → r.0 ≤ most → HasPlacesUpTo most z → HasPlacesUpTo most (step z r)
 step-places most z r low before = record {
   opening = figure-after most (becomes_last r.1.last r.1.who z.last && is_none z.last) r z.opening low before.opening;
@@ -36,7 +36,7 @@ step-places most z r low before = record {
   last = figure-after most (becomes_last r.1.last r.1.who z.last) r z.last low before.last;
 }
 
--- and so do further reports
+-- further reports add their own places alone
 steps-places : (most : ℕ) (reports : List PlacedEffect) (z : Summary) → All (λ r. r.0 ≤ most) reports → HasPlacesUpTo most z
     → HasPlacesUpTo most (fold step z reports)
 steps-places most [] z low before = before

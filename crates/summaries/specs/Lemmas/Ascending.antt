@@ -1,4 +1,4 @@
--- Reports whose places rise, by recursion over their list.
+-- Reports in ascending order of place, by recursion over their list.
 use Rattle.std.proofs.Common.{ℕ, suc, ◌<◌, List, [], ◌∷◌, slice_index, map as map_list, subst, arith, add-one}
 use Rattle.std.specs.Prelude.{T}
 use Rattle.std.specs.Ordering.{nat_cmp, is_lt}

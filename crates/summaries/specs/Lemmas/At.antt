@@ -1,4 +1,4 @@
--- A list of effects by rising place, read as a map: what `find` and `find_last` choose, from what stands at each place.
+-- A list of effects by rising place, read as a map: what `find` and `find_last` choose, from the effect at each place.
 use Rattle.std.proofs.Common.{◌≡◌, ℕ, ◌<◌, ◌≤◌, Bool, true, false, cond, List, [], ◌∷◌, Option, Some, None, refl, sym, ap, ◌∙◌, arith}
 use Rattle.std.specs.List as list
 use Rattle.std.specs.Option.{option_or}
@@ -15,7 +15,7 @@ use Rattle.summaries.specs.Lemmas.LastLaw.{find_last-miss}
 abbrev pub at : List PlacedEffect → ℕ → Option Effect
 at rs n = find nat_cmp n rs
 
--- what stands in the rest stands above
+-- an effect in the rest is above
 pub at-after : (n : ℕ) (rs : List PlacedEffect) → AllAfter n rs → (q : ℕ) (x : Effect) → at rs q ≡ Some x → n < q
 at-after n [] up q x e = absurd (cc)
 at-after n (r ∷ rs) up q x e =
@@ -30,11 +30,11 @@ at-later r rs up q x e =
     let above : r.0 < q = at-after r.0 rs up q x e in
     ap (λ (b : Bool). cond b (Some r.1) (at rs q)) (other_key q r.0 (λ same. omega arith)) ∙ e
 
--- the head stands at its place
+-- the head is at its place
 pub at-head : (r : PlacedEffect) (rs : List PlacedEffect) → at (r ∷ rs) r.0 ≡ Some r.1
 at-head r rs = ap (λ (b : Bool). cond b (Some r.1) (at rs r.0)) (key_itself r.0)
 
--- where no effect passes, none is found from the back
+-- if no effect passes, none is found from the back
 pub find_last_none : (p : PlacedEffect → Bool) (rs : List PlacedEffect) → Ascends rs
     → ((q : ℕ) (x : Effect) → at rs q ≡ Some x → p (q, x) ≡ false) → find_last p rs ≡ None
 find_last_none p [] up misses = refl
@@ -65,7 +65,7 @@ find_last_is p (r ∷ rs) up n e there passes most =
           (find_last_is p rs up.1 n e is passes (λ q x at_q. most q x (at-later r rs up.0 q x at_q)))
     ] refl there
 
--- where no effect passes, none is found
+-- if no effect passes, none is found
 pub find_none : (p : PlacedEffect → Bool) (rs : List PlacedEffect) → Ascends rs
     → ((q : ℕ) (x : Effect) → at rs q ≡ Some x → p (q, x) ≡ false) → list.find p rs ≡ None
 find_none p [] up misses = refl

@@ -1,4 +1,4 @@
--- The law of last.
+-- The law of last: which report the fold chooses, proved step by step over ascending reports.
 use Rattle.std.proofs.Common.{◌≡◌, ℕ, ◌<◌, ◌≤◌, Bool, true, false, cond, List, [], ◌∷◌, Option, Some, None, refl, sym, ap, subst, ◌∙◌, arith}
 use Rattle.std.specs.Prelude.{nat_lt, ◌==◌, ◌&&◌, unwrap_or}
 use Rattle.std.specs.List.{fold, find}
@@ -17,11 +17,11 @@ pub option_or-none : {X : Type 0} (o : Option X) → option_or o None ≡ o
 option_or-none None = refl
 option_or-none (Some x) = refl
 
--- an element that fails the test is passed over
+-- an element that fails the test is skipped
 pub find_last-miss : {X : Type 0} (p : X → Bool) (x : X) (xs : List X) → p x ≡ false → find_last p (x ∷ xs) ≡ find_last p xs
 find_last-miss p x xs e = ap (λ b. option_or (find_last p xs) (cond b (Some x) None)) e ∙ option_or-none _
 
--- what is found stands above n
+-- what is found is above n
 pub find_last-after : (p : PlacedEffect → Bool) (n : ℕ) (rs : List PlacedEffect) → AllAfter n rs → (a : PlacedEffect) → find_last p rs ≡ Some a → n < a.0
 find_last-after p n [] up a e = absurd (cc)
 find_last-after p n (r ∷ rs) up a e =
@@ -79,7 +79,7 @@ taken r rs up =
     from_mark (find_last (same_of r.1.who) rs) r
     ∙ ap (λ o. option_map mark_of (option_or o (Some r))) (sym (same_below r.1.who r.0 r rs (omega arith) ∙ same_above r.1.who r.0 rs up))
 
--- the present last m gives way to r, a SameMarket report of the same participant
+-- the present last m is replaced by r, a SameMarket report of the same participant
 joined : (o : Option PlacedEffect) (r : PlacedEffect) (m : Mark)
     → unwrap_or (option_map mark_of o) (mark_of r) ≡ unwrap_or (option_map mark_of (option_or o (Some r))) m
 joined None r m = refl
@@ -89,7 +89,7 @@ joined (Some x) r m = refl
 passed : (rs : List PlacedEffect) (r : PlacedEffect) (m : Mark) → same_of m.who r ≡ false → Some (follow_mark rs m) ≡ Some (follow_mark (r ∷ rs) m)
 passed rs r m e = ap (λ (o : Option PlacedEffect). Some (unwrap_or (option_map mark_of o) m)) (sym (find_last-miss (same_of m.who) r rs e))
 
--- r is a SameMarket report of the present last, which gives way
+-- r is a SameMarket report of the present last's participant, and replaces it
 followed : (rs : List PlacedEffect) (r : PlacedEffect) (m : Mark) → (m.who == r.1.who) ≡ true → same_of m.who r ≡ true
     → Some (follow_mark rs (mark_of r)) ≡ Some (follow_mark (r ∷ rs) m)
 followed rs r m e same =

@@ -1,4 +1,4 @@
--- What the fold chooses as open, high and low, and what it sums.
+-- The laws of the fold for open, high, low, volume and trades.
 use Rattle.std.proofs.Common.{◌≡◌, ℕ, ◌+◌, ◌<◌, Bool, true, false, cond, List, [], ◌∷◌, Option, Some, None, refl, sym, ap, ◌∙◌, arith, length}
 use Rattle.std.specs.Prelude.{nat_lt, ◌&&◌, is_none}
 use Rattle.std.specs.List as list
@@ -49,7 +49,7 @@ abbrev opens : Option Mark → Option Mark → Option PlacedEffect → Option Ma
 opens (Some m) o found = o
 opens None o found = option_or (option_map mark_of found) o
 
--- an open stays where there is a last
+-- an open stays if there is a last
 opens-kept : (b : Bool) (l m : Mark) (o : Option Mark) (found : Option PlacedEffect) → opens (cond b (Some m) (Some l)) (cond (b && false) (Some m) o) found ≡ o
 opens-kept true l m o found = refl
 opens-kept false l m o found = refl
@@ -84,7 +84,7 @@ module _ (beats : ℕ → ℕ → Bool) where
       ap (λ (b : Bool). best (cond b (Some (mark_of r)) (Some m)) rs) stays
       ∙ best_stays m rs up.1 (λ q x e on. no_better q x (at-later r rs up.0 q x e) on)
 
-  -- without a report that may become it there is none
+  -- if no report may become it, there is none
   pub best_none : (rs : List PlacedEffect) → Ascends rs → ((q : ℕ) (x : Effect) → at rs q ≡ Some x → x.high_low ≡ false) → best None rs ≡ None
   best_none [] up off = refl
   best_none (r ∷ rs) up off =

@@ -17,7 +17,7 @@ use Rattle.symbol_book.specs.Columns.{Trades, consolidated_effect_of, own_effect
 use Rattle.symbol_book.specs.Stores.{HoldTrades}
 use Rattle.symbol_book.specs.Lemmas.HeldTrades.{find-keyed}
 
--- a map is known by a sorted list that answers alike
+-- a map has the entries of a sorted list that finds the same values
 pub entries-is : {X : Type 0} (m : FinMap nat_cmp X) (es : List (ℕ × X)) → T (is_sorted nat_cmp es) → ((q : ℕ) → map.get m q ≡ map.find nat_cmp q es)
     → map.entries m ≡ es
 entries-is m es h is =
@@ -25,12 +25,12 @@ entries-is m es h is =
     ∙ map.entries-from_sorted nat_cmp es h
 
 module _ {X Y : Type 0} (f : X → Y) where
-  -- a key stays below all others where values change
+  -- a key stays below all others if values change
   below-map : (x : ℕ) (es : List (ℕ × X)) → T (below_all nat_cmp x es) → T (below_all nat_cmp x (map (λ e. (e.0, f e.1)) es))
   below-map x [] h = tt
   below-map x (e ∷ es) h = and_both (is_lt (nat_cmp x e.0)) _ (and_left _ _ h) (below-map x es (and_rest (is_lt (nat_cmp x e.0)) _ h))
 
-  -- the keys still rise where values change
+  -- the keys still rise if values change
   pub is_sorted-map : (es : List (ℕ × X)) → T (is_sorted nat_cmp es) → T (is_sorted nat_cmp (map (λ e. (e.0, f e.1)) es))
   is_sorted-map [] h = tt
   is_sorted-map (e ∷ es) h = and_both (below_all nat_cmp e.0 (map (λ x. (x.0, f x.1)) es)) _ (below-map e.0 es (and_left _ _ h))
@@ -58,7 +58,7 @@ module _ {X : Type 0} (p : X → Bool) where
         | false ↦ rest
       ]
 
-  -- a lesser key is another
+  -- a lesser key is a different one
   lt_apart : (x y : ℕ) → T (is_lt (nat_cmp x y)) → eq_by_cmp nat_cmp x y ≡ false
   lt_apart x y h = grind (arith, nat_tests)
 
@@ -88,13 +88,13 @@ module _ {X : Type 0} (p : X → Bool) where
             ]
       ] refl
 
--- what the consolidated store comes to
+-- the summary of the consolidated store is that of the trades
 pub consolidated-is : (m : Trades) (all : Effects) (of_who : ℕ → Effects) → HoldTrades m all of_who → map_summary all ≡ consolidated_summary m
 consolidated-is m all of_who h = ap summary_of (entries-is all (map (λ r. (r.0, consolidated_effect_of r.1)) (map.entries m))
     (is_sorted-map consolidated_effect_of (map.entries m) (map.entries_sorted m))
     (λ q. h.all_are q ∙ ap (option_map consolidated_effect_of) (map.get-entries m q) ∙ sym (find-keyed (λ _ t. consolidated_effect_of t) q (map.entries m))))
 
--- what a participant's own store comes to
+-- the summary of a participant's own store is that of its trades
 pub own-is : (m : Trades) (all : Effects) (of_who : ℕ → Effects) (who : ℕ) → HoldTrades m all of_who → map_summary (of_who who) ≡ own_summary m who
 own-is m all of_who who h = ap summary_of (entries-is (of_who who) (map (λ r. (r.0, own_effect_of r.1)) (filter (λ r. is_trade_of who r.1) (map.entries m)))
     (is_sorted-map own_effect_of (filter (λ r. is_trade_of who r.1) (map.entries m))

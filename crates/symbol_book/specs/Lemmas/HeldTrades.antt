@@ -20,7 +20,7 @@ use Rattle.symbol_book.specs.Lemmas.ParticipantStores.{participant_effects-none,
 use Rattle.sale_matrix.specs.declared.content.Content.{Content}
 use Rattle.sale_matrix.specs.declared.matrix.Matrix.{Matrix}
 
--- a value at each key, made of the key and what stood there
+-- a value at each key, made from the key and its former value
 pub find-keyed : {X Y : Type 0} (f : ℕ → X → Y) (q : ℕ) (es : List (ℕ × X))
     → map.find nat_cmp q (map (λ e. (e.0, f e.0 e.1)) es) ≡ option_map (f q) (map.find nat_cmp q es)
 find-keyed f q [] = refl
@@ -31,7 +31,7 @@ find-keyed {X = X} {Y = Y} f q (e ∷ es) =
       | false ↦ λ _. find-keyed f q es
     ] refl
 
--- what stands at a place of the trades of two stores
+-- the trade at a place, from two stores
 pub get-trades_of : (all : Effects) (of_who : ℕ → Effects) (n : ℕ)
     → map.get (trades_of all of_who) n ≡ option_map (λ (e : Effect). trade_of e (map.get (of_who e.who) n)) (map.get all n)
 get-trades_of all of_who n =
@@ -56,7 +56,7 @@ trades-unique m all of_who h = map.same_map nat_cmp_total nat_cmp-IsAntisymmetri
     by n (Some t) e = ap (λ x. Some (trade_of (consolidated_effect_of t) x)) (h.own_are t.who n ∙ ap (own_effect_at t.who) e
         ∙ ap (λ (b : Bool). cond b (Some (own_effect_of t)) None) (eq-eqb t.who t.who refl))
 
--- a trade is put at a place that no other participant's trade has
+-- a trade is inserted at a place that no other participant's trade has
 pub HoldTrades-insert : (m : Trades) (all : Effects) (of_who of_who' : ℕ → Effects) (k : ℕ) (t : Trade)
     → ((w : ℕ) → eq_by_cmp nat_cmp w t.who ≡ false → own_effect_at w (map.get m k) ≡ None)
     → ((w : ℕ) → of_who' w ≡ participant_effects_with of_who t.who (map.insert (of_who t.who) k (own_effect_of t)) w)
@@ -94,7 +94,7 @@ HoldTrades-insert m all of_who of_who' k t free is h = record {
     other : (w : ℕ) (t : Trade) → eq_by_cmp nat_cmp w t.who ≡ false → own_effect_at w (Some t) ≡ None
     other w t e = ap (λ (b : Bool). cond b (Some (own_effect_of t)) None) (who_other w t.who e)
 
--- a participant's trade is taken away
+-- a participant's trade is removed
 pub HoldTrades-remove : (m : Trades) (all : Effects) (of_who of_who' : ℕ → Effects) (k : ℕ) (t : Trade)
     → map.get m k ≡ Some t
     → ((w : ℕ) → of_who' w ≡ participant_effects_with of_who t.who (map.remove (of_who t.who) k) w)
@@ -126,23 +126,23 @@ HoldTrades-remove m all of_who of_who' k t here is h = record {
       ∙ ap (own_effect_at w) (sym (map.get-remove nat_cmp_total m k n));
 }
 
--- nothing that is held has changed
+-- what is held is unchanged
 pub HoldTrades-same : (m : Trades) (all : Effects) (of_who of_who' : ℕ → Effects) → ((w : ℕ) → of_who' w ≡ of_who w) → HoldTrades m all of_who
     → HoldTrades m all of_who'
 HoldTrades-same m all of_who of_who' is h = record { all_are = h.all_are; own_are = λ w n. ap (λ (e : Effects). map.get e n) (is w) ∙ h.own_are w n }
 
--- with what it had, nothing is changed
+-- with what it had, nothing changes
 pub participant_effects_with-same : (of_who : ℕ → Effects) (who w : ℕ) → participant_effects_with of_who who (of_who who) w ≡ of_who w
 participant_effects_with-same of_who who w = elim (eq_by_cmp nat_cmp w who) as (λ b. eq_by_cmp nat_cmp w who ≡ b → cond b (of_who who) (of_who w) ≡ of_who w) [
   | true ↦ λ e. ap of_who (sym (same_key w who e))
   | false ↦ λ _. refl
 ] refl
 
--- the effects of the one that is changed
+-- the effects of the changed one
 pub participant_effects_with-here : (of_who : ℕ → Effects) (who : ℕ) (e : Effects) → participant_effects_with of_who who e who ≡ e
 participant_effects_with-here of_who who e = ap (λ (b : Bool). cond b e (of_who who)) (key_itself who)
 
--- what was put at a key is there
+-- a value inserted at a key is found there
 pub get-inserted : {X : Type 0} (m : map.FinMap nat_cmp X) (k : ℕ) (v : X) → map.get (map.insert m k v) k ≡ Some v
 get-inserted {X = X} m k v = map.get-insert nat_cmp_total m k v k ∙ ap (λ (b : Bool). cond b (Some v) (map.get m k)) (key_itself k)
 
@@ -158,7 +158,7 @@ module _ {S : Type 0} (effects_in : S → Effects) (change_in : S → Change) wh
         own_settled = t;
       }
 
-  -- a book with nothing in it
+  -- an empty book
   pub HoldTrades-empty : (all : S) (stores : List S) → effects_in all ≡ map.empty → stores ≡ []
       → HoldTrades map.empty (effects_in all) (participant_effects effects_in stores)
   HoldTrades-empty all stores none empty = record {
@@ -167,11 +167,11 @@ module _ {S : Type 0} (effects_in : S → Effects) (change_in : S → Change) wh
         ∙ sym (ap (own_effect_at w) (map.get-empty nat_cmp n));
   }
 
-  -- no store has anything staged where there is none
+  -- with no stores, nothing is staged
   pub AllSettled-empty : (stores : List S) → stores ≡ [] → AllSettled change_in stores
   AllSettled-empty stores empty = All-same (λ s. change_in s ≡ None) stores [] empty (All-nil (λ s. change_in s ≡ None))
 
-  -- nothing that is held has changed
+  -- what is held is unchanged
   pub Book-same : (all all' : S) (old new : List S) (who : ℕ) → effects_in all' ≡ effects_in all → change_in all' ≡ None
       → OwnBecomes effects_in change_in old new who (participant_effects effects_in old who)
       → IsBook effects_in change_in all old → IsBook effects_in change_in all' new × (book_trades effects_in all' new ≡ book_trades effects_in all old)
@@ -183,7 +183,7 @@ module _ {S : Type 0} (effects_in : S → Effects) (change_in : S → Change) wh
       ∙ participant_effects_with-same (participant_effects effects_in old) who w) b.trades) in
       (IsBook-holds m all' new h settled own'.settled, trades-unique m (effects_in all') (participant_effects effects_in new) h)
 
-  -- a trade is put at a vacant place
+  -- a trade is inserted at a vacant place
   pub Book-add : (all all' : S) (old new : List S) (k : ℕ) (t : Trade) → map.get (book_trades effects_in all old) k ≡ None
       → effects_in all' ≡ map.insert (effects_in all) k (consolidated_effect_of t) → change_in all' ≡ None
       → OwnBecomes effects_in change_in old new t.who (map.insert (participant_effects effects_in old t.who) k (own_effect_of t))
@@ -200,7 +200,7 @@ module _ {S : Type 0} (effects_in : S → Effects) (change_in : S → Change) wh
             (participant_effects effects_in new) h,
       )
 
-  -- a trade was put into its participant's own store, and taken away again
+  -- a trade was put into its participant's own store, and removed again
   pub Book-undone : (all all' : S) (old mid new : List S) (who k : ℕ) (e : Effect) → map.get (book_trades effects_in all old) k ≡ None
       → effects_in all' ≡ effects_in all → change_in all' ≡ None
       → OwnBecomes effects_in change_in old mid who (map.insert (participant_effects effects_in old who) k e)
@@ -214,7 +214,7 @@ module _ {S : Type 0} (effects_in : S → Effects) (change_in : S → Change) wh
       Book-same all all' old new who is settled
       (subst (λ (m : Effects). OwnBecomes effects_in change_in old new who m) back (OwnBecomes-then effects_in change_in old mid new who _ _ put take)) b
 
--- a fact holds on `Err` where it holds at all
+-- a fact that holds at all holds on `Err`
 pub on_err_any : {T E P : Type 0} (r : Result T E) → P → OnErr r P
 on_err_any (Ok x) p = tt
 on_err_any (Err e) p = p
@@ -233,7 +233,7 @@ trade_there m all of_who k e h is = by (map.get m k) refl
           sym (h.all_are k ∙ ap (option_map consolidated_effect_of) at) ∙ is in ap (λ o. unwrap_or o e) same),
     )
 
--- where the consolidated store has an effect, its participant's own has one
+-- if the consolidated store has an effect, its participant's own has one
 pub own_there : (m : Trades) (all : Effects) (of_who : ℕ → Effects) (k : ℕ) (e : Effect) → HoldTrades m all of_who → map.get all k ≡ Some e
     → IsSome (map.get (of_who e.who) k)
 own_there m all of_who k e h is =
@@ -245,7 +245,7 @@ own_there m all of_who k e h is =
     ∙ ap (λ (b : Bool). cond b (Some (own_effect_of t)) None) (eq-eqb t.who t.who refl))) refl
 
 module _ {S : Type 0} (effects_in : S → Effects) (change_in : S → Change) where
-  -- a trade is taken out of both of its stores
+  -- a trade is removed from both of its stores
   pub Book-remove : (all all' : S) (old new : List S) (k : ℕ) (e : Effect) → map.get (effects_in all) k ≡ Some e
       → effects_in all' ≡ map.remove (effects_in all) k → change_in all' ≡ None
       → OwnBecomes effects_in change_in old new e.who (map.remove (participant_effects effects_in old e.who) k)
@@ -267,7 +267,7 @@ module _ {S : Type 0} (effects_in : S → Effects) (change_in : S → Change) wh
             (participant_effects effects_in new) h,
       )
 
-  -- a trade gives way to another of the same participant
+  -- a trade is replaced by another of the same participant
   pub Book-replace : (all all' : S) (old new : List S) (k : ℕ) (e : Effect) (t : Trade) → map.get (effects_in all) k ≡ Some e → t.who ≡ e.who
       → effects_in all' ≡ map.insert (effects_in all) k (consolidated_effect_of t) → change_in all' ≡ None
       → OwnBecomes effects_in change_in old new e.who (map.insert (participant_effects effects_in old e.who) k (own_effect_of t))
@@ -301,7 +301,7 @@ module _ {S : Type 0} (effects_in : S → Effects) (change_in : S → Change) wh
       let at = trade_there m (effects_in all) (participant_effects effects_in stores) k e b.trades here in
       ap (λ o. with_content matrix m k o content) at.1 ∙ ap (λ (x : Effect). map.insert m k (reported_trade matrix x.who content)) at.2
 
--- where a participant's trade is, its effect in the consolidated columns is the participant's too
+-- if a participant's trade is at a place, its effect in the consolidated columns is the participant's too
 pub effect_of_theirs : (m : Trades) (all : Effects) (of_who : ℕ → Effects) (k who : ℕ) → HoldTrades m all of_who
     → IsSomeAnd (map.get m k) (λ t. t.who ≡ who) → (e : Effect) × (map.get all k ≡ Some e) × (who ≡ e.who)
 effect_of_theirs m all of_who k who held theirs =

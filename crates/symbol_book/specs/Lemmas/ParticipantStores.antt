@@ -1,4 +1,4 @@
--- The participants' own stores, one of them changed.
+-- The participants' own stores in a row by letter, with one of them changed.
 use Rattle.std.proofs.Common.{◌≡◌, ℕ, ◌+◌, ◌<◌, ◌≤◌, ◌≢◌, nat_le, Bool, true, false, true≢false, cond, List, [], ◌∷◌, length, get_or, set, map, Option}
 use Rattle.std.proofs.Common.{None, refl, sym, ap, subst, ◌∙◌, arith, IsSome, zero, suc}
 use Rattle.std.specs.Ordering.{nat_cmp, eq_by_cmp}
@@ -17,7 +17,7 @@ use Rattle.tape_types.specs.Ranges.{FIRST_PARTICIPANT, row_index}
 key_of : (w i who : ℕ) → i + FIRST_PARTICIPANT ≡ who → nat_le FIRST_PARTICIPANT w ≡ true → row_index w ≡ i → w ≡ who
 key_of w i who at letter same = let above : FIRST_PARTICIPANT ≤ w = leb-true FIRST_PARTICIPANT w letter in omega arith
 
--- what is not the default stands before the end
+-- an index that has an effect is before the end
 get_or-inside : (effects : List Effects) (i place : ℕ) → IsSome (map.get (get_or effects i map.empty) place) → i < length effects
 get_or-inside [] i place there = let none : IsSome {T = Effect} None = subst (λ (o : Option Effect). IsSome o) (map.get-empty nat_cmp place) there in
     absurd (cc)
@@ -91,7 +91,7 @@ module _ {S : Type 0} (effects_in : S → Effects) (change_in : S → Change) wh
     settled = All-set (λ x. change_in x ≡ None) old i s here settled;
   }
 
-  -- a row that holds the same stands for the one before
+  -- a row that holds the same may replace the one before
   pub OwnBecomes-from : (old mid new : List S) (who : ℕ) (effects : Effects)
       → ((w : ℕ) → participant_effects effects_in mid w ≡ participant_effects effects_in old w)
       → OwnBecomes effects_in change_in mid new who effects → OwnBecomes effects_in change_in old new who effects

@@ -1,4 +1,4 @@
--- The content in force of a report is of the tape's matrix.
+-- Shows that the content in force of a report is of the tape's matrix.
 use Rattle.std.proofs.Common.{◌≡◌, ℕ, ◌==◌, Bool, true, false, if◌then◌else◌, List, [], ◌∷◌, Option, Some, None, IfSome, subst}
 use Rattle.std.specs.List.{AllByRecursion, filter_map, last_or, cons_option}
 use Rattle.sale_matrix.specs.Matrix.{is_within}

@@ -1,4 +1,4 @@
--- One more reinstatement: what stands again, and the books of its symbol and of the others.
+-- Shows what one more reinstatement lets stand again, and the books of its symbol and of the others.
 use Rattle.std.proofs.Common.{◌≡◌, ℕ, ◌==◌, Bool, true, false, cond, ◌&&◌, not, if◌then◌else◌, List, [], ◌∷◌, ◌++◌, Option, Some, None, IsSome, unwrap_or, refl, sym, ap}
 use Rattle.std.proofs.Common.{is_some, subst, ◌∙◌, arith}
 use Rattle.std.specs.Option.{option_and_then}
@@ -61,7 +61,7 @@ module _ (tape : List NumberedMessage) (number : ℕ) (header : Header) (target 
   abbrev longer : List NumberedMessage
   longer = tape ++ reinstatement ∷ []
 
-  -- the named report stands, and any other as it did
+  -- the named report stands, and every other is as it was
   pub is_cancelled-reinstate : (place : ℕ) → HasTargets tape → named_report tape header.participant target ≡ Some report
       → is_cancelled longer place ≡ cond (report.0 == place) false (is_cancelled tape place)
   is_cancelled-reinstate place targets named =

@@ -1,4 +1,5 @@
--- A report of a legal tape is the one that its participant and its number name, and its latest content is of the tape's matrix.
+-- Shows that a report of a legal tape is the one that its participant and number name, and that its latest content is of the
+-- tape's matrix.
 use Rattle.std.proofs.Common.{◌≡◌, ℕ, ◌+◌, ◌<◌, Bool, true, cond, false, List, ◌∷◌, ◌++◌, Option, Some, None, IfSome, if◌then◌else◌, is_some, unwrap_or, subst, length, take, drop, slice_get}
 use Rattle.std.proofs.Common.{refl, sym, ap, ◌∙◌, arith}
 use Rattle.std.specs.List.{find}
@@ -33,11 +34,11 @@ own_name (Reinstate header target) is = cc
 
 module _ (t : TapeState) (legal : IsLegal t) (k : ℕ) (e : Entry) (at : slice_get t.entries k ≡ Some e)
     (is : is_some (reported_content e.message) ≡ true) where
-  -- who sent it
+  -- its sender
   abbrev who : ℕ
   who = (header_of e.message).participant
 
-  -- under which number
+  -- its message number
   abbrev number : ℕ
   number = (header_of e.message).number
 
@@ -80,7 +81,7 @@ module _ (t : TapeState) (legal : IsLegal t) (k : ℕ) (e : Entry) (at : slice_g
       latest-within t.matrix (messages_of t.entries) e.number (latest_content (messages_of t.entries) e.number) (IsLegal-within t legal)
       (latest-there (messages_of t.entries) who number (numbered_message e) named_report-itself)
 
--- what a report begins with is said of a report alone
+-- only a report has a report's header
 reporting-is : (m : Message) (h : Header) → Some h ≡ (if is_some (reported_content m) then Some (header_of m) else None)
     → (is_some (reported_content m) ≡ true) × (h ≡ header_of m)
 reporting-is m h said = by (is_some (reported_content m)) said

@@ -1,4 +1,4 @@
--- What a legal tape says of its first entries.
+-- Shows that a tape with the first entries of a legal one admits the message of the next entry, and makes that entry of it.
 use Rattle.std.proofs.Common.{◌≡◌, ℕ, suc, ◌<◌, ◌==◌, cond, false, List, length, take, slice_get, Option, Some, None, ap, ◌∙◌, arith, sym}
 use Rattle.std.proofs.lemmas.Option.{slice_get_within}
 use Rattle.std.proofs.Math.ListN.{length-take}
@@ -22,7 +22,7 @@ number-of_position t k e legal at =
 abbrev message_refusal : Names → Matrix → List Entry → Message → Option Refusal
 message_refusal listing matrix entries m = first_fault (message_cases listing matrix (messages_of entries) m)
 
--- a tape with the first entries of a legal one refuses the message of the next only for being closed or full itself
+-- a tape with the first entries of a legal one refuses the message of the next only if it is closed or full itself
 pub refusal-next : (t own : TapeState) (k : ℕ) (e : Entry) → IsLegal t → slice_get t.entries k ≡ Some e
     → own.listing ≡ t.listing → own.matrix ≡ t.matrix → own.entries ≡ take k t.entries → refusal own e.message ≡ limit_refusal own
 refusal-next t own k e legal at listing matrix entries =

@@ -1,4 +1,4 @@
--- What a tape's refusal says of the message: what holds of each case where its test does holds of the refusal.
+-- Shows what a tape's refusal says of the message: what holds of each case whose test holds, holds of the refusal.
 use Rattle.std.proofs.Common.{◌≡◌, ◌==◌, ℕ, Bool, true, false, not, nat_le, List, [], ◌∷◌, length, Option, Some, None, refl, subst}
 use Rattle.std.specs.List.{AllByRecursion}
 use Rattle.std.proofs.lemmas.Option.{none-some, same_Some}
@@ -26,7 +26,7 @@ pub record EachCase (P : Refusal → Type 0) (t : TapeState) (m : Message) : Typ
   pub standing : P Standing
 
 module _ (P : Refusal → Type 0) where
-  -- it holds of a case where its test does
+  -- it holds of a case if its test holds
   abbrev IfTested : Bool × Refusal → Type 0
   IfTested c = c.0 ≡ true → P c.1
 
@@ -36,14 +36,14 @@ module _ (P : Refusal → Type 0) where
   first-case ((true, x) ∷ cases) r all is = subst P (same_Some x r is) (all.0 refl)
   first-case ((false, x) ∷ cases) r all is = first-case cases r all.1 is
 
-  -- of the faults of a target
+  -- so it holds of the faults of a target
   target-cases : (tape : List NumberedMessage) (symbol : List ℕ) (reinstated : Bool) (o : Option NumberedMessage)
       → P NoSuchReport → P OtherSymbol → P Cancelled → P Standing → AllByRecursion IfTested (target_faults tape symbol reinstated o)
   target-cases tape symbol reinstated None unnamed of_other cancelled standing = (λ _. unnamed, tt)
   target-cases tape symbol reinstated (Some report) unnamed of_other cancelled standing =
       (λ _. of_other, (λ _. cancelled, (λ _. standing, tt)))
 
-  -- of those of a message's target
+  -- and of those of a message's target
   named-cases : (tape : List NumberedMessage) (m : Message)
       → P NoSuchReport → P OtherSymbol → P Cancelled → P Standing → AllByRecursion IfTested (message_faults tape m)
   named-cases tape (Report header content) unnamed of_other cancelled standing = tt

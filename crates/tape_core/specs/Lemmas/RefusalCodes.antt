@@ -1,4 +1,4 @@
--- The numbers of refusals, and where each stands among all.
+-- Shows that each refusal is at its position among all, and that no two have the same number.
 use Rattle.std.proofs.Common.{◌≡◌, ◌≤◌, ◌-◌, ◌∙◌, ℕ, nat_le, if◌then◌else◌, Some, slice_get, refl, sym, ap, arith}
 use Rattle.std.proofs.lemmas.Option.{same_Some}
 use Rattle.tape_core.specs.declared.refusal.Refusal.{Refusal}
@@ -22,7 +22,7 @@ code_range WrongNumber = (omega arith, omega arith)
 code_range Standing = (omega arith, omega arith)
 code_range NotInMatrix = (omega arith, omega arith)
 
--- each refusal stands at its position
+-- each refusal is at its position
 pub position_known : (r : Refusal) → slice_get all_refusals (refusal_position r) ≡ Some r
 position_known Closed = refl
 position_known Full = refl
@@ -38,7 +38,7 @@ position_known WrongNumber = refl
 position_known Standing = refl
 position_known NotInMatrix = refl
 
--- refusals of one number are one
+-- refusals with the same number are equal
 pub same_number : (r other : Refusal) → refusal_code r ≡ refusal_code other → r ≡ other
 same_number r other same =
     let position : refusal_position r ≡ refusal_position other = ap (λ (n : ℕ). if nat_le n 41 then n - 31 else n - 32) same in

@@ -6,7 +6,7 @@ use Rattle.std.specs.FinMap as map
 use Rattle.std.specs.FinMap.{nat_cmp-IsAntisymmetric}
 use Rattle.std.proofs.lemmas.Bool.Decides.{nat_tests}
 
--- keys that compare as equal are one
+-- keys that compare as equal are the same key
 pub same_key : (n m : ℕ) → eq_by_cmp nat_cmp n m ≡ true → n ≡ m
 same_key n m e = grind (arith, nat_tests)
 
@@ -18,7 +18,7 @@ key_itself n = grind (arith, nat_tests)
 pub other_key : (n m : ℕ) → n ≢ m → eq_by_cmp nat_cmp n m ≡ false
 other_key n m h = grind (arith, nat_tests)
 
--- what was put at a vacant key and taken out again leaves the map as it was
+-- inserting at a vacant key and removing it again leaves the map as it was
 pub remove-insert : {X : Type 0} (m : map.FinMap nat_cmp X) (k : ℕ) (v : X) → map.get m k ≡ None → map.remove (map.insert m k v) k ≡ m
 remove-insert {X = X} m k v vacant = map.same_map nat_cmp_total nat_cmp-IsAntisymmetric _ _ (λ q.
     map.get-remove nat_cmp_total (map.insert m k v) k q

@@ -10,6 +10,6 @@ use Rattle.tape_types.specs.Pairs.{pair_cmp}
 pub pair_total : IsTotalOrder pair_cmp
 pair_total = then_total (on_total (λ (p : ℕ × ℕ). p.0) nat_cmp_total) (on_total (λ (p : ℕ × ℕ). p.1) nat_cmp_total)
 
--- pairs that compare as equal are one
+-- pairs that compare as equal are the same pair
 pub pair_exact : set.IsAntisymmetric pair_cmp
 pair_exact = exact_pairs nat_cmp nat_cmp exact_unsigned exact_unsigned

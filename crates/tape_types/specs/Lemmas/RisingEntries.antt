@@ -17,17 +17,17 @@ use Rattle.std.proofs.lemmas.Bool.Decides.{nat_tests}
 use Rattle.tape_types.specs.Lemmas.NumberMaps.{other_key}
 use Rattle.tape_types.specs.RisingEntries.{AllBelow, IsPosition, StandsIn, keyed}
 
--- of a conjunction that holds, its first part
+-- the first part of a conjunction that holds
 pub and_left : (a b : Bool) → T (a && b) → T a
 and_left true b p = tt
 and_left false b p = p
 
--- a conjunction of what holds
+-- a conjunction holds if both parts hold
 pub and_both : (a b : Bool) → T a → T b → T (a && b)
 and_both true b p q = q
 and_both false b p q = absurd p
 
--- of a conjunction that holds, its second part
+-- the second part of a conjunction that holds
 pub and_rest : (a b : Bool) → T (a && b) → T b
 and_rest true b p = p
 and_rest false b p = absurd p
@@ -39,7 +39,7 @@ lt_from x y h = elim (cases_lt x y) [
   | inr ge ↦ absurd (subst T (let e : is_lt (nat_cmp x y) ≡ false = grind (arith, nat_tests) in e) h)
 ]
 
--- what the order answers at a key below, at the same and at one above
+-- a lesser number compares as less
 less-is : (x y : ℕ) → x < y → nat_cmp x y ≡ Less
 less-is x y h = grind (arith, nat_tests)
 
@@ -90,15 +90,15 @@ module _ {X : Type 0} where
     not_below = λ j d low lt. p.not_below (suc j) d (omega arith) (omega arith);
   }
 
-  -- what is found at the and_left entry's key, and at another
+  -- the first entry's value is found at its key
   find-here : (k : ℕ) (e : ℕ × X) (es : List (ℕ × X)) → k ≡ e.0 → find nat_cmp k (e ∷ es) ≡ Some e.1
   find-here k e es same = ap (λ r. cond (is_eq r) (Some e.1) (find nat_cmp k es)) (equal-is k e.0 same)
 
-  -- another key than the first entry's is found as in the rest
+  -- a key other than the first entry's is found as in the rest
   find-there : (k : ℕ) (e : ℕ × X) (es : List (ℕ × X)) → k ≢ e.0 → find nat_cmp k (e ∷ es) ≡ find nat_cmp k es
   find-there k e es other = ap (λ b. cond b (Some e.1) (find nat_cmp k es)) (other_key k e.0 other)
 
-  -- an entry put in at the position of a vacant key
+  -- an entry inserted at the position of a vacant key
   pub insert-put : (k : ℕ) (v : X) (es : List (ℕ × X)) (i : ℕ) → IsPosition k es i → find nat_cmp k es ≡ None → insert es i (k, v) ≡ put nat_cmp k v es
   insert-put k v [] zero p none = refl
   insert-put k v [] (suc i) p none = absurd (omega (arith, p.in_range))
@@ -143,7 +143,7 @@ module _ {X : Type 0} where
       let low : k < e.0 = above 0 e (omega arith) in
       find-there k e es (λ same. omega arith) ∙ find-above k es (λ j d lt. above (suc j) d (omega arith))
 
-  -- the entry taken out at the position of a key that stands there
+  -- the entry removed at the position of a key that stands there
   pub remove-without : (k : ℕ) (es : List (ℕ × X)) (i : ℕ) (d : ℕ × X) → T (is_sorted nat_cmp es) → IsPosition k es i → i < length es → (get_or es i d).0 ≡ k
       → remove es i ≡ without k es
   remove-without k [] i d h p lt same = absurd (omega arith)
@@ -155,7 +155,7 @@ module _ {X : Type 0} where
       ap (λ l. e ∷ l) (remove-without k es i d (and_rest _ _ h) (position-tail k e es i p) (omega arith) same)
       ∙ ap (λ b. cond (not b) (e ∷ without k es) (without k es)) (sym (other_key k e.0 (λ same. omega arith)))
 
-  -- what is found of a key: the entry at its position, if that has the key
+  -- the value found for a key is that of the entry at its position, if that entry has the key
   pub find-at : (k : ℕ) (es : List (ℕ × X)) (i : ℕ) (d : ℕ × X) → IsPosition k es i → i < length es → (get_or es i d).0 ≡ k
       → find nat_cmp k es ≡ Some (get_or es i d).1
   find-at k [] i d p lt same = absurd (omega arith)
@@ -194,14 +194,14 @@ module _ {X : Type 0} where
           let never = subst (λ o. IsSome o) (map.get-from_entries nat_cmp_total (e ∷ es) k ∙ find-absent k (e ∷ es) i h p other) present in
           cc
 
-  -- the map after an entry is written, and after one is taken out
+  -- the map of the entries with one inserted is the map with that insertion
   seen-put : (k : ℕ) (v : X) (es : List (ℕ × X)) → map.from_entries {R = nat_cmp} (put nat_cmp k v es) ≡ map.insert (map.from_entries es) k v
   seen-put k v es = map.same_map nat_cmp_total nat_cmp-IsAntisymmetric _ _ (λ q.
       map.get-from_entries nat_cmp_total (put nat_cmp k v es) q ∙ find-put nat_cmp nat_cmp_total q k v es
       ∙ ap (λ (w : Option X). cond (eq_by_cmp nat_cmp q k) (Some v) w) (sym (map.get-from_entries nat_cmp_total es q))
       ∙ sym (map.get-insert nat_cmp_total (map.from_entries es) k v q))
 
-  -- the map of the entries without a key is the map that the key was taken out of
+  -- the map of the entries without a key is the map with the key removed
   seen-without : (k : ℕ) (es : List (ℕ × X)) → map.from_entries {R = nat_cmp} (without k es) ≡ map.remove (map.from_entries es) k
   seen-without k es = map.same_map nat_cmp_total nat_cmp-IsAntisymmetric _ _ (λ q.
       map.get-from_entries nat_cmp_total (without k es) q
@@ -216,14 +216,14 @@ module _ {X : Type 0} where
       turned true x y = refl
       turned false x y = refl
 
-  -- what the map of entries in order holds, in order, is the entries
+  -- the entries of the map of sorted entries are those entries
   pub entries-seen : (es : List (ℕ × X)) → T (is_sorted nat_cmp es) → map.entries (map.from_entries {R = nat_cmp} es) ≡ es
   entries-seen es h =
       ap map.entries (map.same_map nat_cmp_total nat_cmp-IsAntisymmetric (map.from_entries es) (map.from_sorted es) (λ q.
       map.get-from_entries nat_cmp_total es q ∙ sym (map.get-from_sorted nat_cmp es q h)))
       ∙ map.entries-from_sorted nat_cmp es h
 
-  -- and so does one above the last
+  -- a key above the last goes to the end
   pub position-after_last : (k : ℕ) (es : List (ℕ × X)) (d : ℕ × X) → T (is_sorted nat_cmp es) → (get_or es (length es - 1) d).0 < k
       → IsPosition k es (length es)
   position-after_last k es d h above = record {
@@ -236,7 +236,7 @@ module _ {X : Type 0} where
   }
 
   module _ (k : ℕ) (es : List (ℕ × X)) (h : T (is_sorted nat_cmp es)) where
-    -- an entry put in at the position of a vacant key: the order, and the map
+    -- an entry inserted at the position of a vacant key: the order, and the map
     pub inserted : (v : X) (i : ℕ) → IsPosition k es i → map.get (map.from_entries {R = nat_cmp} es) k ≡ None
         → T (is_sorted nat_cmp (insert es i (k, v))) × (map.from_entries {R = nat_cmp} (insert es i (k, v)) ≡ map.insert (map.from_entries es) k v)
     inserted v i p vacant =
@@ -246,7 +246,7 @@ module _ {X : Type 0} where
               ∙ seen-put k v es,
         )
 
-    -- an entry put at the end, where all keys are below
+    -- an entry put at the end, if all keys are below
     pub pushed : (v : X) → IsPosition k es (length es) → map.get (map.from_entries {R = nat_cmp} es) k ≡ None
         → T (is_sorted nat_cmp (es ++ (k, v) ∷ [])) × (map.from_entries {R = nat_cmp} (es ++ (k, v) ∷ []) ≡ map.insert (map.from_entries es) k v)
     pushed v p vacant = subst (λ l. T (is_sorted nat_cmp l) × (map.from_entries {R = nat_cmp} l ≡ map.insert (map.from_entries es) k v)) (insert_end es (k, v))
@@ -264,7 +264,7 @@ module _ {X : Type 0} where
                 ∙ seen-put k v es,
           )
 
-      -- that entry taken out
+      -- that entry removed
       pub removed : (d : ℕ × X) → T (is_sorted nat_cmp (remove es i)) × (map.from_entries {R = nat_cmp} (remove es i) ≡ map.remove (map.from_entries es) k)
       removed d =
           let at = at-position k es i h p present in
@@ -318,7 +318,7 @@ module _ {K X : Type 0} (number : K → ℕ) where
       let up = keys-rise (keyed number es) h i j (number d.0, d.1) le (subst (λ n. j < n) (sym (length-keyed es)) lt) in
       omega (arith, up, ap (λ e. e.0) (keyed-at es i d), ap (λ e. e.0) (keyed-at es j d))
 
-  -- where the numbers below one end is its position
+  -- the position of a number is where the numbers below it end
   pub keyed-parted : (k : ℕ) (es : List (K × X)) (i : ℕ) → i ≤ length es
       → IsPartitionPoint (λ (e : K × X). ltb (number e.0) k ≡ true) (λ (e : K × X). ltb (number e.0) k ≡ false) es i → IsPosition k (keyed number es) i
   keyed-parted k [] i le parted = record {
@@ -349,7 +349,7 @@ module _ {K X : Type 0} (number : K → ℕ) where
         ∙ keyed-at es i e ∙ ap (λ x. (number x.0, x.1)) (sym is)
 
   module _ (k : K) (es : List (K × X)) (h : T (is_sorted nat_cmp (keyed number es))) where
-    -- an entry put in at the position of a vacant key
+    -- an entry inserted at the position of a vacant key
     pub keyed-inserted : (v : X) (i : ℕ) → IsPosition (number k) (keyed number es) i
         → map.get (map.from_entries {R = nat_cmp} (keyed number es)) (number k) ≡ None
         → T (is_sorted nat_cmp (keyed number (insert es i (k, v))))
@@ -359,7 +359,7 @@ module _ {K X : Type 0} (number : K → ℕ) where
         (sym (keyed-insert es i (k, v)))
         (inserted (number k) (keyed number es) h v i p vacant)
 
-    -- an entry put at the end, where all keys are below
+    -- an entry put at the end, if all keys are below
     pub keyed-pushed : (v : X) → IsPosition (number k) (keyed number es) (length es)
         → map.get (map.from_entries {R = nat_cmp} (keyed number es)) (number k) ≡ None
         → T (is_sorted nat_cmp (keyed number (es ++ (k, v) ∷ [])))
@@ -391,7 +391,7 @@ module _ {K X : Type 0} (number : K → ℕ) where
           (sym (keyed-set es i (k, v)))
           (replaced (number k) (keyed number es) h i at.position keyed-present v)
 
-      -- that entry taken out
+      -- that entry removed
       pub keyed-removed : (d : ℕ × X)
           → T (is_sorted nat_cmp (keyed number (remove es i)))
           × (map.from_entries {R = nat_cmp} (keyed number (remove es i)) ≡ map.remove (map.from_entries (keyed number es)) (number k))
@@ -400,7 +400,7 @@ module _ {K X : Type 0} (number : K → ℕ) where
           (sym (keyed-remove es i))
           (removed (number k) (keyed number es) h i at.position keyed-present d)
 
--- a key that is not found is taken out without a change
+-- removing a key that is not found changes nothing
 pub removed-absent : {X : Type 0} (m : map.FinMap nat_cmp X) (k : ℕ) → map.get m k ≡ None → m ≡ map.remove m k
 removed-absent m k none = map.same_map nat_cmp_total nat_cmp-IsAntisymmetric _ _ (λ q.
     elim (eq_by_cmp nat_cmp q k) as (λ b. eq_by_cmp nat_cmp q k ≡ b → map.get m q ≡ cond b None (map.get m q)) [
@@ -412,18 +412,18 @@ removed-absent m k none = map.same_map nat_cmp_total nat_cmp-IsAntisymmetric _ _
     ties-back : (q k : ℕ) → eq_by_cmp nat_cmp q k ≡ true → nat_cmp k q ≡ Equal
     ties-back q k tie = grind (arith, nat_tests)
 
--- entries whose keys are numbers already are their own
+-- entries whose keys are numbers already are unchanged by `keyed`
 pub keyed-itself : {X : Type 0} (es : List (ℕ × X)) → keyed (λ n. n) es ≡ es
 keyed-itself [] = refl
 keyed-itself (e ∷ es) = ap (λ l. e ∷ l) (keyed-itself es)
 
 module _ {K X : Type 0} (number : K → ℕ) where
-  -- in order they are the entries of the map that they make
+  -- sorted entries are the entries of the map that they make
   pub keyed-seen : (es : List (K × X)) → T (is_sorted nat_cmp (keyed number es)) → (m : map.FinMap nat_cmp X)
       → map.from_entries (keyed number es) ≡ m → keyed number es ≡ map.entries m
   keyed-seen es h m is = sym (entries-seen _ h) ∙ ap map.entries is
 
-  -- and as many as it has
+  -- sorted entries are as many as the map has
   pub length-seen : (es : List (K × X)) → T (is_sorted nat_cmp (keyed number es)) → (m : map.FinMap nat_cmp X)
       → map.from_entries (keyed number es) ≡ m → length es ≡ map.len m
   length-seen es h m is = sym (length-keyed number es) ∙ ap length (keyed-seen es h m is) ∙ sym (map.len-entries m)
@@ -436,7 +436,7 @@ module _ {K X : Type 0} (number : K → ℕ) where
       map.get-entries m k ∙ find-at k (map.entries m) i d at.position at.within (at.has_key d)
       ∙ ap (λ (l : List (ℕ × X)). Some (get_or l i d).1) (sym seen) ∙ ap (λ (x : ℕ × X). Some x.1) (keyed-at number es i e)
 
-  -- the entries from an index on, and those before it
+  -- the entries from an index on, keyed by number, are those of all of them so keyed
   pub keyed-drop : (i : ℕ) (es : List (K × X)) → keyed number (drop i es) ≡ drop i (keyed number es)
   keyed-drop zero es = refl
   keyed-drop (suc i) [] = refl
@@ -467,7 +467,7 @@ module _ {X : Type 0} where
   rising-take (suc i) [] h = tt
   rising-take (suc i) (e ∷ es) h = and_both _ _ (below-take e.0 i es (and_left _ _ h)) (rising-take i es (and_rest _ _ h))
 
-  -- the first entry is where a key stands or goes that is not above its key
+  -- a key not above the first entry's key stands or goes at the first entry
   pub position-zero : (k : ℕ) (e : ℕ × X) (es : List (ℕ × X)) → T (is_sorted nat_cmp (e ∷ es)) → k ≤ e.0 → IsPosition k (e ∷ es) 0
   position-zero k e es h le = record {
     in_range = omega arith;
@@ -539,21 +539,21 @@ module _ {X : Type 0} where
       let rest = stands-at es i d (and_rest _ _ h) (omega arith) in
       record { position = position-cons _ e es i low rest.position; within = lt; has_key = rest.has_key }
 
-  -- a map is that of its entries
+  -- a map is the map of its own entries
   pub itself-seen : (m : map.FinMap nat_cmp X) → map.from_entries (map.entries m) ≡ m
   itself-seen m = map.same_map nat_cmp_total nat_cmp-IsAntisymmetric _ _ (λ q. map.get-from_entries nat_cmp_total (map.entries m) q ∙ sym (map.get-entries m q))
 
   module _ (m : map.FinMap nat_cmp X) (k i : ℕ) (p : IsPosition k (map.entries m) i) where
-    -- the entries once a vacant key has a value
+    -- the entries after a vacant key gets a value
     pub entries-inserted : (v : X) → map.get m k ≡ None → map.entries (map.insert m k v) ≡ insert (map.entries m) i (k, v)
     entries-inserted v vacant = map.entries-insert nat_cmp_total m k v ∙ sym (insert-put k v (map.entries m) i p (sym (map.get-entries m k) ∙ vacant))
 
-    -- once a key has another value
+    -- the entries after a key's value is replaced
     pub entries-replaced : (v : X) (d : ℕ × X) → i < length (map.entries m) → (get_or (map.entries m) i d).0 ≡ k
         → map.entries (map.insert m k v) ≡ set (map.entries m) i (k, v)
     entries-replaced v d lt same = map.entries-insert nat_cmp_total m k v ∙ sym (set-put k v (map.entries m) i d p lt same)
 
-    -- and once it has none
+    -- the entries after a key is removed
     pub entries-removed : (d : ℕ × X) → i < length (map.entries m) → (get_or (map.entries m) i d).0 ≡ k
         → map.entries (map.remove m k) ≡ remove (map.entries m) i
     entries-removed d lt same =

@@ -1,4 +1,4 @@
--- A symbol and its name.
+-- Lemmas about a symbol and its name: padding a name makes its symbol, and dropping the padding yields the name again.
 use Rattle.std.proofs.Common.{◌≡◌, ◌<◌, ◌≤◌, ◌+◌, ◌-◌, ◌∷◌, ◌++◌, ◌∙◌, [], ℕ, zero, suc, List, Bool, true, false, Some, None, refl, sym, ap, subst, arith}
 use Rattle.std.proofs.Common.{length, drop, take, replicate, length-append, length-take, All, nat_lt, nat_le, inl, inr}
 use Rattle.std.specs.List.{list_all, prefix_len}
@@ -39,7 +39,7 @@ list_all-name_of (b ∷ bytes) = elim (cases_Bool (is_name_byte b)) [
     all-cons : (b : ℕ) (bytes : List ℕ) → is_name_byte b ≡ true → list_all is_name_byte bytes ≡ true → list_all is_name_byte (b ∷ bytes) ≡ true
     all-cons b bytes first others = rw first others
 
--- a name of 1 to 8 bytes is a symbol once it is filled up with spaces
+-- a name of 1 to 8 bytes is a symbol once it is padded with spaces
 pub IsSymbol-padded : (name : List ℕ) → 0 < length name → length name ≤ 8 → list_all is_name_byte name ≡ true
     → IsSymbol (name ++ replicate (8 - length name) 32)
 IsSymbol-padded name some few all =
@@ -79,7 +79,7 @@ symbol_named-None name few never = cases (nat_lt 0 (length name)) (list_all is_n
     cases true false some other = let not_many : nat_le (length name) 8 ≡ true = grind (arith, nat_tests, few) in rw (some, not_many, other) refl
     cases true true some all = absurd (never (ltb-true 0 (length name) some) all)
 
--- spaces alone
+-- bytes that are all spaces are that many spaces
 spaces-are : (bytes : List ℕ) → All (λ b. b ≡ 32) bytes → bytes ≡ replicate (length bytes) 32
 spaces-are [] all = refl
 spaces-are (b ∷ bytes) all =
@@ -87,7 +87,7 @@ spaces-are (b ∷ bytes) all =
     let first = All-head (λ b. b ≡ 32) b bytes all in
     cc
 
--- a name with the spaces that stand behind it
+-- bytes whose rest after the name is spaces are the name with padding
 padded-back : (bytes : List ℕ) → All (λ b. b ≡ 32) (drop (length (name_of bytes)) bytes)
     → bytes ≡ name_of bytes ++ replicate (length bytes - length (name_of bytes)) 32
 padded-back [] spaces = refl

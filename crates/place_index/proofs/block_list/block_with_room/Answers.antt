@@ -5,7 +5,7 @@ use Rattle.place_index.proofs.block_list.block_with_room.Given.{Over}
 use Rattle.place_index.proofs.block_list.block_with_room.Goals as goal
 use Rattle.place_index.proofs.block_list.block_with_room.Goals.{After-top}
 
--- the block that is cut has two entries or more
+-- the block that is split has two entries or more
 long : (g : Over) (c : After-top g) → 1 < length (get_or c.args.blocks.now.items c.args.at [])
 long g c =
     let is = block-is c.args.blocks.now.items c.args.at c.index.result.now c.index.ensures c.requires.within in
@@ -15,7 +15,7 @@ long g c =
 most : (g : Over) (c : After-top g) → length (get_or c.args.blocks.now.items c.args.at []) ≤ BLOCK_MOST
 most g c = (c.requires.valid.sized c.args.at [] c.requires.within).1
 
--- the blocks after the cut are valid, and have the values of before
+-- the blocks after the split are valid, and have the values of before
 cut : (g : Over) (c : After-top g) → IsBlockList c.split.new.blocks.items × (values_of c.split.new.blocks.items ≡ values_of c.args.blocks.now.items)
 cut g c =
     let done = blocks-split c.args.blocks.now.items c.args.at c.requires.within (long g c) (most g c) c.requires.valid in

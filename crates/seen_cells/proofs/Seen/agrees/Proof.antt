@@ -1,4 +1,4 @@
--- A name has one last value.
+-- Two facts about one cell agree: its name has one last value.
 use Rattle.std.proofs.Common.{◌≡◌, ℕ, List, [], ◌∷◌, ◌++◌, refl, sym, subst, IfSome}
 use mir.Syntax.{a_type}
 use mir.Val.{Val, vptr, vunit}

@@ -1,4 +1,4 @@
--- What a `&` to a `Seen` holds is given to a note.
+-- A note takes over what a `&` to a `Seen` holds.
 use Rattle.std.proofs.Common.{◌≡◌, ℕ, List, [], ◌∷◌, ◌++◌, refl, sym, subst}
 use mir.Syntax.{a_type}
 use mir.Val.{Val, vptr, vunit}

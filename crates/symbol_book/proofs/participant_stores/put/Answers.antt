@@ -8,7 +8,7 @@ use Rattle.symbol_book.proofs.participant_stores.put.Given.{Over}
 use Rattle.symbol_book.proofs.participant_stores.put.Goals as goal
 use Rattle.symbol_book.proofs.participant_stores.put.Goals.{After-index_mut, then-len-index+in_ok-make_room, else-len-index}
 
--- the row that was made long enough holds the same
+-- the lengthened row holds the same
 same_held : (g : Over) (c : After-index_mut g) (w : ℕ)
     → participant_effects g.S.Store.effects c.if-len-index.own.items w ≡ participant_effects g.S.Store.effects c.args.own.now.items w
 same_held g c w = elim c.if-len-index.branch [
@@ -16,7 +16,7 @@ same_held g c w = elim c.if-len-index.branch [
   | else-len-index b ↦ ap (λ own. participant_effects g.S.Store.effects own.items w) b.own-is
 ]
 
--- what the store holds that is put into
+-- what the store that the effect is put into holds
 held_before : (g : Over) (c : After-index_mut g)
     → participant_effects g.S.Store.effects c.args.own.now.items c.args.who ≡ g.S.Store.effects c.index_mut.result.now
 held_before g c =
@@ -25,7 +25,7 @@ held_before g c =
     ∙ participant_effects-read g.S.Store.effects c.if-len-index.own.items c.row_index-index.result c.args.who c.index_mut.result.now
     c.row_index-index.ensures.letter inside c.index_mut.ensures.value
 
--- the row with the store that is written back
+-- the row with the store written back
 written : (g : Over) (c : After-index_mut g) (store : g.row.S.Denot) (effects : Effects) → g.S.Store.staged_change store ≡ None
     → g.S.Store.effects store ≡ effects
     → OwnBecomes g.S.Store.effects g.S.Store.staged_change c.args.own.now.items (set c.if-len-index.own.items c.row_index-index.result store) c.args.who effects

@@ -4,7 +4,7 @@ use Rattle.sale_matrix.specs.declared.matrix.Matrix.{Matrix}
 use Rattle.tape_core.specs.Ending.{AreFigures, AreOfAtMost}
 use Rattle.tape_core.proofs.end_figures.empty_table.Given as goal
 
--- all so far are of no report
+-- all figures so far are of no report
 abbrev pub invariant-loop : goal.invariant-loop
 invariant-loop l = record {
   figures : (matrix : Matrix) → All (AreFigures matrix []) l.table.items;

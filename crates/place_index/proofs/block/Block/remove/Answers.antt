@@ -5,7 +5,7 @@ use Rattle.tape_types.specs.Lemmas.RisingEntries.{keyed-itself}
 use Rattle.place_index.proofs.BlockMaps.{absent-same, length-out, seen, taken-out, values-removed}
 use Rattle.place_index.proofs.block.Block.remove.Goals as goal
 
--- where the place had no value, the last place stays right
+-- if the place had no value, the last place stays right
 pub invariant_of-self : goal.invariant_of-self
 invariant_of-self g c =
     c.self.invariant
@@ -34,7 +34,7 @@ pub returns-in_err-value-clause-removed : goal.returns-in_err-value-clause-remov
 returns-in_err-value-clause-removed g c =
     values-removed c.self.inside.entries.values c.args.self.now c.self.view_is c.args.place c.remove.new.self.values c.remove.ensures.removed
 
--- where the place had a value, the last place is found anew
+-- if the place had a value, the last place is found anew
 pub invariant_of-self-2 : goal.invariant_of-self-2
 invariant_of-self-2 g c = c.top_of-self-inside.ensures ∙ ap top (sym (keyed-itself c.entries.result.now) ∙ c.entries.ensures.entries)
 

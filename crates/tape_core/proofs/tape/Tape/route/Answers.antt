@@ -8,7 +8,7 @@ use Rattle.tape_core.proofs.tape.Tape.route.Given.{Over}
 use Rattle.tape_core.proofs.tape.Tape.route.Goals.{After-locate}
 use Rattle.tape_core.proofs.tape.Tape.route.Goals as goal
 
--- after all other tests, what the register answers for the target decides
+-- after all other tests, the register's answer for the target decides
 refusal-is : (g : Over) (c : After-locate g) → refused c.locate.result ≡ refusal c.args.self.now c.args.message.now
 refusal-is g c =
     let m = c.args.message.now in

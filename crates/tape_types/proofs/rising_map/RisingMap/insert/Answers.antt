@@ -24,7 +24,7 @@ invariant_of-self-then-is_above_all g c = (at-end g c).0
 pub returns-then-is_above_all-clause-ok : goal.returns-then-is_above_all-clause-ok
 returns-then-is_above_all-clause-ok g c = (at-end g (goal.at.returns-then-is_above_all-clause-ok g c).After-push_reserved).1
 
--- any other at its position
+-- any other key goes to its position
 at-position : (g : Over) (c : In_ok-insert g) → (let number = g.K.NumberKey.number in let es = keyed number c.insert.new.self.items in
     HasRisingKeys es × (map.from_entries {R = nat_cmp} es ≡ map.insert c.args.self.now.values (number c.args.key) c.args.value))
 at-position g c =

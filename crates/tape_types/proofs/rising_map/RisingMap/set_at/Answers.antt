@@ -14,7 +14,7 @@ index_mut-requires g c =
     let many = length-seen g.K.NumberKey.number c.self.inside.entries.items c.self.invariant _ (ap (λ s. s.values) c.self.view_is) in
     subst (λ n. c.args.index < n) (sym (c.self.inside.entries.ok.0 ∙ many)) c.requires.within
 
--- the key that is there stands there
+-- the key of the entry at this index stands there
 pub invariant_of-self : goal.invariant_of-self
 invariant_of-self g c =
     let number = g.K.NumberKey.number in

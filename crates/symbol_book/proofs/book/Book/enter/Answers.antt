@@ -1,12 +1,12 @@
 use Rattle.std.proofs.Common.{ap, sym, ◌∙◌, subst, IsSome, refl}
 use Rattle.std.specs.FinMap as map
 use Rattle.symbol_book.specs.declared.trade.Trade.{Trade}
-use Rattle.symbol_book.specs.Columns.{content_of, reported_trade, consolidated_effect_of, own_effect_of}
+use Rattle.symbol_book.specs.Columns.{reported_trade, consolidated_effect_of, own_effect_of}
 use Rattle.symbol_book.specs.Stores.{participant_effects, OwnBecomes}
 use Rattle.symbol_book.specs.Lemmas.ParticipantStores.{OwnBecomes-here}
 use Rattle.symbol_book.specs.Lemmas.HeldTrades.{Book-same, Book-add, Book-undone, get-inserted, on_err_any}
 use Rattle.symbol_book.specs.BookState.{BookState}
-use Rattle.symbol_book.proofs.book.Book.add.Goals as goal
+use Rattle.symbol_book.proofs.book.Book.enter.Goals as goal
 
 pub invariant_of-self : goal.invariant_of-self
 invariant_of-self g c =
@@ -21,14 +21,14 @@ returns-in_err-put-clause-err g c =
 
 pub invariant_of-self-in-Ok : goal.invariant_of-self-in-Ok
 invariant_of-self-in-Ok g c =
-    let t : Trade = reported_trade c.self.inside.matrix c.args.who (content_of c.args.price c.args.size c.args.condition.now) in
+    let t : Trade = reported_trade c.self.inside.matrix c.args.who c.args.content.now in
     let vacant = ap (λ (b : BookState). map.get b.trades c.args.place) c.self.view_is ∙ c.requires.vacant in
     let is = c.in-Ok.ensures.ok
     ∙ ap (λ e. map.insert (g.S.Store.effects c.self.inside.consolidated) c.args.place e) (c.consolidated.ensures
-    ∙ ap consolidated_effect_of c.new-trade.ensures) in
+    ∙ ap consolidated_effect_of c.new-added.ensures) in
     let becomes = subst (λ e. OwnBecomes g.S.Store.effects g.S.Store.staged_change c.self.inside.own.items c.put.new.own.items c.args.who
     (map.insert (participant_effects g.S.Store.effects c.self.inside.own.items c.args.who) c.args.place e))
-    (c.own.ensures ∙ ap own_effect_of c.new-trade.ensures) c.in_ok-put.ensures.ok in
+    (c.own.ensures ∙ ap own_effect_of c.new-added.ensures) c.in_ok-put.ensures.ok in
     (Book-add g.S.Store.effects g.S.Store.staged_change c.self.inside.consolidated c.put-2.new.self c.self.inside.own.items c.put.new.own.items c.args.place t
     vacant is c.put-2.ensures.settled becomes c.self.invariant).0
 
@@ -48,20 +48,20 @@ invariant_of-self-in-Err g c =
 
 pub returns-in-Ok-clause-ok : goal.returns-in-Ok-clause-ok
 returns-in-Ok-clause-ok g c =
-    let t : Trade = reported_trade c.self.inside.matrix c.args.who (content_of c.args.price c.args.size c.args.condition.now) in
+    let t : Trade = reported_trade c.self.inside.matrix c.args.who c.args.content.now in
     let vacant = ap (λ (b : BookState). map.get b.trades c.args.place) c.self.view_is ∙ c.requires.vacant in
     let is = c.in-Ok.ensures.ok
     ∙ ap (λ e. map.insert (g.S.Store.effects c.self.inside.consolidated) c.args.place e) (c.consolidated.ensures
-    ∙ ap consolidated_effect_of c.new-trade.ensures) in
+    ∙ ap consolidated_effect_of c.new-added.ensures) in
     let becomes = subst (λ e. OwnBecomes g.S.Store.effects g.S.Store.staged_change c.self.inside.own.items c.put.new.own.items c.args.who
     (map.insert (participant_effects g.S.Store.effects c.self.inside.own.items c.args.who) c.args.place e))
-    (c.own.ensures ∙ ap own_effect_of c.new-trade.ensures) c.in_ok-put.ensures.ok in
+    (c.own.ensures ∙ ap own_effect_of c.new-added.ensures) c.in_ok-put.ensures.ok in
     let added = (Book-add g.S.Store.effects g.S.Store.staged_change c.self.inside.consolidated c.put-2.new.self c.self.inside.own.items c.put.new.own.items c.args.place t
     vacant is c.put-2.ensures.settled becomes c.self.invariant).1 in
     (λ i. record { matrix = c.self.inside.matrix; trades = added i })
     ∙ ap (λ (b : BookState). record b {
       trades = map.insert b.trades c.args.place
-          (reported_trade b.matrix c.args.who (content_of c.args.price c.args.size c.args.condition.now));
+          (reported_trade b.matrix c.args.who c.args.content.now);
     }) c.self.view_is
 
 pub returns-in-Err-clause-err : goal.returns-in-Err-clause-err
