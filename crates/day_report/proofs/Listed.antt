@@ -5,7 +5,7 @@ use Rattle.std.proofs.lemmas.Bool.{cases_Bool, eq-eqb}
 use Rattle.tape_types.specs.Names.{Names}
 use Rattle.tape_core.specs.Tape.{lists_participant}
 
--- where an element in the middle passes a test, some element does
+-- if an element in the middle passes a test, some element does
 list_any-middle : {X : Type 0} (p : X → Bool) (before : List X) (x : X) (after : List X) → p x ≡ true → list_any p (before ++ x ∷ after) ≡ true
 list_any-middle p [] x after here = rw here refl
 list_any-middle p (y ∷ before) x after here = elim (cases_Bool (p y)) [

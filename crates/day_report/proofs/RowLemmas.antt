@@ -11,7 +11,7 @@ use Rattle.tape_core.specs.Standing.{standing_reports, placed_participant, parti
 use Rattle.tape_core.specs.Tape.{TapeState, lists_participant, messages_of, participant_summary_at_index}
 use Rattle.day_report.specs.Rows.{participant_row}
 
--- a filter keeps something exactly where some element passes
+-- a filter keeps something exactly if some element passes
 list_any-filter : {X : Type 0} (p : X → Bool) (xs : List X)
     → (length (filter p xs) ≡ 0 → list_any p xs ≡ false) × (length (filter p xs) ≢ 0 → list_any p xs ≡ true)
 list_any-filter p [] = (λ _. refl, λ some. absurd (some refl))
@@ -20,14 +20,14 @@ list_any-filter p (x ∷ xs) = elim (cases_Bool (p x)) [
   | inr fails ↦ rw fails (list_any-filter p xs)
 ]
 
--- the trades of a participant's summary are its reports that stand
+-- a participant's summary counts no trade exactly if no report of the participant stands
 participant_summary-trades : (t : TapeState) (symbol : List ℕ) (who : ℕ)
     → (participant_summary t.matrix (messages_of t.entries) symbol who).trades ≡ length (filter (λ r. r.who == who) (standing_reports (messages_of t.entries) symbol))
 participant_summary-trades t symbol who =
     let own = filter (λ r. r.who == who) (standing_reports (messages_of t.entries) symbol) in
     trades-from empty_summary (map (placed_participant t.matrix) own) ∙ zero-add _ ∙ length-map own (placed_participant t.matrix)
 
--- a summary that is there is the participant's
+-- a summary that is present is the participant's
 summary_there : (t : TapeState) (index : ℕ) (symbol : List ℕ) (who : ℕ) (z : Summary)
     → slice_get t.listing.symbols index ≡ Some symbol → lists_participant t.listing who ≡ true → participant_summary_at_index t index who ≡ Some z
     → participant_summary t.matrix (messages_of t.entries) symbol who ≡ z
@@ -61,7 +61,7 @@ own_row-None t symbol who z there none =
     rw ((list_any-filter (λ r. r.who == who) (standing_reports (messages_of t.entries) symbol)).0 (sym (participant_summary-trades t symbol who)
     ∙ ap (λ (s : Summary). s.trades) there ∙ none)) refl
 
--- and one whose own summary counts trades has a row of it
+-- a participant whose own summary counts trades has a row of it
 pub own_row-Some : (t : TapeState) (symbol : List ℕ) (who : ℕ) (z : Summary) → participant_summary t.matrix (messages_of t.entries) symbol who ≡ z → z.trades ≢ 0
     → participant_row t symbol who ≡ Some (record { symbol = symbol; who = Some who; summary = z })
 own_row-Some t symbol who z there some =

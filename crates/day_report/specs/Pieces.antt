@@ -6,16 +6,16 @@ use Rattle.day_report.specs.Rows.{symbol_rows}
 use Rattle.day_report.specs.declared.pieces.Piece.{Piece}
 use Rattle.day_report.specs.declared.row.Row.{Row}
 
--- how many workers a report has at most
+-- the greatest number of workers of a report
 abbrev pub MOST_WORKERS : ℕ
 MOST_WORKERS = 64
 
--- a piece is what stands in a list from a position on
+-- a piece is the elements of a list from a position on
 pub record IsPieceAt {X : Type 0} (whole : List X) (start : ℕ) (piece : List X) : Type 0 where
   pub within : start + length piece ≤ length whole
   pub elements : (k : ℕ) (d : X) → k < length piece → slice_index_or piece k d ≡ slice_index_or whole (start + k) d
 
--- the rows of the symbols from an index of the listing on, of at most so many
+-- the rows of at most so many symbols, from an index of the listing on
 abbrev pub rows_of_piece : TapeState → ℕ → ℕ → List Row
 rows_of_piece t size start = flat_map (symbol_rows t) (take size (drop start t.listing.symbols))
 
@@ -23,6 +23,6 @@ rows_of_piece t size start = flat_map (symbol_rows t) (take size (drop start t.l
 abbrev pub AreMade : TapeState → ℕ → List Piece → Type 0
 AreMade t size pieces = AllByRecursion (λ p. p.rows.items ≡ rows_of_piece t size p.start) pieces
 
--- these rows are those of the piece that begins at an index, whatever the tape of which the pieces were made
+-- for any tape the pieces were made from, these rows are those of the piece that begins at the index
 abbrev pub AreFrom : List Piece → ℕ → List Row → Type 0
 AreFrom pieces start rows = (t : TapeState) (size : ℕ) → AreMade t size pieces → rows ≡ rows_of_piece t size start

@@ -1,4 +1,4 @@
-//! The rows of a tape of which only the end is asked.
+//! Makes the rows of the report from an `EndTape`, by one pass over its reports.
 ghost use Rattle.std.specs.Prelude.{◌≡◌, ◌++◌, IfOk, OnOk};
 ghost use Rattle.tape_core.specs.Ending.{AreFiguresOf, IsKept, KeepsEnd};
 ghost use Rattle.tape_core.specs.Tape.{TapeState, messages_of};
@@ -9,8 +9,8 @@ use std::alloc::{AllocError, Global};
 use tape_core::{EndTape, SymbolFigures};
 use tape_types::{Listing, Symbol};
 
-/// Adds the rows of a symbol by its figures: the consolidated one, then in listing order one for each participant with a report that
-/// stands there.
+/// Adds the rows of a symbol from its figures: the consolidated one, then in listing order one for each participant with a
+/// report that stands there.
 fn push_figures(
     rows: &mut Vec<Row>,
     listing: &Listing,
@@ -39,8 +39,8 @@ fn push_figures(
     Ok(())
 }
 
-/// The rows of a tape of which only the end is asked: those that `rows` makes of the tape of this listing. One pass over its reports makes
-/// all figures.
+/// Returns the rows of the report, the same as `rows` returns for the tape of this listing. One pass over its reports makes all
+/// figures.
 pub fn end_rows(alloc: Global, tape: &EndTape, listing: &Listing) -> Result<Vec<Row>, AllocError>
     requires kept { IsKept tape.now }
     ensures rows { IfOk result (λ rows. (t : TapeState) → KeepsEnd t tape.now → t.listing ≡ listing.now → rows.items ≡ report_rows t) }

@@ -1,4 +1,4 @@
-//! The day's report: the rows of a tape, made by one worker or many, and their text.
+//! Makes the day's report: the rows of a tape, by one worker or many, and their text.
 #![tactic(auto)]
 
 mod ends;

@@ -1,4 +1,4 @@
-//! The rows of a report, made by pieces of the listing.
+//! Makes the rows of a report: workers take pieces of the listing, and their rows are joined in listing order.
 ghost use Rattle.std.specs.Prelude.{◌≡◌, ◌≢◌, ◌++◌, ◌+◌, ◌*◌, ◌^◌, ◌<◌, ◌≤◌, Err, Some, None, IfErr, IfOk, IfSome, OnOk, length, slice_get, take, drop};
 ghost use Rattle.std.specs.List.{flat_map};
 ghost use Rattle.day_report.specs.Pieces.{IsPieceAt, AreMade, AreFrom, MOST_WORKERS};
@@ -19,8 +19,8 @@ use tape_types::{Gate, SYMBOLS_MOST, Symbol, can_start};
 /// The greatest number of workers of a report.
 pub const WORKERS_MOST: usize = 64;
 
-/// How many pieces of the listing there are for each worker, at most: the workers take them one after another, so that one
-/// that is held up, or whose symbols take long, leaves more of them to the others.
+/// The greatest number of pieces of the listing per worker. The workers take them one after another, so a worker that is held
+/// up, or whose symbols take long, leaves more of them to the others.
 const PIECES_EACH: usize = 16;
 
 /// The rows of a piece of the listing.
@@ -52,7 +52,7 @@ fn push_symbol<S: Store>(
     Ok(())
 }
 
-/// The rows of a piece of the listing that begins at an index of it, made by one worker that has done some symbols before.
+/// Makes the rows of the piece that begins at index `start` of the listing. The worker has done `done` symbols before.
 fn piece_rows<S: Store, G: Gate>(
     alloc: Global,
     tape: &Tape<S>,
@@ -77,7 +77,7 @@ fn piece_rows<S: Store, G: Gate>(
     Ok(rows)
 }
 
-/// At most `size` symbols of the listing from the index `start` on; `None` from its end on.
+/// Returns at most `size` symbols of the listing from index `start` on, or `None` if `start` is at its end or past it.
 fn piece_from<S: Store>(tape: &Tape<S>, start: usize, size: usize) -> Option<&[Symbol]>
     ensures piece { IfSome result (λ piece. piece.now ≡ take size (drop start tape.now.listing.symbols)) }
     ensures place { IfSome result (λ piece. IsPieceAt tape.now.listing.symbols start piece.now) }
@@ -93,7 +93,7 @@ fn piece_from<S: Store>(tape: &Tape<S>, start: usize, size: usize) -> Option<&[S
     Some(&symbols[start..end])
 }
 
-/// The pieces that a worker takes, each the next one that no worker has taken, until there is none.
+/// Takes the next piece that no worker has taken and makes its rows, until there is none. Returns the pieces.
 fn worker_pieces<S: Store, G: Gate>(
     alloc: Global,
     tape: &Tape<S>,
@@ -106,7 +106,7 @@ fn worker_pieces<S: Store, G: Gate>(
 {
     let mut pieces = Vec::new(alloc);
     let mut done = 0;
-    // There are no more pieces than symbols: the bound only shows that the loop ends.
+    // There are no more pieces than symbols; the bound only shows that the loop ends.
     for _ in 0..SYMBOLS_MOST {
         let start = next.fetch_add(size, Ordering::SeqCst);
         let Some(piece) = piece_from(tape, start, size) else {
@@ -119,8 +119,9 @@ fn worker_pieces<S: Store, G: Gate>(
     Ok(pieces)
 }
 
-/// The pieces that some workers take, each worker in a thread of its own where one can be made, but the last, which works in
-/// this one. The threads are started one after another: two that are started at the same time may be given one processor.
+/// Returns the pieces that `count` workers take. Each worker has a thread of its own if one can be started, except the last,
+/// which works in this thread. The threads are started one after another: two that are started at the same time may get one
+/// processor.
 #[cycle(workers)]
 fn pieces_by<S: Store + Sync, G: Gate + Sync, R: Threads + Sync>(
     rt: &R,
@@ -153,7 +154,7 @@ fn pieces_by<S: Store + Sync, G: Gate + Sync, R: Threads + Sync>(
     Ok(pieces)
 }
 
-/// The rows of the piece that begins at an index of the listing, where it is among these.
+/// Returns the rows of the piece that begins at index `start` of the listing, or `None` if it is not among `pieces`.
 fn rows_from(pieces: &[Piece], start: usize) -> Option<&[Row]>
     ensures { IfSome result (λ rows. AreFrom pieces.now start rows.now) }
 {
@@ -161,7 +162,7 @@ fn rows_from(pieces: &[Piece], start: usize) -> Option<&[Row]>
     Some(piece.rows.as_slice())
 }
 
-/// How many rows these pieces have.
+/// Returns the number of rows of all pieces.
 fn row_count(pieces: &[Piece]) -> usize {
     let mut count: usize = 0;
     for piece in pieces {
@@ -170,7 +171,7 @@ fn row_count(pieces: &[Piece]) -> usize {
     count
 }
 
-/// The rows of a tape, from the pieces that its workers made.
+/// Joins the pieces that the workers made into the rows of the tape.
 fn joined<S: Store>(
     alloc: Global,
     tape: &Tape<S>,
@@ -181,11 +182,11 @@ fn joined<S: Store>(
     requires made { AreMade tape.now size pieces.now }
     ensures { IfOk result (λ rows. rows.items ≡ report_rows tape.now) }
 {
-    // All of the room at once, since one thread alone joins the pieces, and a list that grows may be copied.
+    // Allocates all of the room at once, since only one thread joins the pieces and a growing vector may be copied.
     let mut rows = Vec::with_capacity(alloc, row_count(pieces))?;
     let mut start = 0;
     while let Some(piece) = piece_from(tape, start, size) {
-        // The workers took every piece, so it is there; no clause of theirs says so.
+        // The workers took every piece, so this one is there; no clause says so.
         let Some(made) = rows_from(pieces, start) else {
             return Err(AllocError);
         };
@@ -195,8 +196,8 @@ fn joined<S: Store>(
     Ok(rows)
 }
 
-/// Tries to start a thread: `Unstarted` where none can be started. Where a thread is refused later, the caller's own thread
-/// takes its worker's place.
+/// Tries to start a thread, and returns `Unstarted` if none can be started. If a thread cannot be started later, the caller's
+/// own thread does that worker's work.
 fn try_start<R: Threads>(rt: &R) -> Result<(), ReportFault>
     ensures { IfErr result (λ fault. fault ≡ Unstarted) }
 {
@@ -207,14 +208,14 @@ fn try_start<R: Threads>(rt: &R) -> Result<(), ReportFault>
     }
 }
 
-/// The rows of a tape: by symbol in listing order the consolidated row, then in listing order one row for each
-/// participant with a report that stands there. They are the same for every number of workers, 1 to `WORKERS_MOST`: each
-/// takes one piece of the listing after another and makes its rows, and one alone starts no thread.
+/// Returns the rows of a tape: for each symbol in listing order the consolidated row, then in listing order one row for each
+/// participant with a report that stands there. The rows are the same for every number of workers, 1 to `WORKERS_MOST`: each
+/// worker takes one piece of the listing after another and makes its rows. A single worker starts no thread.
 ///
-/// Refused: `BadWorkers` exactly outside 1 to `WORKERS_MOST`, `Unstarted` where two workers or more were asked for and no
-/// thread can be started, `OutOfMemory` last. The tape is only read, and stays as it is.
+/// Errors, the first that applies: `BadWorkers` exactly if `workers` is outside 1 to `WORKERS_MOST`, `Unstarted` if `workers`
+/// is 2 or more and no thread can be started, `OutOfMemory` if memory runs out. The tape is only read.
 ///
-/// The gate is called once after each symbol of a worker's pieces, with the worker's number from 0 and how many of its
+/// The gate is called once after each symbol of a worker's pieces, with the worker's number, from 0, and how many of its
 /// symbols are done, from 1.
 pub fn rows<S: Store + Sync, G: Gate + Sync, R: Threads + Sync>(
     rt: &R,

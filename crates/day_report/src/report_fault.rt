@@ -1,4 +1,4 @@
-//! Why there is no report.
+//! The errors of a report, each with its number and its name.
 ghost use Rattle.std.specs.Prelude.{◌≡◌, Some};
 ghost use Rattle.day_report.specs.ReportFaults.{report_fault_code, report_fault_name};
 ghost use Rattle.day_report.specs.declared.report_fault.ReportFault.TheVariants.{OutOfMemory};
@@ -10,7 +10,7 @@ use thiserror::Error;
 /// Why the rows of a report were not made, or its text was not written. It is printed as its name.
 #[derive(Clone, Copy, Debug, PartialEq, Eq, Error)]
 pub enum ReportFault {
-    /// There is no worker, or there are more than `WORKERS_MOST`.
+    /// The number of workers is 0 or more than `WORKERS_MOST`.
     BadWorkers = 95,
     /// No thread could be started for the workers.
     Unstarted = 96,

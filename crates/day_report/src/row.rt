@@ -1,4 +1,4 @@
-//! A row of the report.
+//! Makes a row of the report: the summary of a symbol for all participants or for one.
 
 use scratch_fold::Summary;
 use summaries::Store;
@@ -8,10 +8,10 @@ use tape_types::{Participant, Symbol};
 /// A row of the report: the summary of a symbol's reports that stand, of all participants or of one.
 #[derive(Clone, Copy, Debug, PartialEq, Eq)]
 pub struct Row {
-    /// The symbol that it is about.
+    /// The symbol of the row.
     pub symbol: Symbol,
-    /// The participant whose reports alone it counts, by the participant columns of the matrix, or `None` for the reports of
-    /// all, by the consolidated columns.
+    /// The participant whose reports are counted, by the participant columns of the matrix, or `None` if those of all
+    /// participants are, by the consolidated columns.
     pub who: Option<Participant>,
     /// The summary of the reports that stand.
     pub summary: Summary,
@@ -22,7 +22,7 @@ impl Row {
     ghost use Rattle.tape_core.specs.Tape.{lists_participant};
     ghost use Rattle.day_report.specs.Rows.{consolidated_row, participant_row};
 
-    /// The consolidated row of the symbol at an index of the listing.
+    /// Returns the consolidated row of the symbol at an index of the listing.
     pub(crate) fn consolidated<S: Store>(tape: &Tape<S>, index: usize, symbol: Symbol) -> Row
         requires { slice_get tape.now.listing.symbols index ≡ Some symbol }
         ensures { result ≡ consolidated_row tape.now symbol }
@@ -35,8 +35,8 @@ impl Row {
         }
     }
 
-    /// The row of a listed participant in the symbol at an index of the listing, or `None` where no report of the
-    /// participant's stands there.
+    /// Returns the row of a listed participant in the symbol at an index of the listing, or `None` if no report of the
+    /// participant stands there.
     pub(crate) fn of_participant<S: Store>(
         tape: &Tape<S>,
         index: usize,

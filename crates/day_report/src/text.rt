@@ -1,34 +1,24 @@
-//! The text of a report, by `csv`.
+//! Writes the text of a report, whose lines `csv` makes in memory before the first byte is written.
 ghost use Rattle.std.specs.Prelude.{◌≡◌, ◌++◌, ◌∷◌, ◌⊎◌, [], Err, IfErr, IfOk, OnOk, IfSome, decimal};
 ghost use Rattle.std.specs.Io.KnownBytes.{Appends};
 ghost use Rattle.csv.specs.Records.{fields_of, partial_of};
 ghost use Rattle.csv.specs.Writing.{default_writer, row_text};
-ghost use Rattle.row_reads.specs.Writing.{WritesPrefix};
+ghost use Rattle.whole_io.specs.Writing.{WritesPrefix};
 ghost use Rattle.tape_types.specs.Ranges.{IsParticipant, name_of};
-ghost use Rattle.day_report.specs.CsvLines.{IsAtLineStart, lines_text};
+ghost use Rattle.csv_lines.specs.Lines.{IsAtLineStart, lines_text};
 ghost use Rattle.day_report.specs.ReportText.{line_of, mark_fields, report_text, row_fields, summary_fields, who_field};
 ghost use Rattle.day_report.specs.declared.report_fault.ReportFault.TheVariants.{OutOfMemory, WriteFault};
 
 use crate::{ReportFault, Row};
-use csv::{ByteRecord, Writer, WriterBuilder};
-use itoa::Buffer;
-use row_reads::write_text;
+use csv::{ByteRecord, Writer};
+use csv_lines::{into_text, lines_in, push_number, put_line};
 use scratch_fold::{Mark, Summary};
 use std::alloc::{AllocError, Global};
 use std::io::Write;
 use tape_types::{Participant, Symbol};
+use whole_io::write_text;
 
-/// Adds a number in decimal.
-fn push_number(line: &mut ByteRecord, number: u64) -> Result<(), AllocError>
-    requires { partial_of line.old ≡ [] }
-    ensures fields { OnOk result (fields_of line.new ≡ fields_of line.old ++ decimal number ∷ []) }
-    ensures partial { OnOk result (partial_of line.new ≡ []) }
-{
-    let mut digits = Buffer::new();
-    line.push_field(digits.format(number).as_bytes())
-}
-
-/// Adds the price and the place of a mark, or two empty fields.
+/// Adds the price and the place of a mark, or two empty fields if there is no mark.
 fn push_mark(line: &mut ByteRecord, mark: Option<Mark>) -> Result<(), AllocError>
     requires { partial_of line.old ≡ [] }
     ensures fields { OnOk result (fields_of line.new ≡ fields_of line.old ++ mark_fields mark) }
@@ -47,7 +37,7 @@ fn push_mark(line: &mut ByteRecord, mark: Option<Mark>) -> Result<(), AllocError
     Ok(())
 }
 
-/// Adds whose row it is.
+/// Adds whose row it is: `ALL`, or the participant's letter.
 fn push_who(line: &mut ByteRecord, who: Option<Participant>) -> Result<(), AllocError>
     requires { partial_of line.old ≡ [] }
     ensures fields { OnOk result (fields_of line.new ≡ fields_of line.old ++ who_field who ∷ []) }
@@ -83,37 +73,7 @@ fn push_summary(line: &mut ByteRecord, summary: &Summary) -> Result<(), AllocErr
     push_number(line, u64::from(summary.trades))
 }
 
-/// A writer of lines into memory, which fails only where memory runs out.
-fn lines_in(alloc: Global) -> Writer<Vec<u8>>
-    ensures start { IsAtLineStart result }
-    ensures text { lines_text result ≡ [] }
-{
-    WriterBuilder::new().from_writer(Vec::new(alloc))
-}
-
-/// Writes a line of fields.
-fn put_line(writer: &mut Writer<Vec<u8>>, line: &ByteRecord) -> Result<(), AllocError>
-    requires { IsAtLineStart writer.old }
-    ensures start { OnOk result (IsAtLineStart writer.new) }
-    ensures text { OnOk result (lines_text writer.new ≡ lines_text writer.old ++ row_text default_writer (fields_of line.now)) }
-{
-    match writer.write_byte_record(line) {
-        Ok(()) => Ok(()),
-        Err(_) => Err(AllocError),
-    }
-}
-
-/// The lines that were written.
-fn into_text(writer: Writer<Vec<u8>>) -> Result<Vec<u8>, AllocError>
-    ensures { IfOk result (λ text. text.items ≡ lines_text writer) }
-{
-    match writer.into_inner() {
-        Ok(text) => Ok(text),
-        Err(_) => Err(AllocError),
-    }
-}
-
-/// Writes a row, by a record that is used again for each.
+/// Writes a row. The record `line` is reused for each row.
 fn put_row(writer: &mut Writer<Vec<u8>>, line: &mut ByteRecord, row: &Row) -> Result<(), AllocError>
     requires { IsAtLineStart writer.old }
     ensures start { OnOk result (IsAtLineStart writer.new) }
@@ -126,11 +86,11 @@ fn put_row(writer: &mut Writer<Vec<u8>>, line: &mut ByteRecord, row: &Row) -> Re
     put_line(writer, line)
 }
 
-/// The text of a report: the names of the columns, and a line for each row.
+/// Returns the text of a report: the names of the columns, and a line for each row.
 fn text_of(alloc: Global, rows: &[Row]) -> Result<Vec<u8>, AllocError>
     ensures { IfOk result (λ text. text.items ≡ report_text rows.now) }
 {
-    let mut writer = lines_in(alloc);
+    let mut writer = lines_in(Vec::new(alloc));
     let mut line = ByteRecord::from_fields(
         alloc,
         &[
@@ -147,8 +107,8 @@ fn text_of(alloc: Global, rows: &[Row]) -> Result<Vec<u8>, AllocError>
 
 /// Writes the text of these rows and nothing else: the names of the columns, and a line for each row.
 ///
-/// Refused: `OutOfMemory` before anything is written, and then the writer is as it was; `WriteFault` where a write fails or takes
-/// no byte, and then a prefix of the text has been written and nothing else. The writer is not flushed.
+/// Errors: `OutOfMemory` before anything is written, which leaves the writer as it was; `WriteFault` if a write fails or takes
+/// no byte, which leaves a prefix of the text written and nothing else. The writer is not flushed.
 pub fn write_report<W: Write>(
     alloc: Global,
     rows: &[Row],

@@ -1,4 +1,4 @@
--- The day of a journal, from its header and the replay of all its groups.
+-- Builds the day of a journal from its header and the replay of all its groups.
 use Rattle.std.proofs.Common.{◌≡◌, ◌≢◌, ℕ, ◌+◌, ◌-◌, List, length, drop, Option, Some, None, IfSome, Result, Ok, Err, refl, sym, ap, subst, ◌∙◌, inl, inr}
 use Rattle.std.specs.Prelude.{◌⊎◌, IfErr, IfOk}
 use Rattle.std.proofs.lemmas.List.{length-drop}
@@ -24,7 +24,7 @@ pub no_header : (asked : Option Matrix) (bytes : List ℕ) (f : HeaderFault) (fa
 no_header asked bytes f fault is (inl (none, full)) = subst (IsFault asked bytes) (sym full) tt
 no_header asked bytes f fault is (inr (known, why)) = subst (IsFault asked bytes) (sym why) (is known)
 
--- as many turns as bytes behind the header, and one more, are enough for all groups
+-- as many turns as bytes after the header, and one more, are enough for all groups
 pub all_turns : (bytes : List ℕ) (len : ℕ) (groups : ReaderState) → groups.rest ≡ drop len bytes → groups_at (length bytes - len + 1) groups ≡ all_groups groups
 all_turns bytes len groups rest = ap (λ (n : ℕ). groups_at (n + 1) groups) (sym (length-drop len bytes) ∙ ap (λ (xs : List ℕ). length xs) (sym rest))
 
@@ -35,7 +35,7 @@ module _ (asked : Option Matrix) (bytes : List ℕ) (h : ReadHeader) (read : hea
   whole_tape after grown =
       grown ∙ ap (λ (t : TapeState). with_entries t (entries_of journal)) of_header ∙ ap (λ (j : Journal). with_entries (header_tape h.0) (entries_of j)) all
 
-  -- a day
+  -- a journal has this day
   pub day_made : (end : JournalEnd) (after : TapeState) (result : Result JournalDay JournalFault) → journal.1 ≡ end
       → after ≡ with_entries tape (entries_of journal) → EndsDay end after result → IfOk result (IsDay asked bytes)
   day_made end after (Ok day) ends grown (is, legal, told) = record {
@@ -48,7 +48,7 @@ module _ (asked : Option Matrix) (bytes : List ℕ) (h : ReadHeader) (read : hea
   }
   day_made end after (Err fault) ends grown made = tt
 
-  -- damage
+  -- a journal is damaged
   pub damage_made : (end : JournalEnd) (after : TapeState) (result : Result JournalDay JournalFault) → journal.1 ≡ end
       → after ≡ with_entries tape (entries_of journal) → EndsDay end after result → IfErr result (IsFault asked bytes)
   damage_made end after (Ok day) ends grown made = tt
@@ -58,7 +58,7 @@ module _ (asked : Option Matrix) (bytes : List ℕ) (h : ReadHeader) (read : hea
       subst (IsFault asked bytes) (sym is)
       (h, read, matrix, subst IsTape (whole_tape after grown) legal, ap (λ (j : Journal). j.1) (sym all) ∙ ends)
 
-  -- a stop
+  -- a replay stopped
   pub stop_made : (fault : JournalFault) → StopsEntries fault tape (entries_of journal) → IsFault asked bytes fault
   stop_made (Header f) stops = absurd stops
   stop_made (OtherMatrix m) stops = absurd stops

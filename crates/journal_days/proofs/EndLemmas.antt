@@ -1,4 +1,4 @@
--- What is kept for the end of a journal's tape, entry by entry.
+-- Follows what is kept for the end of a journal's tape, entry by entry.
 use Rattle.std.proofs.Common.{◌≡◌, ℕ, ◌+◌, ◌<◌, List, [], ◌∷◌, ◌++◌, length, take, get_or, slice_get, Some, refl, sym, ap, subst, ◌∙◌}
 use Rattle.std.proofs.lemmas.List.{take_more}
 use Rattle.std.proofs.lemmas.Option.{slice_get-get_or}
@@ -6,7 +6,7 @@ use Rattle.tape_core.specs.declared.entry.Entry.{Entry}
 use Rattle.tape_core.specs.declared.end_tape.EndTape.{EndTape}
 use Rattle.tape_core.specs.Ending.{IsKeptFor, KeepsEnd, ListsNames}
 use Rattle.tape_core.specs.Tape.{IsLegal, TapeState, next_entry, with_message}
-use Rattle.table_days.proofs.AccountLemmas.{legal-lists}
+use Rattle.csv_days.proofs.AccountLemmas.{legal-lists}
 use Rattle.journal_days.specs.Days.{unlimited_before}
 
 -- an entry of a list, by its index
@@ -24,7 +24,7 @@ pub kept_for_next : (t : TapeState) (i : ℕ) (e : Entry) (end : EndTape) → Is
     → KeepsEnd (unlimited_before t i) end → IsKeptFor end e.message
 kept_for_next t i e end legal within is kept = (unlimited_before t i, kept, lists_next t i e legal within is)
 
--- and then it is that of one entry more
+-- with one more entry, what is kept is that of one entry more
 pub kept_more : (t : TapeState) (i : ℕ) (e : Entry) (end : EndTape) → IsLegal t → i < length t.entries → get_or t.entries i e ≡ e
     → KeepsEnd (with_message (unlimited_before t i) e.message) end → KeepsEnd (unlimited_before t (i + 1)) end
 kept_more t i e end legal within is kept =

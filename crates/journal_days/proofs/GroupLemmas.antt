@@ -1,4 +1,4 @@
--- The groups of a journal, replayed one after another.
+-- Replays the groups of a journal one after the other.
 use Rattle.std.proofs.Common.{◌≡◌, ℕ, zero, suc, ◌+◌, ◌-◌, ◌<◌, ◌≤◌, ◌==◌, Bool, false, List, [], ◌∷◌, ◌++◌, length, take, slice_get, get_or, Option, Some, None}
 use Rattle.std.proofs.Common.{Result, Ok, Err, append-nil, append_assoc, length-append, refl, sym, ap, subst, ◌∙◌, arith}
 use Rattle.std.proofs.lemmas.Bool.{ne_eqb}
@@ -23,14 +23,14 @@ use Rattle.journal_days.specs.declared.journal_fault.JournalFault.TheVariants.{H
 
 -- ## One step of the reader
 
--- of no bytes no group is read
+-- no group is read of no bytes
 none_read : (r : ReaderState) (read : Read) → r.rest ≡ [] → read_next r ≡ Ok read → ⊥
 unfolding group_at packets_at
 none_read r read none is =
     let damaged : group_at r.session r.held r.digest r.rest ≡ Err fault.Damaged = rw none refl in
     cc
 
--- there are bytes where a group is read
+-- if a group is read, there are bytes
 some_read : (r : ReaderState) (bytes : List ℕ) (read : Read) → r.rest ≡ bytes → read_next r ≡ Ok read → (length bytes == 0) ≡ false
 some_read r [] read left is = absurd (none_read r read left is)
 some_read r (b ∷ bytes) read left is = ne_eqb (length (b ∷ bytes)) 0 (λ none. omega (arith, none))
@@ -67,7 +67,7 @@ take_past {A} (x ∷ xs) ys n =
     ap (λ (k : ℕ). take k (x ∷ (xs ++ ys))) more ∙ ap (λ (zs : List A). x ∷ zs) (take_past xs ys n)
 
 module _ (done es rest : List Entry) (i : ℕ) (e : Entry) (at : slice_get es i ≡ Some e) where
-  -- an entry of a group stands behind those before the group
+  -- an entry of a group comes after those before the group
   behind : slice_get (done ++ (es ++ rest)) (length done + i) ≡ Some e
   behind =
       let within : i < length es = slice_get_within es i e at in
@@ -81,7 +81,7 @@ module _ (done es rest : List Entry) (i : ℕ) (e : Entry) (at : slice_get es i 
       let within : i < length es = slice_get_within es i e at in
       take_past done (es ++ rest) i ∙ ap (λ (xs : List Entry). done ++ xs) (take-append-le i es rest (omega (arith, within)))
 
--- a replay that stopped in a group stopped there among all entries
+-- a replay that stopped within a group stopped there among all entries
 stops_behind : (f : ReplayFault) (first : TapeState) (done es rest : List Entry) (stopped : TapeState) → StopsReplay f (with_entries first done) es stopped
     → StopsReplay f first (done ++ (es ++ rest)) stopped
 stops_behind (Refused number refusal) first done es rest stopped (i, e, at, is, why) =
@@ -114,7 +114,7 @@ pub record Replayed (first now : TapeState) (all left : Journal) : Type 0 where
   pub entries : entries_of all ≡ done ++ entries_of left
   pub end : all.1 ≡ left.1
 
--- none was yet
+-- no group was replayed yet
 pub Replayed-none : (t : TapeState) (all : Journal) → Replayed t t all all
 Replayed-none t all = record {
   done = [];
@@ -123,7 +123,7 @@ Replayed-none t all = record {
   end = refl;
 }
 
--- one more
+-- one more group was replayed
 pub Replayed-more : (first old new : TapeState) (all left rest : Journal) (es : List Entry) → Replayed first old all left → left ≡ with_group es rest
     → new ≡ with_entries old es → Replayed first new all rest
 Replayed-more first old new all left rest es had next grown = record {
@@ -134,14 +134,14 @@ Replayed-more first old new all left rest es had next grown = record {
   end = had.end ∙ ap (λ (j : Journal). j.1) next;
 }
 
--- all
+-- all groups were replayed
 pub Replayed-all : (first now : TapeState) (all left : Journal) (end : JournalEnd) → Replayed first now all left → left ≡ ([], end)
     → (all.1 ≡ end) × (now ≡ with_entries first (entries_of all))
 Replayed-all first now all left end had none =
     let whole : entries_of all ≡ had.done = had.entries ∙ ap (λ (j : Journal). had.done ++ entries_of j) none ∙ append-nil had.done in
     (had.end ∙ ap (λ (j : Journal). j.1) none, had.tape ∙ ap (with_entries first) (sym whole))
 
--- one more, in which the replay stopped
+-- the replay stopped in one more group
 pub Replayed-stops : (f : ReplayFault) (first now : TapeState) (all left rest : Journal) (es : List Entry) → Replayed first now all left
     → left ≡ with_group es rest → StopsAt f now es → StopsAt f first (entries_of all)
 Replayed-stops f first now all left rest es had next (own, (stopped, tape, stops)) =
@@ -163,14 +163,14 @@ one_turn turns turn within = omega (arith, within)
 
 module _ (first now : TapeState) (turns turn : ℕ) (all : Journal) (old : ReaderState) (within : turn < turns)
     (had : Replayed first now all (groups_at (turns - turn) old)) where
-  -- a group more
+  -- one more group is taken
   pub taken : (new : ReaderState) (after : TapeState) → TakesNext None old now new after → Replayed first after all (groups_at (turns - (turn + 1)) new)
   taken new after (es, read, grown) =
       let next : groups_at (turns - turn) old ≡ with_group es (groups_at (turns - (turn + 1)) new) =
       ap (λ (n : ℕ). groups_at n old) (one_turn turns turn within) ∙ one_group (turns - (turn + 1)) old new es read in
       Replayed-more first now after all (groups_at (turns - turn) old) (groups_at (turns - (turn + 1)) new) es had next grown
 
-  -- the end
+  -- the end is reached
   pub ended : (end : JournalEnd) (new : ReaderState) (after : TapeState) → TakesNext (Some end) old now new after
       → (all.1 ≡ end) × (after ≡ with_entries first (entries_of all))
   ended end new after ((es, reads), same) =
@@ -179,7 +179,7 @@ module _ (first now : TapeState) (turns turn : ℕ) (all : Journal) (old : Reade
       let whole = Replayed-all first now all (groups_at (turns - turn) old) end had none in
       (whole.0, same ∙ whole.1)
 
-  -- a stop
+  -- the replay stopped
   pub stopped : (fault : JournalFault) → StopsNext fault old now → StopsEntries fault first (entries_of all)
   stopped (Header f) stops = absurd stops
   stopped (OtherMatrix matrix) stops = absurd stops

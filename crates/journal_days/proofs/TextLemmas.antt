@@ -1,4 +1,4 @@
--- Texts that are written whole, in part, or not at all; and of no message.
+-- Follows texts that are written whole, in part, or not at all; and the texts of no message.
 use Rattle.std.proofs.Common.{◌≡◌, ◌≢◌, ℕ, List, [], ◌++◌, append-nil, inl, inr, refl, Option, Some, None, Result, Ok, Err, sym, ap, ◌∙◌}
 use Rattle.std.specs.Prelude.{◌⊎◌, IsOk, OnErr, OnOk, codes}
 use Rattle.std.proofs.Common.{◌==◌, length, true}
@@ -9,15 +9,15 @@ use Rattle.csv.specs.Writing.{fields_text, is_blank}
 use Rattle.std.specs.Io.KnownBytes.{Appends, Keeps}
 use Rattle.day_report.specs.declared.report_fault.ReportFault.{ReportFault}
 use Rattle.day_report.specs.declared.report_fault.ReportFault.TheVariants as report
-use Rattle.row_reads.specs.Lemmas.WriteLemmas.{WritesUpTo-none}
-use Rattle.row_reads.specs.Writing.{WritesPrefix}
+use Rattle.whole_io.specs.Lemmas.WriteLemmas.{WritesUpTo-none}
+use Rattle.whole_io.specs.Writing.{WritesPrefix}
 use Rattle.sale_matrix.specs.declared.matrix.Matrix.{Matrix}
-use Rattle.table_days.specs.Explained.{explain_text, explained_text}
-use Rattle.table_days.specs.TapeRows.{head_line, rows_text, tape_rows, tape_text, text_from}
-use Rattle.table_days.specs.declared.refusals.Refusals.{Refusals}
-use Rattle.table_days.specs.declared.table_end.TableEnd.{TableEnd}
-use Rattle.table_days.specs.declared.table_end.TableEnd.TheVariants.{Table, Listing, OutOfMemory, WriteFault}
-use Rattle.table_days.specs.declared.writing.WritingFault.{WritingFault}
+use Rattle.csv_days.specs.Explained.{explain_text, explained_text}
+use Rattle.csv_days.specs.TapeRows.{head_line, rows_text, tape_rows, tape_text, text_from}
+use Rattle.csv_days.specs.declared.refusals.Refusals.{Refusals}
+use Rattle.csv_days.specs.declared.table_end.TableEnd.{TableEnd}
+use Rattle.csv_days.specs.declared.table_end.TableEnd.TheVariants.{Table, Listing, OutOfMemory, WriteFault}
+use Rattle.csv_days.specs.declared.writing.WritingFault.{WritingFault}
 use Rattle.tape_core.specs.declared.entry.Entry.{Entry}
 use Rattle.journal_days.specs.Texts.{messages_in}
 
@@ -27,14 +27,14 @@ nothing_written text old new same = rw same (text, WritesUpTo-none text old)
 
 -- ## Texts that are written or not
 
--- what is written stays where it is kept
+-- what was written stays in the writer
 pub written_kept : (text : List ℕ) (old now new : Option (List ℕ)) → Appends old now text → Keeps now new → Appends old new text
 written_kept text None now new written kept = tt
 written_kept text (Some xs) None new written kept = absurd written
 written_kept text (Some xs) (Some ys) None written kept = absurd kept
 written_kept text (Some xs) (Some ys) (Some zs) written kept = kept ∙ written
 
--- what holds in any case holds of an answer
+-- what holds in any case holds of a result that is `Ok`
 pub on_ok : {X E : Type 0} (r : Result X E) (P : Type 0) → P → OnOk r P
 on_ok (Ok x) P holds = holds
 on_ok (Err e) P holds = tt
@@ -43,7 +43,7 @@ pub on_err : {X E : Type 0} (r : Result X E) (P : Type 0) → P → OnErr r P
 on_err (Ok x) P holds = tt
 on_err (Err e) P holds = holds
 
--- a text that was written, as far as it was
+-- a text that was written in part, as far as it was written
 pub text_failed : {W : Type 0} (contents : W → Option (List ℕ)) (text : List ℕ) (old new : W) (run : Result Refusals TableEnd)
     (result : Result Unit WritingFault) → (IsOk run → IsOk result) → (run ≢ Err WriteFault → run ≢ Err OutOfMemory → OnErr run (new ≡ old))
     → ((run ≡ Err WriteFault) ⊎ (run ≡ Err OutOfMemory) → WritesPrefix text (contents old) (contents new))
@@ -57,7 +57,7 @@ text_failed contents text old new (Err (Table fault)) result ok silent part =
 text_failed contents text old new (Err (Listing fault)) result ok silent part =
     on_err result _ (nothing_written text (contents old) (contents new) (ap contents (silent (λ e. cc) (λ e. cc))))
 
--- a report that was not written whole, as far as it was
+-- a report that was not written whole, as far as it was written
 pub report_failed : {W : Type 0} (contents : W → Option (List ℕ)) (text : List ℕ) (old new : W) (f : ReportFault)
     → (f ≡ report.OutOfMemory) ⊎ (f ≡ report.WriteFault) → (f ≡ report.OutOfMemory → new ≡ old)
     → (f ≡ report.WriteFault → WritesPrefix text (contents old) (contents new)) → WritesPrefix text (contents old) (contents new)
@@ -71,11 +71,11 @@ pub tape_of_none : (matrix : Matrix) (es : List Entry) → (length es == 0) ≡ 
 unfolding text_from tape_rows rows_text
 tape_of_none matrix es none = rw (nil_from_length es (eqb-true _ _ none)) (sym (append-nil head_line))
 
--- what became of no report
+-- the explained text of no report
 pub explained_of_none : (matrix : Matrix) (es : List Entry) → (length es == 0) ≡ true → explained_text [] ≡ explain_text matrix (messages_in es)
 explained_of_none matrix es none = rw (nil_from_length es (eqb-true _ _ none)) refl
 
--- the columns' names of what became of reports
+-- the column names of the explained text
 pub explained_head_is : codes "symbol,tape,row,participant,number,moment,price,size,condition,state,changed,high_low,last,volume,sets,own_high_low,own_last,own_sets\n"
     ≡ explained_text []
 unfolding explained_text fields_text is_blank

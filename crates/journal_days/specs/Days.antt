@@ -1,4 +1,4 @@
--- The day of a journal: the tape that its whole groups make, and how it ends; or the first reason why there is none.
+-- Defines the day of a journal: the tape that its whole groups make, and how it ends; or the first reason why there is none.
 use Rattle.std.specs.Prelude.{◌≡◌, ◌≢◌, ◌⊎◌, ◌-◌, ℕ, Bool, List, length, bytes_eq, drop, take, false, Option, Some, None, IfSome, Result, Ok, Err}
 use Rattle.std.specs.List.{flat_map}
 use Rattle.sale_matrix.specs.declared.matrix.Matrix.{Matrix}
@@ -30,7 +30,7 @@ begins_journal bytes = bytes_eq (take 8 bytes) MAGIC
 abbrev pub header_size : List ℕ → ReadHeader → ℕ
 header_size bytes h = length bytes - length h.1.1
 
--- the reader behind the header of a journal
+-- the reader after the header of a journal
 abbrev pub behind_header : List ℕ → ReadHeader → ReaderState
 behind_header bytes h = reader_at h.0.session 0 h.1.0 (header_size bytes h) (drop (header_size bytes h) bytes)
 
@@ -38,7 +38,7 @@ behind_header bytes h = reader_at h.0.session 0 h.1.0 (header_size bytes h) (dro
 abbrev pub groups_of : List ℕ → ReadHeader → Journal
 groups_of bytes h = all_groups (behind_header bytes h)
 
--- the entries of groups, one after another
+-- the entries of groups, one after the other
 abbrev pub entries_of : Journal → List Entry
 entries_of journal = flat_map (λ es. es) journal.0
 
@@ -46,22 +46,23 @@ entries_of journal = flat_map (λ es. es) journal.0
 abbrev pub header_tape : Terms → TapeState
 header_tape t = empty_tape t.listing t.limit t.matrix
 
--- the tape that a journal says, which need not be one
+-- the tape that a journal describes, which may not be one
 abbrev pub journal_tape : List ℕ → ReadHeader → TapeState
 journal_tape bytes h = with_entries (header_tape h.0) (entries_of (groups_of bytes h))
 
 -- ## Its day
 
--- the end of a journal whose whole groups and header have so many bytes, where a group is cut off behind them
+-- the end of a journal whose whole groups and header have this many bytes, if a group is cut off after them
 abbrev pub end_of : Option ℕ → JournalEnd
 end_of None = end.Whole
 end_of (Some from) = end.Torn from
 
--- no other matrix was asked for than the one of the header
+-- no matrix was asked for, or that of the header
 abbrev pub IsAsked : Option Matrix → ReadHeader → Type 0
 IsAsked asked h = IfSome asked (λ matrix. matrix ≡ h.0.matrix)
 
--- a journal has this day: each entry of its whole groups is the one that the tape makes of the messages up to it, and nothing else is on the tape
+-- a journal has this day: each entry of its whole groups is the one that the tape makes of the messages up to it, and nothing
+-- else is on the tape
 pub record IsDay (asked : Option Matrix) (bytes : List ℕ) (day : JournalDay) : Type 0 where
   pub header : ReadHeader
   pub read : header_at bytes ≡ Ok header
@@ -77,15 +78,16 @@ abbrev pub IsOwn : ReplayFault → Type 0
 IsOwn (replay.Refused number why) = why ≢ refusal.OutOfMemory
 IsOwn (replay.Differs number) = Unit {0}
 
--- a replay of entries stopped at one of them, before which all are the tape's, and for that entry itself
+-- a replay of entries stopped at one of them for that entry itself, and all before it are the tape's
 abbrev pub StopsAt : ReplayFault → TapeState → List Entry → Type 0
 StopsAt f t es = IsOwn f × ((stopped : TapeState) × IsTape stopped × StopsReplay f t es stopped)
 
--- another matrix was asked for than this one
+-- another matrix than this one was asked for
 abbrev pub IsOther : Option Matrix → Matrix → Type 0
 IsOther asked matrix = (own : Matrix) × (asked ≡ Some own) × (own ≢ matrix)
 
--- the first reason why a journal has no day, unless memory ran out: its entries and groups are only looked at where it goes by the matrix that is asked for
+-- the first reason why a journal has no day, unless memory ran out: its entries and groups are looked at only if its matrix is
+-- the one that is asked for
 abbrev pub IsFault : Option Matrix → List ℕ → JournalFault → Type 0
 IsFault asked bytes (Header f) = header_at bytes ≡ Err f
 IsFault asked bytes (OtherMatrix matrix) = (h : ReadHeader) × (header_at bytes ≡ Ok h) × (h.0.matrix ≡ matrix) × IsOther asked matrix
@@ -97,14 +99,14 @@ IsFault asked bytes OutOfMemory = Unit {0}
 
 -- ## The parts of the replay
 
--- the fault for one of a header, or of an entry: the same, or that memory ran out where it did
+-- the fault for one of a header, or of an entry: the same, or that memory ran out if it did there
 abbrev pub IsHeaderFault : HeaderFault → JournalFault → Type 0
 IsHeaderFault f fault = ((f ≡ header.OutOfMemory) × (fault ≡ OutOfMemory)) ⊎ ((f ≢ header.OutOfMemory) × (fault ≡ Header f))
 
 abbrev pub IsEntryFault : ReplayFault → JournalFault → Type 0
 IsEntryFault f fault = ((IsOwn f → ⊥) × (fault ≡ OutOfMemory)) ⊎ (IsOwn f × (fault ≡ OfEntry f))
 
--- the fault for a matrix, where another one was asked for
+-- the fault for a matrix, if another one was asked for
 abbrev pub IsMatrixFault : Option Matrix → Matrix → Option JournalFault → Type 0
 IsMatrixFault asked matrix None = IfSome asked (λ own. own ≡ matrix)
 IsMatrixFault asked matrix (Some fault) = (fault ≡ OtherMatrix matrix) × IsOther asked matrix
@@ -142,6 +144,6 @@ EndsDay end t (Err fault) = ⊥
 abbrev pub unlimited_before : TapeState → ℕ → TapeState
 unlimited_before t k = record { listing = t.listing; matrix = t.matrix; limit = TAPE_MOST; closed = false; entries = take k t.entries }
 
--- and that of all of them
+-- the same of all its entries
 abbrev pub unlimited : TapeState → TapeState
 unlimited t = record { listing = t.listing; matrix = t.matrix; limit = TAPE_MOST; closed = false; entries = t.entries }

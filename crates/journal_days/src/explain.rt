@@ -1,28 +1,29 @@
-//! What became of the reports of a journal.
+//! Writes what became of the reports of a journal.
 ghost use Rattle.std.specs.Prelude.{◌≡◌, [], OnErr, OnOk};
 ghost use Rattle.std.specs.Io.KnownBytes.{Appends};
-ghost use Rattle.row_reads.specs.Writing.{WritesPrefix};
-ghost use Rattle.table_days.specs.Explained.{explain_text, explained_text};
+ghost use Rattle.whole_io.specs.Writing.{WritesPrefix};
+ghost use Rattle.csv_days.specs.Explained.{explain_text, explained_text};
 ghost use Rattle.journal_days.specs.Texts.{messages_in};
 
 use crate::JournalDay;
 use crate::messages::messages_in;
 use crate::tape::written;
+use csv_days::{WritingFault, flush, write_explained, write_part};
 use std::alloc::Global;
 use std::io::Write;
-use table_days::{WritingFault, flush, write_explained, write_part};
 
-/// The line of the columns' names, which is all that is told of no report.
+/// Returns the line of the column names, which is the whole text of no report.
 fn head_line() -> &'static [u8]
     ensures { result.now ≡ explained_text [] }
 {
     b"symbol,tape,row,participant,number,moment,price,size,condition,state,changed,high_low,last,volume,sets,own_high_low,own_last,own_sets\n"
 }
 
-/// Writes what became of the reports of a journal, as `explain` writes it for the table of the entries' messages, in which each entry
-/// stands in the row after its tape number; and with no entry the names of the columns alone. What was written is flushed at the end.
+/// Writes what became of the reports of a journal, as `explain` writes it for the table of the entries' messages, in which each
+/// entry is in the row after its tape number; if there is no entry, only the column names. What was written is flushed at the
+/// end.
 ///
-/// Refused: `WriteFault` where a write or the flush fails, and `OutOfMemory`; a part of the text from its front has been written then.
+/// Errors: `WriteFault` if a write or the flush fails, and `OutOfMemory`; a front of the text has been written then.
 pub fn write_journal_explained<W: Write>(
     alloc: Global,
     day: &JournalDay,

@@ -1,4 +1,4 @@
-//! The day of a journal.
+//! The day of a journal: its tape, and where a cut group begins.
 
 use summaries::IndexStore;
 use tape_core::Tape;
@@ -11,7 +11,7 @@ pub type JournalTape = Tape<IndexStore>;
 pub struct JournalDay {
     /// The tape of the entries of its whole groups, with the header's listing, matrix and limit.
     pub tape: JournalTape,
-    /// How many bytes of the journal are its header and whole groups, where a group that is cut off stands behind them; `None` where
-    /// nothing does.
+    /// How many bytes of the journal are its header and whole groups, if a group that is cut off follows them; `None` if
+    /// nothing follows.
     pub torn: Option<usize>,
 }

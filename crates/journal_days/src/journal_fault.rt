@@ -1,4 +1,4 @@
-//! Why a journal has no day.
+//! The reasons why a journal has no day.
 
 use day_journal::{HeaderFault, ReplayFault};
 use sale_matrix::Matrix;
@@ -8,11 +8,12 @@ use sale_matrix::Matrix;
 pub enum JournalFault {
     /// It does not begin with the header of a journal.
     Header(HeaderFault),
-    /// It goes by this matrix, and another one was asked for.
+    /// It has this matrix, and another one was asked for.
     OtherMatrix(Matrix),
-    /// An entry is not the tape's next one: it is refused, or carries other figures than the tape gives.
+    /// An entry is not the tape's next one: it is refused, or has other figures than the tape's.
     Entry(ReplayFault),
-    /// Behind its whole groups, whose entries are all the tape's, stand bytes that are neither the next group nor the front of one.
+    /// After its whole groups, whose entries are all the tape's, come bytes that are neither the next group nor the front of
+    /// one.
     Damaged {
         /// The number of the first entry that the damaged group should have.
         first: u32,

@@ -1,4 +1,4 @@
-//! Journals in, the day's report, its readable tape, what became of each report, or whether all stands as recorded out.
+//! Reads journals, and writes the day's report, its readable tape, what became of each report, or a verdict on the journal.
 #![tactic(auto)]
 
 mod explain;

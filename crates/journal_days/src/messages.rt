@@ -1,4 +1,4 @@
-//! The messages of a tape's entries.
+//! Takes the messages out of a tape's entries.
 ghost use Rattle.std.specs.Prelude.{◌≡◌, IfOk};
 ghost use Rattle.journal_days.specs.Texts.{messages_in};
 
@@ -6,7 +6,7 @@ use reports::Message;
 use std::alloc::{AllocError, Global};
 use tape_core::Entry;
 
-/// The messages of entries, in order.
+/// Returns the messages of entries, in order.
 pub fn messages_in(alloc: Global, entries: &[Entry]) -> Result<Vec<Message>, AllocError>
     ensures { IfOk result (λ messages. messages.items ≡ messages_in entries.now) }
 {

@@ -1,4 +1,4 @@
-//! A journal read, and replayed.
+//! Reads a journal and replays its groups on a tape.
 ghost use Rattle.std.specs.Prelude.{◌≡◌, IfErr, IfOk, OnOk};
 ghost use Rattle.day_journal.specs.Journals.{groups_at};
 ghost use Rattle.day_journal.specs.Replays.{with_entries};
@@ -15,7 +15,7 @@ use tape_core::{Entry, Refusal, Tape};
 /// The first bytes of every journal.
 const FRONT: [u8; 8] = *b"tapejrnl";
 
-/// Whether bytes begin as every journal does, and no table.
+/// Whether the bytes begin as every journal does, and no table.
 #[tactic(auto, using(std::proofs::lemmas::List::take_min))]
 pub fn is_journal(bytes: &[u8]) -> bool
     ensures begins { result ≡ begins_journal bytes.now }
@@ -47,7 +47,7 @@ fn entry_fault(fault: ReplayFault) -> JournalFault
     }
 }
 
-/// The fault of a journal that goes by this matrix, where another one was asked for.
+/// The fault of a journal with this matrix, if another one was asked for.
 fn matrix_fault(asked: Option<Matrix>, matrix: Matrix) -> Option<JournalFault>
     ensures { IsMatrixFault asked matrix result }
 {
@@ -57,7 +57,7 @@ fn matrix_fault(asked: Option<Matrix>, matrix: Matrix) -> Option<JournalFault>
     }
 }
 
-/// Replays the next group on a tape. There is none at the journal's end, which it gives.
+/// Replays the next group on a tape. At the journal's end there is none, and it returns the end.
 fn replay_next(
     groups: &mut GroupReader<'_>,
     entries: &mut Vec<Entry>,
@@ -69,7 +69,7 @@ fn replay_next(
     match groups.next_group(entries) {
         Ok(Next::Group) => {
             let replayed = replay_entries(tape, entries.as_slice());
-            // What a tape holds is legal, wherever its replay stopped.
+            // What a tape holds is legal, wherever the replay stopped.
             let _legal = tape.entries();
             match replayed {
                 Ok(()) => Ok(None),
@@ -81,7 +81,7 @@ fn replay_next(
     }
 }
 
-/// Replays all groups on a tape, of which there are fewer than turns, and gives the journal's end.
+/// Replays all groups, of which there must be fewer than `turns`, on a tape, and returns the journal's end.
 fn replay_groups(
     alloc: Global,
     groups: &mut GroupReader<'_>,
@@ -104,7 +104,7 @@ fn replay_groups(
     Err(JournalFault::OutOfMemory)
 }
 
-/// The day of a tape that has all entries of a journal with this end.
+/// Returns the day of a tape that has all entries of a journal with this end.
 fn day_of(tape: JournalTape, end: JournalEnd) -> Result<JournalDay, JournalFault>
     ensures ends { EndsDay end tape result }
 {
@@ -119,10 +119,11 @@ fn day_of(tape: JournalTape, end: JournalEnd) -> Result<JournalDay, JournalFault
     }
 }
 
-/// Reads the bytes of a journal, replays the entries of its whole groups on a tape with the listing, the matrix and the limit of its
-/// header, and compares each with the one that the tape makes of its message. A last group that is cut off is left out.
+/// Reads the bytes of a journal, replays the entries of its whole groups on a tape with the listing, the matrix and the limit
+/// of its header, and compares each with the one that the tape makes of its message. A last group that is cut off is left out.
 ///
-/// Where there is no such day the fault is the first reason from the journal's front. A matrix that is asked for has to be the header's.
+/// If there is no such day, the fault is the first reason from the journal's front. If a matrix is asked for, it must be the
+/// header's.
 pub fn read_day(
     alloc: Global,
     asked: Option<Matrix>,
@@ -141,7 +142,7 @@ pub fn read_day(
     let mut groups = GroupReader::new(header.session, header.digest, header.len, bytes);
     let turns = bytes.len() - header.len + 1;
     let Ok(mut tape) = Tape::new(alloc, header.listing, header.limit, header.matrix) else {
-        // The limit of a header is that of a tape.
+        // A header's limit is always one that a tape may have.
         return Err(JournalFault::OutOfMemory);
     };
     match replay_groups(alloc, &mut groups, turns, &mut tape) {

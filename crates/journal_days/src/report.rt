@@ -1,28 +1,28 @@
-//! A journal's report.
+//! Writes the report of a journal's day.
 ghost use Rattle.std.specs.Prelude.{◌≡◌, ◌≢◌, Err, IfOk, OnErr, OnOk};
 ghost use Rattle.std.specs.Io.KnownBytes.{Appends};
 ghost use Rattle.day_report.specs.ReportText.{report_text};
 ghost use Rattle.day_report.specs.Rows.{report_rows};
-ghost use Rattle.row_reads.specs.Writing.{WritesPrefix};
-ghost use Rattle.table_days.specs.declared.writing.WritingFault.TheVariants.{OutOfMemory, WriteFault as FailedWrite};
+ghost use Rattle.whole_io.specs.Writing.{WritesPrefix};
+ghost use Rattle.csv_days.specs.declared.writing.WritingFault.TheVariants.{OutOfMemory, WriteFault as FailedWrite};
 ghost use Rattle.day_report.specs.declared.report_fault.ReportFault.TheVariants.{WriteFault as FailedReport};
 ghost use Rattle.tape_core.specs.Ending.{KeepsEnd};
 ghost use Rattle.journal_days.specs.Days.{unlimited};
 
 use crate::{JournalDay, JournalTape};
+use csv_days::{WritingFault, flush};
 use day_report::{ReportFault, end_rows, write_report};
 use std::alloc::{AllocError, Global};
 use std::io::Write;
-use table_days::{WritingFault, flush};
 use tape_core::EndTape;
 
-/// What a report asks of a tape, from the messages of its entries.
+/// Returns what a report needs of a tape, from the messages of its entries.
 fn end_of(alloc: Global, tape: &JournalTape) -> Result<EndTape, AllocError>
     ensures kept { IfOk result (KeepsEnd (unlimited tape.now)) }
 {
     let mut end = EndTape::new(alloc, tape.matrix());
     for entry in tape.entries() {
-        // What one tape has admitted the other does, unless memory runs out.
+        // What one tape has admitted the other admits too, unless memory runs out.
         let Ok(_) = end.admit(entry.message) else {
             return Err(AllocError);
         };
@@ -43,11 +43,11 @@ fn writing_fault(fault: ReportFault) -> WritingFault
     }
 }
 
-/// Writes the report of a journal's day, by its own matrix: the bytes that `live` writes at the end of the same day. All symbols of the
-/// listing are in it, in its order. What was written is flushed at the end.
+/// Writes the report of a journal's day, by its own matrix: the bytes that `live` writes at the end of the same day. All
+/// symbols of the listing are in it, in its order. What was written is flushed at the end.
 ///
-/// Refused: `OutOfMemory` before anything is written, and `WriteFault` where a write or the flush fails, when a part of the report from
-/// its front has been written.
+/// Errors: `OutOfMemory` before anything is written, and `WriteFault` if a write or the flush fails; a front of the report has
+/// been written then.
 pub fn write_journal_report<W: Write>(
     alloc: Global,
     day: &JournalDay,

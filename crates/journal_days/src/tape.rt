@@ -1,19 +1,19 @@
-//! A journal's readable tape.
+//! Writes the readable tape of a journal's day.
 ghost use Rattle.std.specs.Prelude.{◌≡◌, ◌↔◌, Err, IsOk, OnErr, OnOk};
 ghost use Rattle.std.specs.Io.KnownBytes.{Appends};
-ghost use Rattle.row_reads.specs.Writing.{WritesPrefix};
-ghost use Rattle.table_days.specs.TapeRows.{tape_text};
-ghost use Rattle.table_days.specs.declared.table_end.TableEnd.TheVariants.{WriteFault as FailedEnd};
-ghost use Rattle.table_days.specs.declared.writing.WritingFault.TheVariants.{WriteFault};
+ghost use Rattle.whole_io.specs.Writing.{WritesPrefix};
+ghost use Rattle.csv_days.specs.TapeRows.{tape_text};
+ghost use Rattle.csv_days.specs.declared.table_end.TableEnd.TheVariants.{WriteFault as FailedEnd};
+ghost use Rattle.csv_days.specs.declared.writing.WritingFault.TheVariants.{WriteFault};
 ghost use Rattle.journal_days.specs.Texts.{messages_in};
 
 use crate::JournalDay;
 use crate::messages::messages_in;
+use csv_days::{Refusals, TableEnd, WritingFault, flush, write_head, write_tape};
 use std::alloc::Global;
 use std::io::Write;
-use table_days::{Refusals, TableEnd, WritingFault, flush, write_head, write_tape};
 
-/// How a text of messages that a tape has was written: there is nothing to be told of its rows.
+/// Returns how the text of a tape's messages was written, without the refusals, of which there are none.
 pub(crate) fn written(run: Result<Refusals, TableEnd>) -> Result<(), WritingFault>
     ensures ok { IsOk result ↔ IsOk run }
     ensures fault { (result ≡ Err WriteFault) ↔ (run ≡ Err FailedEnd) }
@@ -25,10 +25,10 @@ pub(crate) fn written(run: Result<Refusals, TableEnd>) -> Result<(), WritingFaul
     }
 }
 
-/// Writes the readable tape of a journal's day: a row for each entry, as `tape` writes it for the table of the entries' messages, and
-/// with no entry the names of the columns alone. What was written is flushed at the end.
+/// Writes the readable tape of a journal's day: a row for each entry, as `tape` writes it for the table of the entries'
+/// messages; if there is no entry, only the column names. What was written is flushed at the end.
 ///
-/// Refused: `WriteFault` where a write or the flush fails, and `OutOfMemory`; a part of the tape from its front has been written then.
+/// Errors: `WriteFault` if a write or the flush fails, and `OutOfMemory`; a front of the tape has been written then.
 pub fn write_journal_tape<W: Write>(
     alloc: Global,
     day: &JournalDay,

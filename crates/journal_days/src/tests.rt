@@ -1,10 +1,11 @@
-//! What no clause sees: that calls succeed where memory is ample, that a fault is told as itself and not as memory that ran out, and that
-//! what was written is flushed.
+//! Tests what no clause states: that calls succeed with ample memory, that a fault is returned as itself and not as memory that
+//! ran out, and that what was written is flushed.
 
 use crate::{
     JournalDay, fault_text, is_journal, read_day, verdict_text, verify_journal,
     write_journal_explained, write_journal_report, write_journal_tape,
 };
+use csv_days::WritingFault;
 use day_journal::{GroupWriter, put_header};
 use reports::{Content, Header, Message, Moment};
 use sale_matrix::{Condition, Matrix};
@@ -13,7 +14,6 @@ use std::io;
 use std::io::{ErrorKind, Write};
 use std::process::Abort;
 use summaries::IndexStore;
-use table_days::WritingFault;
 use tape_core::Tape;
 use tape_frames::SliceSource;
 use tape_types::{Listing, MsgNumber, Participant, Price, Size, Symbol};
@@ -24,22 +24,22 @@ const SESSION: u64 = 7;
 /// How many bytes the header has: those before the listing, a symbol, a participant and the digest.
 const HEADER: usize = 22 + 10 + 2 + 32;
 
-/// What is said of the day's header without its last byte.
+/// The text of the day's header without its last byte.
 const SHORT: &str = "the journal ends within its header";
 
-/// What is said of it if that byte is another one.
+/// Its text if that byte is another one.
 const DAMAGED_HEADER: &str = "the journal's header is damaged";
 
-/// What is said of the day's journal where it is to go by matrix 1.
+/// The text of the day's journal if matrix 1 is asked for.
 const OF_TWO: &str = "the journal goes by matrix 2";
 
-/// What is said of it without its last byte.
+/// Its text without its last byte.
 const CUT: &str = "0 entries, all as recorded up to byte 66, behind which a group is cut off";
 
-/// What is said of it if that byte is another one.
+/// Its text if that byte is another one.
 const DAMAGED: &str = "the group from entry 1 on is damaged, of 1 entries by its own end";
 
-/// What is said of a journal with two reports whose header leaves room for one.
+/// The text of a journal with two reports whose header leaves room for one.
 const FULL: &str = "entry 2 is refused: 32 Full";
 
 /// The day's symbol.
@@ -58,7 +58,7 @@ fn empty_tape(alloc: Global) -> Option<Tape<IndexStore>> {
     Tape::new(alloc, listing, 100, Matrix::Two).ok()
 }
 
-/// A report of 100 shares at 10 dollars, under a number.
+/// A report of 100 shares at 10 dollars, under this number.
 fn report(number: u32) -> Option<Message> {
     Some(Message::Report {
         header: Header {
@@ -75,7 +75,7 @@ fn report(number: u32) -> Option<Message> {
     })
 }
 
-/// Admits so many reports, and appends each as a group.
+/// Admits this many reports, and appends each as a group.
 fn append_reports(
     tape: &mut Tape<IndexStore>,
     groups: &mut GroupWriter,
@@ -95,7 +95,7 @@ fn append_reports(
     Some(())
 }
 
-/// The journal of a day with so many reports, each a group, whose header has this limit.
+/// The journal of a day with this many reports, each a group, whose header has this limit.
 fn journal_of(alloc: Global, count: u32, limit: u32) -> Option<Vec<u8>> {
     let mut tape = empty_tape(alloc)?;
     let mut bytes = Vec::new(alloc);
@@ -110,7 +110,7 @@ fn journal(alloc: Global) -> Option<Vec<u8>> {
     journal_of(alloc, 1, 100)
 }
 
-/// Bytes without the last one.
+/// The bytes without the last one.
 fn without_last(bytes: &[u8]) -> &[u8] {
     match bytes.split_last() {
         Some((_, front)) => front,
@@ -125,7 +125,7 @@ fn change_last(bytes: &mut [u8]) {
     }
 }
 
-/// What is said of a journal: its verdict, or why it has none.
+/// The text of a journal: its verdict, or why it has none.
 fn said_of(alloc: Global, asked: Option<Matrix>, bytes: &[u8]) -> Result<String, AllocError> {
     match verify_journal(alloc, asked, bytes) {
         Ok(verdict) => verdict_text(alloc, &verdict),
@@ -133,7 +133,7 @@ fn said_of(alloc: Global, asked: Option<Matrix>, bytes: &[u8]) -> Result<String,
     }
 }
 
-/// Whether a journal has no day, for a fault that is told by this line, as its verdict is.
+/// Whether a journal has no day, and both its fault and `said_of` have this text.
 fn has_no_day(alloc: Global, asked: Option<Matrix>, bytes: &[u8], line: &str) -> bool {
     let Err(fault) = read_day(alloc, asked, bytes) else {
         return false;
@@ -144,7 +144,7 @@ fn has_no_day(alloc: Global, asked: Option<Matrix>, bytes: &[u8], line: &str) ->
     text.as_str() == line && said.as_str() == line
 }
 
-/// A writer that takes all, and fails to flush.
+/// A writer that takes everything, and fails to flush.
 #[derive(Drop)]
 struct Unflushed;
 
@@ -177,7 +177,7 @@ fn writes_texts(alloc: Global, day: &JournalDay) -> bool {
         && write_journal_explained(alloc, day, &mut text).is_ok()
 }
 
-/// Whether a journal is one, has a day whose texts are written, and is found to be as a line says.
+/// Whether a journal is one, has a day whose texts are written, and has a verdict with this text.
 fn is_found(alloc: Global, bytes: &[u8], line: &str) -> bool {
     let (Ok(day), Ok(verdict)) = (
         read_day(alloc, None, bytes),

@@ -1,15 +1,15 @@
-//! What is written of a journal, and said of it.
+//! Puts a journal's faults and verdicts into words.
 ghost use Rattle.std.specs.Prelude.{◌≡◌, IfOk, string_bytes};
-ghost use Rattle.table_days.specs.TapeRows.{refusal_text};
 ghost use Rattle.journal_days.specs.Texts.{counted_group_text, cut_text, damage_text, differs_text, entries_text, entry_text, fault_text, group_text, header_text, matrix_text, own_count_text, refused_front, refused_text, verdict_text};
 
 use crate::{JournalFault, JournalVerdict};
+use csv_days::refusal_text;
 use day_journal::{HeaderFault, ReplayFault};
 use sale_matrix::Matrix;
 use std::alloc::{AllocError, Global};
 use tape_core::Refusal;
 
-/// What is said of a header's fault.
+/// The text of a header's fault.
 fn header_text(fault: HeaderFault) -> &'static str
     ensures { result.now ≡ header_text fault }
 {
@@ -22,7 +22,7 @@ fn header_text(fault: HeaderFault) -> &'static str
     }
 }
 
-/// What is said of a journal that goes by another matrix than the one that was asked for.
+/// The text of a journal with another matrix than the one that was asked for.
 fn matrix_text(matrix: Matrix) -> &'static str
     ensures { result.now ≡ matrix_text matrix }
 {
@@ -32,23 +32,14 @@ fn matrix_text(matrix: Matrix) -> &'static str
     }
 }
 
-/// A refusal by its number and its name.
-fn refusal_text(alloc: Global, refusal: Refusal) -> Result<String, AllocError>
-    ensures { IfOk result (λ text. string_bytes text ≡ refusal_text refusal) }
-{
-    let code = refusal.code();
-    let name = refusal.name();
-    format!(in alloc; "{code} {name}")
-}
-
-/// What is said of an entry that the tape refuses, before the refusal.
+/// The text of an entry that the tape refuses, before the refusal.
 fn refused_front(alloc: Global, number: u32) -> Result<String, AllocError>
     ensures { IfOk result (λ text. string_bytes text ≡ refused_front number) }
 {
     format!(in alloc; "entry {number} is refused: ")
 }
 
-/// What is said of an entry that the tape refuses.
+/// The text of an entry that the tape refuses.
 fn refused_text(alloc: Global, number: u32, refusal: Refusal) -> Result<String, AllocError>
     ensures { IfOk result (λ text. string_bytes text ≡ refused_text number refusal) }
 {
@@ -58,14 +49,14 @@ fn refused_text(alloc: Global, number: u32, refusal: Refusal) -> Result<String, 
     Ok(text)
 }
 
-/// What is said of an entry that carries other figures than the tape gives.
+/// The text of an entry with other figures than the tape's.
 fn differs_text(alloc: Global, number: u32) -> Result<String, AllocError>
     ensures { IfOk result (λ text. string_bytes text ≡ differs_text number) }
 {
     format!(in alloc; "entry {number} carries other figures than its messages give")
 }
 
-/// What is said of an entry that is not the tape's next one.
+/// The text of an entry that is not the tape's next one.
 fn entry_text(alloc: Global, fault: ReplayFault) -> Result<String, AllocError>
     ensures { IfOk result (λ text. string_bytes text ≡ entry_text fault) }
 {
@@ -75,21 +66,21 @@ fn entry_text(alloc: Global, fault: ReplayFault) -> Result<String, AllocError>
     }
 }
 
-/// What is said of a damaged group, of which this entry should be the first.
+/// The text of a damaged group, of which this entry should be the first.
 fn group_text(alloc: Global, first: u32) -> Result<String, AllocError>
     ensures { IfOk result (λ text. string_bytes text ≡ group_text first) }
 {
     format!(in alloc; "the group from entry {first} on is damaged")
 }
 
-/// What is said of the number of entries that a group has by its own end.
+/// The text of the number of entries that a group has by its own end.
 fn own_count_text(alloc: Global, count: u32) -> Result<String, AllocError>
     ensures { IfOk result (λ text. string_bytes text ≡ own_count_text count) }
 {
     format!(in alloc; ", of {count} entries by its own end")
 }
 
-/// What is said of a damaged group that has a number of entries by its own end.
+/// The text of a damaged group, with the number of entries that it has by its own end.
 fn counted_group_text(alloc: Global, first: u32, count: u32) -> Result<String, AllocError>
     ensures { IfOk result (λ text. string_bytes text ≡ counted_group_text first count) }
 {
@@ -99,7 +90,7 @@ fn counted_group_text(alloc: Global, first: u32, count: u32) -> Result<String, A
     Ok(text)
 }
 
-/// What is said of a damaged group, with the number of entries that it has by its own end if that is told.
+/// The text of a damaged group, with the number of entries that it has by its own end if that is known.
 fn damage_text(alloc: Global, first: u32, count: Option<u32>) -> Result<String, AllocError>
     ensures { IfOk result (λ text. string_bytes text ≡ damage_text first count) }
 {
@@ -109,7 +100,7 @@ fn damage_text(alloc: Global, first: u32, count: Option<u32>) -> Result<String, 
     }
 }
 
-/// What is said of a journal that has no day, in a line without its end.
+/// Returns the text of a journal that has no day, as a line without its end.
 pub fn fault_text(alloc: Global, fault: &JournalFault) -> Result<String, AllocError>
     ensures text { IfOk result (λ text. string_bytes text ≡ fault_text fault.now) }
 {
@@ -122,7 +113,7 @@ pub fn fault_text(alloc: Global, fault: &JournalFault) -> Result<String, AllocEr
     }
 }
 
-/// So many entries.
+/// This many entries, as text.
 fn entries_text(alloc: Global, count: usize) -> Result<String, AllocError>
     ensures { IfOk result (λ text. string_bytes text ≡ entries_text count) }
 {
@@ -133,7 +124,7 @@ fn entries_text(alloc: Global, count: usize) -> Result<String, AllocError>
     }
 }
 
-/// What a journal is found to be that is cut off behind so many bytes.
+/// The text of the verdict on a journal that is cut off after this many bytes.
 fn cut_text(alloc: Global, count: usize, from: usize) -> Result<String, AllocError>
     ensures { IfOk result (λ text. string_bytes text ≡ cut_text count from) }
 {
@@ -143,7 +134,7 @@ fn cut_text(alloc: Global, count: usize, from: usize) -> Result<String, AllocErr
     )
 }
 
-/// What a journal is found to be, in a line without its end.
+/// Returns the text of a verdict, as a line without its end.
 pub fn verdict_text(alloc: Global, verdict: &JournalVerdict) -> Result<String, AllocError>
     ensures text { IfOk result (λ text. string_bytes text ≡ verdict_text verdict.now) }
 {

@@ -1,4 +1,4 @@
-//! A journal in, and whether it stands as it is written.
+//! Checks whether a journal is recorded as its tape makes it.
 ghost use Rattle.std.specs.Prelude.{◌≡◌, IfErr, IfOk, length};
 ghost use Rattle.journal_days.specs.Verdicts.{IsVerdict, IsVerifyFault, standing_verdict};
 
@@ -7,7 +7,7 @@ use day_journal::ReplayFault;
 use sale_matrix::Matrix;
 use std::alloc::Global;
 
-/// What a journal is found to be.
+/// The verdict on a journal.
 #[derive(Clone, Copy, Debug, PartialEq, Eq)]
 pub enum JournalVerdict {
     /// Each digest is that of its bytes, and each entry is the one that the tape makes of the messages up to it.
@@ -15,7 +15,8 @@ pub enum JournalVerdict {
         /// How many entries there are.
         count: usize,
     },
-    /// That is so of its whole groups, and behind them a group is cut off, as a write that was cut leaves it. That is no difference.
+    /// The same holds of its whole groups, and after them a group is cut off, as after a write that was cut. That is no
+    /// difference.
     CutOff {
         /// How many entries the whole groups have.
         count: usize,
@@ -24,7 +25,8 @@ pub enum JournalVerdict {
     },
     /// An entry is not the tape's next one, and this is the first.
     Differs(ReplayFault),
-    /// The entries of its whole groups stand, and then come bytes that are neither the next group nor the front of one.
+    /// The entries of its whole groups are the tape's, and then come bytes that are neither the next group nor the front of
+    /// one.
     Damaged {
         /// The number of the first entry that the damaged group should have.
         first: u32,
@@ -33,7 +35,7 @@ pub enum JournalVerdict {
     },
 }
 
-/// What a journal is found to be that has a day.
+/// The verdict on a journal that has a day.
 fn verdict_on(day: &JournalDay) -> JournalVerdict
     ensures { result ≡ standing_verdict (length day.now.tape.entries) day.now.torn }
 {
@@ -44,10 +46,10 @@ fn verdict_on(day: &JournalDay) -> JournalVerdict
     }
 }
 
-/// Reads the bytes of a journal, replays it, and compares each number, figure and digest with its own: whether all stands as it is
-/// written, or the first entry or group that does not. A last group that is cut off is left out, and named.
+/// Reads the bytes of a journal, replays it, and compares each number, figure and digest with its own: returns whether all are
+/// as recorded, or the first entry or group that is not. A last group that is cut off is left out, and named.
 ///
-/// Where nothing is found the journal has no header or goes by another matrix than the one that is asked for, or memory ran out.
+/// An error means that the journal has no header or another matrix than the one that is asked for, or that memory ran out.
 pub fn verify_journal(
     alloc: Global,
     asked: Option<Matrix>,

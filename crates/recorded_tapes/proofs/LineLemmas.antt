@@ -1,4 +1,4 @@
--- The lines of a text, by its last line feed.
+-- Shows what the lines of a text are, by its last line feed.
 use Rattle.std.proofs.Common.{◌≡◌, ◌≢◌, ◌≤◌, ◌<◌, ◌+◌, ◌++◌, ◌∙◌, ◌∷◌, [], ℕ, List, All, refl, sym, ap, arith, drop, get_or, inl, inr, length, length-drop, subst, take}
 use Rattle.std.proofs.lemmas.List.{get_or-drop, take-append-drop, take_more}
 use Rattle.std.proofs.lemmas.List.Elements.{All-from_get_or}
@@ -8,7 +8,7 @@ use Rattle.recorded_tapes.specs.Verdicts.{AreLines}
 abbrev pub NoLineFeed : List ℕ → Type 0
 NoLineFeed text = All (λ byte. byte ≢ 10) text
 
--- behind the last line feed
+-- a text is split after its last line feed
 pub lines-at : (text lines cut : List ℕ) (i : ℕ) → i < length text → get_or text i 0 ≡ 10
     → ((k : ℕ) → i + 1 ≤ k → k < length text → get_or text k 0 ≢ 10) → lines ≡ take (i + 1) text → cut ≡ drop (i + 1) text → AreLines text lines cut
 lines-at text lines cut i inside here after lines_is cut_is = record {
@@ -18,6 +18,6 @@ lines-at text lines cut i inside here after lines_is cut_is = record {
       subst (λ (byte : ℕ). byte ≢ 10) (sym (get_or-drop (i + 1) text k 0)) (after (i + 1 + k) (omega arith) (omega (arith, length-drop (i + 1) text, within)))));
 }
 
--- without a line feed
+-- a text without a line feed has no lines
 pub lines-none : (text lines : List ℕ) → NoLineFeed text → lines ≡ take 0 text → AreLines text lines text
 lines-none text lines none is = record { split = rw is refl; ended = inl is; unended = none }

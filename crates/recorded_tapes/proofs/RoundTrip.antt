@@ -1,4 +1,4 @@
--- The readable tape of messages reads back as those messages.
+-- Shows that the readable tape of messages reads back as those messages.
 use Rattle.std.proofs.Common.{◌≡◌, ◌++◌, ◌∙◌, ◌∷◌, [], ℕ, List, Result, Ok, Err, Some, None, refl, sym, ap, append_assoc, append-nil, map, codes, decimal}
 use Rattle.std.specs.List.{AllByRecursion, flat_map, fold}
 use Rattle.std.proofs.lemmas.List.Elements.{recursion_from_All}
@@ -16,16 +16,16 @@ use Rattle.reports.specs.Spelling.{IsMessage}
 use Rattle.reports.specs.declared.message.Message.{Message}
 use Rattle.tape_core.specs.Tape.{TapeState}
 use Rattle.tape_core.specs.declared.refusal.Refusal.{Refusal}
-use Rattle.day_tables.specs.ColumnNames.{column_named}
-use Rattle.day_tables.specs.Columns.{fault_from, header_columns, name_fault, place_of}
-use Rattle.day_tables.specs.Laws.{RowRoundTrip}
-use Rattle.day_tables.specs.Tables.{IsTable, fields_message, record_message, records_messages, rows_messages, table_messages, with_record}
-use Rattle.day_tables.specs.TapeColumns.{is_tape_column}
-use Rattle.day_tables.specs.Writing.{row_fields, row_of}
-use Rattle.day_tables.specs.declared.columns.Columns.{Columns}
-use Rattle.table_days.specs.Answers.{tape_after}
-use Rattle.table_days.specs.Days.{first_tape}
-use Rattle.table_days.specs.TapeRows.{TapeRow, answer_fields, column_names, figures_fields, head_line, refusal_text, row_line, rows_text, tape_fields, tape_row, tape_rows, tape_text, text_from}
+use Rattle.csv_messages.specs.ColumnNames.{column_named}
+use Rattle.csv_messages.specs.Columns.{fault_from, header_columns, name_fault, place_of}
+use Rattle.csv_messages.specs.Laws.{RowRoundTrip}
+use Rattle.csv_messages.specs.Tables.{IsTable, fields_message, record_message, records_messages, rows_messages, table_messages, with_record}
+use Rattle.csv_messages.specs.TapeColumns.{is_tape_column}
+use Rattle.csv_messages.specs.Writing.{row_fields, row_of}
+use Rattle.csv_messages.specs.declared.columns.Columns.{Columns}
+use Rattle.tape_core.specs.Answers.{tape_after}
+use Rattle.csv_days.specs.Days.{first_tape}
+use Rattle.csv_days.specs.TapeRows.{TapeRow, answer_fields, column_names, figures_fields, head_line, refusal_text, row_line, rows_text, tape_fields, tape_row, tape_rows, tape_text, text_from}
 use Rattle.recorded_tapes.specs.Laws.{TapeRoundTrip}
 
 -- ## The records of the text
@@ -100,7 +100,7 @@ module _ (row_back : RowRoundTrip) where
       by_answer (Ok number) = row_back row.message is
       by_answer (Err refused) = row_back row.message is
 
-  -- one row more reads back
+  -- one more row reads back
   with-back : (before : List Message) (row : TapeRow) → IsMessage row.message
       → with_record in_order (Ok before) (tape_fields row) ≡ Ok (before ++ row.message ∷ [])
   unfolding with_record record_message

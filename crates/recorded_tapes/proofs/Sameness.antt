@@ -1,4 +1,4 @@
--- A text is a table of one list of messages at most.
+-- Shows that a text is a table of at most one list of messages, and that a readable tape is found to be as recorded.
 use Rattle.std.proofs.Common.{◌≡◌, ◌≢◌, ◌+◌, ◌-◌, ◌++◌, ◌∙◌, ◌∷◌, [], ℕ, List, All, Ok, Some, None, refl, sym, ap, append_assoc, append-nil, arith, get_or, length, length-append, subst, if◌then◌else◌}
 use Rattle.std.proofs.lemmas.List.{append_cancel_left, get_or-append_right, get_or_push, length_push}
 use Rattle.std.proofs.lemmas.List.Elements.{All-get_or}
@@ -10,9 +10,9 @@ use Rattle.csv.specs.declared.parser.State.{State}
 use Rattle.sale_matrix.specs.declared.matrix.Matrix.{Matrix}
 use Rattle.reports.specs.declared.message.Message.{Message}
 use Rattle.tape_core.specs.Tape.{TapeState}
-use Rattle.day_tables.specs.Tables.{IsTable, table_messages}
-use Rattle.table_days.specs.Days.{first_tape}
-use Rattle.table_days.specs.TapeRows.{TapeRow, column_names, rows_text, tape_fields, tape_rows, tape_text, text_from}
+use Rattle.csv_messages.specs.Tables.{IsTable, table_messages}
+use Rattle.csv_days.specs.Days.{first_tape}
+use Rattle.csv_days.specs.TapeRows.{TapeRow, column_names, rows_text, tape_fields, tape_rows, tape_text, text_from}
 use Rattle.recorded_tapes.specs.Differences.{AreApart, IsDifference}
 use Rattle.recorded_tapes.specs.Laws.{TapeRoundTrip, TapesAreRecorded}
 use Rattle.recorded_tapes.specs.Verdicts.{AreLines, IsVerdict}
@@ -67,7 +67,7 @@ line-ends fields =
     let blank : List ℕ = if is_blank default_writer fields then 34 ∷ 34 ∷ [] else [] in
     (row_body default_writer fields ++ blank, sym (append_assoc (row_body default_writer fields) blank (10 ∷ [])))
 
--- lines of rows behind a line that ends in a line feed end in one
+-- lines of rows after a line that ends in a line feed end in one
 rows-end : (front : List ℕ) (rows : List TapeRow) → (before : List ℕ) × ((front ++ 10 ∷ []) ++ rows_text rows ≡ before ++ 10 ∷ [])
 unfolding rows_text
 rows-end front [] = (front, append-nil (front ++ 10 ∷ []))
@@ -89,7 +89,7 @@ text-ends t messages =
     let (before, ends) = rows-end head (tape_rows t messages) in
     (before, ap (λ (l : List ℕ). l ++ rows_text (tape_rows t messages)) is ∙ ends)
 
--- what has no line feed is nothing where the text ends in one
+-- a rest without a line feed is empty if the text ends in one
 cut-none : (front lines cut : List ℕ) → front ++ 10 ∷ [] ≡ lines ++ cut → All (λ byte. byte ≢ 10) cut → cut ≡ []
 cut-none front lines [] is none = refl
 cut-none front lines (byte ∷ cut) is none =
@@ -100,7 +100,7 @@ cut-none front lines (byte ∷ cut) is none =
     ∙ get_or_push front 10 0 i refl in
     absurd (All-get_or (λ b. b ≢ 10) (byte ∷ cut) (i - length lines) 0 (omega (arith, long)) none last)
 
--- two texts that differ are not the same
+-- two texts with a difference are not the same
 difference-apart : (stands wanted : List ℕ) (d : Difference) → IsDifference stands wanted d → stands ≢ wanted
 difference-apart stands wanted d apart same =
     never apart.left apart.right (append_cancel_left apart.front apart.left apart.right (sym apart.stands_is ∙ same ∙ apart.wanted_is)) apart.apart

@@ -1,11 +1,11 @@
--- Texts that are the same up to a place.
+-- Shows what texts have in common that are the same up to a place.
 use Rattle.std.proofs.Common.{◌≡◌, ◌≢◌, ◌≤◌, ◌+◌, ◌==◌, ◌++◌, ◌∙◌, ◌∷◌, [], ℕ, true, zero, suc, List, refl, sym, ap, arith, append-nil, append_assoc, drop, length, length-append, length-take-le, min, take}
 use Rattle.std.proofs.lemmas.List.{take-append-drop, take_all, take_at}
 use Rattle.recorded_tapes.specs.Differences.{AreApart, IsDifference, field_over}
 use Rattle.recorded_tapes.specs.Places.{place_behind}
 use Rattle.recorded_tapes.specs.declared.difference.Difference.{Difference}
 
--- a front, and what goes on behind it
+-- a front, and the part that goes on after it
 take-grown : (text part rest : List ℕ) (n : ℕ) → n ≤ length text → drop n text ≡ part ++ rest → take (n + length part) text ≡ take n text ++ part
 take-grown text part rest n within behind =
     let split : text ≡ (take n text ++ part) ++ rest =
@@ -50,7 +50,7 @@ apart-end (a ∷ xs) (b ∷ ys) (suc n) is same differ =
     let tails : take n xs ≡ take n ys = cc same in
     apart-end xs ys n (omega (arith, is)) tails (λ (e : xs ≡ ys). differ (cc (heads, e)))
 
--- what a difference of a recorded text from a written one is
+-- a difference of a recorded text from a written one
 pub is-difference : (recorded behind left front rest right : List ℕ) (same more : ℕ) (d : Difference) → same ≤ length recorded → left ≡ drop same recorded
     → more ≤ length left → take more left ≡ take more behind → AreApart (drop more left) (drop more behind)
     → front ≡ take (same + more) recorded → rest ≡ drop more left → right ≡ drop more behind
@@ -73,11 +73,11 @@ is-difference recorded behind left front rest right same more d within is inside
       right_field = wanted;
     }
 
--- a recorded text is the written one where what is left of it is what was written behind
+-- a recorded text is the written one if the rest of it is what was written after the same part
 pub same-text : (recorded behind text : List ℕ) (same : ℕ) → drop same recorded ≡ behind → take same recorded ++ behind ≡ text → recorded ≡ text
 same-text recorded behind text same is written = sym (take-append-drop same recorded) ∙ ap (λ (l : List ℕ). take same recorded ++ l) is ∙ written
 
--- a text of no bytes
+-- a text of length 0 is empty
 pub no_bytes : (text : List ℕ) → (length text == 0) ≡ true → text ≡ []
 no_bytes [] test = refl
 no_bytes (byte ∷ text) test = let none : length (byte ∷ text) ≡ 0 = grind (arith, test) in absurd (omega (arith, none))

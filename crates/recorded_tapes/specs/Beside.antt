@@ -1,4 +1,4 @@
--- What a writer beside a recorded text holds.
+-- Defines what a writer beside a recorded text holds.
 use Rattle.std.specs.Prelude.{ℕ, List, ◌++◌, take}
 use Rattle.recorded_tapes.specs.declared.beside.Beside.{Beside}
 

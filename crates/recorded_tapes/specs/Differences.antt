@@ -1,6 +1,6 @@
--- Where a text first differs from the one that it should be.
+-- Defines where a text first differs from the one that it should be.
 use Rattle.std.specs.Prelude.{◌≡◌, ◌≢◌, ◌++◌, ℕ, List, [], ◌∷◌, take}
-use Rattle.day_tables.specs.FaultTexts.{FAULT_TEXT_MOST}
+use Rattle.csv_messages.specs.FaultTexts.{FAULT_TEXT_MOST}
 use Rattle.recorded_tapes.specs.Places.{begun_field, place_behind, rest_of_field}
 use Rattle.recorded_tapes.specs.declared.difference.Difference.{Difference}
 
@@ -15,7 +15,8 @@ AreApart (a ∷ left) (b ∷ right) = a ≢ b
 abbrev pub field_over : List ℕ → List ℕ → List ℕ
 field_over front behind = take FAULT_TEXT_MOST (begun_field front ++ rest_of_field behind)
 
--- a text stands in place of another: behind what both begin with the first bytes differ, and there they have these fields
+-- a text differs from the one that it should be: after what both begin with the first bytes differ, and there they have these
+-- fields
 pub record IsDifference (stands wanted : List ℕ) (d : Difference) : Type 0 where
   pub front : List ℕ
   pub left : List ℕ

@@ -1,10 +1,10 @@
--- What is true of recorded tapes.
+-- Defines the laws of recorded tapes.
 use Rattle.std.specs.Prelude.{◌≡◌, ℕ, List, ◌∷◌, All}
 use Rattle.sale_matrix.specs.declared.matrix.Matrix.{Matrix}
 use Rattle.reports.specs.Spelling.{IsMessage}
 use Rattle.reports.specs.declared.message.Message.{Message}
-use Rattle.day_tables.specs.Tables.{IsTable}
-use Rattle.table_days.specs.TapeRows.{tape_text}
+use Rattle.csv_messages.specs.Tables.{IsTable}
+use Rattle.csv_days.specs.TapeRows.{tape_text}
 use Rattle.recorded_tapes.specs.Verdicts.{IsVerdict}
 use Rattle.recorded_tapes.specs.declared.verdict.Rows.{Rows}
 use Rattle.recorded_tapes.specs.declared.verdict.Verdict.{Verdict}
@@ -14,7 +14,7 @@ use Rattle.recorded_tapes.specs.declared.verdict.Verdict.TheVariants.{Recorded}
 abbrev pub TapeRoundTrip : Type 0
 TapeRoundTrip = (matrix : Matrix) (m : Message) (ms : List Message) → All IsMessage (m ∷ ms) → IsTable (tape_text matrix (m ∷ ms)) (m ∷ ms)
 
--- each readable tape of one message or more is found to be as recorded, whatever messages it is of
+-- each readable tape of one message or more is found to be as recorded, whatever its messages
 abbrev pub TapesAreRecorded : Type 0
 TapesAreRecorded = (matrix : Matrix) (m : Message) (ms : List Message) (verdict : Verdict) → All IsMessage (m ∷ ms)
     → IsVerdict matrix (tape_text matrix (m ∷ ms)) verdict → (rows : Rows) × (verdict ≡ Recorded rows)

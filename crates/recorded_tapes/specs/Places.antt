@@ -1,19 +1,19 @@
--- Where a reading of a text of rows stands, and the field that it is in.
+-- Defines the place after the bytes of a text of rows that were read, and the field that it is in.
 use Rattle.std.specs.Prelude.{ℕ, ◌+◌, ◌==◌, ◌||◌, Bool, List, fold, drop, take, position, Option, Some, None, if◌then◌else◌}
 use Rattle.recorded_tapes.specs.declared.place.TextPlace.{TextPlace}
 
--- at the start of a text: in line 1, with no field and no byte before it
+-- the place at the start of a text: in line 1, with no field and no byte before it
 abbrev pub first_place : TextPlace
 first_place = record { line = 1; column = 0; field = 0; read = 0 }
 
--- behind one byte more: a line feed ends the line, and a comma the field
+-- the place after one more byte: a line feed ends the line, and a comma the field
 abbrev pub place_after : TextPlace → ℕ → TextPlace
 place_after p byte =
     if byte == 10 then record { line = p.line + 1; column = 0; field = p.read + 1; read = p.read + 1 }
     else if byte == 44 then record { line = p.line; column = p.column + 1; field = p.read + 1; read = p.read + 1 }
     else record { line = p.line; column = p.column; field = p.field; read = p.read + 1 }
 
--- behind a text
+-- the place after a text
 abbrev pub place_behind : List ℕ → TextPlace
 place_behind text = fold place_after first_place text
 
@@ -25,7 +25,7 @@ begun_field text = drop (place_behind text).field text
 abbrev pub ends_field : ℕ → Bool
 ends_field byte = (byte == 10) || (byte == 44)
 
--- the bytes before a place, or all where there is none
+-- the bytes before a place, or all if there is none
 abbrev pub bytes_before : Option ℕ → List ℕ → List ℕ
 bytes_before None text = text
 bytes_before (Some place) text = take place text

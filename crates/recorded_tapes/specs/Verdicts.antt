@@ -1,16 +1,16 @@
--- What a recorded tape is found to be.
+-- Defines what a recorded tape is found to be.
 use Rattle.std.specs.Prelude.{◌≡◌, ◌≢◌, ◌⊎◌, ◌++◌, ℕ, List, [], ◌∷◌, All, length, Result, Ok, Err}
 use Rattle.sale_matrix.specs.declared.matrix.Matrix.{Matrix}
 use Rattle.reports.specs.declared.message.Message.{Message}
-use Rattle.day_tables.specs.Tables.{IsTable}
-use Rattle.day_tables.specs.declared.table_fault.TableFault.TheVariants.{ReadFault}
-use Rattle.table_days.specs.Answers.{answers}
-use Rattle.table_days.specs.Days.{first_tape}
-use Rattle.table_days.specs.Refusals.{AreRefusals}
-use Rattle.table_days.specs.TableEnds.{IsTableEnd}
-use Rattle.table_days.specs.TapeRows.{tape_text}
-use Rattle.table_days.specs.declared.table_end.TableEnd.{TableEnd}
-use Rattle.table_days.specs.declared.table_end.TableEnd.TheVariants.{Table, OutOfMemory}
+use Rattle.csv_messages.specs.Tables.{IsTable}
+use Rattle.csv_messages.specs.declared.table_fault.TableFault.TheVariants.{ReadFault}
+use Rattle.tape_core.specs.Answers.{answers}
+use Rattle.csv_days.specs.Days.{first_tape}
+use Rattle.csv_days.specs.Refusals.{AreRefusals}
+use Rattle.csv_days.specs.TableEnds.{IsTableEnd}
+use Rattle.csv_days.specs.TapeRows.{tape_text}
+use Rattle.csv_days.specs.declared.table_end.TableEnd.{TableEnd}
+use Rattle.csv_days.specs.declared.table_end.TableEnd.TheVariants.{Table, OutOfMemory}
 use Rattle.recorded_tapes.specs.Differences.{IsDifference}
 use Rattle.recorded_tapes.specs.Places.{place_behind}
 use Rattle.recorded_tapes.specs.declared.difference.Difference.{Difference}
@@ -18,7 +18,7 @@ use Rattle.recorded_tapes.specs.declared.verdict.Rows.{Rows}
 use Rattle.recorded_tapes.specs.declared.verdict.Verdict.{Verdict}
 use Rattle.recorded_tapes.specs.declared.verdict.Verdict.TheVariants.{Recorded, CutOff, Differs}
 
--- the lines of a text, and behind the last of them a line that has no end, or nothing
+-- the lines of a text, and after the last of them a line that has no end, or nothing
 pub record AreLines (text lines cut : List ℕ) : Type 0 where
   pub split : text ≡ lines ++ cut
   pub ended : (lines ≡ []) ⊎ ((front : List ℕ) × (lines ≡ front ++ 10 ∷ []))
@@ -45,7 +45,7 @@ IsVerdict matrix text (CutOff rows line) =
     (lines cut : List ℕ) × AreLines text lines cut × (cut ≢ []) × IsReplay matrix lines (Ok rows) × (line ≡ (place_behind lines).line)
 IsVerdict matrix text (Differs difference) = (lines cut : List ℕ) × AreLines text lines cut × IsReplay matrix lines (Err difference)
 
--- why nothing is found: a read failed, or memory ran out; or the lines are no table, or the names in them make no listing
+-- why nothing is found: a read failed, or memory ran out; or the lines are not a table, or the names in them make no listing
 abbrev pub IsVerifyEnd : List ℕ → TableEnd → Type 0
 IsVerifyEnd text end =
     (end ≡ Table ReadFault) ⊎ (end ≡ OutOfMemory) ⊎ ((lines cut : List ℕ) × AreLines text lines cut × IsTableEnd lines end)

@@ -1,4 +1,4 @@
-//! A writer that holds what is written beside a recorded text.
+//! Compares what is written with a recorded text, and keeps only how much of it is the same and what was written after that.
 ghost use Rattle.std.specs.Prelude.{◌≤◌, ◌≡◌, ◌++◌, [], Some, drop, length, take};
 
 use crate::parts::rest;
@@ -6,21 +6,21 @@ use std::alloc::Global;
 use std::io;
 use std::io::Write;
 
-/// A text that is written, beside a recorded one: how much of the recorded one it begins with, and what was written behind that. So
-/// a text that is the recorded one takes no memory.
+/// A text that is written, beside a recorded one: how much of the recorded one it begins with, and what was written after that.
+/// So a text that is the recorded one allocates nothing.
 #[derive(Drop)]
 pub struct Beside<'t> {
     /// The recorded text.
     pub recorded: &'t [u8],
     /// How many bytes of it were written.
     pub same: usize,
-    /// What was written behind them, from the first piece on that does not go on with the recorded text.
+    /// What was written after them, from the first piece on that differs from the recorded text.
     pub behind: Vec<u8>,
     ghost within: { same ≤ length recorded.now },
 }
 
 impl<'t> Beside<'t> {
-    /// Nothing is written.
+    /// Returns a writer to which nothing is written yet.
     pub fn new(alloc: Global, recorded: &'t [u8]) -> Beside<'t>
         ensures recorded { result.recorded.now ≡ recorded.now }
         ensures none { take result.same result.recorded.now ++ result.behind.items ≡ [] }
@@ -32,7 +32,7 @@ impl<'t> Beside<'t> {
         }
     }
 
-    /// What is left of the recorded text behind what was written of it.
+    /// The rest of the recorded text after what was written of it.
     pub fn left(&self) -> &[u8]
         ensures { result.now ≡ drop self.now.same self.now.recorded.now }
     {

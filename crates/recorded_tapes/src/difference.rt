@@ -1,10 +1,10 @@
-//! Where a recorded tape first differs from the one that it should be.
+//! Finds the first place at which a recorded tape differs from the one that it should be, and the fields there.
 ghost use Rattle.std.specs.Prelude.{◌≡◌, ◌≢◌, ◌≤◌, ◌++◌, IfOk, drop, length, take};
 ghost use Rattle.recorded_tapes.specs.Differences.{AreApart, field_over};
 
 use crate::parts::{front, rest};
 use crate::place::{TextPlace, rest_of_field};
-use day_tables::FaultText;
+use csv_messages::FaultText;
 use std::alloc::{AllocError, Global};
 
 /// The first place at which a recorded tape differs from the one that `tape` writes of its messages.
@@ -14,9 +14,9 @@ pub struct Difference {
     pub line: u64,
     /// How many columns of the line are before this one.
     pub column: u64,
-    /// What stands in the column.
+    /// The text in the column.
     pub stands: FaultText,
-    /// What should stand there. It is the same where the line ends in another place than it should.
+    /// The text that should be there. It is the same if the line ends at another place than it should.
     pub wanted: FaultText,
 }
 
@@ -49,7 +49,8 @@ fn field_over(alloc: Global, front: &[u8], behind: &[u8]) -> Result<FaultText, A
 impl Difference {
     ghost use Rattle.recorded_tapes.specs.Differences.{IsDifference};
 
-    /// The first difference of a recorded text from another one, of which so many bytes are the same, and these are behind them.
+    /// Returns the first difference of a recorded text from another one, whose first `same` bytes are the same, with `behind`
+    /// after them.
     pub fn behind(
         alloc: Global,
         recorded: &[u8],

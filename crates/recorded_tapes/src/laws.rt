@@ -1,9 +1,9 @@
-//! What is true of recorded tapes.
+//! States the laws of recorded tapes: each function's contract is the law.
 ghost use Rattle.recorded_tapes.specs.Laws.{TapeRoundTrip, TapesAreRecorded};
 
-use day_tables::row_round_trip;
+use csv_messages::row_round_trip;
 
-/// The readable tape of every list of messages reads back as those messages, so that it is a table of them.
+/// The readable tape of every list of messages reads back as those messages, so it is a table of them.
 pub fn tape_round_trip()
     ensures holds { TapeRoundTrip }
 {

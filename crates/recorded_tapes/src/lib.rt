@@ -1,4 +1,4 @@
-//! Recorded readable tapes, replayed: whether each row stands as it is written, or the first place that differs.
+//! Replays recorded readable tapes, and finds whether each row is as it is written, or the first place that differs.
 #![tactic(auto)]
 
 mod beside;

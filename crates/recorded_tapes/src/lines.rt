@@ -1,9 +1,9 @@
-//! The lines of a text.
+//! Splits a text after its last line feed.
 ghost use Rattle.recorded_tapes.specs.Verdicts.{AreLines};
 
 use crate::parts::{front, rest};
 
-/// The lines of a text, and behind the last of them a line that has no end, or nothing.
+/// Returns the lines of a text, and what is after the last of them: a line that has no end, or nothing.
 pub fn split_lines(text: &[u8]) -> (&[u8], &[u8])
     ensures { AreLines text.now result.0.now result.1.now }
 {

@@ -1,10 +1,10 @@
-//! Where a reading of a text of rows stands.
+//! Finds the line and column after the bytes of a text of rows that were read, and where a field ends.
 ghost use Rattle.std.specs.Prelude.{◌≡◌, ◌≤◌, ◌+◌, ◌<◌, ◌^◌, IfSome, length};
 ghost use Rattle.recorded_tapes.specs.Places.{end_of_field, ends_field, rest_of_field};
 
 use crate::parts::front;
 
-/// Where a reading of a text of rows stands.
+/// A place in a text of rows: the one after the bytes that were read.
 #[derive(Clone, Copy, Debug, PartialEq, Eq)]
 pub struct TextPlace {
     /// The number of the line, from 1.
@@ -20,7 +20,7 @@ pub struct TextPlace {
 impl TextPlace {
     ghost use Rattle.recorded_tapes.specs.Places.{first_place, place_after, place_behind};
 
-    /// The start of a text.
+    /// The place at the start of a text.
     fn first() -> TextPlace
         ensures { result ≡ first_place }
     {
@@ -32,7 +32,7 @@ impl TextPlace {
         }
     }
 
-    /// The place behind one byte more.
+    /// The place after one more byte.
     fn after(self, byte: u8) -> TextPlace
         requires read { self.read + 2 < 2 ^ 64 }
         requires line { self.line ≤ self.read + 1 }
@@ -57,7 +57,7 @@ impl TextPlace {
         }
     }
 
-    /// The place behind a text.
+    /// The place after a text.
     pub fn behind(text: &[u8]) -> TextPlace
         ensures place { result ≡ place_behind text.now }
         ensures field { result.field ≤ length text.now }

@@ -1,7 +1,7 @@
-//! What a recorded tape is found to be.
+//! Holds what a recorded tape is found to be: as recorded, cut off, or different.
 
 use crate::Difference;
-use table_days::Refusals;
+use csv_days::Refusals;
 
 /// The rows of a recorded tape.
 #[derive(Clone, Copy, Debug, PartialEq, Eq)]

@@ -1,27 +1,27 @@
-//! A recorded tape in, and whether it stands as it is written.
+//! Reads a recorded tape, writes the readable tape of its messages beside it, and finds whether the two are the same.
 ghost use Rattle.std.specs.Prelude.{◌≡◌, ◌≢◌, ◌⊎◌, List, IfErr, IfOk, IfSome};
 ghost use Rattle.std.specs.IoError.{error_kind};
 ghost use Rattle.sale_matrix.specs.declared.matrix.Matrix.{Matrix};
 ghost use Rattle.reports.specs.declared.message.Message.{Message};
-ghost use Rattle.day_tables.specs.Tables.{IsTable};
-ghost use Rattle.day_tables.specs.declared.table_fault.TableFault.TheVariants.{ReadFault};
-ghost use Rattle.table_days.specs.TapeRows.{tape_text};
+ghost use Rattle.csv_messages.specs.Tables.{IsTable};
+ghost use Rattle.csv_messages.specs.declared.table_fault.TableFault.TheVariants.{ReadFault};
+ghost use Rattle.csv_days.specs.TapeRows.{tape_text};
 ghost use Rattle.recorded_tapes.specs.Beside.{beside_text};
 ghost use Rattle.recorded_tapes.specs.Verdicts.{AreRows, IsReplay, IsVerdict, IsVerifyEnd};
-ghost use Rattle.table_days.specs.TableEnds.{IsTableEnd};
-ghost use Rattle.table_days.specs.declared.table_end.TableEnd.TheVariants.{OutOfMemory, Table};
+ghost use Rattle.csv_days.specs.TableEnds.{IsTableEnd};
+ghost use Rattle.csv_days.specs.declared.table_end.TableEnd.TheVariants.{OutOfMemory, Table};
 
 use crate::beside::Beside;
 use crate::lines::split_lines;
 use crate::place::TextPlace;
 use crate::{Difference, Rows, Verdict};
-use day_tables::{TableFault, read_table};
+use csv_days::{TableEnd, write_tape};
+use csv_messages::{TableFault, read_table};
 use sale_matrix::Matrix;
 use std::alloc::Global;
 use std::io::{Error, ErrorKind, Read};
-use table_days::{TableEnd, write_tape};
 
-/// The end that a failed read brings.
+/// Returns the end for a failed read: `OutOfMemory` if memory ran out, else `ReadFault`.
 fn failed_read(error: &Error) -> TableEnd
     ensures one { (result ≡ OutOfMemory) ⊎ (result ≡ Table ReadFault) }
     ensures memory { error_kind error.now ≡ ErrorKind.OutOfMemory → result ≡ OutOfMemory }
@@ -33,7 +33,7 @@ fn failed_read(error: &Error) -> TableEnd
     }
 }
 
-/// All that a reader has left.
+/// Reads all that a reader has left.
 fn read_all<R: Read>(alloc: Global, reader: &mut R) -> Result<Vec<u8>, TableEnd>
     ensures text { IfSome (R.remaining reader.old) (λ input. IfOk result (λ text. text.items ≡ input)) }
     ensures end { IfErr result (λ end. (end ≡ Table ReadFault) ⊎ (end ≡ OutOfMemory)) }
@@ -45,7 +45,7 @@ fn read_all<R: Read>(alloc: Global, reader: &mut R) -> Result<Vec<u8>, TableEnd>
     }
 }
 
-/// Whether lines are the text that was written beside them, or the first place where they differ from it.
+/// Returns the rows if lines are the text that was written beside them, or the first place where they differ from it.
 fn compare(alloc: Global, beside: &Beside, rows: Rows) -> Result<Result<Rows, Difference>, TableEnd>
     ensures replay { IfOk result (λ replay. (matrix : Matrix) (messages : List Message) → IsTable beside.now.recorded.now messages
         → beside_text beside.now ≡ tape_text matrix messages → AreRows matrix messages rows → IsReplay matrix beside.now.recorded.now replay) }
@@ -68,18 +68,18 @@ fn replay(alloc: Global, matrix: Matrix, lines: &[u8]) -> Result<Result<Rows, Di
     let messages = read_table(alloc, lines)?;
     let mut beside = Beside::new(alloc, lines);
     match write_tape(alloc, matrix, &messages, &mut beside) {
-        // What a writer holds is all that its contract says. That these are still its lines takes a look at them.
+        // A writer's contract says only what it holds, so that these are still its lines has to be checked.
         Ok(refusals) if beside.recorded == lines => {
             let count = messages.len() as u64;
             compare(alloc, &beside, Rows { count, refusals })
         }
-        // It fails only where there is no memory for what is written from the first difference on.
+        // The write fails only if there is no memory for what is written from the first difference on.
         Ok(_) | Err(TableEnd::WriteFault) => Err(TableEnd::OutOfMemory),
         Err(end) => Err(end),
     }
 }
 
-/// What a text is found to be.
+/// Returns what a text is found to be.
 fn verdict_on(alloc: Global, matrix: Matrix, text: &[u8]) -> Result<Verdict, TableEnd>
     ensures verdict { IfOk result (IsVerdict matrix text.now) }
     ensures end { IfErr result (IsVerifyEnd text.now) }
@@ -93,12 +93,12 @@ fn verdict_on(alloc: Global, matrix: Matrix, text: &[u8]) -> Result<Verdict, Tab
     }
 }
 
-/// Reads a recorded tape whole, answers its messages anew as `tape_over` does, and compares each number, refusal and figure with its
-/// own: whether the text is the one that `tape_over` writes of its messages, byte for byte, or the first place that differs. A last
-/// line that has no end is left out, and named where all lines before it stand as written.
+/// Reads a recorded tape whole, answers its messages anew as `tape_over` does, and compares each number, refusal and figure
+/// with its own. Returns whether the text is the one that `tape_over` writes of its messages, byte for byte, or the first place
+/// that differs. A last line that has no end is left out, and named if all lines before it are as written.
 ///
-/// The text is held beside its messages and the tape. Where nothing is found the end says why, of the lines that have an end: they are
-/// no table, or have too many names; or a read failed, or memory ran out.
+/// The text is held beside its messages and the tape. Errors: the lines that have an end are not a table, or have too many
+/// names; or a read failed, or memory ran out.
 pub fn verify_over<R: Read + Drop>(
     alloc: Global,
     matrix: Matrix,

@@ -1,4 +1,4 @@
--- A tape of some symbols beside the tape of all: it refuses no message that the other admits, and stays its part.
+-- A tape of some symbols beside the tape of all: it refuses none of its messages that the other admits, and stays its part.
 use Rattle.std.proofs.Common.{◌≡◌, ℕ, ◌+◌, ◌≤◌, ◌<◌, ◌==◌, ◌&&◌, nat_le, Bool, true, false, cond, not, List, [], ◌∷◌, ◌++◌, Option, Some, None, is_some}
 use Rattle.std.proofs.Common.{length, map, filter, fold, max, refl, sym, ap, subst, ◌∙◌, arith, length-append, append_assoc}
 use Rattle.std.specs.List.{AllByRecursion, list_all, position}
@@ -17,8 +17,8 @@ use Rattle.tape_core.specs.Tape.{TapeState, empty_tape, refusal, next_entry, wit
 use Rattle.tape_core.specs.Ending.{ListsNames}
 use Rattle.tape_core.specs.Tape.{lists_participant, lists_symbol, is_in_matrix, message_faults}
 use Rattle.tape_core.specs.Lemmas.LegalNext.{IsAdmissible, admissible}
-use Rattle.table_days.specs.Days.{symbol_of}
-use Rattle.split_days.specs.Split.{AdmitsAll, HaveOneMessage, HasSameSummary, HasRoom, HasSameParticipantSummary, IsSameSummary, part_of, tape_after}
+use Rattle.csv_days.specs.Days.{symbol_of}
+use Rattle.split_days.specs.Split.{AdmitsAll, HaveOneMessage, HasSameSummary, HasRoom, HasSameParticipantSummary, IsSameSummary, part_of, tape_after_all}
 use Rattle.split_days.proofs.Numbered.{numbered, length-numbered, numbered-push}
 use Rattle.split_days.proofs.Named.{keeps, AllNameAlike, AllNameAlike-push, NamesAlike, NamesAlike-sound}
 use Rattle.split_days.proofs.Parts.{message_faults-part, symbol_summary-same, participant_summary-same}
@@ -29,7 +29,7 @@ use Rattle.split_days.proofs.Parts.{message_faults-part, symbol_summary-same, pa
 abbrev sent_by : ℕ → List NumberedMessage → List NumberedMessage
 sent_by who tape = filter (λ n. is_of who n.1) tape
 
--- the greatest number that messages have, or the least that it can be
+-- the greatest number of the messages, but no less than `least`
 abbrev greatest : ℕ → List NumberedMessage → ℕ
 greatest least tape = fold max least (map (λ n. (header_of n.1).number) tape)
 
@@ -56,7 +56,7 @@ greatest-part keep who a b first kept_first (m ∷ ms) less =
 
 -- ## Tests that fail on the whole fail on the part
 
--- a case that does not hold leaves what comes after it
+-- a case that does not hold leaves the later ones
 passes : {A : Type 0} (b : Bool) (x : A) (rest : Option A) → b ≡ false → rest ≡ None → cond b (Some x) rest ≡ None
 passes b x rest fails none = ap (λ c. cond c (Some x) rest) fails ∙ none
 
@@ -68,7 +68,7 @@ below-limit count limit room = grind (arith, nat_tests)
 above-part : (number less more : ℕ) → less ≤ more → nat_le number more ≡ false → nat_le number less ≡ false
 above-part number less more order above = grind (arith, nat_tests)
 
--- a tape of numbered messages has them with the next one after it
+-- after the next message, a tape of numbered messages has them with it at the end
 messages-push : (t : TapeState) (m : Message) (ms : List Message) → messages_of t.entries ≡ numbered 1 ms
     → messages_of (with_message t m).entries ≡ numbered 1 (ms ++ m ∷ [])
 messages-push t m ms is =
@@ -77,12 +77,12 @@ messages-push t m ms is =
     map-append numbered_message t.entries (next_entry t.matrix t.entries m ∷ [])
     ∙ (λ i. is i ++ (at i, m) ∷ []) ∙ sym (numbered-push 1 ms m)
 
--- two tests that hold together
+-- two tests, each of which holds if both do together
 and-true : (a b : Bool) → (a && b) ≡ true → (a ≡ true) × (b ≡ true)
 and-true true b holds = (refl, holds)
 and-true false b holds = absurd (true≢false (sym holds))
 
--- a listing that has the names of messages has those of each
+-- a listing with the names of all messages has those of each
 lists-each : (own : Names) (ms : List Message) → list_all (λ m. lists_symbol own (symbol_of m)) ms ≡ true
     → list_all (λ m. lists_participant own (header_of m).participant) ms ≡ true → AllByRecursion (ListsNames own) ms
 lists-each own [] symbols participants = tt
@@ -100,7 +100,7 @@ module _ (symbols : List (List ℕ)) where
   abbrev kept_of : List Message → List Message
   kept_of ms = filter (keeps of) ms
 
-  -- two tapes by one matrix: the one of all messages, the other of those of its symbols
+  -- two tapes with one matrix: one of all messages, the other of those for its symbols
   record IsSplit (t u : TapeState) (ms : List Message) : Type 0 where
     whole : messages_of t.entries ≡ numbered 1 ms
     part : messages_of u.entries ≡ numbered 1 (kept_of ms)
@@ -113,7 +113,7 @@ module _ (symbols : List (List ℕ)) where
     abbrev who : ℕ
     who = (header_of m).participant
 
-    -- what the message passes on the whole
+    -- the tests that the message passes on the whole
     abbrev passed : IsAdmissible t m
     passed = admissible t m none
 
@@ -131,7 +131,7 @@ module _ (symbols : List (List ℕ)) where
         subst (λ tape. last_number (messages_of u.entries) who ≤ last_number tape who) (sym split.whole)
         (subst (λ tape. last_number tape who ≤ last_number (numbered 1 ms) who) (sym split.part) (greatest-part (keeps of) who 0 0 1 1 ms (omega arith)))
 
-    -- so the part admits it too, where it is of one of its symbols, and its tape lists its names and has room
+    -- so the part admits it too, if it is for one of its symbols and its tape lists its names and has room
     refusal-part : ListsNames u.listing m → length u.entries < u.limit → keeps of m ≡ true → refusal u m ≡ None
     refusal-part own room keep =
         passes u.closed _ _ split.unclosed
@@ -144,7 +144,7 @@ module _ (symbols : List (List ℕ)) where
         (subst (λ tape. first_fault (message_faults tape m) ≡ None) (sym split.part)
         (message_faults-part of ms split.alike m names-whole keep ∙ target-whole)))))))
 
-    -- the messages of the longer list name alike
+    -- all messages of the longer list name alike
     alike-next : AllNameAlike of (numbered 1 (ms ++ m ∷ []))
     alike-next = subst (AllNameAlike of) (sym (numbered-push 1 ms m)) (AllNameAlike-push of (numbered 1 ms) (1 + length ms, m) split.alike names-whole)
 
@@ -161,7 +161,7 @@ module _ (symbols : List (List ℕ)) where
           matrix = split.matrix;
         }
 
-    -- another goes onto the whole alone
+    -- any other message goes onto the whole alone
     IsSplit-dropped : keeps of m ≡ false → IsSplit (with_message t m) u (ms ++ m ∷ [])
     IsSplit-dropped drop =
         let same : kept_of (ms ++ m ∷ []) ≡ kept_of ms =
@@ -176,13 +176,13 @@ module _ (symbols : List (List ℕ)) where
 
   -- the part admits its messages, and the tapes after all of them are split
   abbrev StaysSplit : TapeState → TapeState → List Message → List Message → Type 0
-  StaysSplit t u ms rest = AdmitsAll u (kept_of rest) × IsSplit (tape_after t rest) (tape_after u (kept_of rest)) (ms ++ rest)
+  StaysSplit t u ms rest = AdmitsAll u (kept_of rest) × IsSplit (tape_after_all t rest) (tape_after_all u (kept_of rest)) (ms ++ rest)
 
-  -- a tape lists the names of these messages, and has room for them behind its entries
+  -- a tape lists the names of these messages, and has room for them after its entries
   abbrev TakesOn : TapeState → List Message → Type 0
   TakesOn u rest = AllByRecursion (ListsNames u.listing) rest × (length u.entries + length rest ≤ u.limit)
 
-  -- where the whole admits further messages, the part admits those of its symbols
+  -- if the whole admits further messages, the part admits those for its symbols
   stays-split : (rest ms : List Message) (t u : TapeState) → IsSplit t u ms → AdmitsAll t rest → TakesOn u (kept_of rest) → StaysSplit t u ms rest
   stays-split [] ms t u split admits takes = (tt, subst (IsSplit t u) (sym (append-nil ms)) split)
   stays-split (m ∷ rest) ms t u split admits takes =
@@ -192,28 +192,28 @@ module _ (symbols : List (List ℕ)) where
           → ((u' : TapeState) → IsSplit (with_message t m) u' (ms ++ m ∷ []) → TakesOn u' (kept_of rest)
           → StaysSplit (with_message t m) u' (ms ++ m ∷ []) rest)
           → AdmitsAll u (cond b (m ∷ kept_of rest) (kept_of rest))
-          × IsSplit (tape_after (with_message t m) rest) (tape_after u (cond b (m ∷ kept_of rest) (kept_of rest))) (ms ++ m ∷ rest)
+          × IsSplit (tape_after_all (with_message t m) rest) (tape_after_all u (cond b (m ∷ kept_of rest) (kept_of rest))) (ms ++ m ∷ rest)
       by true keep takes further =
           let after = further (with_message u m) (IsSplit-kept t u ms m split admits.0 keep)
           (takes.0.1, omega (arith, takes.1, length-append u.entries (next_entry u.matrix u.entries m ∷ []))) in (
             (refusal-part t u ms m split admits.0 takes.0.0 (omega (arith, takes.1)) keep, after.0),
-            subst (IsSplit (tape_after (with_message t m) rest) (tape_after (with_message u m) (kept_of rest))) (append_assoc ms (m ∷ []) rest) after.1,
+            subst (IsSplit (tape_after_all (with_message t m) rest) (tape_after_all (with_message u m) (kept_of rest))) (append_assoc ms (m ∷ []) rest) after.1,
           )
       by false drop takes further =
           let after = further u (IsSplit-dropped t u ms m split admits.0 drop) takes in
-          (after.0, subst (IsSplit (tape_after (with_message t m) rest) (tape_after u (kept_of rest))) (append_assoc ms (m ∷ []) rest) after.1)
+          (after.0, subst (IsSplit (tape_after_all (with_message t m) rest) (tape_after_all u (kept_of rest))) (append_assoc ms (m ∷ []) rest) after.1)
 
   module _ (listing own : Names) (limit most : ℕ) (matrix : Matrix) (ms : List Message) (admits : AdmitsAll (empty_tape listing limit matrix) ms)
       (has : HasRoom own most (part_of symbols ms)) where
     -- the tape of all messages
     abbrev whole_tape : TapeState
-    whole_tape = tape_after (empty_tape listing limit matrix) ms
+    whole_tape = tape_after_all (empty_tape listing limit matrix) ms
 
     -- the tape of the part's messages
     abbrev part_tape : TapeState
-    part_tape = tape_after (empty_tape own most matrix) (part_of symbols ms)
+    part_tape = tape_after_all (empty_tape own most matrix) (part_of symbols ms)
 
-    -- two empty tapes are split, and so are those after all messages
+    -- two empty tapes are split, and so are the tapes after all messages
     split-day : StaysSplit (empty_tape listing limit matrix) (empty_tape own most matrix) [] ms
     split-day = stays-split ms [] (empty_tape listing limit matrix) (empty_tape own most matrix)
         (record { whole = refl; part = refl; alike = tt; unclosed = refl; matrix = refl }) admits
@@ -227,11 +227,11 @@ module _ (symbols : List (List ℕ)) where
     split : IsSplit whole_tape part_tape ms
     split = split-day.1
 
-    -- what two lists of numbered messages come to is the same, by the whole's matrix and by this one
+    -- two lists of numbered messages have the same summary, by the whole's matrix and by this one
     abbrev IsSameBy : (Matrix → List NumberedMessage → Summary) → List NumberedMessage → List NumberedMessage → Matrix → Type 0
     IsSameBy summary all kept by = IsSameSummary (HaveOneMessage all kept) (summary whole_tape.matrix all) (summary by kept)
 
-    -- and so it is on the tapes
+    -- and so have the tapes
     on_tapes : (summary : Matrix → List NumberedMessage → Summary)
         → IsSameBy summary (numbered 1 ms) (numbered 1 (kept_of ms)) whole_tape.matrix
         → IsSameBy summary (messages_of whole_tape.entries) (messages_of part_tape.entries) part_tape.matrix
@@ -241,7 +241,7 @@ module _ (symbols : List (List ℕ)) where
         (subst (IsSameBy summary (numbered 1 ms) (numbered 1 (kept_of ms))) (sym split.matrix) same))
 
     module _ (symbol : List ℕ) (listed : of symbol ≡ true) where
-      -- a symbol of no message of the part is another
+      -- a symbol outside the part differs from this one
       others : (s : List ℕ) → of s ≡ false → symbol_eq s symbol ≡ false
       others s unlisted = by (symbol_eq s symbol) refl
         where
@@ -249,12 +249,12 @@ module _ (symbols : List (List ℕ)) where
           by true same = absurd (true≢false (sym listed ∙ ap of (sym ((bytes_eq-Decides s symbol).0 same)) ∙ unlisted))
           by false different = refl
 
-      -- so a symbol of the part has one summary
+      -- so a symbol of the part has the same summary on both
       pub summary-split : HasSameSummary whole_tape part_tape symbol
       summary-split =
           on_tapes (λ by tape. symbol_summary by tape symbol) (symbol_summary-same of ms split.alike whole_tape.matrix symbol others)
 
-      -- and so has a participant in it
+      -- and so has each participant in it
       pub participant_summary-split : (who : ℕ) → HasSameParticipantSummary whole_tape part_tape symbol who
       participant_summary-split who =
           on_tapes (λ by tape. participant_summary by tape symbol who) (participant_summary-same of ms split.alike whole_tape.matrix symbol others who)

@@ -1,4 +1,5 @@
--- Messages of other symbols are dropped, and the others keep their numbers: what is kept is named, cancelled and in force as before.
+-- Messages for other symbols are dropped, and the kept ones keep their numbers: they are named, cancelled and in force as
+-- before.
 use Rattle.std.proofs.Common.{◌≡◌, ℕ, Bool, true, false, cond, not, List, Option, Some, None, if◌then◌else◌, is_some, unwrap_or}
 use Rattle.std.proofs.Common.{filter, refl, sym, ap, ◌∙◌}
 use Rattle.std.specs.Prelude.{◌==◌, ◌&&◌}
@@ -16,12 +17,12 @@ use Rattle.tape_core.specs.Standing.{standing_content, standing_report, standing
 use Rattle.split_days.proofs.Lists.{all-both, filter_map-filter, find-filter, find-holds}
 use Rattle.split_days.proofs.Named.{keeps, NamesAlike, AllNameAlike}
 
--- nothing is nothing, kept or dropped
+-- None stays None, whether kept or dropped
 none-either : {Y : Type 0} (b : Bool) → ◌≡◌ {A = Option Y} (cond b None None) None
 none-either true = refl
 none-either false = refl
 
--- of the tests whether a report stands, the second fails
+-- the tests for a standing report fail if the second one does
 fails-second : (a c : Bool) → (a && (false && c)) ≡ false
 fails-second true c = refl
 fails-second false c = refl
@@ -32,7 +33,7 @@ module _ (of : List ℕ → Bool) (kept_at : ℕ → Bool) (tape : List Numbered
   abbrev pub kept_tape : List NumberedMessage
   kept_tape = filter (λ n. keeps of n.1) tape
 
-  -- a report that is named and kept is named among what is kept
+  -- a report that is named and kept is named among the kept messages
   pub named_report-kept : (who number : ℕ) (r : NumberedMessage) → named_report tape who number ≡ Some r → keeps of r.1 ≡ true
       → named_report kept_tape who number ≡ Some r
   named_report-kept who number r named kept =
@@ -44,7 +45,7 @@ module _ (of : List ℕ → Bool) (kept_at : ℕ → Bool) (tape : List Numbered
       find-holds (λ (n : NumberedMessage). keeps of n.1 ≡ kept_at n.0) (λ n. is_report_of who number n.1) r tape places named
 
   module _ (place : ℕ) (kept_place : kept_at place ≡ true) where
-    -- a place that is dropped is another
+    -- a dropped place is another
     other-place : (dropped : ℕ) → kept_at dropped ≡ false → (dropped == place) ≡ false
     other-place dropped drops = by (dropped == place) refl
       where
@@ -52,7 +53,7 @@ module _ (of : List ℕ → Bool) (kept_at : ℕ → Bool) (tape : List Numbered
         by true same = absurd (true≢false (sym kept_place ∙ ap kept_at (sym ((Decides-eqb dropped place).0 same)) ∙ drops))
         by false different = refl
 
-    -- what a message says of the report that it names, at this place
+    -- what a message says about the report that it names, at this place
     said-kept : {Y : Type 0} (who target : ℕ) (b : Bool) (r : NumberedMessage) (said : Option Y) → named_report tape who target ≡ Some r → keeps of r.1 ≡ b
         → cond b (if is_at place (named_report kept_tape who target) then said else None) None
         ≡ (if is_at place (named_report tape who target) then said else None)
@@ -62,7 +63,7 @@ module _ (of : List ℕ → Bool) (kept_at : ℕ → Bool) (tape : List Numbered
         let apart : (r.0 == place) ≡ false = other-place r.0 (sym (named_report-place who target r named) ∙ dropped) in
         sym (ap (λ o. if is_at place o then said else None) named ∙ ap (λ (b : Bool). if b then said else None) apart)
 
-    -- what a report says of its own place
+    -- what a report says about its own place
     own-kept : {Y : Type 0} (number : ℕ) (b : Bool) (said : Option Y) → b ≡ kept_at number
         → cond b (if number == place then said else None) None ≡ (if number == place then said else None)
     own-kept number true said kept = refl
@@ -78,7 +79,7 @@ module _ (of : List ℕ → Bool) (kept_at : ℕ → Bool) (tape : List Numbered
     cancelled_by-kept (number, Reinstate header target) names =
         said-kept header.participant target (of header.symbol) names.0 (Some false) names.1 names.2
 
-    -- the content that a message gives it
+    -- the content that a message sets for it
     content_from-kept : (n : NumberedMessage) → keeps of n.1 ≡ kept_at n.0 → NamesAlike of tape n.1
         → cond (keeps of n.1) (content_from kept_tape place n) None ≡ content_from tape place n
     content_from-kept (number, Report header content) kept names = own-kept number (of header.symbol) (Some content) kept
@@ -104,7 +105,7 @@ module _ (of : List ℕ → Bool) (kept_at : ℕ → Bool) (tape : List Numbered
         content_from-kept tape places alike))
 
   module _ (symbol : List ℕ) (others : (s : List ℕ) → of s ≡ false → symbol_eq s symbol ≡ false) where
-    -- what stands at a place, by the tests of a message and the content in force
+    -- the report that stands at a place, by the tests of a message and the content in force
     abbrev stood : ℕ → Message → Bool → Option Content → Option StandingReport
     stood place m stands content =
         if stands then option_map (λ now. record { place = place; who = (header_of m).participant; content = now }) content else None
@@ -122,7 +123,7 @@ module _ (of : List ℕ → Bool) (kept_at : ℕ → Bool) (tape : List Numbered
             (ap (λ (b : Bool). is_some (reported_content m) && (b && not (is_cancelled tape place))) (others (header_of m).symbol drop)
             ∙ fails-second (is_some (reported_content m)) (not (is_cancelled tape place))))
 
-    -- so the reports of a kept symbol that stand are those that stood
+    -- so the standing reports of a kept symbol are the same as before
     pub standing_reports-kept : standing_reports kept_tape symbol ≡ standing_reports tape symbol
     standing_reports-kept =
         filter_map-filter (standing_report kept_tape symbol) (standing_report tape symbol) (λ (n : NumberedMessage). keeps of n.1) tape

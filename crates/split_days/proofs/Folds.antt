@@ -1,5 +1,5 @@
--- A fold chooses its marks without looking at places: reports that differ in places alone come to the same figures, at the places of
--- the same reports.
+-- A fold chooses its marks without looking at places: reports that differ only in their places have the same figures, at the
+-- places of the same reports.
 use Rattle.std.proofs.Common.{◌≡◌, ℕ, ◌+◌, Bool, true, false, List, [], ◌∷◌, Option, Some, None, if◌then◌else◌, fold, refl, ap, subst}
 use Rattle.std.specs.Prelude.{nat_lt, ◌==◌, is_none, ◌&&◌}
 use Rattle.std.specs.List.{AllZip}
@@ -12,7 +12,7 @@ use Rattle.scratch_fold.specs.Fold.{PlacedEffect, becomes_last, empty_summary, i
 use Rattle.split_days.specs.Split.{IsSameMark, IsSameFigure, IsSameSummary}
 
 module _ (SamePlace : ℕ → ℕ → Type 0) where
-  -- two reports do the same, at places that go together
+  -- two reports have the same effect, at matching places
   pub record IsSameReport (a b : PlacedEffect) : Type 0 where
     pub place : SamePlace a.0 b.0
     pub effect : a.1 ≡ b.1
@@ -62,7 +62,7 @@ module _ (SamePlace : ℕ → ℕ → Type 0) where
         | false ↦ same
       ])
 
-  -- one report more, at either place
+  -- one more report, at either place
   placed-same : (z y : Summary) (here there : ℕ) (e : Effect) → SamePlace here there → IsSameSummary SamePlace z y
       → IsSameSummary SamePlace (step z (here, e)) (step y (there, e))
   placed-same z y here there e places same =
@@ -80,7 +80,7 @@ module _ (SamePlace : ℕ → ℕ → Type 0) where
         trades = ap (λ n. n + 1) same.trades;
       }
 
-  -- one report more on each side
+  -- one more report on each side
   step-same : (z y : Summary) (a b : PlacedEffect) → IsSameReport a b → IsSameSummary SamePlace z y → IsSameSummary SamePlace (step z a) (step y b)
   step-same z y a b report same =
       subst (λ e. IsSameSummary SamePlace (step z a) (step y (b.0, e))) report.effect (placed-same z y a.0 b.0 a.1 report.place same)

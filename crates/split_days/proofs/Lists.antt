@@ -1,4 +1,4 @@
--- Lists that are searched, filtered and mapped.
+-- Facts about searching, filtering and mapping lists.
 use Rattle.std.proofs.Common.{◌≡◌, Bool, true, false, cond, List, [], ◌∷◌, ◌++◌, Option, Some, None, map, filter, refl, sym, ap, subst, ◌∙◌}
 use Rattle.std.specs.Bool.{⊤}
 use Rattle.std.specs.List.{AllByRecursion, AllZip, find, filter_map, cons_option}
@@ -6,25 +6,25 @@ use Rattle.std.specs.Option.{option_map}
 use Rattle.std.proofs.lemmas.Bool.{true≢false}
 use Rattle.std.proofs.lemmas.Option.{same_Some, none-some}
 
--- ## What holds of each element
+-- ## What holds for each element
 
--- what follows from two facts of each element holds of each
+-- what follows from two facts about each element holds for each
 pub all-both : {X : Type 0} (P Q S : X → Type 0) → ((x : X) → P x → Q x → S x) → (xs : List X) → AllByRecursion P xs → AllByRecursion Q xs
     → AllByRecursion S xs
 all-both P Q S step [] ps qs = tt
 all-both P Q S step (x ∷ xs) ps qs = (step x ps.0 qs.0, all-both P Q S step xs ps.1 qs.1)
 
--- what follows from a fact of each element holds of each
+-- what follows from a fact about each element holds for each
 pub all-weaker : {X : Type 0} (P S : X → Type 0) → ((x : X) → P x → S x) → (xs : List X) → AllByRecursion P xs → AllByRecursion S xs
 all-weaker P S step [] ps = tt
 all-weaker P S step (x ∷ xs) ps = (step x ps.0, all-weaker P S step xs ps.1)
 
--- what holds of each element and of one more holds of the longer list
+-- what holds for each element and for one more holds for the longer list
 pub all-push : {X : Type 0} (P : X → Type 0) (xs : List X) (x : X) → AllByRecursion P xs → P x → AllByRecursion P (xs ++ x ∷ [])
 all-push P [] x ps p = (p, tt)
 all-push P (y ∷ ys) x ps p = (ps.0, all-push P ys x ps.1 p)
 
--- what holds of each element holds of those that a filter keeps
+-- what holds for each element holds for those that a filter keeps
 pub all-filter : {X : Type 0} (P : X → Type 0) (q : X → Bool) (xs : List X) → AllByRecursion P xs → AllByRecursion P (filter q xs)
 all-filter P q [] ps = tt
 all-filter P q (x ∷ xs) ps = elim (q x) as (λ b. AllByRecursion P (cond b (x ∷ filter q xs) (filter q xs))) [
@@ -32,12 +32,12 @@ all-filter P q (x ∷ xs) ps = elim (q x) as (λ b. AllByRecursion P (cond b (x 
   | false ↦ all-filter P q xs ps.1
 ]
 
--- what holds of each image holds of each element's image
+-- what holds for each image holds for each element's image
 pub all-unmap : {X Y : Type 0} (P : Y → Type 0) (g : X → Y) (xs : List X) → AllByRecursion P (map g xs) → AllByRecursion (λ x. P (g x)) xs
 all-unmap P g [] ps = tt
 all-unmap P g (x ∷ xs) ps = (ps.0, all-unmap P g xs ps.1)
 
--- what holds of each element holds of the one that a search finds
+-- what holds for each element holds for the one that a search finds
 pub find-holds : {X : Type 0} (P : X → Type 0) (p : X → Bool) (x : X) (xs : List X) → AllByRecursion P xs → find p xs ≡ Some x → P x
 find-holds P p x [] all found = absurd (none-some x found)
 find-holds {X = X} P p x (y ∷ ys) all found = by (p y) (find-holds P p x ys all.1) found
@@ -48,7 +48,7 @@ find-holds {X = X} P p x (y ∷ ys) all found = by (p y) (find-holds P p x ys al
 
 -- ## A search
 
--- what a search finds, it finds also among what a filter keeps, if that keeps it
+-- a search also finds its element among those that a filter keeps, if the filter keeps it
 pub find-filter : {X : Type 0} (p q : X → Bool) (x : X) (xs : List X) → find p xs ≡ Some x → q x ≡ true → find p (filter q xs) ≡ Some x
 find-filter p q x [] found kept = found
 find-filter {X = X} p q x (y ∷ ys) found kept = by (p y) (q y) refl refl (λ later. find-filter p q x ys later kept) found
@@ -69,9 +69,10 @@ find-map p g (x ∷ xs) = elim (p (g x)) as
       | false ↦ find-map p g xs
     ]
 
--- ## What a function gives of each element
+-- ## What a function returns for each element
 
--- of what a filter keeps, a function gives what another gives of all, if that gives nothing of what is dropped
+-- a function returns for the elements that a filter keeps what another returns for all, if that returns nothing for those
+-- dropped
 pub filter_map-filter : {X Y : Type 0} (h k : X → Option Y) (q : X → Bool) (xs : List X)
     → AllByRecursion (λ x. cond (q x) (h x) None ≡ k x) xs → filter_map h (filter q xs) ≡ filter_map k xs
 filter_map-filter h k q [] alike = refl
@@ -82,7 +83,7 @@ filter_map-filter {X = X} {Y = Y} h k q (x ∷ xs) alike = by (q x) alike.0 (fil
     by true here rest = λ i. cons_option (here i) (rest i)
     by false here rest = λ i. cons_option (here i) (rest i)
 
--- two functions that give the same of each pair of images give the same of all
+-- two functions that return the same for each pair of images return the same for all
 pub filter_map-alike : {X A B Y : Type 0} (h : A → Option Y) (k : B → Option Y) (f : X → A) (g : X → B) (xs : List X)
     → AllByRecursion (λ x. h (f x) ≡ k (g x)) xs → filter_map h (map f xs) ≡ filter_map k (map g xs)
 filter_map-alike h k f g [] alike = refl
@@ -90,14 +91,14 @@ filter_map-alike h k f g (x ∷ xs) alike = λ i. cons_option (alike.0 i) (filte
 
 -- ## Two lists, element by element
 
--- two values are both missing, or both there and related
+-- two values are both missing, or both present and related
 abbrev pub BothOrNone : {A B : Type 0} → (A → B → Type 0) → Option A → Option B → Type 0
 BothOrNone R None None = ⊤
 BothOrNone R None (Some b) = ⊥
 BothOrNone R (Some a) None = ⊥
 BothOrNone R (Some a) (Some b) = R a b
 
--- what two functions give of each pair of images is related, and so is what they give of all
+-- if what two functions return for each pair of images is related, so is what they return for all
 pub filter_map-zip : {X A B C D : Type 0} (R : C → D → Type 0) (h : A → Option C) (k : B → Option D) (f : X → A) (g : X → B) (xs : List X)
     → AllByRecursion (λ x. BothOrNone R (h (f x)) (k (g x))) xs → AllZip R (filter_map h (map f xs)) (filter_map k (map g xs))
 filter_map-zip R h k f g [] alike = tt

@@ -1,4 +1,4 @@
--- What a message names: on a tape that admitted it, a report of the symbol that it gives.
+-- The report that a message names: on a tape that admitted the message, one of the message's own symbol.
 use Rattle.std.proofs.Common.{◌≡◌, ℕ, Bool, not, List, [], ◌∷◌, ◌++◌, Option, Some, None, IfSome, unwrap_or, refl, sym, ap, ◌∙◌}
 use Rattle.std.specs.List.{AllByRecursion}
 use Rattle.std.specs.Option.{option_map, option_or}
@@ -14,11 +14,11 @@ use Rattle.tape_core.specs.Lemmas.LegalNext.{none_first}
 use Rattle.split_days.proofs.Lists.{all-push, all-weaker}
 
 module _ (of : List ℕ → Bool) where
-  -- whether a message's symbol is one of those that are kept
+  -- whether a message's symbol is one of those kept
   abbrev pub keeps : Message → Bool
   keeps m = of (header_of m).symbol
 
-  -- a message that names a report names one of the tape, and both are kept or neither is
+  -- a message that names a report names one on the tape, and both are kept or neither is
   abbrev pub NamesAlike : List NumberedMessage → Message → Type 0
   NamesAlike tape m = IfSome (named_target m)
       (λ target. (r : NumberedMessage) × (named_report tape (header_of m).participant target ≡ Some r) × (keeps r.1 ≡ keeps m))
@@ -27,7 +27,7 @@ module _ (of : List ℕ → Bool) where
   abbrev pub AllNameAlike : List NumberedMessage → Type 0
   AllNameAlike tape = AllByRecursion (λ (n : NumberedMessage). NamesAlike tape n.1) tape
 
-  -- it does after more messages too
+  -- it also does after more messages
   NamesAlike-append : (tape more : List NumberedMessage) (m : Message) → NamesAlike tape m → NamesAlike (tape ++ more) m
   NamesAlike-append tape more m names = by (named_target m) names
     where

@@ -1,4 +1,4 @@
--- Messages that are numbered in their order, and the numbers that kept ones have before and after the others are dropped.
+-- Messages numbered in their order, and the numbers of the kept ones before and after the others are dropped.
 use Rattle.std.proofs.Common.{◌≡◌, ℕ, ◌+◌, ◌≤◌, Bool, true, false, cond, List, [], ◌∷◌, ◌++◌, Some, length}
 use Rattle.std.proofs.Common.{map, filter, refl, sym, ap, subst, ◌∙◌, arith}
 use Rattle.std.specs.Prelude.{◌==◌}
@@ -13,7 +13,7 @@ abbrev pub numbered : ℕ → List Message → List NumberedMessage
 numbered first [] = []
 numbered first (m ∷ ms) = (first, m) ∷ numbered (first + 1) ms
 
--- there are as many as there were
+-- numbering keeps the number of messages
 pub length-numbered : (first : ℕ) (ms : List Message) → length (numbered first ms) ≡ length ms
 length-numbered first [] = refl
 length-numbered first (m ∷ ms) = grind (arith, length-numbered (first + 1) ms)
@@ -55,7 +55,7 @@ numbered-found first (m ∷ ms) =
 
 -- ## Kept messages
 
--- a kept message, with its number among all messages and among the kept ones
+-- a kept message, with its numbers among all messages and among the kept ones
 pub record KeptMessage : Type 0 where
   pub whole : ℕ
   pub part : ℕ
@@ -69,23 +69,23 @@ on_whole k = (k.whole, k.message)
 abbrev pub on_part : KeptMessage → NumberedMessage
 on_part k = (k.part, k.message)
 
--- one number goes with one number: what two kept messages say of each other's numbers is the same on both sides
+-- two kept messages have equal numbers on both sides, or on neither
 abbrev pub Agree : KeptMessage → KeptMessage → Type 0
 Agree k other = (other.whole == k.whole) ≡ (other.part == k.part)
 
 module _ (keep : Message → Bool) where
-  -- the kept messages, where all are numbered from `first` and the kept ones from `kept_first`
+  -- the kept messages, if all are numbered from `first` and the kept ones from `kept_first`
   abbrev pub kept : ℕ → ℕ → List Message → List KeptMessage
   kept first kept_first [] = []
   kept first kept_first (m ∷ ms) =
       cond (keep m) (record { whole = first; part = kept_first; message = m } ∷ kept (first + 1) (kept_first + 1) ms) (kept (first + 1) kept_first ms)
 
-  -- those after a first message, which is kept itself or not
+  -- the kept messages from a first one on, which itself is kept or not
   abbrev kept_after : ℕ → ℕ → Message → List Message → Bool → List KeptMessage
   kept_after first kept_first m ms keeps =
       cond keeps (record { whole = first; part = kept_first; message = m } ∷ kept (first + 1) (kept_first + 1) ms) (kept (first + 1) kept_first ms)
 
-  -- they are those that a filter keeps of all
+  -- they are those that a filter keeps from all
   pub filter-numbered : (first kept_first : ℕ) (ms : List Message)
       → filter (λ (n : NumberedMessage). keep n.1) (numbered first ms) ≡ map on_whole (kept first kept_first ms)
   filter-numbered first kept_first [] = refl
@@ -129,7 +129,7 @@ module _ (keep : Message → Bool) where
       let part : (other.part == k.part) ≡ false = grind (arith, nat_tests, above.1) in
       whole ∙ sym part
 
-  -- and they than it
+  -- and they have other numbers than it
   agree-earlier : (k other : KeptMessage) → IsAbove (other.whole + 1) (other.part + 1) k → Agree k other
   agree-earlier k other above =
       let whole : (other.whole == k.whole) ≡ false = grind (arith, nat_tests, above.0) in
@@ -143,7 +143,7 @@ module _ (keep : Message → Bool) where
       let part : (k.part == k.part) ≡ true = grind (arith, nat_tests) in
       whole ∙ sym part
 
-  -- so the numbers of any two kept messages are one on the one side where they are one on the other
+  -- so any two kept messages have equal numbers on one side if and only if they do on the other
   pub kept-agree : (first kept_first : ℕ) (ms : List Message)
       → AllByRecursion (λ k. AllByRecursion (Agree k) (kept first kept_first ms)) (kept first kept_first ms)
   kept-agree first kept_first [] = tt
@@ -161,7 +161,7 @@ module _ (keep : Message → Bool) where
         | false ↦ kept-agree (first + 1) kept_first ms
       ]
 
-  -- each kept message is found among all by the one number
+  -- each kept message is found among all by its number there
   pub kept-found_on_whole : (first kept_first : ℕ) (ms : List Message)
       → AllByRecursion (λ k. IsFound (numbered first ms) (on_whole k)) (kept first kept_first ms)
   kept-found_on_whole first kept_first ms =
@@ -169,7 +169,7 @@ module _ (keep : Message → Bool) where
       (subst (AllByRecursion (IsFound (numbered first ms))) (filter-numbered first kept_first ms)
       (all-filter (IsFound (numbered first ms)) (λ (n : NumberedMessage). keep n.1) (numbered first ms) (numbered-found first ms)))
 
-  -- and among the kept ones by the other
+  -- and among the kept ones by its number there
   pub kept-found_on_part : (first kept_first : ℕ) (ms : List Message)
       → AllByRecursion (λ k. IsFound (numbered kept_first (filter keep ms)) (on_part k)) (kept first kept_first ms)
   kept-found_on_part first kept_first ms =

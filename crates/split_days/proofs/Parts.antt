@@ -1,4 +1,5 @@
--- A list of messages and its part, each numbered in its own order: what a kept message names, and what a kept symbol comes to, are the same.
+-- A list of messages and its part, each numbered in its own order: what a kept message names and the summary of a kept symbol
+-- are the same.
 use Rattle.std.proofs.Common.{◌≡◌, ℕ, Bool, true, false, not, List, ◌∷◌, Option, Some, None, [], unwrap_or, filter, refl, sym, ap, subst, ◌∙◌}
 use Rattle.std.specs.Prelude.{◌==◌, ◌&&◌}
 use Rattle.std.specs.List.{AllByRecursion, AllZip, find}
@@ -35,7 +36,7 @@ module _ (of : List ℕ → Bool) (ms : List Message) (alike : AllNameAlike of (
   abbrev pub part : List NumberedMessage
   part = numbered 1 (filter (keeps of) ms)
 
-  -- the kept ones with both
+  -- the kept ones with both numbers
   abbrev ks : List KeptMessage
   ks = kept (keeps of) 1 1 ms
 
@@ -43,23 +44,23 @@ module _ (of : List ℕ → Bool) (ms : List Message) (alike : AllNameAlike of (
   abbrev kept_at : ℕ → Bool
   kept_at place = unwrap_or (option_map (λ (n : NumberedMessage). keeps of n.1) (find (λ (n : NumberedMessage). n.0 == place) whole)) false
 
-  -- a message is kept where its place is
+  -- a message is kept if its place is
   places : AllByRecursion (λ (n : NumberedMessage). keeps of n.1 ≡ kept_at n.0) whole
   places = all-weaker (IsFound whole) (λ (n : NumberedMessage). keeps of n.1 ≡ kept_at n.0)
       (λ n found. sym (ap (λ (o : Option NumberedMessage). unwrap_or (option_map (λ (x : NumberedMessage). keeps of x.1) o) false) found))
       whole (numbered-found 1 ms)
 
-  -- what is kept of all
+  -- the messages kept from all
   kept-is : kept_tape of kept_at whole places alike ≡ wholes ks
   kept-is = filter-numbered (keeps of) 1 1 ms
 
-  -- and what is numbered anew
+  -- and those numbered anew
   part-is : part ≡ parts ks
   part-is = numbered-filter (keeps of) 1 1 ms
 
   -- ## What a message names
 
-  -- a kept report is cancelled on the part where it is on the whole
+  -- a kept report is cancelled on the part if and only if it is on the whole
   is_cancelled-part : (k : KeptMessage) → AllByRecursion (Agree k) ks → kept_at k.whole ≡ true → is_cancelled part k.part ≡ is_cancelled whole k.whole
   is_cancelled-part k agree at =
       ap (λ tape. is_cancelled tape k.part) part-is
@@ -74,7 +75,7 @@ module _ (of : List ℕ → Bool) (ms : List Message) (alike : AllNameAlike of (
     named : named_report part who target ≡ Some (on_part message)
     cancelled : is_cancelled part message.part ≡ is_cancelled whole r.0
 
-  -- a kept report that the whole names, the part names
+  -- the part names each kept report that the whole names
   names-part : (who target : ℕ) (r : NumberedMessage) → named_report whole who target ≡ Some r → keeps of r.1 ≡ true → NamesPart who target r
   names-part who target r named keep =
       by (named_kept ks who target) refl
@@ -96,7 +97,7 @@ module _ (of : List ℕ → Bool) (ms : List Message) (alike : AllNameAlike of (
             cancelled = is_cancelled-part k agree at ∙ ap (is_cancelled whole) place;
           }
 
-  -- the faults of a message's target that is of this symbol, cancelled or not
+  -- the faults of a message's target, if it is of this symbol, and cancelled or not
   abbrev faults_of : Message → List ℕ → Bool → List (Bool × Refusal)
   faults_of m symbol cancelled =
       (not (symbol_eq (header_of m).symbol symbol), OtherSymbol) ∷ (not (reinstates m) && cancelled, Cancelled) ∷ (reinstates m && not cancelled, Standing) ∷ []
@@ -125,7 +126,7 @@ module _ (of : List ℕ → Bool) (ms : List Message) (alike : AllNameAlike of (
       by (Some target) given =
           ap first_fault (there target given.0 given.1 (names-part (header_of m).participant target given.0 given.1 (given.2 ∙ keep)))
 
-  -- ## What a kept symbol comes to
+  -- ## The summary of a kept symbol
 
   -- a kept message is at its two numbers
   one_message : AllByRecursion (λ k. HaveOneMessage whole part k.whole k.part) ks
@@ -133,22 +134,22 @@ module _ (of : List ℕ → Bool) (ms : List Message) (alike : AllNameAlike of (
       (λ k on on'. (k.message, ap (option_map (λ (n : NumberedMessage). n.1)) on, ap (option_map (λ (n : NumberedMessage). n.1)) on'))
       ks (kept-found_on_whole (keeps of) 1 1 ms) (kept-found_on_part (keeps of) 1 1 ms)
 
-  -- two reports that stand are one, at the numbers of one message
+  -- two standing reports are the same, at the numbers of one message
   abbrev IsOneReport : StandingReport → StandingReport → Type 0
   IsOneReport = IsSameStanding (HaveOneMessage whole part)
 
-  -- and what they do is one
+  -- and they have the same effect
   abbrev IsOneEffect : PlacedEffect → PlacedEffect → Type 0
   IsOneEffect = IsSameReport (HaveOneMessage whole part)
 
-  -- reports that are one do the same to the consolidated summary
+  -- such reports have the same effect on the consolidated summary
   consolidated-same : (matrix : Matrix) (a b : StandingReport) → IsOneReport a b → IsOneEffect (placed_consolidated matrix a) (placed_consolidated matrix b)
   consolidated-same matrix a b same = record {
     place = same.place;
     effect = λ i. consolidated_effect (same.who i) (same.content i).price (same.content i).size (cells_of matrix (same.content i).condition);
   }
 
-  -- and to their participant's
+  -- and on their participant's
   participant-same : (matrix : Matrix) (a b : StandingReport) → IsOneReport a b → IsOneEffect (placed_participant matrix a) (placed_participant matrix b)
   participant-same matrix a b same = record {
     place = same.place;

@@ -1,4 +1,4 @@
--- Kept messages get other numbers: what is named, cancelled and in force stays so, at the new number.
+-- Kept messages get other numbers: a report is named, cancelled and in force as before, at its new number.
 use Rattle.std.proofs.Common.{◌≡◌, ℕ, Bool, true, false, not, List, Option, Some, None, if◌then◌else◌, is_some, unwrap_or}
 use Rattle.std.proofs.Common.{map, refl, ap, subst, ◌∙◌, sym}
 use Rattle.std.specs.Prelude.{◌==◌, ◌&&◌}
@@ -14,7 +14,7 @@ use Rattle.tape_core.specs.Standing.{standing_content, standing_report, standing
 use Rattle.split_days.proofs.Lists.{BothOrNone, all-both, all-weaker, filter_map-alike, filter_map-zip, find-holds, find-map}
 use Rattle.split_days.proofs.Numbered.{KeptMessage, on_whole, on_part, Agree}
 
--- two reports that stand are one, at places that go together
+-- two standing reports are the same, at matching places
 pub record IsSameStanding (SamePlace : ℕ → ℕ → Type 0) (a b : StandingReport) : Type 0 where
   pub place : SamePlace a.place b.place
   pub who : a.who ≡ b.who
@@ -60,7 +60,7 @@ module _ (ks : List KeptMessage) where
     cancelled_by-renumbered whole part (Reinstate header target) =
         ap (λ (b : Bool). if b then Some false else None) (is_at-renumbered header.participant target)
 
-    -- the content that a message gives it
+    -- the content that a message sets for it
     content_from-renumbered : (whole part : ℕ) (m : Message) → (whole == k.whole) ≡ (part == k.part)
         → content_from wholes k.whole (whole, m) ≡ content_from parts k.part (part, m)
     content_from-renumbered whole part (Report header content) same = ap (λ (b : Bool). if b then Some content else None) same
@@ -76,7 +76,7 @@ module _ (ks : List KeptMessage) where
         (all-weaker (Agree k) (λ x. cancelled_by wholes k.whole (on_whole x) ≡ cancelled_by parts k.part (on_part x))
         (λ x _. cancelled_by-renumbered x.whole x.part x.message) ks agree))
 
-    -- and has one content
+    -- and has the same content
     pub standing_content-renumbered : standing_content wholes k.whole ≡ standing_content parts k.part
     standing_content-renumbered = ap (last_or None)
         (filter_map-alike (content_from wholes k.whole) (content_from parts k.part) on_whole on_part ks
@@ -85,12 +85,12 @@ module _ (ks : List KeptMessage) where
 
   module _ (SamePlace : ℕ → ℕ → Type 0) (symbol : List ℕ) (places : AllByRecursion (λ k. SamePlace k.whole k.part) ks)
       (agree : AllByRecursion (λ k. AllByRecursion (Agree k) ks) ks) where
-    -- what stands at a place, by the tests of a message and the content in force
+    -- the report that stands at a place, by the tests of a message and the content in force
     abbrev if_stands : ℕ → Message → Bool → Option Content → Option StandingReport
     if_stands place m stands content =
         if stands then option_map (λ now. record { place = place; who = (header_of m).participant; content = now }) content else None
 
-    -- a message as a report that stands, at a place
+    -- a message as a standing report, at a place
     abbrev stood : ℕ → Message → Bool → Option Content → Option StandingReport
     stood place m cancelled content =
         if_stands place m (is_some (reported_content m) && (symbol_eq (header_of m).symbol symbol && not cancelled)) content
@@ -118,7 +118,7 @@ module _ (ks : List KeptMessage) where
         (standing_content-renumbered k agrees)
         (stood-same k.whole k.part k.message (is_cancelled wholes k.whole) (standing_content wholes k.whole) same))
 
-    -- so the reports that stand are the same, at places that go together
+    -- so the standing reports are the same, at matching places
     pub standing_reports-renumbered : AllZip (IsSameStanding SamePlace) (standing_reports wholes symbol) (standing_reports parts symbol)
     standing_reports-renumbered =
         filter_map-zip (IsSameStanding SamePlace) (standing_report wholes symbol) (standing_report parts symbol) on_whole on_part ks

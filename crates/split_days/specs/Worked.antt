@@ -1,4 +1,4 @@
--- Small days that are split.
+-- The small days that the laws split: names, messages, tapes and figures.
 use Rattle.std.specs.Prelude.{ℕ, List, [], ◌∷◌, Some, codes}
 use Rattle.tape_types.specs.Names.{Names}
 use Rattle.sale_matrix.specs.declared.matrix.Matrix.TheVariants.{One}

@@ -1,4 +1,4 @@
-//! A day over several tapes, split by symbols: what each part keeps of the whole.
+//! A day split by symbols over several tapes: laws of what each part keeps from the whole.
 #![tactic(auto)]
 
 pub mod laws;

@@ -1,7 +1,7 @@
 use Rattle.std.proofs.Common.{◌≡◌, ◌∙◌, ap, refl, subst}
 use Rattle.std.specs.Prelude.{List, ℕ}
-use Rattle.row_reads.specs.Writing.{WritesPrefix}
-use Rattle.table_days.specs.Explained.{explain_text}
+use Rattle.whole_io.specs.Writing.{WritesPrefix}
+use Rattle.csv_days.specs.Explained.{explain_text}
 use Rattle.journal_days.specs.Texts.{messages_in}
 use Rattle.journal_days.proofs.TextLemmas.{nothing_written, on_err, text_failed}
 use Rattle.journal_days.proofs.explain.write_journal_explained.Goals as goal

@@ -4,8 +4,8 @@ use Rattle.day_report.specs.ReportText.{report_text}
 use Rattle.day_report.specs.Rows.{report_rows}
 use Rattle.day_report.specs.declared.row.Row.{Row}
 use Rattle.std.specs.Prelude.{List}
-use Rattle.row_reads.specs.Lemmas.WriteLemmas.{WritesPrefix-kept, WritesPrefix-whole}
-use Rattle.row_reads.specs.Writing.{WritesPrefix}
+use Rattle.whole_io.specs.Lemmas.WriteLemmas.{WritesPrefix-kept, WritesPrefix-whole}
+use Rattle.whole_io.specs.Writing.{WritesPrefix}
 use Rattle.journal_days.specs.Days.{unlimited}
 use Rattle.journal_days.proofs.TextLemmas.{nothing_written, on_err, on_ok, report_failed, written_kept}
 use Rattle.journal_days.proofs.report.write_journal_report.Goals as goal

@@ -1,9 +1,9 @@
 use Rattle.std.proofs.Common.{◌≡◌, ◌∙◌, ◌==◌, ap, length, refl, rules, subst, true}
 use Rattle.std.specs.Io.KnownBytes.{Appends}
 use Rattle.std.specs.Prelude.{List, ℕ}
-use Rattle.row_reads.specs.Lemmas.WriteLemmas.{WritesPrefix-kept, WritesPrefix-whole}
-use Rattle.row_reads.specs.Writing.{WritesPrefix}
-use Rattle.table_days.specs.TapeRows.{tape_text}
+use Rattle.whole_io.specs.Lemmas.WriteLemmas.{WritesPrefix-kept, WritesPrefix-whole}
+use Rattle.whole_io.specs.Writing.{WritesPrefix}
+use Rattle.csv_days.specs.TapeRows.{tape_text}
 use Rattle.journal_days.specs.Texts.{messages_in}
 use Rattle.journal_days.proofs.TextLemmas.{nothing_written, on_err, on_ok, tape_of_none, text_failed, written_kept}
 use Rattle.journal_days.proofs.tape.write_journal_tape.Goals as goal

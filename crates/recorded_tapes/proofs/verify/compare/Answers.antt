@@ -1,6 +1,6 @@
 use Rattle.std.proofs.Common.{◌∙◌, rules, sym}
 use Rattle.std.proofs.lemmas.Slice.Eq.{bytes_eq-Decides}
-use Rattle.table_days.specs.TapeRows.{tape_text}
+use Rattle.csv_days.specs.TapeRows.{tape_text}
 use Rattle.recorded_tapes.proofs.TextLemmas.{same-text}
 use Rattle.recorded_tapes.proofs.verify.compare.Goals as goal
 

@@ -2,7 +2,7 @@ use Rattle.std.proofs.Common.{◌≡◌, ◌≤◌, ◌+◌, take}
 use Rattle.recorded_tapes.specs.Places.{place_behind}
 use Rattle.recorded_tapes.proofs.place.TextPlace.behind.Given as goal
 
--- the place is that behind the bytes so far, which are as many as were read
+-- the place is that after the bytes so far, which are as many as were read
 abbrev pub invariant-loop-byte : goal.invariant-loop-byte
 invariant-loop-byte l = record {
   place : l.place ≡ place_behind (take l.byte-index l.text);

@@ -1,0 +1,30 @@
+use Rattle.std.proofs.Common.{subst}
+use Rattle.csv_days.specs.EndDays.{EndsMore}
+use Rattle.csv_days.proofs.DayReadingLemmas.{EndsWith-fault, IsEnding-read, ReadsAll-piece, ReadsMore-none, ReadsMore-piece}
+use Rattle.csv_days.proofs.day_reading.answer_rows.Goals as goal
+
+pub loop-init : goal.loop-init
+loop-init g c = record { reading = c.requires.reading; more = ReadsMore-none g.R.Read.remaining c.args.rows.now c.args.day.now }
+
+pub answer_all-requires : goal.answer_all-requires
+answer_all-requires g c = record {
+  ending = IsEnding-read g.R.Read.remaining c.args.rows.now c.loop.rows c.args.day.now c.loop.day c.loop.invariant.more c.requires.ending;
+}
+
+pub returns-in-Err-clause-end : goal.returns-in-Err-clause-end
+returns-in-Err-clause-end g c =
+    (λ is. cc, EndsWith-fault g.R.Read.remaining c.args.rows.now c.loop.rows c.args.day.now c.loop.day c.in-Err.fault c.loop.invariant.more c.in-Err.ensures.fault)
+
+pub returns-then-piece-clause-all : goal.returns-then-piece-clause-all
+returns-then-piece-clause-all g c =
+    ReadsAll-piece g.R.Read.remaining c.args.rows.now c.loop.rows c.args.day.now c.loop.day c.answer_all.new.self c.in-Ok.piece.messages.items
+    c.loop.invariant.more (c.in-Ok.ensures.rest c.if-piece.true)
+    (subst (EndsMore c.loop.day c.answer_all.new.self) c.deref.ensures.value c.in-Ok-answer_all.ensures.more)
+
+pub loop-preserved : goal.loop-preserved
+loop-preserved g c = record {
+  reading = c.in-Ok.ensures.reading;
+  more = ReadsMore-piece g.R.Read.remaining c.args.rows.now c.loop.rows c.piece.new.self c.args.day.now c.loop.day c.answer_all.new.self
+      c.in-Ok.piece.messages.items c.loop.invariant.more (c.in-Ok.ensures.more c.if-piece.false)
+      (subst (EndsMore c.loop.day c.answer_all.new.self) c.deref.ensures.value c.in-Ok-answer_all.ensures.more);
+}

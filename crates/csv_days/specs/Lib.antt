@@ -1,0 +1,13 @@
+pub mod Accounts
+pub mod Checks
+pub mod Days
+pub mod EndDays
+pub mod EndTexts
+pub mod Explained
+pub mod ExplainedLaws
+pub mod Laws
+pub mod Refusals
+pub mod StaleRows
+pub mod Strict
+pub mod TableEnds
+pub mod TapeRows

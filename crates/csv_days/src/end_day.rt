@@ -1,0 +1,92 @@
+//! Answers the rows of a table of which only the end of the day is asked, as for a report: no entry is kept.
+ghost use Rattle.std.specs.Prelude.{◌≡◌, ◌∷◌, [], IfOk, OnOk};
+ghost use Rattle.tape_core.specs.Ending.{IsKeptFor, KeepsEnd, ListsNames};
+ghost use Rattle.tape_core.specs.Tape.{TapeState};
+ghost use Rattle.tape_core.specs.Answers.{answer, tape_after};
+
+use crate::Refusals;
+use crate::day_names::DayNames;
+use crate::last_numbers::LastNumbers;
+use csv_messages::FIRST_ROW;
+use reports::Message;
+use sale_matrix::Matrix;
+use std::alloc::{AllocError, Global};
+use tape_core::{Answer, EndTape};
+
+/// A table's day of which only the end is asked: what is kept of its tape, the names in the rows so far, and what the tape has
+/// refused.
+#[derive(Drop)]
+pub struct EndDay {
+    /// What is kept of the tape.
+    pub tape: EndTape,
+    /// The names in the rows so far.
+    pub names: DayNames,
+    /// The participants' last numbers on the tape.
+    pub numbers: LastNumbers,
+    /// What it refused of the rows so far.
+    pub refusals: Refusals,
+    /// The number of the next row.
+    pub row: u64,
+}
+
+/// Answers a message: it is admitted, or it is refused and the tape is as it was.
+fn answer(tape: &mut EndTape, message: Message) -> Result<Answer, AllocError>
+    requires kept { IsKeptFor tape.old message }
+    ensures tape { OnOk result ((t : TapeState) → KeepsEnd t tape.old → ListsNames t.listing message → KeepsEnd (tape_after t message) tape.new) }
+    ensures answer { IfOk result (λ answered. (t : TapeState) → KeepsEnd t tape.old → ListsNames t.listing message → answered ≡ answer t message) }
+{
+    match tape.admit(message) {
+        Ok(number) => Ok(Ok(number)),
+        Err(refusal) => {
+            if refusal.is_out_of_memory() {
+                return Err(AllocError);
+            }
+            Ok(Err(refusal))
+        }
+    }
+}
+
+impl EndDay {
+    ghost use Rattle.csv_days.specs.EndDays.{EndsMore, HasEnded, IsEnding};
+
+    /// Creates a day that has answered no row.
+    pub fn new(alloc: Global, matrix: Matrix) -> EndDay
+        ensures day { HasEnded matrix [] result }
+    {
+        EndDay {
+            tape: EndTape::new(alloc, matrix),
+            names: DayNames::new(alloc),
+            numbers: LastNumbers::none(),
+            refusals: Refusals::none(),
+            row: FIRST_ROW,
+        }
+    }
+
+    /// Answers the next row's message.
+    fn answer(&mut self, message: Message) -> Result<(), AllocError>
+        requires ending { IsEnding self.old }
+        ensures more { OnOk result (EndsMore self.old self.new (message ∷ [])) }
+    {
+        self.names.add(&message)?;
+        let greatest = self.numbers.of(message.header().participant);
+        let answered = answer(&mut self.tape, message)?;
+        self.refusals.count(&answered, self.row, &message, greatest);
+        self.numbers.note(&answered, &message);
+        match self.row.checked_add(1) {
+            Some(row) => self.row = row,
+            None => return Err(AllocError),
+        }
+        Ok(())
+    }
+
+    /// Answers the messages of the next rows, in order.
+    pub fn answer_all(&mut self, messages: &[Message]) -> Result<(), AllocError>
+        requires ending { IsEnding self.old }
+        ensures more { OnOk result (EndsMore self.old self.new messages.now) }
+    {
+        for message in messages {
+            self.answer(*message)?;
+        }
+        Ok(())
+    }
+}

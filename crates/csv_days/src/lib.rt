@@ -1,0 +1,43 @@
+//! Reads a table of trade messages and writes its report, its readable tape, what became of its reports, or all its faults.
+#![tactic(auto)]
+
+mod account;
+mod check;
+mod day;
+mod day_names;
+mod day_reading;
+mod end_day;
+mod entry_rows;
+mod explain;
+mod explained;
+mod fault_counts;
+mod fault_kind;
+mod last_numbers;
+mod messages_report;
+mod naming;
+mod refusals;
+mod report;
+mod seen_names;
+mod stale_row;
+mod strict;
+mod table_check;
+mod table_end;
+mod tape;
+mod tape_row;
+mod told_fault;
+mod writing;
+
+pub use check::check_over;
+pub use day::TableTape;
+pub use entry_rows::{EntryRows, rows_of_entries, write_head};
+pub use explain::{explain_over, rows_add_up, rows_of_figures, rows_of_reports, write_explained};
+pub use messages_report::write_messages_report;
+pub use naming::listing_of;
+pub use refusals::{Refusals, Refused};
+pub use report::report_over;
+pub use stale_row::StaleRow;
+pub use strict::{explain_strict_over, report_strict_over, tape_strict_over};
+pub use table_end::TableEnd;
+pub use tape::{tape_over, write_tape};
+pub use tape_row::refusal_text;
+pub use writing::{WritingFault, flush, write_part};

@@ -1,0 +1,141 @@
+//! Counts what a tape refused by reason, and keeps the first row of each and the numbers of the first stale row.
+ghost use Rattle.std.specs.Prelude.{◌≡◌, ◌↔◌, ◌+◌, ◌<◌, ◌^◌, ◌++◌, ◌∷◌, ℕ, List, [], Option, None, Result, Err, IfSome, IsTrue, is_none, length};
+ghost use Rattle.std.specs.List.{list_all};
+ghost use Rattle.tape_core.specs.declared.refusal.Refusal.{Refusal as Reason};
+ghost use Rattle.tape_core.specs.declared.refusal.Refusal.TheVariants.{Stale};
+ghost use Rattle.csv_days.specs.Refusals.{is_refusal, one_more, refused_for};
+ghost use Rattle.csv_days.specs.StaleRows.{stale_after, stale_row};
+
+use crate::stale_row::StaleRow;
+use reports::Message;
+use tape_core::{ALL_REFUSALS, Answer, Refusal};
+
+/// The rows that a tape refused for one reason.
+#[derive(Clone, Copy, Debug, PartialEq, Eq)]
+pub struct Refused {
+    /// How many there are, 1 or more.
+    pub count: u64,
+    /// The row of the first of them; the header row is row 1.
+    pub first: u64,
+}
+
+/// What a tape refused: for each reason how many rows, and the first of them; and the numbers of the first stale row.
+#[derive(Clone, Copy, Debug, PartialEq, Eq)]
+pub struct Refusals {
+    reasons: [Option<Refused>; ALL_REFUSALS.len()],
+    stale: Option<StaleRow>,
+}
+
+/// Returns whether a refusal is that of a stale row.
+fn is_stale(refusal: Refusal) -> bool
+    ensures { result ≡ is_refusal Stale (Err refusal) }
+{
+    refusal.code() == Refusal::Stale.code()
+}
+
+/// Counts one row more that is refused for a reason.
+fn one_more(refused: Option<Refused>, row: u64) -> Refused
+    ensures { IfSome refused (λ refused. refused.count + 1 < 2 ^ 64) → result ≡ one_more refused row }
+{
+    match refused {
+        Some(refused) => Refused {
+            count: refused.count.saturating_add(1),
+            first: refused.first,
+        },
+        None => Refused {
+            count: 1,
+            first: row,
+        },
+    }
+}
+
+impl Refusals {
+    ghost use Rattle.csv_messages.specs.Tables.{FIRST_ROW};
+    ghost use Rattle.csv_days.specs.Refusals.{AreRefusals, RefusesNone};
+
+    /// Creates counts of no refusal.
+    pub fn none() -> Refusals
+        ensures counts { AreRefusals [] result }
+        ensures stale { result.stale ≡ None }
+    {
+        Refusals {
+            reasons: [None; ALL_REFUSALS.len()],
+            stale: None,
+        }
+    }
+
+    /// Returns the rows that were refused for this reason, or `None` if none was.
+    pub fn of(&self, refusal: Refusal) -> Option<Refused>
+        ensures refused { result ≡ refused_for self.now refusal }
+    {
+        self.reasons[refusal.position()]
+    }
+
+    /// Returns the first row that was refused as `Stale`, or `None` if none was.
+    pub fn stale(&self) -> Option<StaleRow>
+        ensures stale { result ≡ self.now.stale }
+    {
+        self.stale
+    }
+
+    /// Returns whether no row was refused for any of these reasons.
+    fn has_none_of(&self, reasons: &[Refusal]) -> bool
+        ensures none { result ≡ list_all (λ reason. is_none (refused_for self.now reason)) reasons.now }
+    {
+        for reason in reasons {
+            if self.of(*reason).is_some() {
+                return false;
+            }
+        }
+        true
+    }
+
+    /// Returns whether no row was refused.
+    pub fn is_empty(&self) -> bool
+        ensures empty { IsTrue result ↔ RefusesNone self.now }
+    {
+        self.has_none_of(&ALL_REFUSALS)
+    }
+
+    /// Counts one row more that is refused for this reason, by its number.
+    fn add(&mut self, refusal: Refusal, row: u64)
+        ensures stale { self.new.stale ≡ self.old.stale }
+        ensures counts { (answers : List (Result ℕ Reason)) → row ≡ length answers + FIRST_ROW
+            → AreRefusals answers self.old → AreRefusals (answers ++ Err refusal ∷ []) self.new }
+    {
+        let place = refusal.position();
+        let more = one_more(self.reasons[place], row);
+        self.reasons[place] = Some(more);
+    }
+
+    /// Notes a row that was refused for this reason, if it is the first stale one.
+    fn note_stale(&mut self, refusal: Refusal, message: &Message, greatest: u32)
+        ensures reasons { self.new.reasons ≡ self.old.reasons }
+        ensures stale { self.new.stale ≡ stale_after self.old.stale (Err refusal) (stale_row message.now greatest) }
+    {
+        if is_stale(refusal) && self.stale.is_none() {
+            let header = message.header();
+            self.stale = Some(StaleRow {
+                participant: header.participant,
+                number: header.number,
+                greatest,
+            });
+        }
+    }
+
+    /// Counts the answer to the row of this number, if it is a refusal. `greatest` is the participant's greatest message number
+    /// on the tape before the row.
+    pub(crate) fn count(&mut self, answer: &Answer, row: u64, message: &Message, greatest: u32)
+        ensures stale { self.new.stale ≡ stale_after self.old.stale answer.now (stale_row message.now greatest) }
+        ensures counts { (answers : List (Result ℕ Reason)) → row ≡ length answers + FIRST_ROW
+            → AreRefusals answers self.old → AreRefusals (answers ++ answer.now ∷ []) self.new }
+    {
+        match answer {
+            Ok(_) => {}
+            Err(refusal) => {
+                self.note_stale(*refusal, message, greatest);
+                self.add(*refusal, row);
+            }
+        }
+    }
+}

@@ -1,0 +1,39 @@
+//! Lines of fields in memory that is used again: `lines_in` begins a text, `put_line` adds a line, and `into_text` returns the text.
+ghost use Rattle.std.specs.Prelude.{◌≡◌, ◌++◌, [], IfOk, OnOk};
+ghost use Rattle.csv.specs.Records.{fields_of};
+ghost use Rattle.csv.specs.Writing.{default_writer, row_text};
+ghost use Rattle.csv_lines.specs.Lines.{IsAtLineStart, lines_text};
+
+use csv::{ByteRecord, Writer, WriterBuilder};
+use std::alloc::AllocError;
+
+/// Returns a writer of lines into this memory, whose former text is dropped. It fails only if memory runs out.
+pub fn lines_in(mut text: Vec<u8>) -> Writer<Vec<u8>>
+    ensures start { IsAtLineStart result }
+    ensures text { lines_text result ≡ [] }
+{
+    text.clear();
+    WriterBuilder::new().from_writer(text)
+}
+
+/// Writes a line of fields. `AllocError` if memory runs out.
+pub fn put_line(writer: &mut Writer<Vec<u8>>, fields: &ByteRecord) -> Result<(), AllocError>
+    requires { IsAtLineStart writer.old }
+    ensures start { OnOk result (IsAtLineStart writer.new) }
+    ensures text { OnOk result (lines_text writer.new ≡ lines_text writer.old ++ row_text default_writer (fields_of fields.now)) }
+{
+    match writer.write_byte_record(fields) {
+        Ok(()) => Ok(()),
+        Err(_) => Err(AllocError),
+    }
+}
+
+/// Returns the lines that were written. `AllocError` if memory runs out.
+pub fn into_text(writer: Writer<Vec<u8>>) -> Result<Vec<u8>, AllocError>
+    ensures { IfOk result (λ text. text.items ≡ lines_text writer) }
+{
+    match writer.into_inner() {
+        Ok(text) => Ok(text),
+        Err(_) => Err(AllocError),
+    }
+}

@@ -1,0 +1,49 @@
+//! Reads tables of trade messages, whole or row by row, and writes messages as a table.
+#![tactic(auto)]
+
+mod check_laws;
+mod column;
+mod column_fault;
+mod columns;
+mod condition;
+mod fault_text;
+mod kind;
+mod line_reader;
+mod named;
+mod number;
+mod price;
+mod reading;
+mod row_fault;
+mod row_reader;
+mod separator;
+mod spelling;
+mod table;
+mod table_fault;
+mod table_row;
+mod table_rows;
+mod table_text;
+mod table_write_fault;
+mod tape_column;
+mod writing;
+mod wrong_code;
+
+pub use check_laws::{first_fault, no_fault};
+pub use column::Column;
+pub use column_fault::ColumnFault;
+pub use columns::{Columns, first_place};
+pub use fault_text::{FAULT_TEXT_MOST, FaultText};
+pub use kind::Kind;
+pub use reading::read_row;
+pub use row_fault::RowFault;
+pub use row_reader::RowReader;
+pub use spelling::{
+    condition_is_spelled, kind_is_spelled, moment_is_spelled, number_is_spelled,
+    participant_is_spelled, price_is_spelled, symbol_is_spelled,
+};
+pub use table::{FIRST_ROW, read_table};
+pub use table_fault::TableFault;
+pub use table_row::TableRow;
+pub use table_rows::{TablePiece, TableRows};
+pub use table_text::{table_round_trip, write_table};
+pub use table_write_fault::TableWriteFault;
+pub use writing::{push_content, push_price, push_row, row_round_trip, write_row};

@@ -1,0 +1,47 @@
+//! Why a row is no message.
+ghost use Rattle.std.specs.Prelude.{Some};
+ghost use Rattle.csv_messages.specs.FaultLines.{row_fault_text};
+
+use crate::wrong_code::Detail;
+use crate::{Column, FaultText};
+use std::fmt;
+use thiserror::Error;
+
+/// Why a row is no message: the first thing wrong, in the order of the columns.
+#[derive(Clone, Copy, Debug, PartialEq, Eq, Error)]
+pub enum RowFault {
+    /// The row has another number of fields than the header row.
+    Fields {
+        /// How many fields the row has.
+        found: usize,
+        /// How many the header row has.
+        wanted: usize,
+    },
+    /// The field of this column is not one of the column's values.
+    Bad(Column, FaultText),
+    /// The field of this column has to be empty in a row of this kind.
+    Unused(Column, FaultText),
+}
+
+impl fmt::Display for RowFault {
+    ghost output = { λ fault. Some (row_fault_text fault) };
+
+    fn fmt<W: fmt::Write>(&self, f: &mut fmt::Formatter<W>) -> fmt::Result {
+        match self {
+            RowFault::Fields { found, wanted } => {
+                write!(f, "{found} fields, and the header row has {wanted}")
+            }
+            RowFault::Bad(column, text) => {
+                let rule = column.rule();
+                let detail = Detail(*column, *text);
+                write!(f, "{column} \"{text}\" is not {rule}{detail}")
+            }
+            RowFault::Unused(column, text) => {
+                write!(
+                    f,
+                    "{column} \"{text}\" has to be empty in a row of this kind"
+                )
+            }
+        }
+    }
+}

@@ -1,0 +1,82 @@
+//! Writes a whole table, which is made before the first byte is written.
+ghost use Rattle.std.specs.Prelude.{◌≡◌, ◌++◌, [], Err, IfOk, OnOk};
+ghost use Rattle.std.specs.Io.KnownBytes.{Appends};
+ghost use Rattle.csv.specs.Records.{fields_of};
+ghost use Rattle.csv.specs.Writing.{default_writer, row_text};
+ghost use Rattle.whole_io.specs.Writing.{WritesPrefix};
+ghost use Rattle.csv_messages.specs.Laws.{TableRoundTrip};
+ghost use Rattle.csv_lines.specs.Lines.{IsAtLineStart, lines_text};
+ghost use Rattle.csv_messages.specs.TableTexts.{message_fields, table_text};
+ghost use Rattle.csv_messages.specs.declared.table_write_fault.TableWriteFault.TheVariants.{OutOfMemory, WriteFault};
+
+use crate::{TableWriteFault, write_row};
+use csv::{ByteRecord, Writer};
+use csv_lines::{into_text, lines_in, put_line};
+use reports::Message;
+use std::alloc::{AllocError, Global};
+use std::io::Write;
+use whole_io::write_text;
+
+/// Adds the row of a message, by a record that is used again for each.
+fn put_row(
+    writer: &mut Writer<Vec<u8>>,
+    line: &mut ByteRecord,
+    message: &Message,
+) -> Result<(), AllocError>
+    requires { IsAtLineStart writer.old }
+    ensures start { OnOk result (IsAtLineStart writer.new) }
+    ensures text { OnOk result (lines_text writer.new ≡ lines_text writer.old ++ row_text default_writer (message_fields message.now)) }
+{
+    write_row(message, line)?;
+    put_line(writer, line)
+}
+
+/// Returns the text of a table: the names of the columns, and a row for each message.
+fn text_of(alloc: Global, messages: &[Message]) -> Result<Vec<u8>, AllocError>
+    ensures { IfOk result (λ text. text.items ≡ table_text messages.now) }
+{
+    let mut writer = lines_in(Vec::new(alloc));
+    let mut line = ByteRecord::from_fields(
+        alloc,
+        &[
+            b"kind",
+            b"participant",
+            b"number",
+            b"moment",
+            b"symbol",
+            b"target",
+            b"price",
+            b"size",
+            b"condition",
+        ],
+    )?;
+    put_line(&mut writer, &line)?;
+    for message in messages {
+        put_row(&mut writer, &mut line, message)?;
+    }
+    into_text(writer)
+}
+
+/// Writes the table of these messages and nothing else: the names of the columns, and the canonical row of each message. If
+/// there is a message, `read_table` reads the messages back.
+///
+/// Errors: `OutOfMemory` before anything is written, and then the writer is as it was; `WriteFault` if a write fails or takes
+/// no byte, and then a prefix of the text has been written and nothing else. The writer is not flushed.
+pub fn write_table<W: Write>(
+    alloc: Global,
+    messages: &[Message],
+    writer: &mut W,
+) -> Result<(), TableWriteFault>
+    ensures written { OnOk result (Appends (W.contents writer.old) (W.contents writer.new) (table_text messages.now)) }
+    ensures memory { result ≡ Err OutOfMemory → writer.new ≡ writer.old }
+    ensures prefix { result ≡ Err WriteFault → WritesPrefix (table_text messages.now) (W.contents writer.old) (W.contents writer.new) }
+{
+    let text = text_of(alloc, messages)?;
+    write_text(writer, &text)?;
+    Ok(())
+}
+
+/// The text of every table of messages reads back as those messages.
+pub fn table_round_trip()
+    ensures holds { TableRoundTrip }
+{}

@@ -1,5 +1,0 @@
-use Rattle.day_tables.proofs.RoundTrip.{row_round_trip}
-use Rattle.day_tables.proofs.writing.row_round_trip.Goals as goal
-
-pub returns : goal.returns
-returns c = record { holds = row_round_trip }

@@ -1,0 +1,16 @@
+use Rattle.csv_messages.specs.Tables.{IsTable}
+use Rattle.message_texts.specs.OwnBytes.{line_bytes}
+use Rattle.message_texts.proofs.EndLemmas.{text_part, text_written}
+use Rattle.message_texts.proofs.line.line_over.Goals as goal
+
+pub returns-clause-written : goal.returns-clause-written
+returns-clause-written g c =
+    text_written IsTable (line_bytes c.args.participant) (g.R.Read.remaining c.args.reader) c.in_ok-messages.messages.items c.deref.result.now c.write_line.result
+    (g.W.Write.contents c.args.writer.now) (g.W.Write.contents c.write_line.new.writer) c.deref.ensures.value c.in_ok-messages.ensures.messages
+    c.write_line.ensures.written
+
+pub returns-clause-prefix : goal.returns-clause-prefix
+returns-clause-prefix g c = λ ended.
+    text_part IsTable (line_bytes c.args.participant) (g.R.Read.remaining c.args.reader) c.in_ok-messages.messages.items c.deref.result.now
+    (g.W.Write.contents c.args.writer.now) (g.W.Write.contents c.write_line.new.writer) c.deref.ensures.value c.in_ok-messages.ensures.messages
+    c.write_line.ensures.prefix

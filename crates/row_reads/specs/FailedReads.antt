@@ -1,7 +1,0 @@
--- What is known of a read that failed.
-use Rattle.std.specs.Prelude.{ℕ, ◌<◌, List, length, Option}
-use Rattle.std.specs.Io.KnownBytes.{Consumes}
-
--- fewer bytes than these were read, and no others
-abbrev pub ReadsFewer : Option (List ℕ) → Option (List ℕ) → ℕ → Type 0
-ReadsFewer had left count = (part : List ℕ) × Consumes had left part × (length part < count)

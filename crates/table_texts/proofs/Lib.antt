@@ -1,8 +1,0 @@
-pub mod DecodeLemmas
-pub mod EncodedPrefix
-pub mod EndLemmas
-pub mod LineLemmas
-pub mod NameLemmas
-pub mod RoundTrip
-pub mod SpelledBytes
-pub mod WrittenPieces

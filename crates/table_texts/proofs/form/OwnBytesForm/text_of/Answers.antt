@@ -1,9 +1,0 @@
-use Rattle.std.proofs.Common.{[], sym}
-use Rattle.table_texts.specs.OwnBytes.{own_bytes}
-use Rattle.table_texts.proofs.WrittenPieces.{texts-more}
-use Rattle.table_texts.proofs.form.OwnBytesForm.text_of.Goals as goal
-
-pub loop-message-preserved : goal.loop-message-preserved
-loop-message-preserved c =
-    texts-more (own_bytes c.args.self.now.participant) c.args.messages.now c.loop-message.message-index c.message-item.result _ _ [] c.loop-message-test.true (sym c.message-item.is)
-    c.loop-message.invariant c.in_ok-push_own.ensures

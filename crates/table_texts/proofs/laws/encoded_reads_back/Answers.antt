@@ -1,5 +1,0 @@
-use Rattle.table_texts.proofs.RoundTrip.{encoded_reads_back}
-use Rattle.table_texts.proofs.laws.encoded_reads_back.Goals as goal
-
-pub returns : goal.returns
-returns c = record { holds = encoded_reads_back }

@@ -1,0 +1,40 @@
+//! Reads a row of bytes whole from a reader and writes a text whole to a writer, and says what a failed call leaves.
+#![tactic(auto)]
+
+ghost use Rattle.std.specs.Prelude.{◌≤◌, ◌<◌, IfNone, IfSome, take, length};
+ghost use Rattle.std.specs.Io.KnownBytes.{Consumes, IsAtEnd};
+ghost use Rattle.whole_io.specs.FailedReads.{ReadsFewer};
+
+mod number_text;
+mod writing;
+
+pub use number_text::{push_number, push_wide_number};
+use std::io::{ErrorKind, Read};
+pub use writing::{WriteFault, write_text};
+
+/// Reads until the row is full or the input ends, and returns the number of bytes read, or `None` if a read failed, after fewer
+/// bytes than the row has. An interrupted read is tried again. No byte is read beyond the row.
+#[inline(always)]
+pub fn fill<R: Read>(reader: &mut R, row: &mut [u8]) -> Option<usize>
+    ensures within { IfSome result (λ n. n ≤ length row.new) }
+    ensures bytes { IfSome result (λ n. Consumes (R.remaining reader.old) (R.remaining reader.new) (take n row.new)) }
+    ensures end { IfSome result (λ n. n < length row.new → IsAtEnd (R.remaining reader.new)) }
+    ensures failed { IfNone result (ReadsFewer (R.remaining reader.old) (R.remaining reader.new) (length row.new)) }
+{
+    let mut len = 0;
+    for _ in 0..u64::MAX {
+        if len >= row.len() {
+            return Some(len);
+        }
+        match reader.read(&mut row[len..]) {
+            Ok(0) => return Some(len),
+            Ok(more) => len += more,
+            Err(error) => {
+                if error.kind() != ErrorKind::Interrupted {
+                    return None;
+                }
+            }
+        }
+    }
+    if len < row.len() { None } else { Some(len) }
+}
