@@ -16,7 +16,7 @@ use Rattle.tape_frames.specs.Lemmas.Numbers.{number_at_place}
 use Rattle.arbitration.specs.Windows.{flat}
 use Rattle.arbitration.specs.Deliveries.{known_entry, Agrees, IsLeastConflict}
 
--- where another entry is known under its number, an entry agrees exactly where it is that one
+-- if an entry is known under its number, an entry agrees if and only if the two are equal
 pub agrees_known : (held : List Entry) (next : ℕ) (slots : List (Option Entry)) (e other : Entry) → known_entry held next slots e.number ≡ Some other
     → Decides (entry_eq other e) (Agrees held next slots e)
 agrees_known held next slots e other known =
@@ -25,7 +25,7 @@ agrees_known held next slots e other known =
       λ agrees. decides.1 (subst (λ o. IfSome o (λ x. x ≡ e)) known agrees),
     )
 
--- where none is known under its number, an entry agrees
+-- if no entry is known under its number, an entry agrees
 pub agrees_unknown : (held : List Entry) (next : ℕ) (slots : List (Option Entry)) (e : Entry) → known_entry held next slots e.number ≡ None
     → Agrees held next slots e
 agrees_unknown held next slots e none = subst (λ o. IfSome o (λ x. x ≡ e)) (sym none) tt
@@ -43,7 +43,7 @@ known_waiting held base slots n above =
     let place : n - (base + 1) ≡ n - base - 1 = omega arith in
     cond-false (nat_lt n (base + 1)) _ _ (le-ltb _ _ (omega arith)) ∙ ap (λ i. flat (slice_get slots i)) place
 
--- a look-up among the slots gives the slot at the index
+-- a look-up among the slots returns the slot at the index
 pub slot_got : (slots : List (Option Entry)) (i : ℕ) (r : Option (Bor (Option Entry))) → IsItemAt slots i r
     → flat (slice_get slots i) ≡ flat (option_map (λ (x : Bor (Option Entry)). x.now) r)
 slot_got slots i None h = ap flat (slice_get_past slots i h.3)

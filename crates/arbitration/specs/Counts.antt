@@ -1,4 +1,4 @@
--- What becomes of the entries of a packet, and how it is counted.
+-- What becomes of a packet's entries, and the counts of these outcomes.
 use Rattle.std.specs.Prelude.{ℕ, ◌+◌, ◌-◌, Bool, true, false, nat_lt, if◌then◌else◌, List, Option, None, Some, slice_get, count_by}
 use Rattle.tape_core.specs.declared.entry.Entry.{Entry}
 use Rattle.arbitration.specs.declared.line.Line.{Line}
@@ -8,13 +8,13 @@ use Rattle.arbitration.specs.declared.taken.Taken.{Taken}
 use Rattle.arbitration.specs.declared.taken.Placing.{Placing}
 use Rattle.arbitration.specs.declared.taken.Placing.TheVariants.{Fresh, Repeated, Beyond}
 
--- what becomes of an entry whose slot is this: there is none, it is empty, or it is full
+-- what becomes of an entry with this slot: there is none, it is empty, or it is full
 abbrev pub placing_in : Option (Option Entry) → Placing
 placing_in None = Beyond
 placing_in (Some None) = Fresh
 placing_in (Some (Some e)) = Repeated
 
--- what becomes of an entry, where the first slot is of the number next and all below it were taken out
+-- what becomes of an entry, if the first slot is for the number next and all numbers below it were taken out
 abbrev pub placing_of : ℕ → List (Option Entry) → Entry → Placing
 placing_of next slots e = if nat_lt e.number next then Repeated else placing_in (slice_get slots (e.number - next))
 
@@ -24,7 +24,7 @@ is_fresh Fresh = true
 is_fresh Repeated = false
 is_fresh Beyond = false
 
--- it is known already
+-- it is already known
 abbrev pub is_repeated : Placing → Bool
 is_repeated Fresh = false
 is_repeated Repeated = true

@@ -41,13 +41,13 @@ abbrev pub is_beyond : Option ℕ → ℕ → Bool
 is_beyond None last = false
 is_beyond (Some count) last = nat_lt count last
 
--- an end is not the known one, or comes below what was announced
+-- an end is not the known one, or is below the greatest number announced
 abbrev pub is_other_end : Option ℕ → ℕ → Option ℕ → Bool
 is_other_end ended announced None = false
 is_other_end None announced (Some count) = nat_lt count announced
 is_other_end (Some known) announced (Some count) = not (count == known)
 
--- the packet's last number or its end does not fit what is known of the end
+-- the packet's last number or its end contradicts what is known of the end
 abbrev pub is_past_end : WindowState → Packet → Bool
 is_past_end w q = is_beyond w.ended (last_of q) || is_other_end w.ended w.announced (end_of q)
 

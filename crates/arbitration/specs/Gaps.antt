@@ -1,4 +1,4 @@
--- What is missing of a window, and what is asked for.
+-- The numbers that a window misses, and those that it requests.
 use Rattle.std.specs.Prelude.{◌≡◌, ℕ, ◌+◌, ◌-◌, ◌≤◌, ◌<◌, nat_lt, if◌then◌else◌, List, Option, None, slice_get}
 use Rattle.tape_core.specs.declared.entry.Entry.{Entry}
 use Rattle.tape_frames.specs.Limits.{LONGEST_SPAN}
@@ -8,7 +8,7 @@ use Rattle.arbitration.specs.Windows.{WindowState, flat}
 abbrev pub ASKED_MOST : ℕ
 ASKED_MOST = LONGEST_SPAN
 
--- the entry that waits under a number, where the first slot is of the number next
+-- the entry that waits under a number, if the first slot is for the number next
 abbrev pub waiting_entry : ℕ → List (Option Entry) → ℕ → Option Entry
 waiting_entry next slots n = if nat_lt n next then None else flat (slice_get slots (n - next))
 

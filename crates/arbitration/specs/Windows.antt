@@ -1,4 +1,4 @@
--- What a contract sees of a window.
+-- The state of a window as contracts see it, and its invariant.
 use Rattle.std.specs.Prelude.{◌≡◌, ℕ, ◌+◌, ◌≤◌, List, [], ◌∷◌, ◌++◌, length, Option, None, Some, is_some, slice_get, drop, replicate, count_by, IfSome}
 use Rattle.tape_core.specs.declared.entry.Entry.{Entry}
 use Rattle.tape_types.specs.Ranges.{TAPE_MOST}
@@ -8,8 +8,8 @@ use Rattle.arbitration.specs.declared.line.Brought.{Brought}
 unfoldable pub REACH : ℕ
 REACH = 1024
 
--- a window: how many entries were taken out, the slots of the numbers above, the greatest number that was announced,
--- the end that was taken, and what each line brought. The first slot is of the number base + 1, and so on
+-- a window: how many entries were taken out, the slots of the numbers above, the greatest number announced, the end that was
+-- taken, and what each line brought. The first slot is for the number base + 1, and so on
 pub record WindowState : Type 0 where
   pub session : ℕ
   pub base : ℕ
@@ -18,7 +18,7 @@ pub record WindowState : Type 0 where
   pub ended : Option ℕ
   pub brought : Brought
 
--- the entry of a slot, None where there is no slot
+-- the entry of a slot, None if there is no slot
 abbrev pub flat : {A : Type 0} → Option (Option A) → Option A
 flat None = None
 flat (Some slot) = slot
@@ -27,7 +27,7 @@ flat (Some slot) = slot
 abbrev pub empty_slots : {A : Type 0} → List (Option A)
 empty_slots = replicate REACH None
 
--- the window of a session to which nothing came
+-- the window of a session before any packet
 abbrev pub empty_window : ℕ → WindowState
 empty_window session = record {
   session = session;
@@ -52,13 +52,13 @@ ready_entries (Some e ∷ slots) = e ∷ ready_entries slots
 abbrev pub window_past : ℕ → WindowState → WindowState
 window_past n w = record w { base = w.base + n; slots = drop n w.slots ++ replicate n None }
 
--- each slot is empty or has the entry of its number, which was announced
+-- each slot is empty or holds the entry of its number, which was announced
 abbrev pub ArePlaced : ℕ → ℕ → List (Option Entry) → Type 0
 ArePlaced next announced [] = Unit {0}
 ArePlaced next announced (None ∷ slots) = ArePlaced (next + 1) announced slots
 ArePlaced next announced (Some e ∷ slots) = (e.number ≡ next) × (next ≤ announced) × ArePlaced (next + 1) announced slots
 
--- what is true of each window. What the lines brought was taken out or waits
+-- the invariant of each window. What the lines brought was taken out or waits
 pub record IsWindow (w : WindowState) : Type 0 where
   pub size : length w.slots ≡ REACH
   pub placed : ArePlaced (w.base + 1) w.announced w.slots

@@ -1,4 +1,4 @@
-//! Why a packet is refused.
+//! The faults that a packet is refused with, each with its number and name.
 ghost use Rattle.std.specs.Prelude.{◌≡◌, Some};
 ghost use Rattle.arbitration.specs.DeliverFaults.{deliver_fault_code, deliver_fault_name};
 
@@ -6,15 +6,15 @@ use std::fmt;
 use tape_types::TapeNumber;
 use thiserror::Error;
 
-/// Why a window refuses a packet. The first that applies is answered, and the window is then as it was.
+/// Why a window refuses a packet. The first that applies is returned, and the window is unchanged.
 #[derive(Clone, Copy, Debug, PartialEq, Eq, Error)]
 pub enum DeliverFault {
-    /// The packet is of another session than the window.
+    /// The packet's session is not the window's.
     Foreign,
     /// Another entry is known under the number of an entry of the packet. The number is the least such one.
     Conflict(TapeNumber),
-    /// An end is known, and the packet tells of a number above it or of another end; or the packet tells of an end
-    /// below what was announced.
+    /// An end is known, and the packet states a number above it or another end; or the packet states an end below the greatest
+    /// number announced.
     PastEnd,
 }
 
@@ -30,7 +30,7 @@ impl DeliverFault {
         }
     }
 
-    /// The name of the fault, as it is printed.
+    /// The name of the fault, as printed.
     pub fn name(self) -> &'static str
         ensures text { result.now ≡ deliver_fault_name self }
     {

@@ -1,4 +1,4 @@
-//! How the first gap of a window is found.
+//! Finds a window's first gap by counting full and empty slots.
 ghost use Rattle.std.specs.Prelude.{ℕ, None, ◌≡◌, ◌+◌, ◌≤◌, ◌<◌, length, IsSome, slice_get};
 ghost use Rattle.tape_frames.specs.Limits.{IsSpan};
 ghost use Rattle.arbitration.specs.Windows.{REACH, flat, ready_entries};
@@ -22,7 +22,7 @@ pub(crate) fn full_run(slots: &VecDeque<Option<Entry>>) -> u32
     full
 }
 
-/// How many slots are empty from one on, those past the last one counted as empty, and at most `most`.
+/// How many consecutive slots are empty, from slot `from` on, at most `most`. Slots past the last one count as empty.
 pub(crate) fn empty_run<T: Copy>(slots: &VecDeque<Option<T>>, from: u32, most: u32) -> u32
     requires { from ≤ REACH }
     ensures within { result ≤ most }
@@ -42,7 +42,7 @@ pub(crate) fn empty_run<T: Copy>(slots: &VecDeque<Option<T>>, from: u32, most: u
     most
 }
 
-/// A count of numbers, as a request asks for them.
+/// A count of numbers, as a request states it.
 pub(crate) fn span(count: u32) -> Span
     requires { IsSpan count }
     ensures { result ≡ count }

@@ -1,4 +1,4 @@
-//! The lines that packets come by, and what each has brought.
+//! The lines that packets come by, and a count of the fresh entries that each has brought.
 ghost use Rattle.std.specs.Prelude.{◌≡◌, ◌+◌, ◌<◌, ◌^◌};
 ghost use Rattle.arbitration.specs.Counts.{brought_by, brought_with};
 
@@ -9,7 +9,7 @@ pub enum Line {
     A,
     /// The second of the two lines that carry the whole tape.
     B,
-    /// Retransmission: the answers to requests for what was lost.
+    /// Retransmission: the answers to requests for lost entries.
     R,
 }
 

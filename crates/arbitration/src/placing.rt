@@ -1,4 +1,4 @@
-//! How the entries of a packet are put into their slots.
+//! Puts the entries of a packet into their slots and counts the outcomes.
 ghost use Rattle.std.specs.Prelude.{◌≡◌, ◌+◌, ◌≤◌, ◌∷◌, [], is_some, count_by};
 ghost use Rattle.tape_types.specs.Ranges.{TAPE_MOST};
 ghost use Rattle.tape_frames.specs.EntryRows.{IsEmptyOrRow};
@@ -10,7 +10,7 @@ use crate::taken::Placing;
 use std::collections::VecDeque;
 use tape_core::Entry;
 
-/// Puts each entry into its slot, where there is one and it is empty, and counts what became of them.
+/// Puts each entry into its slot, if there is one and it is empty, and counts the outcomes.
 pub(crate) fn settle(slots: &mut VecDeque<Option<Entry>>, base: u32, entries: &[Entry]) -> Taken
     requires row { IsEmptyOrRow entries.now }
     requires within { base ≤ TAPE_MOST }
@@ -29,7 +29,7 @@ pub(crate) fn settle(slots: &mut VecDeque<Option<Entry>>, base: u32, entries: &[
     taken
 }
 
-/// Puts one entry into its slot, where there is one and it is empty.
+/// Puts one entry into its slot, if there is one and it is empty.
 fn put(slots: &mut VecDeque<Option<Entry>>, base: u32, entry: &Entry) -> Placing
     requires within { base ≤ TAPE_MOST }
     ensures slots { slots.new.items ≡ slots_after (base + 1) slots.old.items (entry.now ∷ []) }

@@ -1,4 +1,4 @@
-//! What a window refuses a packet for.
+//! Finds the reasons to refuse a packet: a conflicting entry, or a number past the end.
 ghost use Rattle.std.specs.Prelude.{◌≡◌, ◌+◌, ◌≤◌, ◌↔◌, ◌||◌, length, IsTrue, MatchOption, All};
 ghost use Rattle.tape_types.specs.Ranges.{TAPE_MOST};
 ghost use Rattle.tape_frames.specs.EntryRows.{IsEmptyOrRow};
@@ -8,7 +8,7 @@ use std::collections::VecDeque;
 use tape_core::Entry;
 use tape_types::TapeNumber;
 
-/// The least number of an entry under which another one is known.
+/// The least number under which both the packet and the window, or `held`, have an entry, and the two differ.
 pub(crate) fn find_conflict(
     held: &[Entry],
     base: u32,
@@ -30,7 +30,7 @@ pub(crate) fn find_conflict(
     None
 }
 
-/// Whether no other entry is known under the entry's number. It looks at one entry and copies none.
+/// Whether no different entry is known under this entry's number. It looks at one known entry and copies none.
 fn agrees(held: &[Entry], base: u32, slots: &VecDeque<Option<Entry>>, entry: &Entry) -> bool
     requires base { length held.now ≡ base }
     requires within { base ≤ TAPE_MOST }
@@ -46,7 +46,7 @@ fn agrees(held: &[Entry], base: u32, slots: &VecDeque<Option<Entry>>, entry: &En
     }
 }
 
-/// Whether the last number or the end that a packet tells of does not fit what is known of the end.
+/// Whether a packet's last number or its end contradicts what is known of the end.
 pub(crate) fn is_past_end(ended: Option<u32>, announced: u32, last: u32, end: Option<u32>) -> bool
     ensures { result ≡ (is_beyond ended last || is_other_end ended announced end) }
 {

@@ -1,24 +1,24 @@
-//! What became of a packet's entries.
+//! The outcome for each entry of a packet, and the counts of these outcomes.
 ghost use Rattle.std.specs.Prelude.{◌≡◌, ◌+◌, ◌<◌, ◌^◌};
 ghost use Rattle.arbitration.specs.Counts.{taken_with};
 
-/// What became of one entry of a packet.
+/// The outcome for one entry of a packet.
 #[derive(Clone, Copy, Debug, PartialEq, Eq)]
 pub(crate) enum Placing {
-    /// Its slot was empty, and has it now.
+    /// Its slot was empty, and it was put there.
     Fresh,
-    /// It was taken out before, or its slot had it already.
+    /// It had been taken out, or its slot already held it.
     Repeated,
     /// Its number is above the last slot's, so it was dropped.
     Beyond,
 }
 
-/// How many entries of a packet were new, known already, and too far ahead. Together they are all its entries.
+/// How many entries of a packet were new, already known, and too far ahead. The three add up to all its entries.
 #[derive(Clone, Copy, Debug, PartialEq, Eq)]
 pub struct Taken {
     /// Entries that were put into the window.
     pub fresh: u32,
-    /// Entries that were in the window already, or had been taken out of it.
+    /// Entries that were already in the window or had been taken out of it.
     pub repeated: u32,
     /// Entries with a number more than `REACH` above the base, which the window does not keep.
     pub beyond: u32,

@@ -1,4 +1,4 @@
-//! The window that the lines fill.
+//! The window: a ring of slots which the lines fill, and from which entries are taken by rising number.
 ghost use Rattle.std.specs.Prelude.{ℕ, ◌≡◌, ◌+◌, length, IsSome, IfOk, OnOk, OnErr, MatchResult, MatchOption};
 ghost use Rattle.tape_frames.specs.Packets.{entries_of};
 ghost use Rattle.arbitration.specs.Windows.{IsWindow, empty_slots, empty_window, next_of, window_past};
@@ -19,10 +19,10 @@ use tape_frames::{Packet, Request};
 /// How many numbers above its base a window keeps entries of.
 pub const REACH: usize = 1_024;
 
-/// The entries of a tape that wait for their turn, with what was announced of the tape.
+/// The entries of a tape that wait to be taken out, with what was announced of the tape.
 ///
-/// It has one slot for each of the `REACH` numbers above its base, and they are a ring: taking an entry out moves no other.
-/// All memory is taken by `new`, and no other call takes any.
+/// It has one slot for each of the `REACH` numbers above its base. The slots are a ring: taking an entry out moves no other.
+/// Only `new` allocates.
 #[derive(Debug, Drop)]
 pub struct Window {
     session: u64,
@@ -46,7 +46,7 @@ impl Model for Window {
 }
 
 impl Window {
-    /// An empty window of a session. All its memory is taken here; where that runs out, it is an `AllocError`.
+    /// An empty window of a session. It allocates all the window's memory, and returns `AllocError` if that runs out.
     pub fn new(alloc: Global, session: u64) -> Result<Self, AllocError>
         ensures empty { IfOk result (λ w. w ≡ empty_window session) }
     {
@@ -60,7 +60,7 @@ impl Window {
         })
     }
 
-    /// The session whose packets it takes.
+    /// The session of the packets that it accepts.
     pub fn session(&self) -> u64
         ensures session { result ≡ self.now.session }
     {
@@ -75,15 +75,15 @@ impl Window {
         self.base
     }
 
-    /// The greatest last number of the packets taken, 0 for none. A packet's last number is that of its last entry, or the
-    /// number that a beat or an end gives.
+    /// The greatest last number of the packets taken, 0 if there were none. A packet's last number is that of its last entry,
+    /// or the number that a beat or an end states.
     pub fn announced(&self) -> u32
         ensures announced { result ≡ self.now.announced }
     {
         self.announced
     }
 
-    /// How many entries the whole tape has, where an end was taken.
+    /// How many entries the whole tape has, or `None` if no end was taken.
     pub fn ended(&self) -> Option<u32>
         ensures ended { result ≡ self.now.ended }
     {
@@ -97,7 +97,7 @@ impl Window {
         self.brought.by(line)
     }
 
-    /// The entry above the base, where it is there.
+    /// The entry with the number just above the base, or `None` if it has not come.
     pub fn next_ready(&self) -> Option<Entry>
         ensures value { result ≡ next_of self.now }
         ensures window { IsWindow self.now }
@@ -108,8 +108,8 @@ impl Window {
         }
     }
 
-    /// Takes out the entry that `next_ready` gives, which has to be there: the base rises by one, and a slot is free for the number
-    /// that is now in reach.
+    /// Takes out the entry that `next_ready` returns; there must be one. The base rises by one, and the freed slot is for the
+    /// number that comes into reach.
     pub fn taken(&mut self)
         requires { IsSome (next_of self.old) }
         ensures state { self.new ≡ window_past 1 self.old }
@@ -119,8 +119,9 @@ impl Window {
         self.base += 1;
     }
 
-    /// What to ask for: the first numbers that were announced but are neither taken out nor waiting, up to just before the next
-    /// entry that waits or to the last number announced, and at most `ASKED_MOST` of them. `None` where no number is missing.
+    /// The request to send: for the first numbers that were announced but are neither taken out nor waiting, up to just before
+    /// the next waiting entry or to the last number announced, and at most `ASKED_MOST` of them. `None` if no number is
+    /// missing.
     pub fn missing(&self) -> Option<Request>
         ensures gap { MatchOption result
             ((n : ℕ) → ¬ (IsMissing self.now n))
@@ -140,12 +141,12 @@ impl Window {
         })
     }
 
-    /// Takes a packet that came by a line, where `held` is the entries that were taken out of the window, by number.
+    /// Takes a packet that came by a line. `held` is the entries that were taken out of the window, by number.
     ///
-    /// Each entry above the base and at most `REACH` above it is put into the window where its number was not there.
-    /// Refused, the first that applies: `Foreign`, `Conflict` with the least number under which `held` or the window has
-    /// another entry, `PastEnd`; the window is unchanged then. The same end may come again. It takes no memory, and looks at
-    /// the packet's entries and at what is known under their numbers, and at no more.
+    /// Each entry above the base and at most `REACH` above it is put into the window if its number was not there. Errors, the
+    /// first that applies: `Foreign`, `Conflict` with the least number under which `held` or the window has another entry,
+    /// `PastEnd`; an error leaves the window unchanged. The same end may come again. It does not allocate, and looks only at
+    /// the packet's entries and at what is known under their numbers.
     pub fn deliver(
         &mut self,
         line: Line,

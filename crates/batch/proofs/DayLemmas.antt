@@ -1,4 +1,4 @@
--- A day that answers lines one after another.
+-- Shows what a day that answers lines one after another has answered.
 use Rattle.std.proofs.Common.{◌≡◌, ◌≢◌, ◌↔◌, ◌∷◌, ◌++◌, ◌∙◌, [], ℕ, ◌+◌, List, Option, Some, None, IfSome, length, Bool, true, false, Result, Ok, Err, IsOk, IsTrue, OnOk}
 use Rattle.std.proofs.Common.{refl, sym, ap, append_assoc, append-nil}
 use Rattle.std.specs.Io.KnownBytes.{Consumes, Keeps}
@@ -26,7 +26,7 @@ RunsOut-more t lines more answers out = record {
   answers_are = out.answers_are;
 }
 
--- a line more is answered, or memory runs out at it
+-- one more line is answered, or memory runs out at it
 pub AnswersLines-line : (t : TapeState) (lines : List (List ℕ)) (line : List ℕ) (now next : TapeState) (answers pushed : List (Result ℕ BatchRefusal))
     (answer : Result ℕ BatchRefusal) (stops : Bool)
     → pushed ≡ answers ++ answer ∷ [] → IsTrue stops ↔ (answer ≡ Err (Refused OutOfMemory))
@@ -49,7 +49,7 @@ AnswersLines-line t lines line now next answers pushed answer true is stops answ
       ∙ ap (λ (l : List (Result ℕ BatchRefusal)). l ++ Err (Refused OutOfMemory) ∷ []) so_far.1;
 }
 
--- a day that stays as it is has answered no line more
+-- a day that stays as it is has answered no further line
 pub AnswersMore-none : (day : Day) → AnswersMore day day []
 AnswersMore-none day = λ t before so_far. rw (append-nil before) so_far
 

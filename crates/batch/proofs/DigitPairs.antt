@@ -1,4 +1,4 @@
--- Digits spelled pair by pair, by the values of the two.
+-- Shows that digits spell the bytes of their pairs.
 use Rattle.std.proofs.Common.{◌≡◌, ◌≤◌, ◌<◌, ◌+◌, ◌*◌, ◌/◌, ◌%◌, ◌&&◌, ◌∷◌, ◌++◌, ◌∙◌, [], ℕ, List, true, Option, Some, None, refl, sym, ap, arith, inl, inr}
 use Rattle.std.proofs.Common.{length, length-take, take, get_or, append_assoc}
 use Rattle.std.specs.Prelude.{IfSome, is_some, nat_le}

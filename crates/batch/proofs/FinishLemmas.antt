@@ -1,4 +1,4 @@
--- What was written of what was read is right for the input, and stays so when it is flushed.
+-- Shows that what was written of what was read is right for the input, and stays so when it is flushed.
 use Rattle.std.proofs.Common.{◌≡◌, ◌⊎◌, ◌≤◌, ℕ, List, Option, Some, None, IfSome, Result, Ok, Err, inl, inr, length, refl, sym, true, false, ◌∙◌}
 use Rattle.std.specs.Io.KnownBytes.{Keeps}
 use Rattle.std.proofs.KnownBytes.{Appends-kept, Keeps-refl}
@@ -21,7 +21,7 @@ use Rattle.batch.specs.declared.reading.ReadInput.{ReadInput}
 use Rattle.batch.specs.declared.reading.ReadInput.TheVariants.{Answered, HeaderRefused}
 use Rattle.batch.specs.declared.reading.Unread.{Unread}
 use Rattle.batch.proofs.BatchLemmas.{Appends-same}
-use Rattle.row_reads.specs.Lemmas.WriteLemmas.{WritesPrefix-kept, WritesPrefix-longer, WritesPrefix-whole}
+use Rattle.whole_io.specs.Lemmas.WriteLemmas.{WritesPrefix-kept, WritesPrefix-longer, WritesPrefix-whole}
 use Rattle.batch.proofs.WrittenDay.{ReadsBatch-may, ReadsBatch-stop, ReadsBatch-text}
 
 -- what was written is what the end says
@@ -78,7 +78,7 @@ Finishes-kept (HeaderRefused fault) OutOfMemory old now new h kept = absurd h
 Finishes-kept (HeaderRefused fault) TooLarge old now new h kept = absurd h
 Finishes-kept (HeaderRefused fault) ReadFault old now new h kept = absurd h
 
--- whatever was written is a prefix of the text where the flush fails
+-- whatever was written is a prefix of the text if the flush fails
 pub Finishes-fault : (read : ReadInput) (end : BatchEnd) (old new : Option (List ℕ)) → Finishes read end old new → Finishes read WriteFault old new
 Finishes-fault (Answered day) Done old new h = WritesPrefix-whole _ old new h.1
 Finishes-fault (Answered day) OutOfMemory old new h =
@@ -100,7 +100,7 @@ pub Finishes-flushed : (read : ReadInput) (end ended : BatchEnd) (old now new : 
 Finishes-flushed read end ended old now new h kept (inl is) = rw is (Finishes-kept read end old now new h kept)
 Finishes-flushed read end ended old now new h kept (inr is) = rw is (Finishes-fault read end old new (Finishes-kept read end old now new h kept))
 
--- where reading stopped, nothing was written
+-- if reading stopped, nothing was written
 pub reading-wrote : (matrix : Matrix) (known : Option (List ℕ)) (end : ReadEnd) (held : Option (List ℕ)) → IfSome known (λ input. Wrote matrix (end_of_reading end) input held held)
 reading-wrote matrix None end held = tt
 reading-wrote matrix (Some input) ReadTooLarge held = Keeps-refl held
@@ -111,7 +111,7 @@ reading-wrote matrix (Some input) ReadOutOfMemory held = without (input_listing 
     without (Ok names) = inl (Keeps-refl held)
     without (Err fault) = Keeps-refl held
 
--- a day at one of whose lines memory ran out ends as it has to where it was read whole
+-- a day at one of whose lines memory ran out ends as it must if it was read whole
 pub Finishes-stopped : (read : ReadInput) (end : BatchEnd) (old new : Option (List ℕ)) → Finishes read end old new → EndsAfterStop read end old new
 Finishes-stopped (Answered day) Done old new h = λ stops. let clash : false ≡ true = sym h.0 ∙ stops in cc clash
 Finishes-stopped (Answered day) OutOfMemory old new h = λ stops. h
@@ -121,7 +121,7 @@ Finishes-stopped (Answered day) TooLarge old new h = absurd h
 Finishes-stopped (Answered day) ReadFault old new h = absurd h
 Finishes-stopped (HeaderRefused fault) end old new h = tt
 
--- and where reading stopped before
+-- and if reading stopped before
 pub reading-stopped : (unread : Unread) (read : Option ReadInput) (held : Option (List ℕ)) → GoesOn unread → read ≡ option_map (λ (day : Day). Answered day) unread.day
     → IfSome read (λ read. EndsAfterStop read (end_of_reading unread.end) held held)
 reading-stopped unread read held goes_on is = rw is (at unread.end unread.day goes_on)

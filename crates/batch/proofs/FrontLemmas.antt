@@ -1,4 +1,4 @@
--- A message stands in the first bytes of a line, as many as the longest has.
+-- Shows that a message is read from the first bytes of a line, as many as the longest message has.
 use Rattle.std.proofs.Common.{◌≡◌, ◌+◌, ◌*◌, ◌%◌, ◌≤◌, ◌==◌, ◌||◌, ◌∷◌, ◌++◌, ◌∙◌, [], ℕ, List, true, false, Some, None, Err, refl, sym, ap, inl, inr, arith}
 use Rattle.std.proofs.Common.{length, take, drop, nat_lt, append-nil, length-append, length-drop, ◌⊎◌}
 use Rattle.std.specs.List.{list_all}
@@ -21,7 +21,7 @@ body-front front others len long fits =
     let behind : drop 2 (front ++ others) ≡ drop 2 front ++ others = drop-append-le 2 front others (omega arith) in
     rw behind (take-append-le len (drop 2 front) others (omega (arith, length-drop 2 front)))
 
--- what is read does not change by what stands after the front
+-- what follows the front does not change what is read
 message_at-front : (front others : List ℕ) → length front ≡ LONGEST_FRAME → message_at (front ++ others) ≡ message_at front
 unfolding message_at
 message_at-front front others long =
@@ -52,7 +52,7 @@ pub spelled-rest_None : (digits front rest : List ℕ) → digits ≡ front ++ r
     → Err BadLine ≡ spelled_message (hex_bytes digits)
 spelled-rest_None digits front rest split even even_rest no_digit = rw (split, hex_bytes-rest_None front rest even even_rest no_digit) refl
 
--- where digits are cut behind those of the longest message, none are left, or the front's bytes are as many as that message has
+-- if digits are cut after those of the longest message, none are left, or the front's bytes are as many as that message has
 pub rest-or_longest : (digits front rest bytes : List ℕ) → digits ≡ front ++ rest → length front ≡ min (length digits) (2 * LONGEST_FRAME)
     → 2 * length bytes ≡ length front → (length rest ≡ 0) ⊎ (length bytes ≡ LONGEST_FRAME)
 rest-or_longest digits front rest bytes split cut half =

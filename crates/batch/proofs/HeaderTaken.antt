@@ -1,4 +1,4 @@
--- The header's lines, taken from the front of an input.
+-- Shows that the first two lines taken of an input are its header.
 use Rattle.std.proofs.Common.{◌≡◌, ◌+◌, ◌∷◌, ◌∙◌, [], ℕ, List, Option, Some, None, IfSome, Bool, true, false, Ok, refl, sym, ap, length, drop, slice_index_or}
 use Rattle.std.proofs.Common.{if◌then◌else◌}
 use Rattle.std.specs.Io.KnownBytes.{IsAtEnd}
@@ -13,7 +13,7 @@ use Rattle.batch.specs.Reading.{ReadsBatch}
 use Rattle.batch.specs.declared.day.Day.{Day}
 use Rattle.batch.specs.declared.reading.ReadInput.TheVariants.{Answered}
 
--- the next line was taken from known bytes, or an empty one where there was none
+-- the next line was taken from known bytes, or an empty one if there was none
 record LineTaken (bytes : List ℕ) (left : Option (List ℕ)) (taken taken_now : ℕ) (line : List ℕ) : Type 0 where
   rest : List ℕ
   known : left ≡ Some rest

@@ -1,4 +1,4 @@
--- Bytes from hexadecimal digits.
+-- Shows which bytes hexadecimal digits spell.
 use Rattle.std.proofs.Common.{◌≡◌, ◌+◌, ◌*◌, ◌/◌, ◌%◌, ◌==◌, ◌&&◌, ◌∷◌, ◌++◌, ◌∙◌, [], ℕ, List, Bool, true, false, Option, Some, None, Result, Ok, Err, refl}
 use Rattle.std.proofs.Common.{sym, ap, arith, length, MatchResult}
 use Rattle.std.specs.Prelude.{option_and_then, option_map, is_some}
@@ -38,7 +38,7 @@ decode_sized-bytes digits room even fits =
 
 -- ## Digits before other digits
 
--- the bytes of both, where there are both
+-- the bytes of both, if both spell bytes
 abbrev pub joined : Option (List ℕ) → Option (List ℕ) → Option (List ℕ)
 joined front rest = option_and_then (λ x. option_map (λ y. x ++ y) rest) front
 
@@ -64,7 +64,7 @@ hex_bytes-append (high ∷ low ∷ front) rest even =
     ap (with_byte (hex_digit_value high) (hex_digit_value low)) (hex_bytes-append front rest (omega arith))
     ∙ with_byte-joined (hex_digit_value high) (hex_digit_value low) (hex_bytes front) (hex_bytes rest)
 
--- there are bytes where both digits are digits and the rest spells bytes
+-- there are bytes if both digits are digits and the rest spells bytes
 is_some-with_byte : (high low : Option ℕ) (bytes : Option (List ℕ)) → is_some (with_byte high low bytes) ≡ (is_some high && (is_some low && is_some bytes))
 is_some-with_byte None low bytes = refl
 is_some-with_byte (Some h) None bytes = refl
@@ -132,9 +132,9 @@ hex_bytes-Some front rest bytes even even_rest spelled digits =
     let others = some-from_is_some (hex_bytes rest) (is_some-hex_bytes rest even_rest ∙ digits) in
     (others.0, others.1, hex_bytes-both front rest bytes others.0 even (sym spelled) others.1)
 
--- ## What decoding into a row answers
+-- ## The result of decoding into a row
 
--- where decoding is answered by success the row has what was decoded, and else nothing was
+-- if decoding succeeds the row has what was decoded, and otherwise nothing was decoded
 pub decoded : (read : Result (List ℕ) FromHexError) (answer : Result (Unit {0}) FromHexError) (row : List ℕ)
     → MatchResult read (λ bytes. (answer ≡ Ok tt) × (row ≡ bytes)) (λ e. answer ≡ Err e)
     → MatchResult answer (λ _. Some row ≡ result_ok read) (λ _. None ≡ result_ok read)

@@ -1,4 +1,4 @@
--- What an input loses while it is read.
+-- Shows which lines an input loses while it is read.
 use Rattle.std.proofs.Common.{◌≡◌, ◌≤◌, ◌<◌, ◌+◌, ◌++◌, ◌-◌, ◌==◌, ◌∷◌, ◌∙◌, [], ℕ, suc, List, true, nat_lt, Option, Some, None, IfSome, if◌then◌else◌}
 use Rattle.std.proofs.Common.{length-append, ap, arith, length, sym, refl, append_assoc, get_or, inl, inr, subst}
 use Rattle.std.proofs.lemmas.Bool.{cases_Bool, lt-ltb}
@@ -7,9 +7,12 @@ use Rattle.std.specs.Io.Iter.{u64_saturate}
 use Rattle.std.specs.Io.KnownBytes.{Consumes, IsAtEnd, Keeps}
 use Rattle.std.specs.List.{onto_first}
 use Rattle.batch.specs.Batch.{INPUT_MOST}
+use Rattle.batch.specs.Ends.{end_of_line}
 use Rattle.batch.specs.Input.{TakesLines}
 use Rattle.batch.specs.Lines.{ends_a_line, lines_of}
 use Rattle.batch.specs.Reading.{EndsReading, IsReadEnd}
+use Rattle.batch.specs.declared.line_reading.LineReadFault.{LineReadFault}
+use Rattle.batch.specs.declared.line_reading.LineReadFault.TheVariants.{Failed, OutOfMemory}
 use Rattle.batch.specs.declared.read_end.ReadEnd.{ReadEnd}
 use Rattle.batch.specs.declared.read_end.ReadEnd.TheVariants.{TooLarge}
 use Rattle.batch.proofs.LineLemmas.{lines_of-cons, lines_of-whole}
@@ -30,7 +33,7 @@ length-through (byte ∷ bytes) =
     let rest = length-through bytes in
     elim (cases_Bool (byte == 10)) [ inl is ↦ rw is (omega arith) | inr is ↦ rw is (omega (arith, rest)) ]
 
--- bytes begin with a line, which has a byte at least
+-- the first line of some bytes has a byte at least
 take_through-some : (byte : ℕ) (bytes : List ℕ) → 0 < length (take_through 10 (byte ∷ bytes))
 take_through-some byte bytes = elim (cases_Bool (byte == 10)) [ inl is ↦ rw is (omega arith) | inr is ↦ rw is (omega arith) ]
 
@@ -57,15 +60,15 @@ lines_of-through byte (next ∷ bytes) =
     ]
 
 -- what is read up to a line feed is the first line of what was left, if there was one
-pub TakesLines-through : (known left : Option (List ℕ)) (old read line : List ℕ) (taken taken_now len : ℕ) → old ≡ []
+pub TakesLines-through : (known left : Option (List ℕ)) (old read line : List ℕ) (len : ℕ) → old ≡ []
     → IfSome known (λ bytes. read ≡ old ++ take_through 10 bytes) → DropsThrough known left 10
-    → length read ≡ length old + len → line ≡ strip_last 10 read → taken_now ≡ taken + len
-    → TakesLines known left taken taken_now (if nat_lt 0 len then line ∷ [] else [])
-TakesLines-through None left old read line taken taken_now len none took drops count is now = tt
-TakesLines-through (Some []) left old read line taken taken_now len none took drops count is now =
+    → length read ≡ length old + len → line ≡ strip_last 10 read
+    → TakesLines known left 0 len (if nat_lt 0 len then line ∷ [] else [])
+TakesLines-through None left old read line len none took drops count is = tt
+TakesLines-through (Some []) left old read line len none took drops count is =
     let zero : len ≡ 0 = omega (arith, ap length took, ap length none, length-append old []) in
     rw (drops, zero) (refl, omega arith)
-TakesLines-through (Some (byte ∷ bytes)) left old read line taken taken_now len none took drops count is now =
+TakesLines-through (Some (byte ∷ bytes)) left old read line len none took drops count is =
     let all : read ≡ take_through 10 (byte ∷ bytes) = took ∙ ap (λ (l : List ℕ). l ++ take_through 10 (byte ∷ bytes)) none in
     let sum = length-through (byte ∷ bytes) in
     let same : length (take_through 10 (byte ∷ bytes)) ≡ len = omega (arith, ap length all, ap length none) in
@@ -75,6 +78,26 @@ TakesLines-through (Some (byte ∷ bytes)) left old read line taken taken_now le
           ∙ ap (λ (l : List ℕ). l ∷ lines_of (drop_through 10 (byte ∷ bytes))) (sym is),
       omega arith,
     )
+
+-- bytes that were taken are counted after those that were taken before
+pub TakesLines-counted : (known left : Option (List ℕ)) (taken taken_now len : ℕ) (lines : List (List ℕ)) → TakesLines known left 0 len lines
+    → taken_now ≡ taken + len → TakesLines known left taken taken_now lines
+TakesLines-counted None left taken taken_now len lines took now = tt
+TakesLines-counted (Some x) None taken taken_now len lines took now = absurd took
+TakesLines-counted (Some x) (Some y) taken taken_now len lines took now = (took.0, omega (arith, took.1, now))
+
+-- bytes that were taken are no more than there were
+pub taken-too_large : (known left : Option (List ℕ)) (taken len : ℕ) (lines : List (List ℕ)) (end : ReadEnd) → TakesLines known left 0 len lines
+    → (end ≡ TooLarge) × (INPUT_MOST < taken + len) → EndsReading known taken end
+taken-too_large None left taken len lines end took over = tt
+taken-too_large (Some x) None taken len lines end took over = absurd took
+taken-too_large (Some x) (Some y) taken len lines end took over = rw over.0 (omega (arith, over.1, took.1))
+
+-- reading may end at a line that cannot be taken, however much was taken before
+pub EndsReading-line : (known : Option (List ℕ)) (taken : ℕ) (fault : LineReadFault) (end : ReadEnd) → end ≡ end_of_line fault → EndsReading known taken end
+EndsReading-line None taken fault end is = tt
+EndsReading-line (Some bytes) taken Failed end is = rw is tt
+EndsReading-line (Some bytes) taken OutOfMemory end is = rw is tt
 
 -- an input of which nothing is left was no longer than what was taken
 pub TakesLines-fits : (a b c : Option (List ℕ)) (t t1 t2 most : ℕ) (lines : List (List ℕ)) → TakesLines a b t t1 lines → IsAtEnd b → TakesLines b c t1 t2 []
@@ -96,7 +119,7 @@ TakesLines-whole (Some x) None front taken taken_now whole lost counted = absurd
 TakesLines-whole (Some x) (Some y) front taken taken_now whole lost counted =
     (ap lines_of lost ∙ lines_of-whole front y whole, omega (arith, counted, ap length lost, length-append front y))
 
--- where the bytes are kept, no line was taken and the count stays
+-- if the bytes are kept, no line was taken and the count stays
 pub TakesLines-kept : (bytes left : Option (List ℕ)) (taken : ℕ) → Keeps bytes left → TakesLines bytes left taken taken []
 TakesLines-kept None left taken kept = tt
 TakesLines-kept (Some x) None taken kept = absurd kept

@@ -1,4 +1,4 @@
--- The first line of a text, and its whole lines.
+-- Shows what the first line of a text is, and the lines of whole lines.
 use Rattle.std.proofs.Common.{◌≡◌, ◌<◌, ◌+◌, ◌==◌, ◌∷◌, ◌++◌, ◌∙◌, [], ℕ, zero, suc, List, Bool, true, false, Some, None, refl, sym, ap, arith, length}
 use Rattle.std.proofs.Common.{drop, take, get_or, add-one, if◌then◌else◌}
 use Rattle.std.proofs.lemmas.Bool.{ne_eqb}
@@ -7,7 +7,7 @@ use Rattle.memchr.specs.Find.{IsFirstByte, IsLastByte, is_byte}
 use Rattle.batch.proofs.PartLemmas.{first_part, one_part, some_part}
 use Rattle.batch.specs.Lines.{ends_a_line, lines_of, without_empty_last}
 
--- a part with others behind it stays
+-- a part with others after it stays
 without_empty_last-cons : (part : List ℕ) (parts : List (List ℕ)) → 0 < length parts → without_empty_last (part ∷ parts) ≡ part ∷ without_empty_last parts
 without_empty_last-cons part [] some = absurd (omega arith)
 without_empty_last-cons part (next ∷ parts) some = refl
@@ -67,7 +67,7 @@ some_line byte bytes = rw (lines_of-cons byte bytes) (at (byte == 10) (lines_of 
     at false [] = omega arith
     at false (line ∷ lines) = omega arith
 
--- the lines of whole lines and of what stands after them
+-- the lines of whole lines and of what follows them
 pub lines_of-whole : (text rest : List ℕ) → ends_a_line text ≡ true → lines_of (text ++ rest) ≡ lines_of text ++ lines_of rest
 lines_of-whole [] rest ends = refl
 lines_of-whole (byte ∷ []) rest ends = lines_of-cons byte rest ∙ rw ends refl

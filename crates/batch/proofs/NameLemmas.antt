@@ -1,4 +1,4 @@
--- The names of a header's lines: whether they name something, how many they are, and whether one stands twice.
+-- Shows of a header's names whether all name something, how many they are, and whether one occurs twice.
 use Rattle.std.proofs.Common.{◌≡◌, ◌≢◌, ◌<◌, ◌≤◌, ◌+◌, ◌-◌, ◌==◌, ◌&&◌, ◌∷◌, ◌++◌, ◌∙◌, ◌||◌, ◌⊎◌, if◌then◌else◌, [], ℕ, suc, List, Bool, true, false, Option}
 use Rattle.std.proofs.Common.{Some, None, is_some, option_and_then, option_map, refl, sym, ap, arith, length, replicate, unwrap_or, nat_le, nat_lt, nat_eq, inl}
 use Rattle.std.proofs.Common.{inr}
@@ -18,7 +18,7 @@ use Rattle.batch.specs.Header.{all_named, listing_of, listing_by_fault, name_tex
 use Rattle.batch.specs.MessageLine.{is_capital}
 use Rattle.batch.specs.declared.header_fault.HeaderFault.TheVariants.{BadListing}
 
--- what two options hold is the same where they are
+-- two equal options hold the same
 some-injective : {A : Type 0} (x y : A) → Some x ≡ Some y → x ≡ y
 some-injective x y same = cc same
 
@@ -44,7 +44,7 @@ NamesEach named [] (x ∷ xs) = ⊥
 NamesEach named (text ∷ texts) [] = ⊥
 NamesEach named (text ∷ texts) (x ∷ xs) = (named text ≡ Some x) × NamesEach named texts xs
 
--- where all texts name something, each names the element at its place
+-- if all texts name something, each names the element at its place
 NamesEach-all : {A : Type 0} (named : List ℕ → Option A) (texts : List (List ℕ)) (xs : List A) → all_named named texts ≡ Some xs → NamesEach named texts xs
 NamesEach-all named [] [] is = tt
 NamesEach-all {A} named [] (x ∷ xs) is = cc (some-injective {A = List A} [] (x ∷ xs) is)
@@ -69,11 +69,11 @@ length-each named [] (x ∷ xs) each = absurd each
 length-each named (text ∷ texts) [] each = absurd each
 length-each named (text ∷ texts) (x ∷ xs) each = ap suc (length-each named texts xs each.1)
 
--- two names are equal exactly where their texts are
+-- two names are equal exactly if their texts are
 abbrev IsFaithful : {A : Type 0} → (List ℕ → Option A) → (A → A → Bool) → Type 0
 IsFaithful {A} named eq = (a b : List ℕ) (x y : A) → named a ≡ Some x → named b ≡ Some y → eq x y ≡ bytes_eq a b
 
--- an element stands among others exactly where its text stands among theirs
+-- an element is among others exactly if its text is among theirs
 list_any-each : {A : Type 0} (named : List ℕ → Option A) (eq : A → A → Bool) (faithful : IsFaithful named eq) (text : List ℕ) (x : A) (texts : List (List ℕ))
     (xs : List A)
     → named text ≡ Some x → NamesEach named texts xs → list_any (λ y. eq y x) xs ≡ list_any (λ t. bytes_eq t text) texts
@@ -83,7 +83,7 @@ list_any-each named eq faithful text x (next ∷ texts) [] here each = absurd ea
 list_any-each named eq faithful text x (next ∷ texts) (y ∷ ys) here each =
     rw (faithful next text y x each.0 here, list_any-each named eq faithful text x texts ys here each.1) refl
 
--- an element stands twice exactly where a text does
+-- an element occurs twice exactly if a text does
 has_repeat-each : {A : Type 0} (named : List ℕ → Option A) (eq : A → A → Bool) (faithful : IsFaithful named eq) (texts : List (List ℕ)) (xs : List A)
     → NamesEach named texts xs → has_repeat eq xs ≡ has_repeat bytes_eq texts
 has_repeat-each named eq faithful [] [] each = refl
@@ -124,7 +124,7 @@ name_of-named name symbol is =
     let made = symbol_named-is name symbol is in
     ap name_of made.1 ∙ name_of-padded name (8 - length name) made.0
 
--- two symbols are equal exactly where their names are
+-- two symbols are equal exactly if their names are
 symbol_named-faithful : IsFaithful symbol_named symbol_eq
 symbol_named-faithful a b x y is_x is_y =
     same_test (bytes_eq x y) (bytes_eq a b) (bytes_eq-Decides x y) (bytes_eq-Decides a b)
@@ -141,7 +141,7 @@ participant_named-is (byte ∷ []) letter is = cases (is_capital byte) refl
     cases false fails = cc (rw fails at is)
 participant_named-is (byte ∷ next ∷ rest) letter is = cc
 
--- two participants are equal exactly where their names are
+-- two participants are equal exactly if their names are
 participant_named-faithful : IsFaithful participant_named nat_eq
 participant_named-faithful a b x y is_x is_y =
     same_test (nat_eq x y) (bytes_eq a b) (Decides-eqb x y) (bytes_eq-Decides a b)
@@ -150,7 +150,7 @@ participant_named-faithful a b x y is_x is_y =
 
 -- ## The fault of a listing, by its texts
 
--- no name of a text with no bytes stands twice, nor does its one empty piece
+-- no name of an empty text occurs twice, nor does its one empty piece
 pub has_repeat-pieces : (separator : ℕ) (text : List ℕ) → has_repeat bytes_eq (name_texts separator text) ≡ has_repeat bytes_eq (pieces_of separator text)
 has_repeat-pieces separator [] = refl
 has_repeat-pieces separator (byte ∷ bytes) = refl
@@ -179,7 +179,7 @@ texts_fault first second = first_fault (
     (nat_lt SYMBOLS_MOST (length first) || nat_lt PARTICIPANTS_MOST (length second), TooMany) ∷
     (has_repeat bytes_eq first || has_repeat bytes_eq second, Repeated) ∷ [])
 
--- a list is empty exactly where its length is zero
+-- a list is empty exactly if its length is zero
 is_nil-length : {A : Type 0} (xs : List A) (n : ℕ) → length xs ≡ n → is_nil xs ≡ (n == 0)
 is_nil-length [] n is = rw (← is) refl
 is_nil-length (x ∷ xs) n is = sym (ne_eqb n 0 (omega arith))

@@ -1,4 +1,4 @@
--- A text that is split at each byte of one value.
+-- Shows the parts of a text that is split at each byte that passes a test.
 use Rattle.std.proofs.Common.{◌≡◌, All, ◌<◌, ◌+◌, ◌-◌, ◌∷◌, [], ℕ, zero, suc, List, Bool, true, false, Some, None, refl, arith, length}
 use Rattle.std.proofs.Common.{get_or, take, drop, add-one}
 use Rattle.std.proofs.lemmas.Grind.{common_steps}
@@ -6,7 +6,7 @@ use Rattle.std.proofs.lemmas.List.Splits.{length-slice_split, slice_split_none}
 use Rattle.std.specs.List.{slice_split}
 use Rattle.memchr.specs.Find.{IsFirstByte}
 
--- what stands behind a place is as long as it is
+-- what follows a place in a text is as long as the rest of the text
 pub take-behind : (text : List ℕ) (end : ℕ) → take (length text - (end + 1)) (drop (end + 1) text) ≡ drop (end + 1) text
 take-behind text end = grind (arith, common_steps)
 
@@ -42,7 +42,7 @@ module _ (p : ℕ → Bool) where
   pub some_part : (text : List ℕ) → 0 < length (slice_split p text)
   some_part text = omega (arith, length-slice_split p text)
 
--- there are fewer parts behind the first
+-- the text after the first part has fewer parts
 pub fewer_parts : (parts : List ℕ → List (List ℕ)) (text : List ℕ) (end : ℕ) → parts text ≡ take end text ∷ parts (drop (end + 1) text)
     → length (parts (take (length text - (end + 1)) (drop (end + 1) text))) < length (parts text)
 fewer_parts parts text end first = rw (take-behind text end, first) (omega arith)

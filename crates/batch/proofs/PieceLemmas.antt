@@ -1,4 +1,4 @@
--- What the pieces of a line name, one after another.
+-- Shows what the pieces of a line name, one after another.
 use Rattle.std.proofs.Common.{◌≡◌, ◌==◌, ◌∷◌, ◌++◌, [], ℕ, List, false, Option, Some, None, refl, ap, append_assoc, length}
 use Rattle.std.specs.Prelude.{option_map}
 use Rattle.batch.specs.Header.{all_named, name_texts, pieces_of}

@@ -1,20 +1,21 @@
--- What a tape and a line refuse out of memory, and what not.
-use Rattle.std.proofs.Common.{◌≡◌, ◌≢◌, ◌==◌, ◌∷◌, ◌∙◌, [], ℕ, List, Bool, true, false, Option, Some, None, Result, Ok, Err, IsOk, refl, sym, ap, inl, inr}
-use Rattle.std.proofs.Common.{unwrap_or}
+-- Shows that a refusal out of memory comes only of an acceptable message.
+use Rattle.std.proofs.Common.{◌≡◌, ◌≢◌, ◌==◌, ◌∷◌, ◌∙◌, [], ℕ, List, Bool, true, false, Option, Some, None, Result, Ok, Err, IsOk, refl, ap, inl, inr}
 use Rattle.std.proofs.lemmas.Bool.{cases_Bool}
 use Rattle.reports.specs.Messages.{header_of}
 use Rattle.reports.specs.Reading.{message_at}
 use Rattle.reports.specs.declared.fault.MessageFault.{MessageFault}
 use Rattle.reports.specs.declared.message.Message.{Message}
+use Rattle.tape_core.specs.Answers.{answer, answer_by, tape_after, tape_by}
 use Rattle.tape_core.specs.Tape.{TapeState, refusal}
 use Rattle.tape_core.specs.Lemmas.RefusalCases.{EachCase, of_refusal}
 use Rattle.tape_core.specs.declared.refusal.Refusal.{Refusal}
 use Rattle.tape_core.specs.declared.refusal.Refusal.TheVariants.{OutOfMemory}
-use Rattle.batch.specs.Batch.{line_answer, tape_after_line}
+use Rattle.batch.specs.Batch.{answer_by_refusal, line_answer, tape_after_line}
 use Rattle.batch.specs.MessageLine.{from_bytes, hex_bytes, line_message, line_parts, message_of_parts, spelled_message, whole_message}
+use Rattle.batch.specs.declared.batch_refusal.BatchRefusal.{BatchRefusal}
 use Rattle.batch.specs.declared.batch_refusal.BatchRefusal.TheVariants.{Refused}
 
--- ## A message is never refused by definition for running out of memory
+-- ## No definition refuses a message for want of memory
 
 -- a tape itself refuses no message as out of memory
 refusal-other : (t : TapeState) (m : Message) → refusal t m ≢ Some OutOfMemory
@@ -52,37 +53,52 @@ message_of_parts-other : (parts : Option (ℕ × List ℕ)) → message_of_parts
 message_of_parts-other None = λ e. cc
 message_of_parts-other (Some (letter, digits)) = parts-other letter _ (hex_bytes digits)
 
--- a line that brings no message is not refused for running out of memory
+-- a line without a message is not refused for want of memory
 pub line_message-other : (line : List ℕ) → line_message line ≢ Err (Refused OutOfMemory)
 unfolding line_message
 line_message-other line = message_of_parts-other (line_parts line)
 
 -- ## A refusal of the tape
 
--- a refusal that is not out of memory is the message's own
-refusal_is : (own : Option Refusal) (r : Refusal) → r ≡ unwrap_or own OutOfMemory → r ≢ OutOfMemory → own ≡ Some r
-refusal_is None r is other = absurd (other is)
-refusal_is (Some own) r is other = ap Some (sym is)
+-- an answer of the tape as that of a line
+abbrev pub of_line : Result ℕ Refusal → Result ℕ BatchRefusal
+of_line (Ok number) = Ok number
+of_line (Err refused) = Err (Refused refused)
 
--- out of memory is no refusal of the message's own
-none_is : (own : Option Refusal) → OutOfMemory ≡ unwrap_or own OutOfMemory → own ≢ Some OutOfMemory → own ≡ None
-none_is None is other = refl
-none_is (Some own) is other = absurd (other (ap Some (sym is)))
+-- the answer to a line's message is the line's
+pub answered_line : (t : TapeState) (line : List ℕ) (m : Message) (answered : Result ℕ Refusal)
+    → Ok m ≡ line_message line → answered ≡ answer t m → of_line answered ≡ line_answer t line
+unfolding line_answer answer
+answered_line t line m answered brings is = rw (← brings) (ap of_line is ∙ cases (refusal t m))
+  where
+    cases : (own : Option Refusal) → of_line (answer_by t own) ≡ answer_by_refusal t own
+    cases None = refl
+    cases (Some refused) = refl
 
--- a message that the tape refuses is answered by the refusal
-pub refused_answer : (t : TapeState) (line : List ℕ) (m : Message) (r : Refusal)
-    → Ok m ≡ line_message line → r ≡ unwrap_or (refusal t m) OutOfMemory → r ≢ OutOfMemory → Err (Refused r) ≡ line_answer t line
-unfolding line_answer
-refused_answer t line m r brings is other = rw (← brings, refusal_is (refusal t m) r is other) refl
+-- the tape after a line's message is that after the line
+pub tape_line : (t new : TapeState) (line : List ℕ) (m : Message) → Ok m ≡ line_message line → new ≡ tape_after t m → new ≡ tape_after_line t line
+unfolding tape_after_line tape_after
+tape_line t new line m brings is = rw (← brings) is
 
 -- a message that the tape refuses leaves the tape as it was
-pub refused_tape : (t new : TapeState) (line : List ℕ) (m : Message) (r : Refusal)
-    → Ok m ≡ line_message line → r ≡ unwrap_or (refusal t m) OutOfMemory → r ≢ OutOfMemory → new ≡ t → new ≡ tape_after_line t line
-unfolding tape_after_line
-refused_tape t new line m r brings is other same = rw (← brings, refusal_is (refusal t m) r is other) same
+pub refused_tape : (t : TapeState) (m : Message) (r : Refusal) → Err r ≡ answer t m → tape_after t m ≡ t
+unfolding answer tape_after
+refused_tape t m r is = cases (refusal t m) is
+  where
+    cases : (own : Option Refusal) → Err r ≡ answer_by t own → tape_by t m own ≡ t
+    cases None is = cc
+    cases (Some refused) is = refl
 
--- a message that was refused as out of memory was acceptable
-pub acceptable : (t : TapeState) (line : List ℕ) (m : Message) (r : Refusal) → Ok m ≡ line_message line → r ≡ unwrap_or (refusal t m) OutOfMemory
-    → r ≡ OutOfMemory → IsOk (line_answer t line)
+-- and the refusal is not out of memory
+pub refused-other : (t : TapeState) (m : Message) (r : Refusal) → Err r ≡ answer t m → r ≢ OutOfMemory
+unfolding answer
+refused-other t m r is = cases (refusal t m) (refusal-other t m) is
+  where
+    cases : (own : Option Refusal) → own ≢ Some OutOfMemory → Err r ≡ answer_by t own → r ≢ OutOfMemory
+    cases None other is = λ memory. cc
+    cases (Some refused) other is = λ memory. other (cc)
+
+-- a message that the tape does not refuse was acceptable
+pub acceptable : (t : TapeState) (line : List ℕ) (m : Message) → Ok m ≡ line_message line → refusal t m ≡ None → IsOk (line_answer t line)
 unfolding line_answer
-acceptable t line m r brings is memory = rw (← brings, none_is (refusal t m) (sym memory ∙ is) (refusal-other t m)) refl
+acceptable t line m brings none = rw (← brings, none) refl

@@ -1,4 +1,4 @@
--- Digits spelled sixteen by sixteen.
+-- Shows that digits spell the bytes of their sixteens.
 use Rattle.std.proofs.Common.{◌≡◌, ◌≤◌, ◌+◌, ◌*◌, ◌%◌, ◌++◌, ◌∙◌, ℕ, List, Some, None, refl, sym, ap, arith, length, length-take, take, drop}
 use Rattle.std.proofs.Math.Seq.{take-add}
 use Rattle.std.proofs.lemmas.List.{take-append-drop}

@@ -1,4 +1,4 @@
--- An input that is read up to one byte beyond the limit.
+-- Shows that an input read up to one byte beyond the limit is read whole, or is too large.
 use Rattle.std.proofs.Common.{◌≡◌, ◌≤◌, ◌<◌, ◌+◌, ◌==◌, [], ℕ, List, Option, Some, None, IfSome, refl, arith, length, length-take, take, take_all}
 use Rattle.std.proofs.Common.{if◌then◌else◌}
 use Rattle.std.specs.Io.KnownBytes.{prepend_known}

@@ -1,4 +1,4 @@
--- A day's answers and its report, as they are written.
+-- Shows that a day's answers and report are written as the batch's text.
 use Rattle.std.proofs.Common.{◌≡◌, ◌++◌, inl, inr, ℕ, List, Bool, true, false, Option, Result, Ok, refl, ap, append-nil}
 use Rattle.std.specs.Io.KnownBytes.{Appends}
 use Rattle.std.specs.List.{flat_map}

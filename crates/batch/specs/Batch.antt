@@ -1,4 +1,4 @@
--- What a batch writes for a whole input, and where memory runs out.
+-- Defines what a batch writes for a whole input, and what if memory runs out.
 use Rattle.std.specs.Prelude.{◌≡◌, ◌⊎◌, ◌+◌, ℕ, List, [], ◌∷◌, ◌++◌, length, drop, fold, slice_index_or, Option, Some, None, Result, Ok, Err, IsOk}
 use Rattle.std.specs.Prelude.{decimal, codes}
 use Rattle.std.specs.Io.KnownBytes.{Appends, Keeps}
@@ -6,7 +6,8 @@ use Rattle.std.specs.List.{flat_map}
 use Rattle.tape_types.specs.Names.{Names}
 use Rattle.sale_matrix.specs.declared.matrix.Matrix.{Matrix}
 use Rattle.reports.specs.declared.message.Message.{Message}
-use Rattle.tape_core.specs.Tape.{TapeState, empty_tape, refusal, with_message}
+use Rattle.tape_core.specs.Answers.{tape_by}
+use Rattle.tape_core.specs.Tape.{TapeState, empty_tape, refusal}
 use Rattle.tape_core.specs.declared.refusal.Refusal.{Refusal}
 use Rattle.tape_core.specs.declared.refusal.Refusal.TheVariants.{OutOfMemory}
 use Rattle.batch.specs.Header.{header_fault_code, header_fault_name, header_listing}
@@ -23,30 +24,25 @@ use Rattle.batch.specs.declared.batch_refusal.BatchRefusal.TheVariants.{Refused}
 abbrev pub INPUT_MOST : ℕ
 INPUT_MOST = 16777216
 
--- how many entries the tape of a batch has at most, whatever other tapes may have
+-- the most entries that the tape of a batch has, whatever the limit of other tapes
 abbrev pub BATCH_TAPE_MOST : ℕ
 BATCH_TAPE_MOST = 1048576
 
 -- ## Answers
 
--- the answer to a message that the tape refuses so, or not at all
+-- the answer to a message of which the tape has this refusal, or none
 abbrev pub answer_by_refusal : TapeState → Option Refusal → Result ℕ BatchRefusal
 answer_by_refusal t None = Ok (length t.entries + 1)
 answer_by_refusal t (Some refused) = Err (Refused refused)
 
--- the tape after a message that it refuses so, or not at all
-abbrev pub tape_by_refusal : TapeState → Message → Option Refusal → TapeState
-tape_by_refusal t m None = with_message t m
-tape_by_refusal t m (Some refused) = t
-
--- the answer to what a line brings
+-- the answer to the message of a line, or to a line without one
 abbrev pub answer_to : TapeState → Result Message BatchRefusal → Result ℕ BatchRefusal
 answer_to t (Ok m) = answer_by_refusal t (refusal t m)
 answer_to t (Err refused) = Err refused
 
--- the tape after what a line brings
+-- the tape after the message of a line, or after a line without one
 abbrev pub tape_behind : TapeState → Result Message BatchRefusal → TapeState
-tape_behind t (Ok m) = tape_by_refusal t m (refusal t m)
+tape_behind t (Ok m) = tape_by t m (refusal t m)
 tape_behind t (Err refused) = t
 
 -- the answer to a line: a tape number, or the first refusal
@@ -93,7 +89,7 @@ batch_tape matrix names = empty_tape names BATCH_TAPE_MOST matrix
 abbrev pub tape_report : TapeState → List ℕ
 tape_report t = report_text (report_rows t)
 
--- the answers to the message lines, and the report of the tape that they leave
+-- the answers to the message lines, and the report of the resulting tape
 abbrev pub body_text : Matrix → Names → List (List ℕ) → List ℕ
 body_text matrix names lines =
     answer_lines (batch_tape matrix names) lines ++ tape_report (tape_after_lines (batch_tape matrix names) lines)
@@ -107,7 +103,7 @@ abbrev pub text_under : Matrix → Result Names HeaderFault → List (List ℕ) 
 text_under matrix (Ok names) lines = body_text matrix names lines
 text_under matrix (Err fault) lines = fault_line fault
 
--- the line at this position, of no bytes where it is absent
+-- the line at this position, empty if there is none
 abbrev pub line_at : List ℕ → ℕ → List ℕ
 line_at input position = slice_index_or (lines_of input) position []
 
@@ -143,6 +139,6 @@ IsStopText t lines text = (answers : List (Result ℕ BatchRefusal)) × RunsOut 
 abbrev pub StopsAtLine : TapeState → List (List ℕ) → Option (List ℕ) → Option (List ℕ) → Type 0
 StopsAtLine t lines old new = (text : List ℕ) × IsStopText t lines text × Appends old new text
 
--- what was written where memory ran out: nothing, the answers up to a refusal for it, or all answers and no report
+-- what was written if memory ran out: nothing, the answers up to a refusal for it, or all answers and no report
 abbrev pub StopsForMemory : TapeState → List (List ℕ) → Option (List ℕ) → Option (List ℕ) → Type 0
 StopsForMemory t lines old new = Keeps old new ⊎ (StopsAtLine t lines old new ⊎ Appends old new (answer_lines t lines))

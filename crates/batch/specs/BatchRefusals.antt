@@ -1,4 +1,4 @@
--- The refusals of a line by number and name.
+-- Defines the number and the name of each refusal of a line.
 use Rattle.std.specs.Prelude.{ℕ, List, codes}
 use Rattle.reports.specs.Faults.{message_fault_code, message_fault_name}
 use Rattle.tape_core.specs.Refusals.{refusal_code, refusal_name}

@@ -1,4 +1,4 @@
--- The answers that a day holds until its input has been read whole.
+-- Defines the tape and the answers of a day after some of its lines.
 use Rattle.std.specs.Prelude.{◌≡◌, ℕ, Bool, true, false, List, ◌++◌, Option, Result}
 use Rattle.tape_core.specs.Tape.{TapeState}
 use Rattle.batch.specs.Batch.{RunsOut, line_answers, tape_after_lines}
@@ -15,11 +15,11 @@ AnswersLines t lines true now answers = RunsOut t lines answers
 abbrev pub HasAnswered : TapeState → List (List ℕ) → Day → Type 0
 HasAnswered t lines day = AnswersLines t lines day.is_stopped day.tape day.answers.items
 
--- a day answered these lines more
+-- a day has answered these lines after its earlier ones
 abbrev pub AnswersMore : Day → Day → List (List ℕ) → Type 0
 AnswersMore old new lines = (t : TapeState) (before : List (List ℕ)) → HasAnswered t before old → HasAnswered t (before ++ lines) new
 
--- a day answered some lines more, which were taken from the front of an input
+-- a day has answered further lines, which were taken from the front of an input
 pub record AnswersTaken (old new : Day) (bytes left : Option (List ℕ)) (taken taken_now : ℕ) : Type 0 where
   pub lines : List (List ℕ)
   pub answered : AnswersMore old new lines

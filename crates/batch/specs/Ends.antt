@@ -1,9 +1,16 @@
--- The end of a batch that an end of its reading is, and what the program says of each.
+-- Defines the end of a batch for each end of its reading, and the status and the text of each end.
 use Rattle.std.specs.Prelude.{ℕ, List, [], codes}
 use Rattle.batch.specs.declared.batch_end.BatchEnd.{BatchEnd}
 use Rattle.batch.specs.declared.batch_end.BatchEnd.TheVariants.{Done, BadHeader, TooLarge, ReadFault, WriteFault, OutOfMemory}
+use Rattle.batch.specs.declared.line_reading.LineReadFault.{LineReadFault}
+use Rattle.batch.specs.declared.line_reading.LineReadFault.TheVariants as line
 use Rattle.batch.specs.declared.read_end.ReadEnd.{ReadEnd}
 use Rattle.batch.specs.declared.read_end.ReadEnd.TheVariants.{TooLarge as ReadTooLarge, ReadFault as ReadFailed, OutOfMemory as ReadOutOfMemory}
+
+-- the end of reading if a line could not be taken
+abbrev pub end_of_line : LineReadFault → ReadEnd
+end_of_line line.Failed = ReadFailed
+end_of_line line.OutOfMemory = ReadOutOfMemory
 
 -- the end of a batch whose reading ended so
 abbrev pub end_of_reading : ReadEnd → BatchEnd
@@ -20,7 +27,7 @@ end_status ReadFault = 3
 end_status WriteFault = 4
 end_status OutOfMemory = 5
 
--- what stands on standard error
+-- the text on standard error
 abbrev pub end_text : BatchEnd → List ℕ
 end_text Done = []
 end_text BadHeader = []

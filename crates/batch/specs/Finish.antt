@@ -1,17 +1,17 @@
--- What is written of what was read, and how that ends.
+-- Defines what is written of what was read, and how writing ends.
 use Rattle.std.specs.Prelude.{◌≡◌, ℕ, Bool, true, false, List, [], ◌++◌, Option}
 use Rattle.std.specs.Io.KnownBytes.{Appends}
 use Rattle.std.specs.List.{flat_map}
 use Rattle.tape_core.specs.Tape.{TapeState}
 use Rattle.batch.specs.Batch.{answer_line, fault_line, tape_report}
-use Rattle.row_reads.specs.Writing.{WritesPrefix}
+use Rattle.whole_io.specs.Writing.{WritesPrefix}
 use Rattle.batch.specs.declared.batch_end.BatchEnd.{BatchEnd}
 use Rattle.batch.specs.declared.batch_end.BatchEnd.TheVariants.{Done, BadHeader, TooLarge, ReadFault, WriteFault, OutOfMemory}
 use Rattle.batch.specs.declared.day.Day.{Day}
 use Rattle.batch.specs.declared.reading.ReadInput.{ReadInput}
 use Rattle.batch.specs.declared.reading.ReadInput.TheVariants.{Answered, HeaderRefused}
 
--- the report of a tape, or nothing where memory ran out at a line
+-- the report of a tape, or nothing if memory ran out at a line
 abbrev pub report_unless : Bool → TapeState → List ℕ
 report_unless false t = tape_report t
 report_unless true t = []
@@ -29,7 +29,7 @@ FinishesDay day BadHeader old new = ⊥
 FinishesDay day TooLarge old new = ⊥
 FinishesDay day ReadFault old new = ⊥
 
--- what was written of a text at this end, where nothing takes memory
+-- what was written of a text at this end, if nothing is allocated
 abbrev pub FinishesRefusal : List ℕ → BatchEnd → Option (List ℕ) → Option (List ℕ) → Type 0
 FinishesRefusal text BadHeader old new = Appends old new text
 FinishesRefusal text WriteFault old new = WritesPrefix text old new
@@ -43,7 +43,7 @@ abbrev pub Finishes : ReadInput → BatchEnd → Option (List ℕ) → Option (L
 Finishes (Answered day) end old new = FinishesDay day end old new
 Finishes (HeaderRefused fault) end old new = FinishesRefusal (fault_line fault) end old new
 
--- the end of a batch with a day at one of whose lines memory ran out, and what was written then: the answers, of which the refusal is the last,
+-- the end of a batch that ran out of memory at a line of its day, and what was written: the answers, of which the refusal is the last,
 -- unless a read or a write failed or the input is too large
 abbrev pub EndsStopped : Day → BatchEnd → Option (List ℕ) → Option (List ℕ) → Type 0
 EndsStopped day OutOfMemory old new = Appends old new (flat_map answer_line day.answers.items)
@@ -53,7 +53,7 @@ EndsStopped day WriteFault old new = Unit {0}
 EndsStopped day Done old new = ⊥
 EndsStopped day BadHeader old new = ⊥
 
--- a batch of which this was read ended as it has to where memory ran out at a line
+-- if memory ran out at a line of what was read, the batch ended as it must then
 abbrev pub EndsAfterStop : ReadInput → BatchEnd → Option (List ℕ) → Option (List ℕ) → Type 0
 EndsAfterStop (Answered day) end old new = day.is_stopped ≡ true → EndsStopped day end old new
 EndsAfterStop (HeaderRefused fault) end old new = Unit {0}

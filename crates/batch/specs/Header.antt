@@ -1,4 +1,4 @@
--- The header of a batch: the symbols on its first line, and the participants on its second.
+-- Defines the listing of a header: the symbols on its first line, and the participants on its second.
 use Rattle.std.specs.Prelude.{ℕ, List, [], ◌∷◌, codes, Option, Some, None, Result, Ok, Err, option_and_then, if◌then◌else◌}
 use Rattle.std.specs.List.{slice_split}
 use Rattle.std.specs.Option.{option_map}
@@ -24,7 +24,7 @@ header_fault_name (BadListing fault) = listing_fault_name fault
 abbrev pub pieces_of : ℕ → List ℕ → List (List ℕ)
 pieces_of separator text = slice_split (is_byte separator) text
 
--- the names of a text; a text of no bytes has none
+-- the names of a text; an empty text has none
 abbrev pub name_texts : ℕ → List ℕ → List (List ℕ)
 name_texts separator [] = []
 name_texts separator (byte ∷ bytes) = pieces_of separator (byte ∷ bytes)
@@ -35,13 +35,13 @@ participant_named [] = None
 participant_named (letter ∷ []) = if is_capital letter then Some letter else None
 participant_named (letter ∷ next ∷ rest) = None
 
--- all that the texts name, or none where one names nothing
+-- all that the texts name, or none if one names nothing
 abbrev pub all_named : {A : Type 0} → (List ℕ → Option A) → List (List ℕ) → Option (List A)
 all_named named [] = Some []
 all_named named (text ∷ texts) =
     option_and_then (λ name. option_map (λ names. name ∷ names) (all_named named texts)) (named text)
 
--- the listing, where it has no fault
+-- the listing, if it has no fault
 abbrev pub listing_by_fault : Option ListingFault → Names → Result Names HeaderFault
 listing_by_fault None names = Ok names
 listing_by_fault (Some fault) names = Err (BadListing fault)

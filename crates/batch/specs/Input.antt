@@ -1,4 +1,4 @@
--- What an input loses while it is read.
+-- Defines which lines an input loses while it is read.
 use Rattle.std.specs.Prelude.{◌≡◌, ◌+◌, ℕ, List, ◌++◌, length, Option, Some, None}
 use Rattle.batch.specs.Lines.{lines_of}
 

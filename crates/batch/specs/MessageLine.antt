@@ -1,4 +1,4 @@
--- The message that a line brings: one capital letter, one space, and the message's bytes in hexadecimal digits.
+-- Defines the message of a line: one capital letter, one space, and the message's bytes in hexadecimal digits.
 use Rattle.std.specs.Prelude.{ℕ, ◌+◌, ◌*◌, ◌/◌, ◌==◌, ◌&&◌, nat_le, Bool, List, [], ◌∷◌, length, Option, Some, None, Result, Ok, Err, option_and_then}
 use Rattle.std.specs.Prelude.{if◌then◌else◌}
 use Rattle.std.specs.Option.{option_map}
@@ -16,12 +16,12 @@ use Rattle.batch.specs.declared.batch_refusal.BatchRefusal.TheVariants.{BadLine,
 abbrev pub is_capital : ℕ → Bool
 is_capital b = nat_le FIRST_PARTICIPANT b && nat_le b LAST_PARTICIPANT
 
--- a byte by its two digits, in front of others
+-- the byte of two digits, in front of others
 abbrev pub with_byte : Option ℕ → Option ℕ → Option (List ℕ) → Option (List ℕ)
 with_byte high low bytes =
     option_and_then (λ h. option_and_then (λ l. option_map (λ rest. (h * 16 + l) ∷ rest) bytes) low) high
 
--- the bytes that digits spell, two digits a byte; none where a digit is over or a byte is no digit
+-- the bytes that digits spell, two digits a byte; none if their number is odd or a byte is no digit
 unfoldable pub hex_bytes : List ℕ → Option (List ℕ)
 hex_bytes [] = Some []
 hex_bytes (digit ∷ []) = None
@@ -37,7 +37,7 @@ abbrev pub spelled_message : Option (List ℕ) → Result (Message × ℕ) Batch
 spelled_message None = Err BadLine
 spelled_message (Some bytes) = from_bytes (message_at bytes)
 
--- the message read, where it took all bytes of the line and is of the line's participant
+-- the message read, if it took all bytes of the line and is of the line's participant
 abbrev pub whole_message : ℕ → ℕ → Result (Message × ℕ) BatchRefusal → Result Message BatchRefusal
 whole_message letter len (Err refusal) = Err refusal
 whole_message letter len (Ok (message, taken)) =
@@ -55,6 +55,6 @@ abbrev pub message_of_parts : Option (ℕ × List ℕ) → Result Message BatchR
 message_of_parts None = Err BadLine
 message_of_parts (Some (letter, digits)) = whole_message letter (length digits / 2) (spelled_message (hex_bytes digits))
 
--- the message that a line brings, or the first thing wrong with it
+-- the message of a line, or the first thing wrong with it
 unfoldable pub line_message : List ℕ → Result Message BatchRefusal
 line_message line = message_of_parts (line_parts line)

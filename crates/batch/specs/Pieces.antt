@@ -1,10 +1,10 @@
--- What an iterator over pieces has left.
+-- Defines the pieces that an iterator has left.
 use Rattle.std.specs.Prelude.{ℕ, List, [], Option, Some, None}
 use Rattle.batch.specs.Header.{pieces_of}
 use Rattle.batch.specs.declared.pieces.Pieces.{Pieces}
 use denote.Ref.{Bor}
 
--- the pieces of what is left of the text, if any is
+-- the pieces of the rest of a text, if there is a rest
 abbrev pub pieces_of_rest : ℕ → Option (Bor (List ℕ)) → List (List ℕ)
 pieces_of_rest separator None = []
 pieces_of_rest separator (Some rest) = pieces_of separator rest.now

@@ -1,18 +1,18 @@
-//! Output that waits to be written in large pieces.
+//! Gathers answer lines and writes them in large pieces.
 ghost use Rattle.std.specs.Prelude.{◌≡◌, ◌≤◌, ◌+◌, ◌++◌, ◌∷◌, [], length, IfOk, OnOk, OnErr};
 ghost use Rattle.std.specs.Io.KnownBytes.{Appends};
 ghost use Rattle.batch.specs.Batch.{answer_line, fault_line, refusal_text};
 ghost use Rattle.batch.specs.AnswerBuffer.{ROOM};
 ghost use Rattle.batch.specs.declared.answer_buffer.TheConstants.{LONGEST_NAME, PIECE};
-ghost use Rattle.row_reads.specs.Writing.{WritesPrefix, WritesUpTo};
+ghost use Rattle.whole_io.specs.Writing.{WritesPrefix, WritesUpTo};
 
 use crate::HeaderFault;
 use crate::day::Answer;
 use itoa::Buffer;
-use row_reads::{WriteFault, write_text};
 use std::alloc::{AllocError, Global};
 use std::io::Write;
 use std::marker::Model;
+use whole_io::{WriteFault, write_text};
 
 /// How many bytes are gathered before they are written.
 const PIECE: usize = 8_192;
@@ -20,10 +20,10 @@ const PIECE: usize = 8_192;
 /// Room for the name of a refusal.
 const LONGEST_NAME: usize = 64;
 
-/// Room for one answer line more: a refusal's name, and the word and the number before it.
+/// Room for one more answer line: a refusal's name, and the word and the number before it.
 const LONGEST_LINE: usize = LONGEST_NAME + 64;
 
-/// Answer lines that wait to be written in large pieces. All its memory is taken at first, so a line more takes none.
+/// Answer lines that wait to be written in large pieces. All memory is allocated by `new`, so adding a line allocates none.
 #[derive(Drop)]
 pub struct AnswerBuffer {
     bytes: Vec<u8>,
@@ -42,7 +42,7 @@ impl Model for AnswerBuffer {
 }
 
 impl AnswerBuffer {
-    /// Empty, with room for a piece and one more line.
+    /// An empty buffer with room for a piece and one more line. `AllocError` if memory runs out.
     pub fn new(alloc: Global) -> Result<Self, AllocError>
         ensures { IfOk result (λ g. g ≡ []) }
     {
@@ -50,7 +50,7 @@ impl AnswerBuffer {
         Ok(AnswerBuffer { bytes })
     }
 
-    /// Adds a text within the room.
+    /// Adds a text that fits in the room.
     fn push(&mut self, text: &[u8])
         requires { length self.old + length text.now ≤ ROOM }
         ensures { self.new ≡ self.old ++ text.now }
@@ -58,7 +58,7 @@ impl AnswerBuffer {
         self.bytes.extend_from_slice(text).unwrap();
     }
 
-    /// Adds the line of a refusal, by its number and its name.
+    /// Adds the line of a refusal of this number and name.
     fn push_refusal(&mut self, code: u8, name: &str)
         requires { length self.old + length name.now ≤ PIECE + LONGEST_NAME }
         ensures { self.new ≡ self.old ++ (refusal_text code name.now ++ 10 ∷ []) }
@@ -94,7 +94,7 @@ impl AnswerBuffer {
         self.push_refusal(fault.code(), fault.name());
     }
 
-    /// Writes all that is gathered.
+    /// Writes all that is gathered, and empties the buffer. If a write fails, a prefix of it was written.
     pub fn write_to<W: Write>(&mut self, writer: &mut W) -> Result<(), WriteFault>
         ensures empty { OnOk result (self.new ≡ []) }
         ensures written { OnOk result (Appends (W.contents writer.old) (W.contents writer.new) self.old) }
@@ -105,7 +105,7 @@ impl AnswerBuffer {
         Ok(())
     }
 
-    /// Writes what is gathered, where it is a piece.
+    /// Writes what is gathered if it is at least a piece. If a write fails, a prefix of it was written.
     pub fn write_piece<W: Write>(&mut self, writer: &mut W) -> Result<(), WriteFault>
         ensures room { OnOk result (length self.new ≤ PIECE) }
         ensures written { OnOk result (WritesUpTo self.old self.new (W.contents writer.old) (W.contents writer.new)) }

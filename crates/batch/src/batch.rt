@@ -1,4 +1,4 @@
-//! A batch: a whole input answered line by line, and the report of the tape that it leaves.
+//! Answers a whole input line by line, and writes the answers and the report of the resulting tape.
 ghost use Rattle.std.specs.Prelude.{◌≡◌, ◌+◌, ◌⊎◌, IfErr, IfOk, IfSome, OnOk, OnErr, Err, [], false};
 ghost use Rattle.std.specs.Io.KnownBytes.{Appends, Keeps};
 ghost use Rattle.std.specs.List.{flat_map};
@@ -8,7 +8,7 @@ ghost use Rattle.day_report.specs.declared.report_fault.ReportFault.TheVariants.
 ghost use Rattle.batch.specs.Batch.{INPUT_MOST, answer_line, tape_report};
 ghost use Rattle.batch.specs.BatchEnds.{EndsAt, WritesBatch, Wrote};
 ghost use Rattle.batch.specs.Finish.{EndsAfterStop, Finishes, day_text};
-ghost use Rattle.row_reads.specs.Writing.{WritesPrefix};
+ghost use Rattle.whole_io.specs.Writing.{WritesPrefix};
 ghost use Rattle.batch.specs.declared.batch_end.BatchEnd.TheVariants.{ReadFault, TooLarge, WriteFault as EndWriteFault};
 ghost use Rattle.batch.specs.declared.stop.Stop.TheVariants.{OutOfMemory, WriteFault as StopWriteFault};
 
@@ -20,18 +20,18 @@ use crate::input::{INPUT_MOST, Input};
 use crate::reading::{ReadInput, read_batch};
 use crate::stop::Stop;
 use day_report::{ReportFault, Row, rows, write_report};
-use row_reads::{WriteFault, write_text};
 use sale_matrix::Matrix;
 use std::alloc::{AllocError, Global};
 use std::io::{BufReader, Read, Take, Write};
 use std::mem;
 use std::thread::Threads;
 use tape_types::NoGate;
+use whole_io::{WriteFault, write_text};
 
 /// How many bytes are read at once.
 const READ_PIECE: usize = 65_536;
 
-/// The end, once what was written is flushed.
+/// Flushes the writer, and returns the end, or `WriteFault` if the flush failed.
 fn flushed<W: Write>(writer: &mut W, end: BatchEnd) -> BatchEnd
     ensures end { (result ≡ end) ⊎ (result ≡ EndWriteFault) }
     ensures kept { Keeps (W.contents writer.old) (W.contents writer.new) }
@@ -59,7 +59,7 @@ fn write_answers<W: Write>(
     buffer.write_to(writer)
 }
 
-/// The rows of a tape, made by one worker: it starts no thread, and can fail only by running out of memory.
+/// The report rows of a tape, made by one worker, so no thread is started and the only error is `OutOfMemory`.
 fn rows_by_one<T: Threads + Sync>(
     rt: &T,
     alloc: Global,
@@ -85,7 +85,7 @@ fn report<T: Threads + Sync>(rt: &T, alloc: Global, tape: &DayTape) -> Result<Ve
     }
 }
 
-/// Writes a day: its answers, and, unless memory ran out at one of them, the report of its tape.
+/// Writes a day: its answers, then the report of its tape unless memory ran out at one of the lines.
 fn write_day<T: Threads + Sync, W: Write>(
     rt: &T,
     alloc: Global,
@@ -109,7 +109,7 @@ fn write_day<T: Threads + Sync, W: Write>(
     Ok(())
 }
 
-/// Writes what was read of a batch: a day, or the line of a refused header, for which there is room already.
+/// Writes what was read of a batch: a day, or the line of a refused header, for which `buffer` has room.
 fn write_batch<T: Threads + Sync, W: Write>(
     rt: &T,
     alloc: Global,
@@ -136,7 +136,7 @@ fn write_batch<T: Threads + Sync, W: Write>(
     }
 }
 
-/// Writes what was read of a batch, flushed at the end.
+/// Writes what was read of a batch, and flushes the writer.
 fn finish_batch<T: Threads + Sync, W: Write>(
     rt: &T,
     alloc: Global,
@@ -154,7 +154,7 @@ fn finish_batch<T: Threads + Sync, W: Write>(
     }
 }
 
-/// The reader as far as one byte beyond the longest input, which is enough to tell that an input is too large.
+/// The reader up to one byte beyond the longest input, which is enough to see that an input is too large.
 fn limited<R: Read>(reader: &mut R) -> Take<&mut R>
     ensures limit { take_limit result ≡ INPUT_MOST + 1 }
     ensures inner { take_inner result ≡ reader.entry }
@@ -162,9 +162,9 @@ fn limited<R: Read>(reader: &mut R) -> Take<&mut R>
     reader.take(INPUT_MOST + 1)
 }
 
-/// Does what `batch_over` does, and gives back what was read, whole or up to where reading stopped: for a caller that wants to know the
-/// day's tape or its answers. Where memory ran out at a line, these were written and the batch ends so, unless a read or a write failed or
-/// the input is too large.
+/// Does what `batch_over` does, and also returns what was read, whole or up to where reading stopped, for a caller that needs
+/// the day's tape or its answers. If memory ran out at a line, the answers were written and the end is `OutOfMemory`, unless a
+/// read or a write failed or the input is too large.
 pub fn batch_kept<T: Threads + Sync, R: Read, W: Write>(
     rt: &T,
     alloc: Global,
@@ -180,7 +180,7 @@ pub fn batch_kept<T: Threads + Sync, R: Read, W: Write>(
     let Ok(left) = BufReader::with_capacity(alloc, READ_PIECE, limited(reader)) else {
         return (BatchEnd::OutOfMemory, None);
     };
-    // Room to write is taken first, so that writing a refusal out of memory needs none.
+    // The buffer is allocated first, so writing a refusal for want of memory allocates none.
     let Ok(mut buffer) = AnswerBuffer::new(alloc) else {
         return (BatchEnd::OutOfMemory, None);
     };
@@ -196,8 +196,8 @@ pub fn batch_kept<T: Threads + Sync, R: Read, W: Write>(
     }
 }
 
-/// Reads a batch whole, and writes its answers and its report by the matrix, in large pieces that are flushed once at the end. `BatchEnd`
-/// says how it ended and what was written.
+/// Reads a batch whole, and writes its answers and its report by the matrix, in large pieces that are flushed once at the end.
+/// Returns how it ended, which says what was written.
 pub fn batch_over<T: Threads + Sync, R: Read, W: Write>(
     rt: &T,
     alloc: Global,
@@ -211,8 +211,8 @@ pub fn batch_over<T: Threads + Sync, R: Read, W: Write>(
     end
 }
 
-/// Does what `batch_over` does, for a program that ends then: what was read is left to the process's end, which gives its
-/// memory back at once and not piece by piece.
+/// Does what `batch_over` does, for a program that ends afterwards: the memory of what was read is not freed piece by piece but
+/// left to the process's end.
 pub fn last_batch<T: Threads + Sync, R: Read, W: Write>(
     rt: &T,
     alloc: Global,

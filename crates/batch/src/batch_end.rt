@@ -1,4 +1,4 @@
-//! How a batch ended.
+//! The ends of a batch, each with the program's exit status and its line on standard error.
 ghost use Rattle.std.specs.Prelude.{◌≡◌};
 ghost use Rattle.batch.specs.Ends.{end_status, end_text};
 
@@ -13,14 +13,14 @@ pub enum BatchEnd {
     TooLarge,
     /// A read failed, and nothing was written.
     ReadFault,
-    /// A write or the flush failed. The writer has a prefix of what was to be written.
+    /// A write or the flush failed. A prefix of the output was written.
     WriteFault,
     /// Memory ran out: nothing was written, or the answers up to a refusal for it, or all answers and no report.
     OutOfMemory,
 }
 
 impl BatchEnd {
-    /// The status that the program ends with.
+    /// The program's exit status.
     pub fn status(self) -> u8
         ensures status { result ≡ end_status self }
     {
@@ -33,7 +33,7 @@ impl BatchEnd {
         }
     }
 
-    /// What the program says of it on standard error: nothing, or one line.
+    /// The program's text on standard error: empty, or one line.
     pub fn text(self) -> &'static str
         ensures text { result.now ≡ end_text self }
     {

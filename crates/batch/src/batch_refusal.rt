@@ -1,4 +1,4 @@
-//! Why a line was refused.
+//! The refusals of a line, each with its number and its name.
 ghost use Rattle.std.specs.Prelude.{◌≡◌, Some};
 ghost use Rattle.batch.specs.BatchRefusals.{batch_refusal_code, batch_refusal_name};
 
@@ -7,7 +7,7 @@ use std::fmt;
 use tape_core::Refusal;
 use thiserror::Error;
 
-/// Why a line of a batch was refused, the first that applies.
+/// Why a line of a batch was refused: the first of these that applies.
 #[derive(Clone, Copy, Debug, PartialEq, Eq, Error)]
 pub enum BatchRefusal {
     /// The line is not one capital letter, one space and an even number of hexadecimal digits.

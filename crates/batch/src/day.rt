@@ -1,4 +1,4 @@
-//! A day: its tape, and the answers that it holds until its input has been read whole.
+//! Answers the lines of an input on one tape, and keeps the answers until the input has been read whole.
 ghost use Rattle.std.specs.Prelude.{◌≡◌, ◌≢◌, ◌≤◌, ◌↔◌, [], ◌∷◌, false, Err, Ok, IsOk, IsTrue, IfErr, IfSome, OnOk, OnErr};
 ghost use Rattle.std.specs.IoError.{error_kind};
 ghost use Rattle.tape_core.specs.declared.refusal.Refusal.TheVariants.{OutOfMemory};
@@ -11,7 +11,8 @@ ghost use Rattle.batch.specs.declared.read_end.ReadEnd.TheVariants.{OutOfMemory 
 
 use crate::BatchRefusal;
 use crate::day_tape::DayTape;
-use crate::input::{Input, failed_read};
+use crate::input::Input;
+use crate::line_reading::failed_read;
 use crate::lines::{Lines, whole_lines};
 use crate::message_line::read_message;
 use crate::read_end::ReadEnd;
@@ -26,7 +27,7 @@ pub type Answer = Result<TapeNumber, BatchRefusal>;
 // A day holds an answer to each of its lines.
 const _: () = prove!(size_of::<Answer>() == 5);
 
-/// Answers a line: admits its message and gives its tape number, or says why not, which leaves the tape as it was.
+/// Admits a line's message and returns its tape number, or its refusal, which leaves the tape unchanged.
 #[tactic(auto, unfolding(crate::specs::Batch::line_answer, crate::specs::Batch::tape_after_line))]
 fn answer(tape: &mut DayTape, line: &[u8]) -> Answer
     ensures answer { (result ≢ Err (Refused OutOfMemory)) → result ≡ line_answer tape.old line.now }
@@ -34,24 +35,22 @@ fn answer(tape: &mut DayTape, line: &[u8]) -> Answer
     ensures refused { OnErr result (tape.new ≡ tape.old) }
     ensures memory { result ≡ Err (Refused OutOfMemory) → IsOk (line_answer tape.old line.now) }
 {
-    let message = match read_message(line) {
-        Ok(message) => message,
-        Err(refusal) => return Err(refusal),
-    };
-    match tape.admit(message) {
-        Ok(entry) => Ok(entry.number),
-        Err(refusal) => Err(BatchRefusal::Refused(refusal)),
+    let message = read_message(line)?;
+    match tape.answer(message) {
+        Ok(Ok(number)) => Ok(number),
+        Ok(Err(refusal)) => Err(BatchRefusal::Refused(refusal)),
+        Err(AllocError) => Err(BatchRefusal::Refused(Refusal::OutOfMemory)),
     }
 }
 
-/// Whether memory ran out while the message was admitted.
+/// Whether an answer is the refusal for want of memory.
 fn is_out_of_memory(answer: &Answer) -> bool
     ensures { IsTrue result ↔ (answer.now ≡ Err (Refused OutOfMemory)) }
 {
     matches!(answer, Err(BatchRefusal::Refused(Refusal::OutOfMemory)))
 }
 
-/// What a piece comes to that was not read: nothing where the read was interrupted, since whatever reads next reads again.
+/// The end of reading after a failed read of a piece: none if the read was interrupted, since the next read tries again.
 fn unread_piece(error: &Error) -> Result<(), ReadEnd>
     ensures interrupted { error_kind error.now ≡ ErrorKind.Interrupted → result ≡ Ok tt }
     ensures memory { error_kind error.now ≡ ErrorKind.OutOfMemory → result ≡ Err ReadOutOfMemory }
@@ -59,7 +58,7 @@ fn unread_piece(error: &Error) -> Result<(), ReadEnd>
 {
     match error.kind() {
         ErrorKind::Interrupted => Ok(()),
-        _ => Err(failed_read(error)),
+        _ => Err(ReadEnd::from(failed_read(error))),
     }
 }
 
@@ -70,7 +69,7 @@ pub struct Day {
     pub tape: DayTape,
     /// The answers to the lines so far.
     pub answers: Vec<Answer>,
-    /// Whether memory ran out at a line. Its refusal is the last answer.
+    /// Whether memory ran out at a line, whose refusal is then the last answer.
     pub is_stopped: bool,
 }
 
@@ -88,7 +87,7 @@ impl Day {
         }
     }
 
-    /// Answers a line, unless memory ran out at an earlier one.
+    /// Answers a line, unless memory ran out at an earlier one. `AllocError` if there is no memory to keep the answer.
     fn answer_line(&mut self, line: &[u8]) -> Result<(), AllocError>
         ensures answered { OnOk result (AnswersMore self.old self.new (line.now ∷ [])) }
         ensures goes_on { OnErr result (self.new.is_stopped ≡ false) }
@@ -96,7 +95,7 @@ impl Day {
         if self.is_stopped {
             return Ok(());
         }
-        // Room for the answer is taken first, so that an answer out of memory needs none.
+        // The answer's room is allocated first, so a refusal for want of memory can be kept.
         self.answers.reserve(1)?;
         let answer = answer(&mut self.tape, line);
         self.is_stopped = is_out_of_memory(&answer);
@@ -138,10 +137,12 @@ impl Day {
         Ok(())
     }
 
-    /// Answers all lines of an input: those that stand whole in a piece, then the one between two pieces, and so on. Where
-    /// memory runs out at a line, the rest is skipped, which takes none, to learn whether the input fits. The error is `ReadFault`
-    /// for a failed read, `TooLarge` beyond the limit, and `OutOfMemory` for an answer, a line between two pieces, or a read. Memory
-    /// that ran out at a line is no error, and where the reader lacks memory for the rest then, the error is `ReadFault`.
+    /// Answers all lines of an input: those that stand whole in a piece, then the one between two pieces, and so on. If memory
+    /// runs out at a line, the rest is skipped without allocating, to find whether the input fits.
+    ///
+    /// Errors: `ReadFault` if a read fails, `TooLarge` beyond the limit, and `OutOfMemory` if there is no memory for an answer,
+    /// a line between two pieces, or a read. Memory that runs out at a line is no error, and if the reader then lacks memory
+    /// for the rest, the error is `ReadFault`.
     pub fn answer_all<B: BufRead>(
         &mut self,
         input: &mut Input<B>,

@@ -1,4 +1,4 @@
-//! The bytes that hexadecimal digits spell.
+//! Decodes hexadecimal digits, sixteen at a time without a branch on a single digit.
 ghost use Rattle.std.specs.Prelude.{◌≡◌, ◌≤◌, ◌<◌, ◌*◌, ◌%◌, length, IfSome, take};
 ghost use Rattle.std.specs.List.{list_all};
 ghost use Rattle.std.specs.Option.{option_map};
@@ -8,8 +8,8 @@ ghost use Rattle.batch.specs.MessageLine.{hex_bytes};
 
 use reports::LONGEST_FRAME;
 
-/// Whether a byte is a hexadecimal digit, in either case. There is no `&&` or `||`, whose branches would keep bytes from being looked at side
-/// by side.
+/// Whether a byte is a hexadecimal digit, in either case. It has no `&&` or `||`, whose branches would keep the compiler from
+/// testing several bytes at once.
 fn is_digit(byte: u8) -> bool
     ensures { result ≡ is_hex_digit byte }
 {
@@ -30,17 +30,17 @@ pub fn are_digits(bytes: &[u8]) -> bool
     all
 }
 
-/// The value of a digit. That of another byte is unspecified.
+/// The value of a digit. It is unspecified if the byte is no digit.
 fn digit_value(byte: u8) -> u8
     ensures value { IfSome (hex_digit_value byte) (λ value. result ≡ value) }
     ensures below { result < 16 }
 {
-    // The low four bits of a letter, of either case, count from 1 at `a`, and those of a number are its value.
+    // The low four bits of a letter in either case count from 1 at `a`, and those of a decimal digit are its value.
     (byte % 16 + byte / 64 * 9) % 16
 }
 
-/// The bytes that sixteen digits spell, or `None` where one of them is no digit. No branch depends on a single digit, so that they
-/// are decoded side by side, in the lanes of a register.
+/// The bytes that sixteen digits spell, or `None` if one of them is no digit. No branch depends on a single digit, so they are
+/// decoded side by side, in the lanes of a register.
 fn spelled(digits: &[u8; 16]) -> Option<[u8; 8]>
     ensures bytes { option_map (λ bytes. bytes) result ≡ hex_bytes digits.now }
 {
@@ -54,8 +54,8 @@ fn spelled(digits: &[u8; 16]) -> Option<[u8; 8]>
     Some(bytes)
 }
 
-/// Decodes digits to the front of the row, and returns how many bytes they spell, or `None` where one of them is no digit.
-/// What else the row holds is unspecified.
+/// Decodes digits to the front of the row, and returns how many bytes they spell, or `None` if one of them is no digit. The
+/// rest of the row is unspecified, and so is all of it after `None`.
 pub fn decode_digits(digits: &[u8], row: &mut [u8; LONGEST_FRAME]) -> Option<usize>
     requires fits { length digits.now ≤ 2 * LONGEST_FRAME }
     requires even { length digits.now % 2 ≡ 0 }

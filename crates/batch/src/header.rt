@@ -1,4 +1,4 @@
-//! The header of a batch, and other texts of names.
+//! Reads the listing of a batch from its header, and of any other two texts of names.
 ghost use Rattle.std.specs.Prelude.{◌≡◌, IfOk, IfErr, IfSome, OnOk, Ok, None, Some, is_some, true, unwrap_or};
 ghost use Rattle.std.specs.Result.{result_err};
 ghost use Rattle.tape_types.specs.Names.{symbol_named};
@@ -13,9 +13,9 @@ use crate::pieces::Pieces;
 use std::alloc::Global;
 use tape_types::{Listing, ListingFault, PARTICIPANTS_MOST, Participant, SYMBOLS_MOST, Symbol};
 
-/// The names of a text, or `None` where each piece is a name and memory ran out for them.
+/// The names of a text, or `None` if each piece is a name and memory ran out for them.
 ///
-/// Refused by `BadHeader` where a piece is no such name, wherever memory runs out.
+/// The error is `BadHeader` if a piece is no such name, even if memory runs out before it.
 fn names<N: Named>(alloc: Global, separator: u8, text: &[u8]) -> Result<Option<Vec<N>>, HeaderFault>
     ensures names { IfOk result (λ names. IfSome names (λ names. all_named N.named (name_texts separator text.now) ≡ Some names.items)) }
     ensures all { OnOk result (is_some (all_named N.named (name_texts separator text.now)) ≡ true) }
@@ -38,7 +38,7 @@ fn names<N: Named>(alloc: Global, separator: u8, text: &[u8]) -> Result<Option<V
     Ok(Some(names))
 }
 
-/// What is wrong with the names of two texts of which memory for lists was refused, out of memory last.
+/// What is wrong with the names of two texts, found without memory for lists of them: `OutOfMemory` if nothing else is.
 fn listing_fault(separator: u8, first: &[u8], second: &[u8]) -> ListingFault
     requires symbols { is_some (all_named symbol_named (name_texts separator first.now)) ≡ true }
     requires participants { is_some (all_named participant_named (name_texts separator second.now)) ≡ true }
@@ -60,8 +60,8 @@ fn listing_fault(separator: u8, first: &[u8], second: &[u8]) -> ListingFault
 
 /// The listing of a text of symbols and one of participants, with this byte between two names.
 ///
-/// Refused, the first that applies: `BadHeader` where a text is not names with single separators between them, and `BadListing`
-/// as `Listing::new` refuses: out of memory is answered only where nothing else is wrong with either text.
+/// Errors, the first that applies: `BadHeader` if a text is not names with single separators between them, and `BadListing`
+/// with the error of `Listing::new`, which is `OutOfMemory` only if nothing else is wrong with either text.
 #[tactic(auto, unfolding(crate::specs::Header::names_listing))]
 pub fn read_names(
     alloc: Global,
@@ -84,7 +84,7 @@ pub fn read_names(
 }
 
 /// The listing of a batch, from the symbols of its first line and the participants of its second, with single spaces between
-/// names. Refused as `read_names` refuses.
+/// names. The errors are those of `read_names`.
 pub fn read_header(alloc: Global, first: &[u8], second: &[u8]) -> Result<Listing, HeaderFault>
     ensures ok { IfOk result (λ listing. header_listing first.now second.now ≡ Ok listing) }
     ensures err { IfErr result (λ fault. fault ≡ unwrap_or (result_err (header_listing first.now second.now)) (BadListing OutOfMemory)) }

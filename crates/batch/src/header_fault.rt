@@ -1,4 +1,4 @@
-//! Why a header was refused.
+//! The faults of a header, each with its number and its name.
 ghost use Rattle.std.specs.Prelude.{◌≡◌, Some};
 ghost use Rattle.batch.specs.Header.{header_fault_code, header_fault_name};
 
@@ -6,10 +6,10 @@ use std::fmt;
 use tape_types::ListingFault;
 use thiserror::Error;
 
-/// Why the header of a batch was refused, the first that applies.
+/// Why the header of a batch was refused: the first of these that applies.
 #[derive(Clone, Copy, Debug, PartialEq, Eq, Error)]
 pub enum HeaderFault {
-    /// A line is not names between single spaces.
+    /// A line is not names with single spaces between them.
     BadHeader,
     /// The names make no listing, or memory ran out.
     BadListing(ListingFault),

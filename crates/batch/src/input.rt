@@ -1,39 +1,17 @@
-//! The input of a batch, read in pieces.
-ghost use Rattle.std.specs.Prelude.{◌≡◌, ◌≢◌, ◌≤◌, ◌<◌, ◌+◌, ◌⊎◌, true, false, ℕ, List, [], ◌∷◌, IfOk, IfErr, OnOk, Ok, if◌then◌else◌};
-ghost use Rattle.std.specs.Io.BufRead.{strip_last};
+//! Takes the lines of a batch's input, and counts the bytes taken against the limit.
+ghost use Rattle.std.specs.Prelude.{◌≡◌, ◌≤◌, ◌<◌, ◌+◌, true, false, ℕ, List, [], ◌∷◌, IfOk, IfErr, OnOk, Ok, if◌then◌else◌};
 ghost use Rattle.std.specs.Io.KnownBytes.{IsAtEnd};
-ghost use Rattle.std.specs.IoError.{error_kind};
 ghost use Rattle.batch.specs.Batch.{INPUT_MOST};
 ghost use Rattle.batch.specs.Reading.{EndsReading, Fits};
 ghost use Rattle.batch.specs.Input.{TakesLines};
-ghost use Rattle.batch.specs.declared.read_end.ReadEnd.TheVariants.{OutOfMemory, ReadFault, TooLarge};
+ghost use Rattle.batch.specs.declared.read_end.ReadEnd.TheVariants.{TooLarge};
 
+use crate::line_reading::{failed_read, take_line};
 use crate::read_end::ReadEnd;
-use std::io::{BufRead, Error, ErrorKind};
+use std::io::BufRead;
 
 /// The longest input, in bytes.
 pub const INPUT_MOST: u64 = 16_777_216;
-
-/// The end that a failed read brings.
-pub fn failed_read(error: &Error) -> ReadEnd
-    ensures one { (result ≡ OutOfMemory) ⊎ (result ≡ ReadFault) }
-    ensures memory { error_kind error.now ≡ ErrorKind.OutOfMemory → result ≡ OutOfMemory }
-    ensures fault { error_kind error.now ≢ ErrorKind.OutOfMemory → result ≡ ReadFault }
-{
-    match error.kind() {
-        ErrorKind::OutOfMemory => ReadEnd::OutOfMemory,
-        _ => ReadEnd::ReadFault,
-    }
-}
-
-/// Takes the line feed off a line's end, if there is one.
-fn drop_line_feed(line: &mut Vec<u8>)
-    ensures { line.new.items ≡ strip_last 10 line.old.items }
-{
-    if line.last() == Some(&b'\n') {
-        line.pop();
-    }
-}
 
 /// What is left of an input, and how many of its bytes were taken.
 #[derive(Drop)]
@@ -53,7 +31,8 @@ impl<B: BufRead> Input<B> {
         Input { left, taken: 0 }
     }
 
-    /// Counts bytes as taken. Where they are more than an input may have, they are counted, and the answer is `TooLarge`.
+    /// Counts bytes as taken. The error is `TooLarge` if more are taken then than an input may have; they are counted
+    /// nevertheless.
     pub fn count(&mut self, len: usize) -> Result<(), ReadEnd>
         ensures left { self.new.left ≡ self.old.left }
         ensures taken { OnOk result (self.new.taken ≡ self.old.taken + len) }
@@ -67,8 +46,8 @@ impl<B: BufRead> Input<B> {
         Ok(())
     }
 
-    /// Takes the next line, without its line feed: whether there was one. The error is `ReadFault` for a failed read, `OutOfMemory`
-    /// where memory runs out, and `TooLarge` beyond the limit; how much was taken then is not specified.
+    /// Takes the next line, without its line feed, and returns whether there was one. The error is `ReadFault` if a read fails,
+    /// `OutOfMemory` if memory runs out, and `TooLarge` beyond the limit; how much was taken then is unspecified.
     pub fn next_line(&mut self, line: &mut Vec<u8>) -> Result<bool, ReadEnd>
         ensures took { IfOk result (λ some. TakesLines (B.remaining self.old.left) (B.remaining self.new.left) self.old.taken self.new.taken
             (if some then line.new.items ∷ [] else [])) }
@@ -77,18 +56,13 @@ impl<B: BufRead> Input<B> {
         ensures fits { OnOk result (self.new.taken ≤ INPUT_MOST) }
         ensures err { IfErr result (EndsReading (B.remaining self.old.left) self.old.taken) }
     {
-        line.clear();
-        let len = match self.left.read_until(b'\n', line) {
-            Ok(len) => len,
-            Err(error) => return Err(failed_read(&error)),
-        };
+        let len = take_line(&mut self.left, line)?;
         self.count(len)?;
-        drop_line_feed(line);
         Ok(len > 0)
     }
 
-    /// Takes the next line without keeping it, which takes no memory: whether there was one. The errors are those of
-    /// `next_line`, running out of memory where the reader itself tells it.
+    /// Takes the next line without keeping it or allocating, and returns whether there was one. The errors are those of
+    /// `next_line`; `OutOfMemory` comes only from the reader itself.
     fn skip_line(&mut self) -> Result<bool, ReadEnd>
         ensures took { OnOk result ((lines : List (List ℕ))
             × TakesLines (B.remaining self.old.left) (B.remaining self.new.left) self.old.taken self.new.taken lines) }
@@ -99,13 +73,13 @@ impl<B: BufRead> Input<B> {
     {
         let len = match self.left.skip_until(b'\n') {
             Ok(len) => len,
-            Err(error) => return Err(failed_read(&error)),
+            Err(error) => return Err(ReadEnd::from(failed_read(&error))),
         };
         self.count(len)?;
         Ok(len > 0)
     }
 
-    /// Takes all that is left without keeping it, which takes no memory. The errors are those of `skip_line`.
+    /// Takes all that is left without keeping it or allocating. The errors are those of `skip_line`.
     pub fn skip_lines(&mut self) -> Result<(), ReadEnd>
         ensures fits { OnOk result (Fits (B.remaining self.old.left) self.old.taken) }
         ensures err { IfErr result (EndsReading (B.remaining self.old.left) self.old.taken) }

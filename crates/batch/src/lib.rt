@@ -1,4 +1,4 @@
-//! A batch: message lines in, their answers and the report of the tape that they leave out.
+//! Reads a batch of message lines, and writes their answers and the report of the resulting tape.
 #![tactic(auto)]
 
 mod answer_buffer;
@@ -11,6 +11,7 @@ mod digits;
 mod header;
 mod header_fault;
 mod input;
+mod line_reading;
 mod lines;
 mod message_line;
 mod named;
@@ -27,5 +28,6 @@ pub use day::{Answer, Day};
 pub use day_tape::DayTape;
 pub use header::{read_header, read_names};
 pub use header_fault::HeaderFault;
+pub use line_reading::{LineReadFault, take_line};
 pub use message_line::read_message;
 pub use reading::ReadInput;

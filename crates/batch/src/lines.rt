@@ -1,4 +1,4 @@
-//! The lines of a text.
+//! Cuts a text in memory into its lines.
 ghost use Rattle.std.specs.Prelude.{◌≡◌, ◌==◌, ◌≤◌, true, length, take};
 ghost use Rattle.std.specs.Iterator.{YieldsFirstRef, item_count};
 ghost use Rattle.std.specs.List.{list_any};
@@ -7,11 +7,11 @@ ghost use Rattle.batch.specs.Lines.{ends_a_line, lines_of};
 
 use memchr::{memchr, memrchr};
 
-/// The lines of a text that are left, without their line feeds. The last line may lack its own.
+/// The lines that are left of a text, without their line feeds. The last line may lack its own.
 #[derive(Drop)]
 pub struct Lines<'a> {
     rest: &'a [u8],
-    /// How many bytes the previous line had, or 0.
+    /// The length of the previous line, or 0.
     former: usize,
 }
 
@@ -53,9 +53,9 @@ impl<'a> Iterator for Lines<'a> {
     }
 }
 
-/// Where the first line of a text ends.
+/// Where the first line feed of a text is, if it has one.
 ///
-/// Most message lines are as long as the one before, so that place is tried first. Whether a line feed comes earlier is found
+/// Most message lines are as long as the previous one, so that place is tried first. Whether a line feed comes earlier is found
 /// without a branch that depends on the bytes.
 fn line_end(text: &[u8], former: usize) -> Option<usize>
     ensures { IsFirstByte (is_byte 10) text.now result }
@@ -77,7 +77,7 @@ fn has_line_feed(text: &[u8]) -> bool
     found
 }
 
-/// How many bytes of a text its whole lines take.
+/// How many bytes the whole lines of a text take.
 pub fn whole_lines(text: &[u8]) -> usize
     ensures within { result ≤ length text.now }
     ensures whole { ends_a_line (take result text.now) ≡ true }

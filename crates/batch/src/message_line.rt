@@ -1,4 +1,4 @@
-//! The message that a line brings.
+//! Reads the message of a line.
 ghost use Rattle.std.specs.Prelude.{◌≡◌, option_map};
 ghost use Rattle.batch.specs.MessageLine.{hex_bytes, line_message, line_parts, spelled_message};
 
@@ -19,7 +19,7 @@ fn spelled_message(digits: &[u8]) -> Result<(Message, usize), BatchRefusal>
     let Some(len) = decode_digits(front, &mut row) else {
         return Err(BatchRefusal::BadLine);
     };
-    // No message reaches into the rest, which still has to be digits.
+    // No message is long enough to reach the rest, which must still be digits.
     if !are_digits(rest) {
         return Err(BatchRefusal::BadLine);
     }
@@ -39,11 +39,10 @@ fn line_parts(line: &[u8]) -> Option<(u8, &[u8])>
     }
 }
 
-/// The message that a line brings: one capital letter, one space, and the message's bytes as hexadecimal digits.
+/// Reads the message of a line: one capital letter, one space, and the message's bytes as hexadecimal digits.
 ///
-/// Refused, the first that applies: `BadLine` where the line has another form, `BadMessage` where no message stands
-/// at the front of the bytes, `ExtraBytes` where others stand after it, and `WrongLine` where the letter is not the
-/// message's participant.
+/// Errors, the first that applies: `BadLine` if the line has another form, `BadMessage` if the bytes do not begin with a
+/// message, `ExtraBytes` if bytes follow it, and `WrongLine` if the letter is not the message's participant.
 #[tactic(auto, unfolding(crate::specs::MessageLine::line_message))]
 pub fn read_message(line: &[u8]) -> Result<Message, BatchRefusal>
     ensures { result ≡ line_message line.now }

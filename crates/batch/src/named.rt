@@ -1,4 +1,4 @@
-//! What a name of a listing names.
+//! Reads a name of a listing as a symbol or a participant.
 ghost use Rattle.std.specs.Prelude.{◌≡◌, List, ℕ, Option};
 
 use tape_types::{Participant, Symbol};
@@ -8,12 +8,12 @@ pub trait Named: Copy {
     /// What a text names, if anything.
     ghost named: { List ℕ → Option Self };
 
-    /// What a text names, or `None` where it is no such name.
+    /// What a text names, or `None` if it is no such name.
     fn of_name(name: &[u8]) -> Option<Self>
         ensures names { result ≡ named name.now };
 }
 
-/// A symbol stands without the spaces that it has at its end.
+/// A symbol's name lacks the spaces at the symbol's end.
 impl Named for Symbol {
     ghost use Rattle.tape_types.specs.Names.{symbol_named};
 

@@ -1,4 +1,4 @@
-//! The names of a text, looked at without memory.
+//! Counts and compares the names of a text without allocating.
 ghost use Rattle.std.specs.Prelude.{◌≡◌, ◌<◌, ◌∷◌, [], IfNone, IfSome, length};
 ghost use Rattle.std.specs.List.{list_any};
 ghost use Rattle.std.specs.Str.{bytes_eq};
@@ -18,7 +18,7 @@ pub fn name_count(separator: u8, text: &[u8]) -> usize
     Pieces::new(separator, text).count()
 }
 
-/// Whether a piece of a text is this name.
+/// Whether one of the pieces of a text is this name.
 fn has_piece(separator: u8, text: &[u8], name: &[u8]) -> bool
     ensures { result ≡ list_any (λ piece. bytes_eq piece name.now) (pieces_of separator text.now) }
 {
@@ -30,7 +30,7 @@ fn has_piece(separator: u8, text: &[u8], name: &[u8]) -> bool
     false
 }
 
-/// The first piece of a text and the text after its separator, or `None` where the text has no separator.
+/// The first piece of a text and the text after its separator, or `None` if the text has no separator.
 fn first_piece(separator: u8, text: &[u8]) -> Option<(&[u8], &[u8])>
     ensures first { IfSome result (λ parts. pieces_of separator text.now ≡ parts.0.now ∷ pieces_of separator parts.1.now) }
     ensures shorter { IfSome result (λ parts. length parts.1.now < length text.now) }
@@ -42,7 +42,7 @@ fn first_piece(separator: u8, text: &[u8]) -> Option<(&[u8], &[u8])>
     }
 }
 
-/// Whether a name stands twice in a text, found by comparing all pairs: asked for only where memory ran out.
+/// Whether a name occurs twice in a text. It compares all pairs, and is called only if memory ran out.
 pub fn has_repeat(separator: u8, text: &[u8]) -> bool
     ensures { result ≡ has_repeat bytes_eq (name_texts separator text.now) }
 {

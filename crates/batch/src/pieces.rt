@@ -1,4 +1,4 @@
-//! The pieces of a text between single bytes that separate them.
+//! Cuts a text at each separator byte.
 ghost use Rattle.std.specs.Prelude.{◌≡◌};
 ghost use Rattle.std.specs.Iterator.{YieldsFirstRef, item_count};
 ghost use Rattle.batch.specs.Pieces.{pieces_left};
@@ -6,7 +6,7 @@ ghost use Rattle.batch.specs.Header.{pieces_of};
 
 use memchr::memchr;
 
-/// The pieces of a text that are left: one more than it has separators.
+/// The pieces that are left of a text, which has one more than separators.
 #[derive(Drop)]
 pub struct Pieces<'a> {
     separator: u8,

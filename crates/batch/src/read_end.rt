@@ -1,11 +1,11 @@
-//! What the reading of an input can end with, before its end.
-ghost use Rattle.batch.specs.Ends.{end_of_reading};
+//! The ways in which reading an input stops before its end.
+ghost use Rattle.batch.specs.Ends.{end_of_line, end_of_reading};
 ghost use Rattle.batch.specs.declared.read_end.ReadEnd.TheVariants.{OutOfMemory};
 
-use crate::BatchEnd;
+use crate::{BatchEnd, LineReadFault};
 use std::alloc::AllocError;
 
-/// Why the reading of an input stopped before its end.
+/// Why reading an input stopped before its end.
 #[derive(Clone, Copy, Debug, PartialEq, Eq)]
 pub enum ReadEnd {
     /// The input is longer than `INPUT_MOST` bytes.
@@ -23,6 +23,19 @@ impl From<AllocError> for ReadEnd {
 
     fn from(_error: AllocError) -> ReadEnd {
         ReadEnd::OutOfMemory
+    }
+}
+
+impl From<LineReadFault> for ReadEnd {
+    ghost use Rattle.std.specs.Prelude.{◌≡◌};
+
+    ghost from_gives = { λ fault end. end ≡ end_of_line fault };
+
+    fn from(fault: LineReadFault) -> ReadEnd {
+        match fault {
+            LineReadFault::Failed => ReadEnd::ReadFault,
+            LineReadFault::OutOfMemory => ReadEnd::OutOfMemory,
+        }
     }
 }
 

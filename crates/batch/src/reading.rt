@@ -1,4 +1,4 @@
-//! A batch that is read: its input, line by line, and what it leaves.
+//! Reads a whole batch: its header, and then its lines, which are answered on an empty tape.
 ghost use Rattle.std.specs.Prelude.{◌≡◌, IfOk, IfErr, OnOk, IfSome, Err, false};
 ghost use Rattle.batch.specs.Day.{HasAnswered};
 ghost use Rattle.batch.specs.Reading.{EndsReading, Fits, GoesOn, ReadsBatch};
@@ -16,24 +16,24 @@ use std::alloc::Global;
 use std::io::BufRead;
 use tape_types::ListingFault;
 
-/// The limit of a batch's tape, in entries, whatever other tapes may have.
+/// The most entries that a batch's tape has, whatever the limit of other tapes.
 const BATCH_TAPE_MOST: u32 = 1_048_576;
 
 /// What was read of a whole input.
 #[derive(Drop)]
 pub enum ReadInput {
-    /// The day that its lines left.
+    /// The day with the answers to its lines.
     Answered(Day),
-    /// What is wrong with its header. Its other lines were passed over.
+    /// What is wrong with its header. Its other lines were skipped.
     HeaderRefused(HeaderFault),
 }
 
-/// Why an input was not read to its end, and the day that its lines had left by then, where there was one.
+/// Why an input was not read to its end, and its day up to there, if it had begun.
 #[derive(Drop)]
 pub struct Unread {
     /// Why it was not read to its end.
     pub end: ReadEnd,
-    /// The day. Where memory ran out for the reading, it had not run out at one of its lines.
+    /// The day. If memory ran out for reading, it had not run out at one of the day's lines.
     pub day: Option<Day>,
 }
 
@@ -47,8 +47,8 @@ impl From<ReadEnd> for Unread {
     }
 }
 
-/// Answers the lines of an input that are left after its header, on an empty tape: the day that they leave, and how reading ended.
-/// Where memory ran out for the reading, it had not run out at a line.
+/// Answers the lines that are left of an input after its header, on an empty tape, and returns the day and how reading ended.
+/// If memory ran out for reading, it had not run out at a line.
 fn read_day<B: BufRead>(
     alloc: Global,
     tape: DayTape,
@@ -65,7 +65,7 @@ fn read_day<B: BufRead>(
     (day, read)
 }
 
-/// Reads a whole input, and answers its lines: the day that they leave, or what is wrong with the header.
+/// Reads a whole input and answers its lines, and returns the day, or what is wrong with the header.
 pub fn read_batch<B: BufRead>(
     alloc: Global,
     matrix: Matrix,
@@ -85,7 +85,7 @@ pub fn read_batch<B: BufRead>(
             let Ok(tape) = DayTape::new(alloc, listing, BATCH_TAPE_MOST, matrix) else {
                 return Err(Unread::from(ReadEnd::OutOfMemory));
             };
-            // The first line's room serves for those between two pieces.
+            // The first line's memory is used again for lines between two pieces.
             let (day, read) = read_day(alloc, tape, input, &mut first);
             match read {
                 Ok(()) => Ok(ReadInput::Answered(day)),

@@ -1,10 +1,10 @@
-//! Why the writing of a batch stopped.
+//! The ways in which writing a batch stops before its end.
 ghost use Rattle.batch.specs.declared.stop.Stop.TheVariants.{OutOfMemory, WriteFault as StopWriteFault};
 
-use row_reads::WriteFault;
 use std::alloc::AllocError;
+use whole_io::WriteFault;
 
-/// Why the writing of a batch stopped.
+/// Why writing a batch stopped before its end.
 #[derive(Clone, Copy, Debug, PartialEq, Eq)]
 pub enum Stop {
     /// A write failed.

@@ -1,4 +1,4 @@
--- A packet after its length: read again, and cut.
+-- Reads back packets that follow their lengths, whole or cut.
 use Rattle.std.proofs.Common.{◌≡◌, ℕ, zero, suc, ◌+◌, ◌-◌, ◌<◌, ◌≤◌, true, false, ltb, List, [], ◌++◌, length, take, drop, Result, Ok, Err}
 use Rattle.std.proofs.Common.{append-nil, append_assoc, refl, sym, ap, ◌∙◌, arith, inl, inr}
 use Rattle.std.specs.Int.{w16, to_be_bytes}
@@ -17,7 +17,7 @@ use Rattle.day_journal.specs.Groups.{frame_text}
 use Rattle.day_journal.specs.GroupReading.{begins_next, begins_with_packet, frame_length, is_packet, packet_front, tail_fault}
 use Rattle.day_journal.proofs.Lists.{short_length, take_past}
 
--- a front of a packet that is shorter is none
+-- a proper front of a packet is not a packet
 not_packet : (q : Packet) (len : ℕ) (r : Result Packet PacketFault) → IsPacket q → AreBytes (packet_text q) → len < length (packet_text q)
     → r ≡ packet_of (take len (packet_text q)) → is_packet r ≡ false
 not_packet q len (Ok p) valid fits short read =
@@ -29,7 +29,7 @@ not_packet q len (Ok p) valid fits short read =
     absurd (omega (arith, length-take len text, ap length same.1, short))
 not_packet q len (Err f) valid fits short read = refl
 
--- no front of a packet that was cut is one
+-- no front of a cut packet is a packet
 none_begins : (q : Packet) (count len : ℕ) → IsPacket q → AreBytes (packet_text q) → len < length (packet_text q) → count ≤ len + 1
     → begins_with_packet count (take len (packet_text q)) ≡ false
 unfolding begins_with_packet
@@ -41,7 +41,7 @@ none_begins q (suc count) len valid fits short within =
     ∙ not_packet q count (packet_of (take count (packet_text q))) valid fits (omega (arith, within, short)) refl in
     rw none (none_begins q count len valid fits short (omega (arith, within)))
 
--- what begins as the next packet does still does if it is cut
+-- what begins as the next packet does still does so after a cut
 begins_cut : (session number : ℕ) (text rest : List ℕ) (len : ℕ) → text ≡ packet_front session number ++ rest → len ≤ length text
     → begins_next session number (take len text) ≡ true
 begins_cut session number text rest len is within =
@@ -59,7 +59,7 @@ begins_cut session number text rest len is within =
     ] in
     (bytes_eq-Decides (take (length front) cut) (take (length cut) front)).1 same
 
--- so a packet that was cut is torn, where it is the next one
+-- so the next packet is torn if it was cut
 tail_torn : (session number : ℕ) (q : Packet) (rest : List ℕ) (len : ℕ) → IsPacket q → AreBytes (packet_text q)
     → packet_text q ≡ packet_front session number ++ rest → len < length (packet_text q) → tail_fault session number (take len (packet_text q)) ≡ Torn
 tail_torn session number q rest len valid fits next short =
@@ -68,7 +68,7 @@ tail_torn session number q rest len valid fits next short =
     let begins = begins_cut session number (packet_text q) rest len next (omega (arith, short)) in
     rw (none, begins) refl
 
--- the length of a text that is there
+-- a length that is there is read
 pub frame_again : (session number : ℕ) (text more : List ℕ) → length text ≤ LONGEST_PACKET
     → frame_length session number (frame_text text ++ more) ≡ Ok (length text)
 unfolding frame_length
@@ -79,12 +79,12 @@ frame_again session number text more few =
     let there : ltb (length (text ++ more)) (length text) ≡ false = le-ltb (length (text ++ more)) (length text) (omega (arith, length-append text more)) in
     ap (frame_length session number) regrouped ∙ rw (read, low, there) refl
 
--- a length of which not both bytes are there is torn
+-- a length without both of its bytes is torn
 pub length_torn : (session number : ℕ) (bytes : List ℕ) → length bytes < 2 → frame_length session number bytes ≡ Err Torn
 unfolding frame_length
 length_torn session number bytes short = rw (short_length bytes short) refl
 
--- a packet that ends before its length says
+-- a packet that ends before its length says is torn
 body_torn : (session number : ℕ) (q : Packet) (rest : List ℕ) (len : ℕ) → IsPacket q → AreBytes (packet_text q)
     → packet_text q ≡ packet_front session number ++ rest → length (packet_text q) ≤ LONGEST_PACKET → len < length (packet_text q)
     → frame_length session number (to_be_bytes w16 (length (packet_text q)) ++ take len (packet_text q)) ≡ Err Torn
@@ -97,7 +97,7 @@ body_torn session number q rest len valid fits next few short =
     let ends : ltb (length body) (length text) ≡ true = lt-ltb (length body) (length text) (omega (arith, length-take len text, short)) in
     rw (read, low, ends, tail_torn session number q rest len valid fits next short) refl
 
--- the next packet after its length, if it was cut, is torn
+-- the next packet after its length is torn if it was cut
 pub frame_torn : (session number : ℕ) (q : Packet) (rest : List ℕ) (len : ℕ) → IsPacket q → AreBytes (packet_text q)
     → packet_text q ≡ packet_front session number ++ rest → length (packet_text q) ≤ LONGEST_PACKET
     → len < length (frame_text (packet_text q)) → frame_length session number (take len (frame_text (packet_text q))) ≡ Err Torn

@@ -1,4 +1,4 @@
--- A group read again, and cut.
+-- Reads back a group, whole or cut.
 use Rattle.std.proofs.Common.{◌≡◌, ℕ, zero, suc, ◌+◌, ◌-◌, ◌%◌, ◌<◌, ◌≤◌, ◌==◌, true, false, List, [], ◌∷◌, ◌++◌, length, take, drop}
 use Rattle.std.proofs.Common.{Ok, Err, append-nil, append_assoc, refl, sym, ap, subst, ◌∙◌, arith, inl, inr}
 use Rattle.std.specs.Prelude.{nat_lt, bytes_eq, flat_map}
@@ -35,7 +35,7 @@ first_is : (number : ℕ) (es : List Entry) → IsNumberedFrom number es → 1 �
 first_is number [] numbered some = absurd (omega (arith, some))
 first_is number (e ∷ es) numbered some = numbered.0
 
--- what follows the front of the first packet: how many entries it has, and they
+-- what follows the front of the first packet: the number of its entries, and the entries
 abbrev after_front : List Entry → List ℕ
 after_front es = to_be_bytes w8 (length (take ENTRIES_MOST es)) ++ flat_map entry_text (take ENTRIES_MOST es)
 
@@ -47,7 +47,7 @@ first_begins session number es valid numbered =
     let regrouped : first_text session es ≡ packet_front session own ++ after_front es = simp append_assoc in
     regrouped ∙ ap (λ (n : ℕ). packet_front session n ++ after_front es) (first_is number es numbered valid.1.0.some)
 
--- a packet is as long as packets may be
+-- a packet is at most as long as packets may be
 short_text : (session : ℕ) (es : List Entry) → IsPacket (first_packet session es)
     → (HEADER_LENGTH ≤ length (first_text session es)) × (length (first_text session es) ≤ LONGEST_PACKET)
 short_text session es valid = packet_lengths (first_packet session es) valid
@@ -62,7 +62,7 @@ row_again session number es valid numbered =
     (Decides-eqb (first_number (take ENTRIES_MOST es)) number).1 (first_is number es numbered valid.1.0.some) in
     rw (read, own, first) refl
 
--- one packet is read, and then what follows it
+-- one packet is read, and then what follows it is read
 one_packet : (fuel session held : ℕ) (acc es : List Entry) (more : List ℕ) → IsPacket (first_packet session es)
     → length acc % ENTRIES_MOST ≡ 0 → IsNumberedFrom (held + length acc + 1) es
     → packets_at (suc fuel) session held acc (frame_text (first_text session es) ++ more)
@@ -215,7 +215,7 @@ abbrev parts : ℕ → List ℕ → List Entry → List ℕ → List ℕ
 parts session before es rest =
     packets session es ++ (to_be_bytes w16 0 ++ (to_be_bytes w32 (length es) ++ (group_digest session before es ++ rest)))
 
--- they are its bytes
+-- the parts are the group's bytes
 group_parts : (session : ℕ) (before : List ℕ) (es : List Entry) (rest : List ℕ) → group_text session before es ++ rest ≡ parts session before es rest
 group_parts session before es rest = simp append_assoc
 
@@ -233,7 +233,7 @@ length-group_text session before es =
       length-sha256 (before ++ group_body session es),
     )
 
--- the end of a group is its end
+-- the end of a group is recognized as its end
 end_again : (session : ℕ) (before : List ℕ) (es : List Entry) (rest : List ℕ) → 1 ≤ length es
     → is_end before
     (take (length (parts session before es rest) - length (group_digest session before es ++ rest)) (parts session before es rest))
@@ -276,7 +276,7 @@ group_again session held before es rest group =
     let third = bytes_there Torn 32 digest rest (length-sha256 (before ++ group_body session es)) in
     ap (group_at session held before) (group_parts session before es rest) ∙ rw (first, second, third, end_again session before es rest group.some) refl
 
--- a group's end that was cut
+-- a group whose end was cut is torn
 end_torn : (session held : ℕ) (before : List ℕ) (es : List Entry) (len : ℕ) → IsGroup session held es → len < 36
     → group_at session held before
     (packets session es ++ (to_be_bytes w16 0 ++ take len (to_be_bytes w32 (length es) ++ group_digest session before es))) ≡ Err Torn
@@ -308,7 +308,7 @@ end_torn session held before es len group short =
           rw (first, number, ends) refl
     ]
 
--- packets that were cut
+-- packets that were cut are torn
 begin_torn : (session held : ℕ) (before : List ℕ) (es : List Entry) (rest : List ℕ) (len : ℕ) → IsGroup session held es → AreBytes (packets session es)
     → 1 ≤ len → len < length (packets session es) + 2
     → group_at session held before (take len (packets session es ++ (to_be_bytes w16 0 ++ rest))) ≡ Err Torn

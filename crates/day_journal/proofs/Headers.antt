@@ -1,4 +1,4 @@
--- A header read again.
+-- Reads back a header.
 use Rattle.std.proofs.Common.{◌≡◌, ℕ, suc, ◌+◌, ◌-◌, ◌<◌, ◌≤◌, ◌^◌, Bool, true, false, cond, Option, List, [], ◌∷◌, ◌++◌, length, take, lit<}
 use Rattle.std.proofs.Common.{Result, Ok, Err, Some, None, append-nil, append_assoc, refl, sym, ap, ◌∙◌, arith}
 use Rattle.std.specs.Prelude.{All, flat_map, bytes_eq, nat_lt, ◌||◌}
@@ -48,12 +48,12 @@ version_again : (rest : List ℕ) → version_at (to_be_bytes w8 JOURNAL_VERSION
 unfolding version_at
 version_again rest = rw ((number_reader Short wide8).again JOURNAL_VERSION rest (lit< tt)) refl
 
--- a byte of a matrix fits
+-- the byte of a matrix fits into 8 bits
 byte_fits : (m : Matrix) → matrix_byte m < 2 ^ 8
 byte_fits matrix.One = lit< tt
 byte_fits matrix.Two = lit< tt
 
--- it is the matrix again
+-- the byte of a matrix is read as that matrix
 byte_again : (m : Matrix) → ok_or (matrix_of (matrix_byte m)) Damaged ≡ Ok m
 byte_again matrix.One = refl
 byte_again matrix.Two = refl
@@ -87,7 +87,7 @@ participants_again participants rest few all =
     let more = values_again participant_at (λ (p : ℕ). to_be_bytes w8 p) IsParticipant reader.again participants [] rest all in
     ap participants_at (append_assoc size texts rest) ∙ rw first more
 
--- names that are a listing are few
+-- the names of a listing are few enough for their counts
 pub few_names : (symbols : List (List ℕ)) (participants : List ℕ) → names_fault symbols participants ≡ None
     → (length symbols ≤ SYMBOLS_MOST) × (length participants ≤ PARTICIPANTS_MOST)
 few_names symbols participants none =
@@ -143,7 +143,7 @@ headers_again t rest are =
 
 -- ---- values read one after the other
 
--- one value more
+-- one more value is read
 pub value_next : {A : Type 0} (read : List ℕ → Result (A × List ℕ) HeaderFault) (count place : ℕ) (before : List A) (bytes rest : List ℕ) (x : A)
     → place < count → read bytes ≡ Ok (x, rest) → values_at read (count - (place + 1)) (before ++ x ∷ []) rest ≡ values_at read (count - place) before bytes
 unfolding values_at
@@ -152,7 +152,7 @@ value_next read count place before bytes rest x more is =
     let one : count - place ≡ suc left = omega (arith, more) in
     rw (one, is) refl
 
--- a value that is none
+-- a value that can't be read ends the list
 pub value_stops : {A : Type 0} (read : List ℕ → Result (A × List ℕ) HeaderFault) (count place : ℕ) (before : List A) (bytes : List ℕ) (f : HeaderFault)
     → place < count → read bytes ≡ Err f → values_at read (count - place) before bytes ≡ Err f
 unfolding values_at

@@ -1,4 +1,4 @@
--- A journal's groups read again, and cut.
+-- Reads back a journal's groups, whole or cut.
 use Rattle.std.proofs.Common.{◌≡◌, ℕ, zero, suc, ◌+◌, ◌-◌, ◌<◌, ◌≤◌, ◌==◌, true, false, List, [], ◌∷◌, ◌++◌, length, take}
 use Rattle.std.proofs.Common.{refl, sym, ap, subst, ◌∙◌, arith, inl, inr}
 use Rattle.std.specs.Prelude.{nat_le}
@@ -19,15 +19,15 @@ use Rattle.day_journal.proofs.Lists.{take_past}
 abbrev state : ℕ → ℕ → List ℕ → ℕ → List ℕ → ReaderState
 state session held before total rest = record { session = session; held = held; digest = before; total = total; rest = rest }
 
--- there is some of a list that has some at its front
+-- a list with a nonempty front is not empty
 not_empty : (front rest : List ℕ) → 1 ≤ length front → (length (front ++ rest) == 0) ≡ false
 not_empty front rest some = ne_eqb (length (front ++ rest)) 0 (λ none. omega (arith, none, length-append front rest, some))
 
--- a group has some bytes
+-- a group's text is not empty
 some_text : (session : ℕ) (before : List ℕ) (es : List Entry) → 1 ≤ length (group_text session before es)
 some_text session before es = omega (arith, length-group_text session before es)
 
--- a group is read, and then what follows it
+-- a group is read, and then what follows it is read
 one_group : (fuel session held : ℕ) (before : List ℕ) (es : List Entry) (total : ℕ) (rest : List ℕ) → IsGroup session held es
     → groups_at (suc fuel) (state session held before total (group_text session before es ++ rest))
     ≡ with_group es (groups_at fuel (state session (held + length es) (group_digest session before es) total rest))
@@ -36,7 +36,7 @@ one_group fuel session held before es total rest group =
     let some = not_empty (group_text session before es) rest (some_text session before es) in
     rw (some, group_again session held before es rest group) refl
 
--- no bytes are the end
+-- a journal without further bytes ends there
 no_more : (fuel session held : ℕ) (before : List ℕ) (total : ℕ) → groups_at (suc fuel) (state session held before total []) ≡ ([], Whole)
 unfolding groups_at
 no_more fuel session held before total = refl
@@ -76,7 +76,7 @@ same_end from size whole len within =
           rw (differ, also, place) refl
     ]
 
--- a group that was cut is not read, and the journal is torn at its front, or ends there
+-- a group that was cut is not read, and the journal is torn at the group's front, or ends there
 cut_in : (fuel session held : ℕ) (before : List ℕ) (es : List Entry) (others : List ℕ) (from len total : ℕ) → len < length (group_text session before es)
     → total ≡ from + len → IsGroup session held es → AreBytes (group_text session before es)
     → groups_at (suc fuel) (state session held before total (take len (group_text session before es ++ others))) ≡ ([], cut_end from 0 len)
@@ -93,7 +93,7 @@ cut_in fuel session held before es others from (suc len) total low place group f
     let within : (0 == suc len) ≡ false = ne_eqb 0 (suc len) (λ none. omega (arith, none)) in
     rw (cut, some, torn, at, within) refl
 
--- groups that were cut: those before the cut are read back
+-- the groups before a cut are read back
 groups_cut : (fuel session held : ℕ) (before : List ℕ) (gs : List (List Entry)) (from len total : ℕ) → len < fuel → total ≡ from + len
     → AreGroups session held gs → AreBytes (groups_text session before gs) → len ≤ length (groups_text session before gs)
     → groups_at fuel (state session held before total (take len (groups_text session before gs)))
@@ -132,7 +132,7 @@ groups_cut (suc fuel) session held before (es ∷ gs) from len total enough plac
           ∙ ap (λ (end : JournalEnd). (es ∷ kept, end)) ends)
     ]
 
--- of a journal that was cut at any byte, its whole groups are read back
+-- the whole groups of a journal that was cut at any byte are read back
 pub cut_journals : CutJournals
 cut_journals session held before gs from len are fits within =
     let text = groups_text session before gs in

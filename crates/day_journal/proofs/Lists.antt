@@ -1,4 +1,4 @@
--- Fronts of lists, and fields that are short.
+-- Takes fronts of lists that are longer than the first part, and reads fields that are too short.
 use Rattle.std.proofs.Common.{◌≡◌, ℕ, suc, ◌+◌, ◌<◌, List, [], ◌∷◌, ◌++◌, append_assoc, get_or, length, take, Ok, Err, refl, sym, ap, ◌∙◌, arith}
 use Rattle.std.specs.Prelude.{flat_map}
 use Rattle.std.specs.Int.{w16, w32}
@@ -7,36 +7,36 @@ use Rattle.std.proofs.lemmas.List.{flat_map_more, length-append, take_at, take_m
 use Rattle.reports.specs.Fields.{bytes_at, number_at}
 use Rattle.day_journal.specs.declared.group_fault.GroupFault.TheVariants.{Torn}
 
--- a front that is longer than the first list
+-- a front that reaches past the first list
 pub take_past : {A : Type 0} (xs ys : List A) (n : ℕ) → take (length xs + n) (xs ++ ys) ≡ xs ++ take n ys
 take_past {A} [] ys n = let none : 0 + n ≡ n = omega arith in ap (λ (k : ℕ). take k ys) none
 take_past {A} (x ∷ xs) ys n =
     let more : suc (length xs) + n ≡ suc (length xs + n) = omega arith in
     ap (λ (k : ℕ). take k (x ∷ (xs ++ ys))) more ∙ ap (λ (zs : List A). x ∷ zs) (take_past xs ys n)
 
--- a length of which not both bytes are there
+-- a length without both of its bytes is torn
 pub short_length : (bytes : List ℕ) → length bytes < 2 → number_at Torn w16 bytes ≡ Err Torn
 unfolding number_at bytes_at
 short_length bytes short = rw (lt-ltb (length bytes) 2 short) refl
 
--- a number of which not all four bytes are there
+-- a number without all four bytes is torn
 pub short_number : (bytes : List ℕ) → length bytes < 4 → number_at Torn w32 bytes ≡ Err Torn
 unfolding number_at bytes_at
 short_number bytes short = rw (lt-ltb (length bytes) 4 short) refl
 
--- bytes that are not all there
+-- fewer bytes than are read are torn
 pub short_bytes : (n : ℕ) (bytes : List ℕ) → length bytes < n → bytes_at Torn n bytes ≡ Err Torn
 unfolding bytes_at
 short_bytes n bytes short = rw (lt-ltb (length bytes) n short) refl
 
--- bytes that are there
+-- bytes that are all there are read
 pub bytes_there : {F : Type 0} (short : F) (n : ℕ) (text rest : List ℕ) → length text ≡ n → bytes_at short n (text ++ rest) ≡ Ok (text, rest)
 unfolding bytes_at
 bytes_there short n text rest is =
     let long = le-ltb (length (text ++ rest)) n (omega (arith, length-append text rest, is)) in
     rw (long, take_at text rest n is, drop_at text rest n is) refl
 
--- one text more of those that are written one after the other
+-- one more of the texts that are written one after the other
 pub one_more : {X : Type 0} (f : X → List ℕ) (xs : List X) (i : ℕ) (x : X) (old front text new : List ℕ) → i < length xs → get_or xs i x ≡ x
     → text ≡ old ++ (front ++ flat_map f (take i xs)) → new ≡ text ++ f x → new ≡ old ++ (front ++ flat_map f (take (i + 1) xs))
 one_more f xs i x old front text new within is before grown =

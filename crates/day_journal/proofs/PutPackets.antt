@@ -1,4 +1,4 @@
--- The packets of a group, put one after the other.
+-- Puts the packets of a group one after the other.
 use Rattle.std.proofs.Common.{◌≡◌, ℕ, zero, suc, ◌+◌, ◌-◌, ◌*◌, ◌<◌, ◌≤◌, List, ◌++◌, append-nil, append_assoc, length, take, drop, min}
 use Rattle.std.proofs.Common.{sym, ap, subst, ◌∙◌, arith, inl, inr}
 use Rattle.std.proofs.lemmas.Bool.{cases_lt}
@@ -15,7 +15,7 @@ use Rattle.tape_frames.specs.Spelling.{IsPacket, packet_text}
 use Rattle.tape_types.specs.Ranges.{TAPE_MOST}
 use Rattle.day_journal.specs.Groups.{ArePackets, first_packet, frame_text, packet_count, packets_text, pending}
 
--- what was put, and what is still to be put, is all
+-- what was put and what is still to be put are together all
 abbrev pub Left : List ℕ → List ℕ → ℕ → List Entry → ℕ → ℕ → Type 0
 Left old text session es count place =
     text ++ packets_text (count - place) session (drop (ENTRIES_MOST * place) es) ≡ old ++ packets_text count session es
@@ -30,7 +30,7 @@ cut_packet session held place list =
     ap (λ (n : ℕ). drop n (sendable Two list)) at ∙ sym (drop-drop (ENTRIES_MOST * place) held (sendable Two list)) in
     ap (λ (es : List Entry). first_packet session es) same
 
--- a packet more
+-- one more packet is put
 pub Left-more : (old text new : List ℕ) (session : ℕ) (es : List Entry) (count place : ℕ) (q : Packet) → place < count → Left old text session es count place
     → q ≡ first_packet session (drop (ENTRIES_MOST * place) es) → new ≡ text ++ frame_text (packet_text q) → Left old new session es count (place + 1)
 unfolding packets_text
@@ -63,7 +63,7 @@ Left-end old text session es count place all left =
 abbrev pub AreSpelled : ℕ → List Entry → ℕ → Type 0
 AreSpelled session es count = (k : ℕ) → k < count → IsPacket (first_packet session (drop (ENTRIES_MOST * k) es))
 
--- with one more that has one, all have
+-- if one more has a spelling, all have
 pub AreSpelled-more : (session : ℕ) (es : List Entry) (place : ℕ) (q : Packet) → AreSpelled session es place
     → q ≡ first_packet session (drop (ENTRIES_MOST * place) es) → IsPacket q → AreSpelled session es (place + 1)
 AreSpelled-more session es place q before is valid = λ k lt. elim (cases_lt k place) [
@@ -85,7 +85,7 @@ ArePackets-from (suc count) session es spelled few =
     subst (λ (xs : List Entry). IsPacket (first_packet session xs)) same (spelled (k + 1) (omega (arith, lt))) in
     (spelled 0 (omega arith), ArePackets-from count session (drop ENTRIES_MOST es) others (omega (arith, length-drop ENTRIES_MOST es, few)))
 
--- once all are put they are those of the entries
+-- once all are put, they are the packets of the entries
 pub ArePackets-all : (session : ℕ) (es : List Entry) (count place : ℕ) → count ≡ packet_count es → count ≤ place → AreSpelled session es place
     → ArePackets (packet_count es) session es
 ArePackets-all session es count place is all spelled =
@@ -95,7 +95,7 @@ ArePackets-all session es count place is all spelled =
 pub length-pending : (held : ℕ) (list : List Entry) → length (pending held list) ≡ min (length list) TAPE_MOST - held
 length-pending held list = omega (arith, length-drop held (sendable Two list), length-take TAPE_MOST list)
 
--- they go on after those that are held
+-- the pending entries are numbered on from the held ones
 pub numbered_pending : (held : ℕ) (list : List Entry) → IsNumberedFrom 1 list → 1 ≤ length (pending held list) → IsNumberedFrom (held + 1) (pending held list)
 numbered_pending held list numbered some =
     let front = sendable Two list in

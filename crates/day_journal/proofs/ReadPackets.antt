@@ -1,4 +1,4 @@
--- The steps by which a group is read.
+-- The steps in which a group is read.
 use Rattle.std.proofs.Common.{◌≡◌, ℕ, suc, ◌+◌, ◌-◌, ◌%◌, ◌<◌, ◌≤◌, ◌==◌, true, false, List, ◌++◌, length, take, drop, Result, Ok, Err, refl, sym, ap, ◌∙◌, arith, inl, inr}
 use Rattle.std.specs.Int.{w16, w32, from_be_bytes}
 use Rattle.std.proofs.lemmas.Bool.{cases_lt, le-ltb}
@@ -15,14 +15,14 @@ use Rattle.day_journal.proofs.Lists.{short_length}
 
 -- ---- fronts that are packets
 
--- a front of this length is one
+-- the front of this length is a packet
 pub begins_found : (len : ℕ) (bytes : List ℕ) → 1 ≤ len → is_packet (packet_of (take (len - 1) bytes)) ≡ true → begins_with_packet len bytes ≡ true
 unfolding begins_with_packet
 begins_found len bytes some found =
     let one : len ≡ suc (len - 1) = omega (arith, some) in
     ap (λ (n : ℕ). begins_with_packet n bytes) one ∙ rw found refl
 
--- a front of this length is none
+-- the front of this length is not a packet
 pub begins_next : (len : ℕ) (bytes : List ℕ) → 1 ≤ len → is_packet (packet_of (take (len - 1) bytes)) ≡ false
     → begins_with_packet (len - 1) bytes ≡ begins_with_packet len bytes
 unfolding begins_with_packet
@@ -49,9 +49,9 @@ length_there bytes n rest e = elim (cases_lt (length bytes) 2) [
       omega (arith, ap (λ (x : ℕ × List ℕ). length x.1) same, length-drop 2 bytes, high)
 ]
 
--- ---- the number that an end tells
+-- ---- the number that a group's end states
 
--- what follows a packet
+-- a packet is skipped
 pub told_next : (count place : ℕ) (bytes rest : List ℕ) (len : ℕ) → place < count → number_at Damaged w16 bytes ≡ Ok (len, rest) → (len == 0) ≡ false
     → told_at (count - (place + 1)) (drop len rest) ≡ told_at (count - place) bytes
 unfolding told_at
@@ -59,14 +59,14 @@ told_next count place bytes rest len more read some =
     let one : count - place ≡ suc (count - (place + 1)) = omega (arith, more) in
     rw (one, read, some) refl
 
--- a length that is not there
+-- a length that is missing or wrong
 pub told_stops : (count place : ℕ) (bytes : List ℕ) (f : GroupFault) → place < count → number_at Damaged w16 bytes ≡ Err f → told_at (count - place) bytes ≡ Err f
 unfolding told_at
 told_stops count place bytes f more read =
     let one : count - place ≡ suc (count - (place + 1)) = omega (arith, more) in
     rw (one, read) refl
 
--- the number behind the mark
+-- the number after the mark
 pub told_here : (count place : ℕ) (bytes rest : List ℕ) (len : ℕ) → place < count → number_at Damaged w16 bytes ≡ Ok (len, rest) → (len == 0) ≡ true
     → told_at (count - place) bytes ≡ (number_at Damaged w32 rest >>= λ n. Ok n.0)
 unfolding told_at
@@ -94,7 +94,7 @@ packets_mark count place session held es bytes len more read none =
     let one : count - place ≡ suc (count - (place + 1)) = omega (arith, more) in
     rw (one, read, none) refl
 
--- a length that is not there, or wrong
+-- a length that is missing or wrong
 pub packets_stop : (count place session held : ℕ) (es : List Entry) (bytes : List ℕ) (f : GroupFault) → place < count → frame_length session (held + length es + 1) bytes ≡ Err f
     → packets_at (count - place) session held es bytes ≡ Err f
 unfolding packets_at

@@ -1,4 +1,4 @@
--- An entry more that was replayed.
+-- Adds one more entry that was replayed.
 use Rattle.std.proofs.Common.{◌≡◌, ℕ, ◌+◌, ◌<◌, List, [], ◌∷◌, ◌++◌, append_assoc, get_or, length, take, sym, ap, ◌∙◌}
 use Rattle.std.proofs.lemmas.List.{take_more}
 use Rattle.tape_core.specs.declared.entry.Entry.{Entry}

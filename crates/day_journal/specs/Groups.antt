@@ -1,4 +1,4 @@
--- A group of a journal: what it has to be, and its bytes.
+-- Defines a group of a journal: what it must hold, and its bytes.
 use Rattle.std.specs.Prelude.{◌≡◌, ◌≤◌, ◌+◌, ◌/◌, ℕ, zero, suc, List, [], ◌++◌, length, take, drop}
 use Rattle.std.specs.Int.{w16, w32, to_be_bytes}
 use Rattle.sha2.specs.Sha256.{sha256}
@@ -12,11 +12,11 @@ use Rattle.tape_frames.specs.Sources.{sendable}
 use Rattle.tape_frames.specs.Spelling.{IsPacket, packet_text}
 use Rattle.tape_types.specs.Ranges.{TAPE_MOST}
 
--- the entries of a source that a journal of so many does not have yet
+-- the entries of a source that a journal of this many does not have yet
 abbrev pub pending : ℕ → List Entry → List Entry
 pending held list = drop held (sendable Two list)
 
--- the first packet of these entries: it has as many as a packet may, or all
+-- the first packet of these entries: it has as many as a packet may, or all of them
 abbrev pub first_packet : ℕ → List Entry → Packet
 first_packet session es = Data session (record { version = Two; entries = take ENTRIES_MOST es })
 
@@ -33,7 +33,7 @@ unfoldable pub packets_text : ℕ → ℕ → List Entry → List ℕ
 packets_text zero session es = []
 packets_text (suc count) session es = frame_text (packet_text (first_packet session es)) ++ packets_text count session (drop ENTRIES_MOST es)
 
--- the packets, a length of 0 and the number of entries: what the digest is of
+-- what the digest covers: the packets, a length of 0 and the number of entries
 abbrev pub group_body : ℕ → List Entry → List ℕ
 group_body session es = packets_text (packet_count es) session es ++ (to_be_bytes w16 0 ++ to_be_bytes w32 (length es))
 
@@ -50,7 +50,7 @@ unfoldable pub ArePackets : ℕ → ℕ → List Entry → Type 0
 ArePackets zero session es = es ≡ []
 ArePackets (suc count) session es = IsPacket (first_packet session es) × ArePackets count session (drop ENTRIES_MOST es)
 
--- entries that follow so many of a tape, one at least, as packets carry them
+-- one or more entries that follow this many of a tape, as packets carry them
 pub record IsGroup (session held : ℕ) (es : List Entry) : Type 0 where
   pub some : 1 ≤ length es
   pub within : held + length es ≤ TAPE_MOST

@@ -1,4 +1,5 @@
--- What the parts of the reader of a header answer, beside what is read by definition: where memory ran out, nothing is said.
+-- States what the functions that read a header's parts return, beside what is defined as read: nothing is said if memory runs
+-- out.
 use Rattle.std.specs.Prelude.{◌≡◌, ◌≢◌, ◌-◌, ℕ, List, length, Result, Ok, Err, None, false, is_none}
 use Rattle.std.specs.Global.{Vec}
 use Rattle.day_journal.specs.declared.header_fault.HeaderFault.{HeaderFault}
@@ -30,7 +31,7 @@ GivesHeader (Ok h) bytes read =
     × (read ≡ Ok (record { session = h.session; matrix = h.matrix; limit = h.limit; listing = h.listing }, (h.digest, rest)))
 GivesHeader (Err f) bytes read = IsHeaderFaultOf f read
 
--- a listing of the names, unless they are none
+-- a listing of the names, or damage if they are no listing
 abbrev pub GivesListing : Result Names HeaderFault → List (List ℕ) → List ℕ → Type 0
 GivesListing (Ok l) symbols participants =
     (l ≡ record { symbols = symbols; participants = participants }) × (names_fault symbols participants ≡ None)

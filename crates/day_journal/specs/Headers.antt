@@ -1,4 +1,4 @@
--- The header of a journal: what it has to be, its bytes, and how it is read.
+-- Defines the header of a journal: what it must hold, its bytes, and how it is read.
 use Rattle.std.specs.Prelude.{◌≡◌, ◌<◌, ◌^◌, ◌-◌, ◌==◌, ◌&&◌, ℕ, zero, suc, Bool, List, [], ◌∷◌, ◌++◌, length, take}
 use Rattle.std.specs.Prelude.{All, Option, Some, None, Result, Ok, Err, is_none, bytes_eq, codes, flat_map, if◌then◌else◌}
 use Rattle.std.specs.Int.{w8, w16, w32, w64, to_be_bytes}
@@ -120,7 +120,7 @@ matrix_at bytes = do
   matrix ← ok_or (matrix_of byte.0) Damaged
   Ok (matrix, byte.1)
 
--- the terms, which need not be those of a day yet
+-- the terms, which may not be those of a day yet
 unfoldable pub terms_at : List ℕ → Result (Terms × List ℕ) HeaderFault
 terms_at bytes = do
   magic ← magic_at bytes
@@ -144,13 +144,13 @@ is_digest body digest = bytes_eq digest (sha256 body)
 abbrev pub is_listing : Names → Bool
 is_listing names = is_none (names_fault names.symbols names.participants)
 
--- a header at the front of bytes; it is damaged where its digest is another, or where the names are no listing
+-- a header at the front of bytes; it is damaged if its digest is another, or if the names are no listing
 unfoldable pub header_at : List ℕ → Result ReadHeader HeaderFault
 header_at bytes = do
   terms ← terms_at bytes
   digest ← bytes_at Short 32 terms.1
   if is_digest (take (length bytes - length terms.1) bytes) digest.0 && is_listing terms.0.listing then Ok (terms.0, (digest.0, digest.1)) else Err Damaged
 
--- what is spelled is read, whatever follows it, with its digest
+-- what is spelled is read back with its digest, whatever follows it
 abbrev pub HeadersAreRead : Type 0
 HeadersAreRead = (t : Terms) (rest : List ℕ) → AreTerms t → header_at (header_text t ++ rest) ≡ Ok (t, (header_digest t, rest))

@@ -1,4 +1,5 @@
--- What the parts of the reader of groups answer, beside what is read by definition: where memory ran out, nothing is said.
+-- States what the functions that read a group's parts return, beside what is defined as read: nothing is said if memory runs
+-- out.
 use Rattle.std.specs.Prelude.{◌≡◌, ◌≢◌, ℕ, List, ◌++◌, Result, Ok, Err}
 use Rattle.tape_core.specs.declared.entry.Entry.{Entry}
 use Rattle.day_journal.specs.declared.group_fault.GroupFault.{GroupFault}
@@ -9,7 +10,7 @@ use Rattle.day_journal.specs.GroupReading.{Read}
 abbrev pub IsFaultOf : {X : Type 0} → GroupFault → Result X GroupFault → Type 0
 IsFaultOf f read = f ≢ OutOfMemory → read ≡ Err f
 
--- the entries of a packet stand after the others
+-- the entries of a packet are appended to the others
 abbrev pub GivesRow : Result Unit GroupFault → List Entry → List Entry → Result (List Entry) GroupFault → Type 0
 GivesRow (Ok done) old new read = (row : List Entry) × (read ≡ Ok row) × (new ≡ old ++ row)
 GivesRow (Err f) old new read = IsFaultOf f read

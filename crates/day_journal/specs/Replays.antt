@@ -1,4 +1,4 @@
--- What replaying the entries of a journal does to a tape.
+-- Defines what replaying the entries of a journal does to a tape.
 use Rattle.std.specs.Prelude.{◌≡◌, ◌≢◌, ◌++◌, ℕ, List, take, slice_get, Some, unwrap_or}
 use Rattle.tape_core.specs.declared.entry.Entry.{Entry}
 use Rattle.tape_core.specs.declared.refusal.Refusal.TheVariants.{OutOfMemory}
@@ -10,7 +10,7 @@ use Rattle.day_journal.specs.declared.replaying.ReplayFault.TheVariants.{Refused
 abbrev pub with_entries : TapeState → List Entry → TapeState
 with_entries t es = record t { entries = t.entries ++ es }
 
--- at this index stands the entry of this number, at which a replay stopped
+-- at this index is the entry of this number, at which a replay stopped
 pub record IsAt (es : List Entry) (number index : ℕ) (e : Entry) : Type 0 where
   pub found : slice_get es index ≡ Some e
   pub numbered : e.number ≡ number

@@ -1,4 +1,5 @@
-//! A group as bytes.
+//! Writes a group of entries as bytes: its packets, each after its length, the mark, the number of entries and the chained
+//! digest.
 ghost use Rattle.std.specs.Prelude.{◌≡◌, ◌+◌, ◌*◌, ◌/◌, ◌≤◌, ◌<◌, [], ◌++◌, IfOk, OnOk, length};
 ghost use Rattle.tape_frames.specs.Limits.{LONGEST_PACKET};
 ghost use Rattle.tape_frames.specs.Packets.{version_of};
@@ -16,8 +17,8 @@ use std::alloc::AllocError;
 use tape_frames::{ENTRIES_MOST, Packet, Source, Version, cut, write_packet};
 use tape_types::TAPE_MOST;
 
-/// Replaces the text by the group of the source's entries after those that are held, of which there are some, chained to the digest
-/// before it, and answers the digest of the group. Where memory runs out, the text may hold a part of it.
+/// Replaces `text` with the group of the source's entries after the `held` ones, of which there must be some, chained to the
+/// digest before it, and returns the group's digest. If memory runs out, `text` may hold a part of it.
 pub(crate) fn put_group<S: Source>(
     session: u64,
     before: &[u8; DIGEST_LENGTH],
@@ -46,7 +47,7 @@ pub(crate) fn chained(before: &[u8; DIGEST_LENGTH], body: &[u8]) -> [u8; DIGEST_
     hasher.finalize()
 }
 
-/// Replaces the text by the group's bytes before the digest.
+/// Replaces `text` with the group's bytes before the digest.
 fn put_body<S: Source>(
     session: u64,
     held: u32,
@@ -65,7 +66,7 @@ fn put_body<S: Source>(
     Ok(())
 }
 
-/// Appends the packets of the source's entries after those that are held, which are so many, each after its length.
+/// Appends the packets of the source's `count` entries after the `held` ones, each after its length.
 fn put_packets<S: Source>(
     session: u64,
     held: u32,

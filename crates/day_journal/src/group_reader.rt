@@ -1,4 +1,4 @@
-//! The groups of a journal, one after the other.
+//! Reads the groups of a journal one after the other, and keeps how many entries it has read and the last digest.
 ghost use Rattle.std.specs.Prelude.{◌≡◌, ◌≤◌, IfOk, OnErr, drop, length};
 ghost use Rattle.tape_types.specs.Ranges.{TAPE_MOST};
 ghost use Rattle.day_journal.specs.Journals.{Reads, reader_at};
@@ -11,12 +11,12 @@ use std::alloc::AllocError;
 use std::marker::Model;
 use tape_core::Entry;
 
-/// What a reader answers.
+/// What `next_group` found.
 #[derive(Clone, Copy, Debug, PartialEq, Eq)]
 pub enum Next {
     /// A group was read.
     Group,
-    /// There is no other one, and the reader stays where it is.
+    /// No other group follows, and the reader stays where it is.
     End(JournalEnd),
 }
 
@@ -43,7 +43,7 @@ impl<'a> Model for GroupReader<'a> {
 }
 
 impl<'a> GroupReader<'a> {
-    /// A reader of the groups behind the header of a journal, which has `from` bytes and this digest.
+    /// Returns a reader of the groups after the header of a journal, which has `from` bytes and this digest.
     pub fn new(session: u64, digest: [u8; DIGEST_LENGTH], from: usize, journal: &'a [u8]) -> Self
         requires { from ≤ length journal.now }
         ensures state { result ≡ reader_at session 0 digest from (drop from journal.now) }
@@ -58,7 +58,7 @@ impl<'a> GroupReader<'a> {
     }
 
     /// Reads the next group: its entries replace those of the vector, and are not yet known to be those of a tape. At an end
-    /// nothing is known of the vector's entries. Where memory runs out the reader stays where it is.
+    /// nothing is known of the vector's entries. If memory runs out, the reader stays where it is.
     pub fn next_group(&mut self, entries: &mut Vec<Entry>) -> Result<Next, AllocError>
         ensures ok { IfOk result (λ next. Reads next self.old entries.new.items self.new) }
         ensures err { OnErr result (self.new ≡ self.old) }
@@ -85,7 +85,7 @@ impl<'a> GroupReader<'a> {
         }
     }
 
-    /// How many entries the groups have that were read.
+    /// How many entries the groups read so far have.
     pub fn held(&self) -> u32
         ensures held { result ≡ self.now.held }
         ensures within { result ≤ TAPE_MOST }
@@ -93,7 +93,7 @@ impl<'a> GroupReader<'a> {
         self.held
     }
 
-    /// The digest of the last group that was read, or of the header.
+    /// The digest of the last group that was read, or of the header if none was.
     pub fn digest(&self) -> [u8; DIGEST_LENGTH]
         ensures digest { result ≡ self.now.digest }
     {

@@ -1,4 +1,4 @@
-//! A group read from bytes.
+//! Reads a group from bytes, packet after packet, and checks that it follows the entries and the digest before it.
 ghost use Rattle.std.specs.Prelude.{◌≡◌, ◌+◌, ◌≤◌, [], length, IfOk, OnOk};
 ghost use Rattle.tape_frames.specs.Limits.{LONGEST_PACKET};
 ghost use Rattle.tape_frames.specs.Reading.{packet_of};
@@ -13,8 +13,8 @@ use reports::{Unread, put};
 use tape_core::Entry;
 use tape_frames::{ENTRIES_MOST, EntryRow, LONGEST_PACKET, Packet, Version, decode_packet};
 
-/// Reads the group at the front, which follows so many entries and this digest, and answers its own digest. Its entries replace
-/// those of the vector.
+/// Reads the group at the front, which follows this many entries and this digest, and returns its own digest. Its entries
+/// replace those of the vector.
 #[tactic(auto, unfolding(crate::specs::GroupReading::group_at))]
 pub(crate) fn read_group(
     unread: &mut Unread<'_>,
@@ -39,7 +39,7 @@ pub(crate) fn read_group(
     Ok(digest)
 }
 
-/// Whether a group's end is that of so many entries and these bytes.
+/// Whether a group's end has this number of entries and the digest of these bytes.
 fn is_end(
     before: &[u8; DIGEST_LENGTH],
     body: &[u8],
@@ -52,7 +52,7 @@ fn is_end(
     entries > 0 && count as usize == entries && *digest == chained(before, body)
 }
 
-/// Reads the packets up to the mark, and takes it.
+/// Reads the packets up to the mark, and the mark.
 fn read_packets(
     unread: &mut Unread<'_>,
     session: u64,
@@ -72,7 +72,7 @@ fn read_packets(
             unread.rest = &unread.rest[2..];
             return Ok(());
         }
-        // Only the last packet of a group has less than the most entries.
+        // Only the last packet of a group may have fewer than the most entries.
         if entries.len() % ENTRIES_MOST != 0 {
             return Err(GroupFault::Damaged);
         }
@@ -82,8 +82,8 @@ fn read_packets(
     Err(GroupFault::Damaged)
 }
 
-/// How many bytes the packet has whose length stands at the front, which are all there, where the packet of this session with this
-/// number is the next one; 0 at the mark.
+/// Returns how many bytes the packet has whose length is at the front, if all its bytes are there and it is the next one of
+/// this session with this number; 0 at the mark.
 #[tactic(auto, unfolding(crate::specs::GroupReading::frame_length))]
 fn frame_length(session: u64, number: u32, bytes: &[u8]) -> Result<usize, GroupFault>
     ensures exact { result ≡ frame_length session number bytes.now }
@@ -101,8 +101,8 @@ fn frame_length(session: u64, number: u32, bytes: &[u8]) -> Result<usize, GroupF
     Ok(len)
 }
 
-/// What is wrong where the bytes after a length end before a packet does. Only the front of the next packet is torn: a mark that was
-/// changed has other bytes behind it, and a length that was changed may have a whole packet there.
+/// What is wrong if the bytes after a length end before a packet does. Only the front of the next packet is torn: a mark that
+/// was changed has other bytes after it, and a length that was changed may have a whole packet there.
 fn tail_fault(session: u64, number: u32, bytes: &[u8]) -> GroupFault
     ensures { result ≡ tail_fault session number bytes.now }
 {
@@ -124,7 +124,7 @@ fn begins_next(session: u64, number: u32, bytes: &[u8]) -> bool
     bytes[..len] == front[..len]
 }
 
-/// How the packet of this session begins that brings the entries from this number on, in the second version.
+/// The front of the packet of this session with the entries from this number on, in the second version.
 fn packet_front(session: u64, number: u32) -> [u8; PACKET_FRONT_LENGTH]
     ensures { result ≡ packet_front session number }
 {
@@ -135,7 +135,7 @@ fn packet_front(session: u64, number: u32) -> [u8; PACKET_FRONT_LENGTH]
     front
 }
 
-/// Whether one of the fronts of the bytes, which are fewer than a packet may have, is a packet.
+/// Whether a front of the bytes, which are fewer than a packet may have, is a packet.
 fn begins_with_packet(bytes: &[u8]) -> bool
     ensures { result ≡ begins_with_packet (length bytes.now + 1) bytes.now }
 {
@@ -159,7 +159,7 @@ fn is_packet(bytes: &[u8]) -> bool
     }
 }
 
-/// Appends the entries of the packet that the text is, if it is the next one.
+/// Appends the entries of the packet in the text, if it is the next one.
 fn read_row(
     session: u64,
     number: u32,
@@ -187,7 +187,7 @@ fn read_row(
     }
 }
 
-/// Whether a packet of this session brings the entries from this number on, in the second version.
+/// Whether a packet of this session has the entries from this number on, in the second version.
 fn is_next(session: u64, number: u32, own: u64, row: &EntryRow) -> bool
     ensures { result ≡ is_next session number own row.now }
 {
@@ -206,7 +206,7 @@ pub(crate) fn told_count(bytes: &[u8]) -> Option<u32>
     }
 }
 
-/// The number that the group's end tells, where the lengths of its packets lead there.
+/// The number in the group's end, if the lengths of its packets lead there.
 fn told(bytes: &[u8]) -> Result<u32, GroupFault>
     ensures { result ≡ told_at (length bytes.now) bytes.now }
 {

@@ -1,7 +1,7 @@
-//! The groups of a journal, appended one after the other.
+//! Appends groups to a journal, and keeps the number of its entries, the last digest and whether a write failed.
 ghost use Rattle.std.specs.Prelude.{◌≡◌, ◌≤◌, ◌↔◌, ◌≢◌, Err, IsOk, IsTrue, OnOk, false, true, length};
 ghost use Rattle.std.specs.Io.KnownBytes.{Appends, Keeps};
-ghost use Rattle.row_reads.specs.Writing.{WritesPrefix};
+ghost use Rattle.whole_io.specs.Writing.{WritesPrefix};
 ghost use Rattle.tape_types.specs.Ranges.{TAPE_MOST};
 ghost use Rattle.day_journal.specs.Groups.{IsGroup, pending};
 ghost use Rattle.day_journal.specs.Writers.{WriterState, next_text, with_group};
@@ -10,12 +10,12 @@ ghost use Rattle.day_journal.specs.declared.append_fault.AppendFault.TheVariants
 use crate::AppendFault;
 use crate::group_putting::put_group;
 use crate::limits::DIGEST_LENGTH;
-use row_reads::write_text;
 use std::alloc::Global;
 use std::io::Write;
 use std::marker::Model;
 use tape_frames::Source;
 use tape_types::TAPE_MOST;
+use whole_io::write_text;
 
 /// Appends groups to a journal. After a failed write it appends nothing more, since the journal then ends within a group.
 #[derive(Drop)]
@@ -40,7 +40,8 @@ impl Model for GroupWriter {
 }
 
 impl GroupWriter {
-    /// A writer behind a journal's header, or behind groups that were read of it: it goes on after so many entries and this digest.
+    /// Returns a writer after a journal's header, or after groups that were read of it, from this many entries and this digest
+    /// on.
     pub fn new(alloc: Global, session: u64, held: u32, digest: [u8; DIGEST_LENGTH]) -> Self
         requires { held ≤ TAPE_MOST }
         ensures state { result ≡ record { session = session; held = held; digest = digest; broken = false } }
@@ -54,9 +55,9 @@ impl GroupWriter {
         }
     }
 
-    /// Appends one group: all entries of the source that the journal does not have, of which there are some. It is handed over in
-    /// one write where the writer takes it whole, and is not flushed. Memory is taken for its bytes, in a buffer that the next
-    /// group uses again.
+    /// Appends one group: all entries of the source that the journal does not have, of which there must be some. It is written
+    /// in one write if the writer takes it whole, and is not flushed. Its bytes are allocated in a buffer that the next group
+    /// uses again.
     pub fn append_group<S: Source, W: Write>(
         &mut self,
         source: &S,
@@ -67,7 +68,7 @@ impl GroupWriter {
         ensures written { OnOk result (Appends (W.contents writer.old) (W.contents writer.new) (next_text self.old (pending self.old.held (S.list source.now)))) }
         ensures group { OnOk result (IsGroup self.old.session self.old.held (pending self.old.held (S.list source.now))) }
         ensures state { OnOk result (self.new ≡ with_group self.old (pending self.old.held (S.list source.now))) }
-        // A write that failed leaves a front of the group, and the writer of groups broken.
+        // A write that failed leaves a front of the group, and `broken` is true from then on.
         ensures part { result ≡ Err WriteFault → WritesPrefix (next_text self.old (pending self.old.held (S.list source.now)))
             (W.contents writer.old) (W.contents writer.new) }
         ensures broken { result ≡ Err WriteFault → self.new ≡ record self.old { broken = true } }

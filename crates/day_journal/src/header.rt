@@ -1,4 +1,4 @@
-//! The header of a journal.
+//! Writes the header of a journal: the terms of the day and their digest.
 ghost use Rattle.std.specs.Prelude.{◌≡◌, ◌≤◌, ◌++◌, IfOk, OnOk, length};
 ghost use Rattle.tape_types.specs.Ranges.{PARTICIPANTS_MOST, SYMBOLS_MOST};
 ghost use Rattle.day_journal.specs.Headers.{day_text, header_digest, header_text, matrix_byte, participants_text, symbols_text};
@@ -9,8 +9,8 @@ use sha2::{Digest, Sha256};
 use std::alloc::AllocError;
 use tape_types::{Listing, Participant, Symbol};
 
-/// Replaces the text by the header of a journal with these terms, of which the limit is 1 to `TAPE_MOST`, and answers its
-/// digest, to which the first group is chained. Where memory runs out, the text may hold a part of it.
+/// Replaces `text` with the header of a journal with these terms, of which the limit is 1 to `TAPE_MOST`, and returns its
+/// digest, to which the first group is chained. If memory runs out, `text` may hold a part of it.
 pub fn put_header(
     session: u64,
     matrix: Matrix,
@@ -32,7 +32,7 @@ pub fn put_header(
     Ok(digest)
 }
 
-/// Appends what stands before the listing.
+/// Appends the fields before the listing.
 fn put_day(session: u64, matrix: Matrix, limit: u32, text: &mut Vec<u8>) -> Result<(), AllocError>
     ensures { OnOk result (text.new.items ≡ text.old.items ++ day_text session matrix limit) }
 {

@@ -1,4 +1,4 @@
-//! The header of a journal, read.
+//! Reads the header of a journal and checks its digest.
 ghost use Rattle.std.specs.Prelude.{◌≡◌, ◌≤◌, [], IfOk, length};
 ghost use Rattle.std.specs.Int.{w8};
 ghost use Rattle.reports.specs.Fields.{Reads};
@@ -13,12 +13,12 @@ use sha2::{Digest, Sha256};
 use std::alloc::Global;
 use tape_types::{Listing, ListingFault, Participant, Symbol, TAPE_MOST};
 
-/// What the header of a journal says.
+/// The terms in a journal's header, its digest and its length.
 #[derive(Drop)]
 pub struct Header {
     /// The session under which the tape is sent.
     pub session: u64,
-    /// The matrix that the day goes by.
+    /// The matrix of the day.
     pub matrix: Matrix,
     /// The most entries that the tape takes, 1 to `TAPE_MOST`.
     pub limit: u32,
@@ -30,7 +30,7 @@ pub struct Header {
     pub len: usize,
 }
 
-/// The fields of a header, as they are read.
+/// The fields of a header before its digest.
 #[derive(Drop)]
 struct Fields {
     session: u64,
@@ -40,7 +40,7 @@ struct Fields {
     participants: Vec<Participant>,
 }
 
-/// The header at the front of a journal's bytes. Memory is taken for the listing.
+/// Returns the header at the front of a journal's bytes. The listing is allocated.
 #[tactic(auto, unfolding(crate::specs::Headers::header_at))]
 pub fn read_header(alloc: Global, bytes: &[u8]) -> Result<Header, HeaderFault>
     ensures exact { GivesHeader result bytes.now (header_at bytes.now) }
@@ -89,7 +89,7 @@ fn read_fields(alloc: Global, unread: &mut Unread<'_>) -> Result<Fields, HeaderF
     })
 }
 
-/// The first bytes, as every journal has them.
+/// The first bytes, which every journal has.
 #[tactic(auto, unfolding(crate::specs::Headers::magic_at))]
 fn read_magic(unread: &mut Unread<'_>) -> Result<[u8; 8], HeaderFault>
     ensures { Reads result unread.new.rest.now (magic_at unread.old.rest.now) }
@@ -101,7 +101,7 @@ fn read_magic(unread: &mut Unread<'_>) -> Result<[u8; 8], HeaderFault>
     Ok(magic)
 }
 
-/// The version, which is this one.
+/// The version, which must be this one.
 #[tactic(auto, unfolding(crate::specs::Headers::version_at))]
 fn read_version(unread: &mut Unread<'_>) -> Result<u8, HeaderFault>
     ensures { Reads result unread.new.rest.now (version_at unread.old.rest.now) }
@@ -122,7 +122,7 @@ fn read_matrix(unread: &mut Unread<'_>) -> Result<Matrix, HeaderFault>
     matrix_of(byte).ok_or(HeaderFault::Damaged)
 }
 
-/// The matrix of a byte.
+/// Returns the matrix of a byte.
 fn matrix_of(byte: u8) -> Option<Matrix>
     ensures { result ≡ matrix_of byte }
 {

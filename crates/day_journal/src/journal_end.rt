@@ -1,12 +1,12 @@
-//! How a journal ends.
+//! Says how a journal ends: whole, torn or damaged, and where.
 
-/// How a journal ends, behind the groups that were read of it.
+/// How a journal ends after the groups that were read of it.
 #[derive(Clone, Copy, Debug, PartialEq, Eq)]
 pub enum JournalEnd {
     /// With a whole group, or with its header.
     Whole,
-    /// Within a group, as a write that was cut leaves it: from this byte of the journal on is no whole group, and nothing after
-    /// it. Whoever cuts the journal there loses no entry of a whole group.
+    /// Within a group, as after a write that was cut: from this byte of the journal on there is no whole group, and nothing
+    /// after it. Cutting the journal there loses no entry of a whole group.
     Torn {
         /// How many bytes of the journal are whole groups and the header.
         from: usize,

@@ -1,4 +1,4 @@
-//! The journal of a day: the feed on disk, as a header and groups of packets.
+//! Writes and reads the journal of a day: the feed on disk, as a header and groups of packets.
 #![tactic(auto)]
 
 mod append_fault;

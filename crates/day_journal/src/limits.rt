@@ -1,4 +1,4 @@
-//! The lengths of a journal's parts, and what they begin with.
+//! The lengths of a journal's parts, and the bytes they begin with.
 
 /// How many bytes a digest has.
 pub(crate) const DIGEST_LENGTH: usize = 32;
@@ -15,5 +15,5 @@ pub(crate) const VERSION: u8 = 1;
 /// The kind of the packets in a journal, which is the byte after their version.
 pub(crate) const DATA: u8 = b'D';
 
-/// How many bytes of a packet the next one is known by: version 1, kind 1, session 8, number 4.
+/// The length of a packet's front in bytes, by which the next packet is known: version 1, kind 1, session 8, number 4.
 pub(crate) const PACKET_FRONT_LENGTH: usize = 14;

@@ -1,4 +1,4 @@
-//! The entries of a journal, replayed.
+//! Replays the entries of a journal on a tape, one after the other, until one is not the tape's next entry.
 ghost use Rattle.std.specs.Prelude.{◌≡◌, ◌↔◌, IfErr, IsTrue, OnOk};
 ghost use Rattle.day_journal.specs.Replays.{StopsReplay, with_entries};
 
@@ -12,18 +12,19 @@ pub enum ReplayFault {
     Refused {
         /// The number of the entry.
         number: u32,
-        /// Why.
+        /// The tape's refusal.
         refusal: Refusal,
     },
-    /// The tape makes another entry of the message: what the journal's entry carries is not what the tape gives. The tape has its own
-    /// entry then.
+    /// The tape makes another entry of the message: the journal's entry carries other content than the tape's. The tape then
+    /// has its own entry.
     Differs {
         /// The number of the entry.
         number: u32,
     },
 }
 
-/// Replays the entries of a group on a tape, one after the other. The tape has them then, and no others, at its end.
+/// Replays the entries of a group on a tape, one after the other. The tape then has them, and no others, after its earlier
+/// entries.
 pub fn replay_entries<S: Store>(tape: &mut Tape<S>, entries: &[Entry]) -> Result<(), ReplayFault>
     ensures ok { OnOk result (tape.new ≡ with_entries tape.old entries.now) }
     ensures stops { IfErr result (λ f. StopsReplay f tape.old entries.now tape.new) }

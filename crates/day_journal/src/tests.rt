@@ -1,4 +1,4 @@
-//! What no clause sees: that calls succeed where memory is ample, and what a journal with a changed byte reads as.
+//! Tests what no clause states: that calls succeed with ample memory, and how a journal with a changed byte is read.
 
 use crate::{GroupReader, GroupWriter, JournalEnd, Next, put_header, read_header, replay_entries};
 use reports::{Content, Header, Message, Moment};
@@ -25,7 +25,7 @@ fn listing(alloc: Global) -> Option<Listing> {
     Listing::new(alloc, &symbols, &participants).ok()
 }
 
-/// N's report of AB under a number.
+/// N's report of AB under this number.
 fn report(number: u32) -> Option<Message> {
     Some(Message::Report {
         header: Header {
@@ -42,7 +42,7 @@ fn report(number: u32) -> Option<Message> {
     })
 }
 
-/// Admits so many reports.
+/// Admits this many reports.
 fn admit_reports(tape: &mut Tape<IndexStore>, count: u32) -> Option<()> {
     for index in 0..count {
         let message = report(index.checked_add(1)?)?;
@@ -53,7 +53,7 @@ fn admit_reports(tape: &mut Tape<IndexStore>, count: u32) -> Option<()> {
     Some(())
 }
 
-/// A tape of so many reports.
+/// A tape of this many reports.
 fn tape(alloc: Global, count: u32) -> Option<Tape<IndexStore>> {
     let mut tape = Tape::new(alloc, listing(alloc)?, 100, Matrix::One).ok()?;
     admit_reports(&mut tape, count)?;
@@ -94,7 +94,7 @@ fn journal(alloc: Global) -> Option<Day> {
     })
 }
 
-/// How many entries are read back and replayed, and the end.
+/// Returns how many entries are read back and replayed, and the end.
 fn read_back(alloc: Global, bytes: &[u8]) -> Option<(usize, JournalEnd)> {
     let header = read_header(alloc, bytes).ok()?;
     let mut tape = tape(alloc, 0)?;
@@ -109,7 +109,7 @@ fn read_back(alloc: Global, bytes: &[u8]) -> Option<(usize, JournalEnd)> {
     None
 }
 
-/// How many entries are whole before a cut, and the end there.
+/// Returns how many entries are whole before a cut, and the end there.
 fn cut_end(day: &Day, len: usize) -> (usize, JournalEnd) {
     if len == day.header {
         (0, JournalEnd::Whole)
@@ -136,7 +136,7 @@ fn reads_each_cut(alloc: Global, day: &Day) -> bool {
     true
 }
 
-/// Whether a changed byte at this place is damage: of the group that has it, whose mark it may be, or of the header.
+/// Whether a changed byte at this place is read as damage of its group, whose mark it may be, or of the header.
 fn notices(alloc: Global, day: &mut Day, place: usize) -> bool {
     let Some(byte) = day.bytes.get_mut(place) else {
         return false;

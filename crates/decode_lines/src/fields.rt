@@ -1,4 +1,4 @@
-//! The fields of what was read, in decimal and with a space before each.
+//! Writes the fields of packets and messages, in decimal and with a space before each.
 
 use reports::Message;
 use sale_matrix::Content;
@@ -7,7 +7,7 @@ use std::io::{self, Write};
 use tape_core::Entry;
 use tape_frames::Packet;
 
-/// Writes a packet: its kind, version and session, and its entries or its number.
+/// Writes a packet: `ok`, its kind, version and session, and its entries or its number.
 pub fn write_packet<W: Write>(packet: &Packet, output: &mut W) -> io::Result<()> {
     let version = packet.version().byte();
     let session = packet.session();
@@ -33,8 +33,8 @@ fn write_entries<W: Write>(entries: &[Entry], output: &mut W) -> io::Result<()> 
     Ok(())
 }
 
-/// Writes a message: its kind, what every message begins with, and what the kind adds. A symbol and a condition are the numbers
-/// that their bytes are.
+/// Writes a message: its kind, its header, and the fields that the kind adds. A symbol and a condition are written as the
+/// numbers that their bytes spell.
 pub fn write_message<W: Write>(message: &Message, output: &mut W) -> io::Result<()> {
     let header = message.header();
     write!(
@@ -65,7 +65,7 @@ fn letter_of(message: &Message) -> char {
     }
 }
 
-/// Writes what was traded.
+/// Writes what was traded: price in ten-thousandths of a dollar, size and condition.
 fn write_content<W: Write>(content: &Content, output: &mut W) -> io::Result<()> {
     write!(
         output,
@@ -84,7 +84,7 @@ fn write_summary<W: Write>(summary: &Summary, output: &mut W) -> io::Result<()> 
     write!(output, " {} {}", summary.volume, summary.trades)
 }
 
-/// Writes a mark, or that it is absent.
+/// Writes a mark, or `-` if it is absent.
 fn write_mark<W: Write>(mark: Option<Mark>, output: &mut W) -> io::Result<()> {
     match mark {
         Some(mark) => write!(

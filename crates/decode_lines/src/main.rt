@@ -1,5 +1,5 @@
-//! `decode_lines`: what the readers of packets, messages, requests and answers say of bytes, a line for each line. The merge gate
-//! compares it with what the plain readers of `bench/` say; no other crate calls it.
+//! Prints what the readers of packets, messages, requests and answers make of bytes, a line for each line of input. The merge
+//! gate compares it with what the plain readers of `bench/` print; no other crate calls it.
 #![tactic(auto)]
 
 mod fields;
@@ -8,7 +8,7 @@ mod saying;
 use saying::say;
 use std::io::{self, BufRead, BufReader, BufWriter, Write};
 
-/// Reads lines from standard input, and prints what is said of each. The first that is no such line ends the program.
+/// Reads lines from standard input, and prints a line for each. The first line of another form ends the program with an error.
 fn main(rt: HostRuntime) -> anyhow::Result<()> {
     let alloc = rt.alloc();
     let mut output = BufWriter::new(alloc, io::writer(&rt))?;

@@ -1,4 +1,4 @@
-//! What is said of a line.
+//! Decodes one line by the reader of its kind, and writes the value read or its fault.
 
 use crate::fields::{write_message, write_packet};
 use anyhow::{Context, bail};
@@ -8,8 +8,8 @@ use std::alloc::Global;
 use std::io::{self, Write};
 use tape_frames::{REQUEST_LENGTH, Request, Span, decode_packet, decode_request};
 
-/// Writes a line on what the bytes of a line are. The line has a letter, a space and the bytes in hexadecimal digits: `P` for a
-/// packet, `M` for a message at the front, `Q` for a request, `A` for an answer as it is read after a request.
+/// Writes a line about the bytes of a line. That has a letter, a space and the bytes in hexadecimal digits: `P` for a packet,
+/// `M` for a message at the front, `Q` for a request, `A` for an answer, read as after a request. Any other form is an error.
 pub fn say<W: Write>(alloc: Global, line: &str, output: &mut W) -> anyhow::Result<()> {
     let (kind, digits) = line.split_once(' ').context("a line has no space")?;
     let bytes = hex::decode(alloc, digits)?;
@@ -24,7 +24,7 @@ pub fn say<W: Write>(alloc: Global, line: &str, output: &mut W) -> anyhow::Resul
     Ok(())
 }
 
-/// Writes the packet that all the bytes are, or its fault.
+/// Writes the packet that all the bytes spell, or its fault.
 fn say_packet<W: Write>(bytes: &[u8], output: &mut W) -> io::Result<()> {
     match decode_packet(bytes) {
         Ok(packet) => write_packet(&packet, output),
@@ -32,7 +32,7 @@ fn say_packet<W: Write>(bytes: &[u8], output: &mut W) -> io::Result<()> {
     }
 }
 
-/// Writes the message that the bytes begin with and how many of them it takes, or its fault.
+/// Writes how many bytes the message at the front takes and the message, or its fault.
 fn say_message<W: Write>(bytes: &[u8], output: &mut W) -> io::Result<()> {
     match decode(bytes) {
         Ok((message, taken)) => {
@@ -43,7 +43,7 @@ fn say_message<W: Write>(bytes: &[u8], output: &mut W) -> io::Result<()> {
     }
 }
 
-/// Writes the request that all the bytes are, or its fault. Only a request's number of bytes is ever read as one.
+/// Writes the request that all the bytes spell, or its fault; or `no request` if they are not as many as a request has.
 fn say_request<W: Write>(bytes: &[u8], output: &mut W) -> io::Result<()> {
     let Ok(row) = <[u8; REQUEST_LENGTH]>::try_from(bytes) else {
         return write!(output, "no request");
@@ -61,7 +61,8 @@ fn say_request<W: Write>(bytes: &[u8], output: &mut W) -> io::Result<()> {
     }
 }
 
-/// Writes the packets of an answer, each as the number of its bytes and these, or its fault; and how many bytes were left unread.
+/// Writes the packets of an answer, each as its number of bytes and the bytes, or the answer's fault; then how many bytes are
+/// left unread.
 fn say_answer<W: Write>(alloc: Global, bytes: &[u8], output: &mut W) -> anyhow::Result<()> {
     let request = Request {
         session: 7,

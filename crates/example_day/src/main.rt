@@ -1,5 +1,5 @@
-//! `example_day`: a small day from end to end. A tape admits three reports and a cancel, and a subscriber makes the same tape
-//! from the bytes of one packet. It takes no input.
+//! A small day from end to end: a tape admits three reports and a cancel, and a subscriber makes the same tape from the bytes
+//! of one packet. It takes no input.
 #![tactic(auto)]
 
 mod messages;
@@ -17,10 +17,10 @@ use summaries::IndexStore;
 use tape_core::Tape;
 use tape_frames::{SliceSource, Source, Version, cut, write_packet};
 
-/// The session under which the tape is sent.
+/// The session that the tape is sent under.
 const SESSION: u64 = 7;
 
-/// How many entries the tape takes at most, and the subscriber's.
+/// The most entries of the tape, and of the subscriber's own tape.
 const LIMIT: u32 = 1_000;
 
 fn main(rt: HostRuntime) -> anyhow::Result<()> {
@@ -29,7 +29,7 @@ fn main(rt: HostRuntime) -> anyhow::Result<()> {
     receive(&rt, &names, &packet)
 }
 
-/// The sender's side: a tape, and the bytes of a packet of it.
+/// The sender's side: makes a tape, and returns the bytes of a packet cut from it.
 fn send<R: AllocGlobal + Print>(rt: &R, names: &Names) -> anyhow::Result<Vec<u8>> {
     let listing = names.listing(rt.alloc())?;
     let mut tape = Tape::new(rt.alloc(), listing, LIMIT, Matrix::One)?;
@@ -48,7 +48,7 @@ fn play<R: Print>(rt: &R, names: &Names, tape: &mut Tape<IndexStore>) -> anyhow:
     show(rt, "cancelled", tape.summary(symbol))
 }
 
-/// The bytes of the packet that brings a tape's first entries. A tape with none is an error.
+/// The bytes of the packet that brings a tape's first entries. A tape without entries is an error.
 fn first_packet(alloc: Global, tape: &Tape<IndexStore>) -> anyhow::Result<Vec<u8>> {
     let source = SliceSource::of(tape);
     ensure!(source.published() > 0, "the tape has no entry");
@@ -57,7 +57,7 @@ fn first_packet(alloc: Global, tape: &Tape<IndexStore>) -> anyhow::Result<Vec<u8
     Ok(bytes)
 }
 
-/// The receiver's side: a subscriber, to which line A brings the packet.
+/// The receiver's side: a subscriber, which gets the packet by line A.
 fn receive<R: AllocGlobal + Print>(rt: &R, names: &Names, packet: &[u8]) -> anyhow::Result<()> {
     let listing = names.listing(rt.alloc())?;
     let mut subscriber = Subscriber::new(rt.alloc(), listing, LIMIT, SESSION, Matrix::One)?;
@@ -65,7 +65,7 @@ fn receive<R: AllocGlobal + Print>(rt: &R, names: &Names, packet: &[u8]) -> anyh
     show(rt, "received", subscriber.summary(names.symbol))
 }
 
-/// Delivers the packet, and replays on the subscriber's own tape what is ready then.
+/// Delivers the packet, and replays the ready entries onto the subscriber's own tape.
 fn take(subscriber: &mut Subscriber, packet: &[u8]) -> anyhow::Result<()> {
     deliver(subscriber, packet)?;
     subscriber.drain()?;
@@ -86,7 +86,7 @@ fn error_of(fault: DeliverFault) -> anyhow::Error {
     fault.into()
 }
 
-/// Prints a summary's trades, volume and last price, in ten-thousandths of a dollar. A summary or a last that is not there is an error.
+/// Prints a summary's trades, volume and last price in ten-thousandths of a dollar. A missing summary or last is an error.
 fn show<R: Print>(rt: &R, when: &str, summary: Option<Summary>) -> anyhow::Result<()> {
     let summary = summary.context("the symbol is not listed")?;
     let last = summary

@@ -1,12 +1,12 @@
-//! The messages of the day.
+//! Builds the day's messages from plain numbers, and checks each value's range.
 
 use anyhow::Context;
 use reports::{Content, Header, Message, Moment};
 use sale_matrix::Condition;
 use tape_types::{MsgNumber, Participant, Price, Size, Symbol};
 
-/// A participant's report of a regular trade, under its number: so many shares at a price in ten-thousandths of a dollar. A value
-/// out of its range is an error.
+/// A participant's report of a regular trade, under a message number: this many shares at a price in ten-thousandths of a
+/// dollar. A value out of range is an error.
 pub fn report(
     symbol: Symbol,
     participant: Participant,
@@ -23,7 +23,7 @@ pub fn report(
     Ok(Message::Report { header, content })
 }
 
-/// A participant's cancel, under its number, of the report that it sent under another. A value out of its range is an error.
+/// A participant's cancel, under a message number, of the report that it sent under another. A value out of range is an error.
 pub fn cancel(
     symbol: Symbol,
     participant: Participant,
@@ -35,7 +35,7 @@ pub fn cancel(
     Ok(Message::Cancel { header, target })
 }
 
-/// The front of a message that is sent at midnight.
+/// The header of a message sent at midnight. A number out of range is an error.
 fn header(symbol: Symbol, participant: Participant, number: u32) -> anyhow::Result<Header> {
     Ok(Header {
         participant,

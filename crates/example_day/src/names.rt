@@ -1,4 +1,4 @@
-//! The names of the day.
+//! The symbol and the participants of the day, and their listing.
 
 use anyhow::Context;
 use std::alloc::Global;
@@ -7,16 +7,16 @@ use tape_types::{Listing, ListingFault, Participant, Symbol};
 /// One symbol, AB, and two participants, N and Q.
 #[derive(Clone, Copy)]
 pub struct Names {
-    /// AB.
+    /// The symbol AB.
     pub symbol: Symbol,
-    /// N.
+    /// The participant N.
     pub n: Participant,
-    /// Q.
+    /// The participant Q.
     pub q: Participant,
 }
 
 impl Names {
-    /// The names, each as its type takes it.
+    /// The names, each in its type.
     pub fn new() -> anyhow::Result<Names> {
         Ok(Names {
             symbol: Symbol::of_name(b"AB").context("AB is no symbol")?,
@@ -25,7 +25,7 @@ impl Names {
         })
     }
 
-    /// The listing of these names. Fails only by memory.
+    /// The listing of these names. It fails only if memory runs out.
     pub fn listing(&self, alloc: Global) -> Result<Listing, ListingFault> {
         Listing::new(alloc, &[self.symbol], &[self.n, self.q])
     }

@@ -1,10 +1,10 @@
--- What a disk holds once it was cut, written and kept.
+-- What a disk holds after it was cut, written and kept.
 use Rattle.std.proofs.Common.{◌∙◌, ◌++◌, ℕ, List, Option, Some, None, ap, refl, take}
 use Rattle.std.specs.Option.{option_map}
 use Rattle.std.specs.Io.KnownBytes.{Appends, Keeps}
 use Rattle.journal_start.specs.Starts.{HasInstead}
 
--- known bytes are kept where nothing happens
+-- known bytes are kept if nothing happens
 pub kept : (known : Option (List ℕ)) → Keeps known known
 kept None = tt
 kept (Some held) = refl
@@ -16,7 +16,7 @@ cut_kept (Some held) None new len is kept = absurd is
 cut_kept (Some held) (Some left) None len is kept = absurd kept
 cut_kept (Some held) (Some left) (Some stays) len is kept = kept ∙ is
 
--- a header that was written in the place of all bytes, and kept
+-- a header that replaced all bytes and was kept
 pub header_written : (old cut wrote new : Option (List ℕ)) (text : List ℕ) → Keeps (option_map (take 0) old) cut → Appends cut wrote text → Keeps wrote new
     → HasInstead text old new
 header_written None cut wrote new text is written kept = tt

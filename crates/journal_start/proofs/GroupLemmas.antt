@@ -1,4 +1,4 @@
--- Groups that are read one after the other, and how far their lines had come.
+-- Groups read one after the other, and how far the lines had come after their entries.
 use Rattle.std.proofs.Common.{◌≡◌, ◌∙◌, ◌+◌, ◌<◌, ◌++◌, ◌∷◌, [], ℕ, List, ap, append-nil, get_or, length, map, refl, subst, sym, take}
 use Rattle.std.proofs.lemmas.Grind.{flat_map-append}
 use Rattle.std.proofs.lemmas.List.{take_more}
@@ -8,7 +8,7 @@ use Rattle.journal_start.specs.Groups.{ReadsGroups, entries_of}
 use Rattle.journal_start.specs.PastLines.{with_entries, with_entry}
 use Rattle.journal_start.specs.declared.past_line.PastLine.{PastLine}
 
--- one group more
+-- one more group
 pub reads_more : (groups : List (List Entry)) (old mid new : ReaderState) (es : List Entry) → ReadsGroups groups old mid → IsRead mid es new
     → ReadsGroups (groups ++ es ∷ []) old new
 unfolding ReadsGroups
@@ -36,13 +36,13 @@ pub with_entries-one : (line : PastLine) (e : Entry) → with_entries line (e �
 unfolding with_entries
 with_entries-one line e = refl
 
--- no line has come farther by no group
+-- without a group, no line has come farther
 pub lines_none : (lines : List PastLine) → lines ≡ map (λ line. with_entries line (entries_of [])) lines
 lines_none [] = refl
 lines_none (line ∷ lines) = sym (ap (λ (l : PastLine). l ∷ map (λ line. with_entries line []) lines) (with_entries-nil line)
     ∙ ap (λ (ls : List PastLine). line ∷ ls) (sym (lines_none lines)))
 
--- all lines after a group more
+-- all lines after one more group
 pub lines_more : (start : List PastLine) (groups : List (List Entry)) (es : List Entry)
     → map (λ line. with_entries line es) (map (λ line. with_entries line (entries_of groups)) start)
     ≡ map (λ line. with_entries line (entries_of (groups ++ es ∷ []))) start
@@ -55,7 +55,7 @@ lines_more (line ∷ start) groups es =
     ap (λ (l : PastLine). l ∷ map (λ line. with_entries line es) (map (λ line. with_entries line (entries_of groups)) start)) first
     ∙ ap (λ (ls : List PastLine). with_entries line (entries_of (groups ++ es ∷ [])) ∷ ls) (lines_more start groups es)
 
--- one entry more
+-- one more entry
 pub one_more : (line now : PastLine) (es : List Entry) (i : ℕ) (e : Entry) → i < length es → e ≡ get_or es i e → now ≡ with_entries line (take i es)
     → with_entry now e ≡ with_entries line (take (i + 1) es)
 one_more line now es i e within is so_far =

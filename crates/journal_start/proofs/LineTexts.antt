@@ -1,4 +1,4 @@
--- The text of the lines, one after the other.
+-- The text of the lines, added one line after the other.
 use Rattle.std.proofs.Common.{◌≡◌, ◌∙◌, ◌+◌, ◌<◌, ◌++◌, ◌∷◌, [], ℕ, Bool, List, ap, append-nil, append_assoc, drop, get_or, length, refl, sym, ◌≤◌}
 use Rattle.std.proofs.lemmas.List.{drop_all, drop_more}
 use Rattle.journal_start.specs.Texts.{lines_text, still_first, told_text}
@@ -15,7 +15,7 @@ pub lines_text_nil : (is_first : Bool) → lines_text is_first [] ≡ []
 unfolding lines_text
 lines_text_nil is_first = refl
 
--- one line more
+-- one more line
 pub lines_step : (text now : List ℕ) (is_first first : Bool) (lines : List PastLine) (i : ℕ) (line : PastLine) → i < length lines → line ≡ get_or lines i line
     → now ≡ text ++ told_text is_first line → first ≡ still_first is_first line
     → now ++ lines_text first (drop (i + 1) lines) ≡ text ++ lines_text is_first (drop i lines)

@@ -1,4 +1,4 @@
--- A journal of which the bytes are read first, and that is started from them.
+-- What holds of a start by the bytes that were read holds of the start that reads them first.
 use Rattle.std.proofs.Common.{◌≡◌, [], IfOk, IfSome, List, Option, Some, None, Result, Ok, Err, inl, inr, refl, subst, ℕ}
 use Rattle.std.specs.Io.KnownBytes.{Keeps}
 use Rattle.day_journal.specs.Headers.{Terms}
@@ -7,7 +7,7 @@ use Rattle.journal_start.specs.declared.start_fault.StartFault.{StartFault}
 use Rattle.journal_start.specs.declared.start_fault.StartFault.TheVariants.{Refused, Unread, Unwritten, OutOfMemory}
 use Rattle.journal_start.specs.declared.starting.Started.{Started}
 
--- there are such bytes
+-- there are bytes that are those known, if they are known
 known_bytes : (known : Option (List ℕ)) → (bytes : List ℕ) × IfSome known (λ held. bytes ≡ held)
 known_bytes None = ([], tt)
 known_bytes (Some held) = (held, refl)

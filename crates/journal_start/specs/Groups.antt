@@ -22,18 +22,18 @@ ReadsGroups (es ∷ groups) old new = (mid : ReaderState) × IsRead old es mid �
 abbrev pub entries_of : List (List Entry) → List Entry
 entries_of groups = flat_map (λ es. es) groups
 
--- the reader is at the end of a journal of which so many of its bytes are whole: nothing is left, or a group that was cut off
+-- the reader is at the end of a journal's whole bytes: nothing is left, or a group that was cut off
 abbrev pub EndsAt : ℕ → ℕ → ReaderState → Type 0
 EndsAt len whole r = ((r.rest ≡ []) × (whole ≡ len)) ⊎ ((read_next r ≡ Err Torn) × (whole ≡ r.total - length r.rest))
 
--- groups were read to the end of a journal of so many bytes, and the lines came as far as their entries say
+-- groups were read to the end of a journal of `len` bytes, and the lines came as far as their entries say
 pub record GivesGroups (len whole : ℕ) (old : ReaderState) (before : List PastLine) (new : ReaderState) (after : List PastLine) : Type 0 where
   pub groups : List (List Entry)
   pub read : ReadsGroups groups old new
   pub end : EndsAt len whole new
   pub lines : after ≡ map (λ line. with_entries line (entries_of groups)) before
 
--- what is known of a journal's groups once they were read
+-- what is known of a journal's groups after they were read
 pub record HasGroups (had : JournalGroups) (header : Header) (bytes : List ℕ) : Type 0 where
   pub end : ReaderState
   pub given : GivesGroups (length bytes) had.whole (reader_at header.session 0 header.digest header.len (drop header.len bytes))
@@ -41,7 +41,7 @@ pub record HasGroups (had : JournalGroups) (header : Header) (bytes : List ℕ) 
   pub held : had.held ≡ end.held
   pub digest : had.digest ≡ end.digest
 
--- the group behind those that were read is damaged: it should begin with this entry, and have so many
+-- the group behind those that were read is damaged: it should begin with this entry, and have this many
 pub record IsDamaged (first : ℕ) (count : Option ℕ) (start : ReaderState) : Type 0 where
   pub groups : List (List Entry)
   pub at : ReaderState
@@ -52,7 +52,7 @@ pub record IsDamaged (first : ℕ) (count : Option ℕ) (start : ReaderState) : 
   pub first_is : first ≡ at.held + 1
   pub count_is : count ≡ told_count at.rest
 
--- why the groups from here on are not gone on with
+-- why the groups from here on are refused
 abbrev pub RefusesGroups : StartFault → ReaderState → Type 0
 RefusesGroups (Refused (Damaged first count)) start = IsDamaged first count start
 RefusesGroups OutOfMemory start = Unit {0}

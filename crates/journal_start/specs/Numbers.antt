@@ -1,7 +1,7 @@
--- Numbers with commas.
+-- Numbers in decimal, with a comma before each three digits behind others.
 use Rattle.std.specs.Prelude.{◌+◌, ◌/◌, ◌%◌, ◌++◌, ◌∷◌, [], ℕ, zero, suc, List, decimal, nat_lt, if◌then◌else◌}
 
--- a digit
+-- the byte of a digit
 abbrev pub digit : ℕ → ℕ
 digit n = 48 + n
 
@@ -9,7 +9,7 @@ digit n = 48 + n
 abbrev pub three_text : ℕ → List ℕ
 three_text n = 44 ∷ digit (n / 100 % 10) ∷ digit (n / 10 % 10) ∷ digit (n % 10) ∷ []
 
--- a number in decimal, with so many commas at most
+-- a number in decimal, with at most this many commas
 abbrev pub with_commas : ℕ → ℕ → List ℕ
 with_commas zero n = decimal n
 with_commas (suc commas) n = if nat_lt n 1000 then decimal n else with_commas commas (n / 1000) ++ three_text n

@@ -1,4 +1,4 @@
--- How a day's journal is started.
+-- How a day's journal is started: begun, continued or refused.
 use Rattle.std.specs.Prelude.{◌≡◌, ◌≢◌, ◌-◌, ◌⊎◌, ℕ, Bool, true, false, List, Option, Some, None, Ok, Err, IfSome, bytes_eq, drop, length, option_map, take}
 use Rattle.std.specs.Io.KnownBytes.{Keeps}
 use Rattle.std.specs.declared.io.ErrorKind.{ErrorKind}
@@ -33,7 +33,7 @@ IsUnread _ = ⊥
 abbrev pub is_front : List ℕ → Bool
 is_front bytes = bytes_eq bytes (take (length bytes) MAGIC)
 
--- no journal was begun: the bytes end within what every journal begins with, or within the header
+-- no journal was begun: the bytes end within what every journal begins with or within the header
 abbrev pub IsUnbegun : List ℕ → Type 0
 IsUnbegun bytes = (is_front bytes ≡ true) ⊎ (header_at bytes ≡ Err header.Short)
 
@@ -53,11 +53,11 @@ pub record HasHeader (h : Header) (terms : Terms) (bytes : List ℕ) : Type 0 wh
 
 -- ---- the start
 
--- a disk whose bytes were known has these in their place
+-- a disk whose bytes were known has these instead
 abbrev pub HasInstead : List ℕ → Option (List ℕ) → Option (List ℕ) → Type 0
 HasInstead text old new = IfSome old (λ had. new ≡ Some text)
 
--- a new journal was begun: it has its header alone
+-- a new journal was begun, which has only its header
 pub record Begins (s : Started) (terms : Terms) (bytes : List ℕ) (old new : Option (List ℕ)) : Type 0 where
   pub unbegun : IsUnbegun bytes
   pub groups : s.groups ≡ record { session = terms.session; held = 0; digest = header_digest terms; broken = false }
@@ -65,11 +65,11 @@ pub record Begins (s : Started) (terms : Terms) (bytes : List ℕ) (old new : Op
   pub cut_off : s.cut_off ≡ 0
   pub header : HasInstead (header_text terms) old new
 
--- a journal was cut to its whole groups, or had no others
+-- a journal was cut to its whole groups, or had nothing behind them
 abbrev pub IsCutTo : ℕ → ℕ → Option (List ℕ) → Option (List ℕ) → Type 0
 IsCutTo whole cut_off old new = Keeps (option_map (take whole) old) new ⊎ ((cut_off ≡ 0) × Keeps old new)
 
--- the journal of this day goes on behind its whole groups
+-- the journal of this day is continued behind its whole groups
 pub record GoesOn (s : Started) (terms : Terms) (bytes : List ℕ) (old new : Option (List ℕ)) : Type 0 where
   pub header : Header
   pub had : JournalGroups
@@ -85,12 +85,12 @@ pub record GoesOn (s : Started) (terms : Terms) (bytes : List ℕ) (old new : Op
 abbrev pub Starts : Started → Terms → List ℕ → Option (List ℕ) → Option (List ℕ) → Type 0
 Starts s terms bytes old new = Begins s terms bytes old new ⊎ GoesOn s terms bytes old new
 
--- why a journal that has this header is not gone on with, of which nothing is said where it can't be written
+-- why a journal with this header is not continued; nothing is said if it can't be written
 abbrev pub RefusesBehind : StartFault → Header → List ℕ → Type 0
 RefusesBehind (Refused why) h bytes = RefusesGroups (Refused why) (reader_at h.session 0 h.digest h.len (drop h.len bytes))
 RefusesBehind _ h bytes = Unit {0}
 
--- why a journal with these bytes is not started, of which nothing is said where it can't be read or written
+-- why a journal with these bytes is not started; nothing is said if it can't be read or written
 abbrev pub Refuses : StartFault → Terms → List ℕ → Type 0
 Refuses (Refused (Damaged first count)) terms bytes = (h : Header) × HasHeader h terms bytes × RefusesBehind (Refused (Damaged first count)) h bytes
 Refuses (Refused other) terms bytes = RefusesHeader (Refused other) terms bytes

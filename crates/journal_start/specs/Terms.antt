@@ -1,4 +1,4 @@
--- The terms of a day, beside those of a journal.
+-- The terms of a day compared with those of a journal.
 use Rattle.std.specs.Prelude.{◌≡◌, ◌≢◌, ℕ, List, Option, Some, None, codes}
 use Rattle.day_journal.specs.Headers.{Terms}
 use Rattle.day_journal.specs.declared.header_reading.Header.{Header}
@@ -14,7 +14,7 @@ header_terms h = record { session = h.session; matrix = h.matrix; limit = h.limi
 abbrev pub terms_of : DayTerms → Terms
 terms_of t = record { session = t.session; matrix = t.matrix; limit = t.limit; listing = t.listing.now }
 
--- two days differ in this term, and in none before it; without one they do not differ
+-- two days differ in this term and in none before it, or do not differ if there is none
 abbrev pub Differs : Option OtherTerm → Terms → Terms → Type 0
 Differs None one other = one ≡ other
 Differs (Some Session) one other = one.session ≢ other.session
@@ -26,7 +26,7 @@ Differs (Some Participants) one other =
     (one.session ≡ other.session) × (one.matrix ≡ other.matrix) × (one.limit ≡ other.limit) × (one.listing.symbols ≡ other.listing.symbols)
     × (one.listing.participants ≢ other.listing.participants)
 
--- what is said of a term that a journal has otherwise
+-- the text of a term in which a journal differs
 abbrev pub other_text : OtherTerm → List ℕ
 other_text Session = codes "another session"
 other_text Matrix = codes "another matrix"

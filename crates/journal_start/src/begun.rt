@@ -1,4 +1,4 @@
-//! Whether bytes are the beginning of a day's journal.
+//! Reads the header of a day's journal, if one was begun, and refuses any other journal.
 ghost use Rattle.std.specs.Prelude.{◌≡◌, ◌≤◌, None, IfErr, IfOk, IfSome, length};
 ghost use Rattle.journal_start.specs.Starts.{HasHeader, IsUnbegun, RefusesHeader, is_front};
 ghost use Rattle.journal_start.specs.Terms.{terms_of};
@@ -11,15 +11,15 @@ use std::alloc::Global;
 /// What every journal begins with.
 const MAGIC: &[u8] = b"tapejrnl";
 
-/// Whether bytes are a front of what every journal begins with.
+/// Returns whether bytes are a front of what every journal begins with.
 fn is_front(bytes: &[u8]) -> bool
     ensures { result ≡ is_front bytes.now }
 {
     MAGIC.starts_with(bytes)
 }
 
-/// The header of bytes that are a journal of this day, or `None` where none was begun: there is no byte, or they end within the header, as a start
-/// that was cut off leaves them.
+/// Returns the header of the journal of this day, or `None` if none was begun: there are no bytes, or they end within the
+/// header, as a start that was cut off leaves them.
 pub(crate) fn begun_header(
     alloc: Global,
     terms: &DayTerms<'_>,

@@ -1,17 +1,9 @@
-//! Numbers in decimal, with a comma before each three digits that others stand before.
-ghost use Rattle.std.specs.Prelude.{◌≡◌, ◌++◌, ◌<◌, OnOk, decimal};
+//! Writes numbers in decimal, with a comma before each three digits behind others.
+ghost use Rattle.std.specs.Prelude.{◌≡◌, ◌++◌, ◌<◌, OnOk};
 ghost use Rattle.journal_start.specs.Numbers.{three_text, with_commas};
 
-use itoa::Buffer;
 use std::alloc::AllocError;
-
-/// Adds a number without commas.
-fn push_number(text: &mut Vec<u8>, number: u64) -> Result<(), AllocError>
-    ensures { OnOk result (text.new.items ≡ text.old.items ++ decimal number) }
-{
-    let mut digits = Buffer::new();
-    text.extend_from_slice(digits.format(number).as_bytes())
-}
+use whole_io::push_number;
 
 /// Adds the last three digits of a number, after a comma.
 fn push_three(text: &mut Vec<u8>, number: u64) -> Result<(), AllocError>
@@ -23,7 +15,7 @@ fn push_three(text: &mut Vec<u8>, number: u64) -> Result<(), AllocError>
     text.extend_from_slice(&[b',', b'0' + hundreds, b'0' + tens, b'0' + ones])
 }
 
-/// Adds a number with one comma at most.
+/// Adds a number with at most one comma.
 fn push_thousands(text: &mut Vec<u8>, number: u64) -> Result<(), AllocError>
     ensures { OnOk result (text.new.items ≡ text.old.items ++ with_commas 1 number) }
 {
@@ -34,7 +26,7 @@ fn push_thousands(text: &mut Vec<u8>, number: u64) -> Result<(), AllocError>
     push_three(text, number)
 }
 
-/// Adds a number with two commas at most.
+/// Adds a number with at most two commas.
 fn push_millions(text: &mut Vec<u8>, number: u64) -> Result<(), AllocError>
     ensures { OnOk result (text.new.items ≡ text.old.items ++ with_commas 2 number) }
 {
@@ -45,7 +37,7 @@ fn push_millions(text: &mut Vec<u8>, number: u64) -> Result<(), AllocError>
     push_three(text, number)
 }
 
-/// Adds a number with three commas at most, as one of 32 bits has.
+/// Adds a number with at most three commas, as many as one of 32 bits has.
 pub(crate) fn push_commas(text: &mut Vec<u8>, number: u64) -> Result<(), AllocError>
     ensures { OnOk result (text.new.items ≡ text.old.items ++ with_commas 3 number) }
 {

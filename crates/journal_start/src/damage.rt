@@ -1,11 +1,11 @@
-//! What is said of a damaged group.
+//! Writes which entries of a journal are damaged.
 ghost use Rattle.std.specs.Prelude.{◌≡◌, ◌≤◌, IfOk};
 ghost use Rattle.journal_start.specs.Texts.{damage_text, one_text, open_text, range_text};
 
 use crate::comma_numbers::push_commas;
 use std::alloc::{AllocError, Global};
 
-/// Which entries are damaged: those of a group with this first entry, and so many if that can be told.
+/// Returns the text of the damaged entries: those of a group with this first entry, and `count` of them if that is known.
 pub(crate) fn damage_text(
     alloc: Global,
     first: u32,
@@ -20,7 +20,7 @@ pub(crate) fn damage_text(
     }
 }
 
-/// More than one entry.
+/// Returns the text of more than one entry.
 fn range_text(alloc: Global, first: u32, count: u32) -> Result<Vec<u8>, AllocError>
     requires { 1 ≤ count }
     ensures { IfOk result (λ text. text.items ≡ range_text first count) }
@@ -33,7 +33,7 @@ fn range_text(alloc: Global, first: u32, count: u32) -> Result<Vec<u8>, AllocErr
     Ok(text)
 }
 
-/// One entry.
+/// Returns the text of one entry.
 fn one_text(alloc: Global, first: u32) -> Result<Vec<u8>, AllocError>
     ensures { IfOk result (λ text. text.items ≡ one_text first) }
 {
@@ -43,7 +43,7 @@ fn one_text(alloc: Global, first: u32) -> Result<Vec<u8>, AllocError>
     Ok(text)
 }
 
-/// Entries of which the last can't be told.
+/// Returns the text of entries whose last is not known.
 fn open_text(alloc: Global, first: u32) -> Result<Vec<u8>, AllocError>
     ensures { IfOk result (λ text. text.items ≡ open_text first) }
 {

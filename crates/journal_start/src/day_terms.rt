@@ -1,4 +1,4 @@
-//! The terms of a day, beside those of a journal.
+//! Compares the terms of a day with those of a journal.
 ghost use Rattle.std.specs.Prelude.{◌≡◌, ◌↔◌, IsTrue};
 ghost use Rattle.journal_start.specs.Terms.{Differs, header_terms, other_text, terms_of};
 
@@ -6,12 +6,12 @@ use day_journal::Header;
 use sale_matrix::Matrix;
 use tape_types::{Listing, Participant, Symbol};
 
-/// The terms of a day that its journal has too.
+/// The terms of a day, which its journal has too.
 #[derive(Clone, Copy)]
 pub struct DayTerms<'a> {
-    /// The session, under which the tape is sent.
+    /// The session under which the tape is sent.
     pub session: u64,
-    /// The matrix that the day goes by.
+    /// The matrix of the day.
     pub matrix: Matrix,
     /// The most entries that the tape takes, 1 to `TAPE_MOST`.
     pub limit: u32,
@@ -19,7 +19,7 @@ pub struct DayTerms<'a> {
     pub listing: &'a Listing,
 }
 
-/// A term in which a journal is of another day.
+/// A term in which the journal of another day differs.
 #[derive(Clone, Copy, Debug, PartialEq, Eq)]
 pub enum OtherTerm {
     /// The session.
@@ -35,7 +35,7 @@ pub enum OtherTerm {
 }
 
 impl OtherTerm {
-    /// What is said of it.
+    /// Returns the text of the term.
     pub(crate) fn text(self) -> &'static [u8]
         ensures { result.now ≡ other_text self }
     {
@@ -49,21 +49,21 @@ impl OtherTerm {
     }
 }
 
-/// Whether two lists of symbols are the same.
+/// Returns whether two lists of symbols are the same.
 fn same_symbols(one: &[Symbol], other: &[Symbol]) -> bool
     ensures { IsTrue result ↔ (one.now ≡ other.now) }
 {
     one == other
 }
 
-/// Whether two lists of participants are the same.
+/// Returns whether two lists of participants are the same.
 fn same_participants(one: &[Participant], other: &[Participant]) -> bool
     ensures { IsTrue result ↔ (one.now ≡ other.now) }
 {
     one == other
 }
 
-/// The first term, in the order of `OtherTerm`, that a journal's header has otherwise, if there is one.
+/// Returns the first term, in the order of `OtherTerm`, in which a journal's header differs, if there is one.
 #[tactic(auto, using(crate::proofs::TermLemmas::same_terms))]
 pub(crate) fn other_term(header: &Header, terms: &DayTerms<'_>) -> Option<OtherTerm>
     ensures { Differs result (header_terms header.now) (terms_of terms.now) }

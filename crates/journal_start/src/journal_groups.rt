@@ -1,4 +1,4 @@
-//! The groups of a journal, read to its end.
+//! Reads the groups of a journal to its end, and keeps how far the lines of its participants had come.
 ghost use Rattle.std.specs.Prelude.{◌≤◌, IfErr, IfOk, drop, length};
 ghost use Rattle.tape_types.specs.Ranges.{TAPE_MOST};
 ghost use Rattle.day_journal.specs.Journals.{reader_at};
@@ -13,17 +13,17 @@ use tape_core::Entry;
 /// What a journal has behind its header.
 #[derive(Drop)]
 pub(crate) struct JournalGroups {
-    /// How many entries.
+    /// The number of entries.
     pub(crate) held: u32,
     /// The digest of the last group, or the header's.
     pub(crate) digest: [u8; 32],
-    /// How many of its bytes are the header and whole groups: a group that was cut off may follow.
+    /// How many of the journal's bytes are the header and whole groups. A group that was cut off may follow.
     pub(crate) whole: usize,
-    /// How far its participants' lines had come.
+    /// How far the participants' lines had come.
     pub(crate) lines: Vec<PastLine>,
 }
 
-/// Reads on to the end, and answers how many bytes are whole there. The entries are only room.
+/// Reads on to the end, and returns how many bytes are whole there. `entries` is only room.
 fn read_on(
     alloc: Global,
     len: usize,

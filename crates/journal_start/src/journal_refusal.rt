@@ -1,4 +1,4 @@
-//! Why a journal is not gone on with.
+//! The reasons why a journal is not continued, each with its text.
 ghost use Rattle.std.specs.Prelude.{◌≡◌, IfOk};
 ghost use Rattle.journal_start.specs.Texts.{refusal_text};
 
@@ -6,7 +6,7 @@ use crate::OtherTerm;
 use crate::damage::damage_text;
 use std::alloc::{AllocError, Global};
 
-/// Why a journal is not gone on with. It is left as it is.
+/// Why a journal is not continued. It is left unchanged.
 #[derive(Clone, Copy, Debug, PartialEq, Eq)]
 pub enum JournalRefusal {
     /// The bytes do not begin as every journal does.
@@ -27,7 +27,7 @@ pub enum JournalRefusal {
 }
 
 impl JournalRefusal {
-    /// What is said of it, without a line feed.
+    /// Returns the text of the refusal, without a line feed. It fails if memory runs out.
     pub fn text(self, alloc: Global) -> Result<Vec<u8>, AllocError>
         ensures { IfOk result (λ text. text.items ≡ refusal_text self) }
     {

@@ -1,4 +1,4 @@
-//! The start of a day's journal: a new one is begun, one of this day goes on, and any other is refused as it is.
+//! Starts a day's journal: begins a new one, continues one of this day, or refuses any other and leaves it unchanged.
 #![tactic(auto)]
 
 mod begun;

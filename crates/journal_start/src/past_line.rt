@@ -1,23 +1,23 @@
-//! How far a participant's line had come.
+//! Computes how far a participant's line had come, from the entries of a journal.
 ghost use Rattle.std.specs.Prelude.{◌≡◌};
 ghost use Rattle.journal_start.specs.PastLines.{no_entry, with_entries, with_entry};
 
 use tape_core::Entry;
 use tape_types::Participant;
 
-/// How far a participant's line had come, by a journal.
+/// How far a participant's line had come, by the entries of a journal.
 #[derive(Clone, Copy, Debug, PartialEq, Eq)]
 pub struct PastLine {
     /// The participant.
     pub who: Participant,
     /// How many of its messages were admitted.
     pub admitted: u32,
-    /// The number of the last of them, or 0 where there is none.
+    /// The number of the last of them, or 0 if there is none.
     pub last: u32,
 }
 
 impl PastLine {
-    /// The line of a participant without an entry.
+    /// Returns the line of a participant without an entry.
     pub(crate) fn new(who: Participant) -> PastLine
         ensures { result ≡ no_entry who }
     {
@@ -28,7 +28,7 @@ impl PastLine {
         }
     }
 
-    /// The line after one entry more, which may be another participant's.
+    /// Returns the line after one more entry, which may be another participant's.
     fn with_entry(self, entry: &Entry) -> PastLine
         ensures { result ≡ with_entry self entry.now }
     {
@@ -44,7 +44,7 @@ impl PastLine {
         }
     }
 
-    /// The line after these entries, of all participants.
+    /// Returns the line after these entries, which are of all participants.
     #[tactic(auto, using(crate::proofs::GroupLemmas::one_more))]
     pub(crate) fn with_entries(self, entries: &[Entry]) -> PastLine
         ensures { result ≡ with_entries self entries.now }

@@ -1,4 +1,4 @@
-//! How far all lines of a day had come.
+//! Computes how far all lines of a day had come, from the entries of a journal.
 ghost use Rattle.std.specs.Prelude.{◌≡◌, IfOk, map};
 ghost use Rattle.journal_start.specs.PastLines.{no_entry, with_entries};
 
@@ -7,7 +7,7 @@ use std::alloc::{AllocError, Global};
 use tape_core::Entry;
 use tape_types::Participant;
 
-/// The lines of participants without an entry.
+/// Returns the lines of participants without an entry.
 pub(crate) fn new_lines(
     alloc: Global,
     participants: &[Participant],
@@ -21,7 +21,7 @@ pub(crate) fn new_lines(
     Ok(lines)
 }
 
-/// The lines after these entries.
+/// Returns the lines after these entries.
 pub(crate) fn after_entries(
     alloc: Global,
     lines: &[PastLine],

@@ -1,4 +1,4 @@
-//! Why a journal was not started.
+//! The errors of starting a journal.
 ghost use Rattle.std.specs.Prelude.{◌≡◌};
 ghost use Rattle.journal_start.specs.Starts.{IsUnread, fault_of_kind};
 
@@ -6,10 +6,10 @@ use crate::JournalRefusal;
 use std::alloc::AllocError;
 use std::io::ErrorKind;
 
-/// Why a journal was not started. Only after `Unwritten` it may have other bytes than before.
+/// Why a journal was not started. It may have other bytes than before only after `Unwritten`.
 #[derive(Clone, Copy, Debug, PartialEq, Eq)]
 pub enum StartFault {
-    /// It is not gone on with.
+    /// It is not continued.
     Refused(JournalRefusal),
     /// It can't be read.
     Unread(ErrorKind),
@@ -30,7 +30,7 @@ impl From<AllocError> for StartFault {
     }
 }
 
-/// The fault of a read that failed with an error of this kind.
+/// Returns the fault of a read that failed with an error of this kind.
 pub(crate) fn fault_of_reading(kind: ErrorKind) -> StartFault
     ensures kind { result ≡ fault_of_kind kind }
     ensures unread { IsUnread result }

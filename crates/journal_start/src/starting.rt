@@ -1,4 +1,4 @@
-//! A journal, started.
+//! Starts a day's journal from the bytes it has: begins a new one, or continues one behind its whole groups.
 ghost use Rattle.std.specs.Prelude.{◌≡◌, ◌≤◌, ◌⊎◌, IfErr, IfOk, IfSome, List, ℕ, OnOk, length, option_map, take};
 ghost use Rattle.std.specs.Io.KnownBytes.{Keeps};
 ghost use Rattle.day_journal.specs.Headers.{Terms};
@@ -11,15 +11,15 @@ use crate::journal_groups::{JournalGroups, read_groups};
 use crate::start_fault::fault_of_reading;
 use crate::{DayTerms, JournalDisk, PastLine, StartFault};
 use day_journal::{GroupWriter, Header, put_header};
-use row_reads::write_text;
 use std::alloc::Global;
+use whole_io::write_text;
 
 /// What a journal of this day had.
 #[derive(Drop)]
 pub struct Past {
-    /// Its bytes, which end with a whole group or with the header.
+    /// The bytes of the journal, which end with a whole group or with the header.
     pub journal: Vec<u8>,
-    /// Where its groups begin: how many bytes its header has.
+    /// The index at which its groups begin: the length of its header in bytes.
     pub from: usize,
     /// The header's digest, to which the first group is chained.
     pub digest: [u8; 32],
@@ -30,15 +30,15 @@ pub struct Past {
 /// A journal that was started.
 #[derive(Drop)]
 pub struct Started {
-    /// The groups' writer, which goes on behind the header, or behind the groups that it had.
+    /// The writer of groups, which continues behind the header, or behind the groups that the journal had.
     pub groups: GroupWriter,
-    /// What it had; `None` of a new one.
+    /// What the journal had, or `None` if it is new.
     pub past: Option<Past>,
-    /// How many bytes of a group that was not whole were cut off.
+    /// How many bytes of an incomplete group were cut off.
     pub cut_off: usize,
 }
 
-/// Writes the header of a new journal in the place of all bytes, and keeps it.
+/// Replaces all bytes with the header of a new journal, and keeps it.
 #[tactic(auto, using(crate::proofs::DiskLemmas::header_written))]
 fn write_header<F: JournalDisk>(disk: &mut F, text: &[u8]) -> Result<(), StartFault>
     ensures written { OnOk result (HasInstead text.now (F.contents disk.old) (F.contents disk.new)) }
@@ -50,7 +50,7 @@ fn write_header<F: JournalDisk>(disk: &mut F, text: &[u8]) -> Result<(), StartFa
     Ok(())
 }
 
-/// Begins a new journal: it has its header alone then, which is kept.
+/// Begins a new journal, which then has only its header, and keeps it.
 fn begin<F: JournalDisk>(
     alloc: Global,
     terms: &DayTerms<'_>,
@@ -76,7 +76,7 @@ fn begin<F: JournalDisk>(
     })
 }
 
-/// Cuts a journal after so many bytes, which is kept.
+/// Cuts a journal after `whole` bytes, and keeps the cut.
 #[tactic(auto, using(crate::proofs::DiskLemmas::cut_kept))]
 fn cut_after<F: JournalDisk>(disk: &mut F, whole: usize) -> Result<(), StartFault>
     ensures cut { OnOk result (Keeps (option_map (take whole) (F.contents disk.old)) (F.contents disk.new)) }
@@ -88,7 +88,7 @@ fn cut_after<F: JournalDisk>(disk: &mut F, whole: usize) -> Result<(), StartFaul
     Ok(())
 }
 
-/// Cuts a journal to its whole groups, if so many bytes follow them.
+/// Cuts a journal to its whole groups if `cut_off` is not 0, the number of bytes behind them.
 #[tactic(auto, using(crate::proofs::DiskLemmas::kept))]
 fn cut_to<F: JournalDisk>(disk: &mut F, whole: usize, cut_off: usize) -> Result<(), StartFault>
     ensures cut { OnOk result (IsCutTo whole cut_off (F.contents disk.old) (F.contents disk.new)) }
@@ -100,7 +100,7 @@ fn cut_to<F: JournalDisk>(disk: &mut F, whole: usize, cut_off: usize) -> Result<
     cut_after(disk, whole)
 }
 
-/// Goes on with the journal of a day, which has this header and these bytes: a group that was cut off is taken off.
+/// Continues the journal of a day, which has this header and these bytes. A group that was cut off is removed.
 fn go_on<F: JournalDisk>(
     alloc: Global,
     header: Header,
@@ -151,7 +151,7 @@ fn start_from<F: JournalDisk>(
     }
 }
 
-/// The bytes of a journal.
+/// Returns the bytes of a journal.
 fn bytes_of<F: JournalDisk>(alloc: Global, disk: &mut F) -> Result<Vec<u8>, StartFault>
     ensures same { Keeps (F.contents disk.old) (F.contents disk.new) }
     ensures bytes { IfOk result (λ bytes. IfSome (F.contents disk.old) (λ held. bytes.items ≡ held)) }
@@ -163,16 +163,16 @@ fn bytes_of<F: JournalDisk>(alloc: Global, disk: &mut F) -> Result<Vec<u8>, Star
     }
 }
 
-/// Starts the journal of a day with these terms. Where none was begun, a new one is: its header is written and kept. One of the same terms goes on behind
-/// its whole groups: a group that was cut off is taken off. Any other is refused and left as it is, and so is one with a damaged header or group. Only after
-/// `Unwritten` it may have other bytes than before.
+/// Starts the journal of a day with these terms. If none was begun, a new one is: its header is written and kept. A journal of
+/// the same terms is continued behind its whole groups: a group that was cut off is removed. Any other is refused and left
+/// unchanged, also one with a damaged header or group. Only after `Unwritten` may the journal have other bytes than before.
 #[tactic(auto, using(crate::proofs::StartLemmas::unread, crate::proofs::StartLemmas::starts_before, crate::proofs::StartLemmas::refused_before))]
 pub fn start_journal<F: JournalDisk>(
     alloc: Global,
     terms: &DayTerms<'_>,
     disk: &mut F,
 ) -> Result<Started, StartFault>
-    // The bytes are those that were read, of a disk whose bytes are known those that it had.
+    // The bytes are those that were read. If the disk's bytes are known, they are those that it had.
     ensures starts { IfOk result (λ s. (bytes : List ℕ) × IfSome (F.contents disk.old) (λ held. bytes ≡ held)
         × Starts s (terms_of terms.now) bytes (F.contents disk.old) (F.contents disk.new)) }
     ensures left { IfErr result (λ fault. IsLeft fault (F.contents disk.old) (F.contents disk.new)) }

@@ -1,4 +1,4 @@
-//! What no clause sees: that a journal is started where memory is ample, and the texts as a whole.
+//! Tests what no clause states: that a journal is started if memory is ample, and the texts as a whole.
 
 use crate::{DayTerms, JournalDisk, StartFault, Started, cut_text, start_journal, went_on_text};
 use sale_matrix::Matrix;

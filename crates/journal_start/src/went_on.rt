@@ -1,4 +1,4 @@
-//! What is said of a journal that goes on.
+//! Writes the texts of a journal that is continued.
 ghost use Rattle.std.specs.Prelude.{◌≡◌, ◌++◌, IfOk, OnOk, true};
 ghost use Rattle.journal_start.specs.Texts.{before_text, cut_text, line_text, lines_text, still_first, told_text, went_on_text};
 
@@ -7,7 +7,7 @@ use crate::comma_numbers::push_commas;
 use std::alloc::{AllocError, Global};
 use tape_types::Participant;
 
-/// That so many bytes of a group that was not whole were cut off, without a line feed.
+/// Returns the text that `bytes` bytes of an incomplete group were cut off, without a line feed. It fails if memory runs out.
 pub fn cut_text(alloc: Global, bytes: usize) -> Result<Vec<u8>, AllocError>
     ensures { IfOk result (λ text. text.items ≡ cut_text bytes) }
 {
@@ -17,7 +17,7 @@ pub fn cut_text(alloc: Global, bytes: usize) -> Result<Vec<u8>, AllocError>
     Ok(text)
 }
 
-/// Adds what stands before a participant's last number. The first that is told says what it is.
+/// Adds the text before a participant's last number. The first one says what the number is.
 fn push_before(text: &mut Vec<u8>, is_first: bool, who: Participant) -> Result<(), AllocError>
     ensures { OnOk result (text.new.items ≡ text.old.items ++ before_text is_first who) }
 {
@@ -38,7 +38,8 @@ fn push_line(text: &mut Vec<u8>, is_first: bool, line: &PastLine) -> Result<(), 
     push_commas(text, u64::from(line.last))
 }
 
-/// Adds what is told of a participant, which is nothing if it has no entry, and answers whether the next one that is told is the first.
+/// Adds the text of a participant, which is empty if it has no entry, and returns whether the next one that is written is the
+/// first.
 fn push_told(text: &mut Vec<u8>, is_first: bool, line: &PastLine) -> Result<bool, AllocError>
     ensures text { OnOk result (text.new.items ≡ text.old.items ++ told_text is_first line.now) }
     ensures first { IfOk result (λ first. first ≡ still_first is_first line.now) }
@@ -62,7 +63,8 @@ fn push_lines(text: &mut Vec<u8>, lines: &[PastLine]) -> Result<(), AllocError>
     Ok(())
 }
 
-/// Where a day goes on whose journal has so many entries, and behind which number of each participant that has one, without a line feed.
+/// Returns the text that says where a day is continued whose journal has `held` entries, and behind which number of each
+/// participant that has an entry, without a line feed. It fails if memory runs out.
 pub fn went_on_text(alloc: Global, held: u32, lines: &[PastLine]) -> Result<Vec<u8>, AllocError>
     ensures { IfOk result (λ text. text.items ≡ went_on_text held lines.now) }
 {

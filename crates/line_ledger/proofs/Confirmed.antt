@@ -1,4 +1,4 @@
--- What confirmed tokens show, and what is cut from it.
+-- Confirmed tokens of the first cells show the tape's first entries, so packets cut from them are cut from the tape.
 use Rattle.std.proofs.Common.{◌≡◌, ℕ, suc, ◌+◌, ◌-◌, ◌<◌, ◌≤◌, List, [], ◌∷◌, length, length-append, slice_get, slice_index_or, Some}
 use Rattle.std.proofs.Common.{refl, subst, ap, ◌∙◌, arith}
 use Rattle.std.proofs.lemmas.List.{length-map}
@@ -29,7 +29,7 @@ prefix names tokens entries first all = begins tokens entries (λ i d low.
     let place : (slice_index_or tokens i d).number - 1 ≡ i = omega (arith, number) in
     subst (λ n. slice_get entries n ≡ Some (slice_index_or tokens i d).entry) place (all i d low))
 
--- what is cut from the entries that are shown is a part of the tape
+-- a packet cut from the entries that are shown is cut from the tape
 pub data_cut : (version : Version) (names : List ℕ) (tokens : List TokenState) (t : TapeState) (from : ℕ) → FirstTokens names tokens → HaveAll t.entries tokens
     → IsPartOf (cut_of version (shown tokens) from) t.entries
 data_cut version names tokens t from first all = cut_is_part version (shown tokens) t.entries from (prefix names tokens t.entries first all)

@@ -1,4 +1,4 @@
--- What a cursor knows after one entry more.
+-- What a cursor knows after one more entry.
 use Rattle.std.proofs.Common.{◌≡◌, ◌+◌, ◌≤◌, ◌<◌, ℕ, Bool, true, false, true≢false, List, [], ◌∷◌, ◌++◌, length, take, length-append, slice_get, Some}
 use Rattle.std.proofs.Common.{ap, ◌∙◌, sym, arith}
 use Rattle.std.proofs.lemmas.List.{take-append-le}
@@ -11,7 +11,7 @@ use Rattle.line_ledger.specs.Ends.{DiffersFirst}
 use Rattle.line_ledger.specs.Cursors.{Compared}
 use Rattle.line_ledger.proofs.Differences.{told_more}
 
--- lists that differ differ in more entries too
+-- lists that differ still differ with more entries
 pub on : (told entries more : List Told) (at : ℕ) → DiffersFirst told entries at → at < length entries → DiffersFirst told (entries ++ more) at
 on told entries more at differs inside = record {
   before = differs.before ∙ sym (take-append-le at entries more (omega (arith, inside)));

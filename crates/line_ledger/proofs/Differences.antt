@@ -1,4 +1,4 @@
--- Where what was told and a participant's entries first differ.
+-- Where what was told and a participant's entries first differ is one position.
 use Rattle.std.proofs.Common.{◌≡◌, ◌+◌, ◌<◌, nat_lt, ℕ, zero, suc, true, false, List, [], ◌∷◌, ◌++◌, take, map}
 use Rattle.std.proofs.Common.{slice_get, Some, refl, ap, ◌∙◌, sym, arith}
 use Rattle.std.specs.List.{filter}
@@ -11,17 +11,17 @@ use Rattle.tape_core.specs.Standing.{is_of}
 use Rattle.line_ledger.specs.declared.told.Told.{Told}
 use Rattle.line_ledger.specs.Ends.{told_entry, told_of, DiffersFirst}
 
--- an entry of the participant is told, ahead of the rest
+-- an entry of the participant is told, before the rest
 pub told_of-yes : (who : ℕ) (e : Entry) (es : List Entry) → is_of who e.message ≡ true → told_of who (e ∷ es) ≡ told_entry e ∷ told_of who es
 told_of-yes who e es own = ap (map told_entry) (cond-true (is_of who e.message) (e ∷ filter (λ x. is_of who x.message) es)
     (filter (λ x. is_of who x.message) es) own)
 
--- an entry of another is not told
+-- an entry of another participant is not told
 pub told_of-no : (who : ℕ) (e : Entry) (es : List Entry) → is_of who e.message ≡ false → told_of who (e ∷ es) ≡ told_of who es
 told_of-no who e es other_line = ap (map told_entry) (cond-false (is_of who e.message) (e ∷ filter (λ x. is_of who x.message) es)
     (filter (λ x. is_of who x.message) es) other_line)
 
--- of two lists each is told, one after the other
+-- of two lists, what each is told follows one after the other
 pub told_of-append : (who : ℕ) (xs ys : List Entry) → told_of who (xs ++ ys) ≡ told_of who xs ++ told_of who ys
 told_of-append who [] ys = refl
 told_of-append who (x ∷ xs) ys = elim (is_of who x.message) as (λ b. is_of who x.message ≡ b → told_of who (x ∷ xs ++ ys)
@@ -32,11 +32,11 @@ told_of-append who (x ∷ xs) ys = elim (is_of who x.message) as (λ b. is_of wh
           (sym (told_of-no who x xs other_line))
     ] refl
 
--- the lists so far, one told entry longer
+-- what was told so far, one entry longer
 pub told_more : (told : List Told) (at : ℕ) (t : Told) → slice_get told at ≡ Some t → take (at + 1) told ≡ take at told ++ t ∷ []
 told_more told at t is = take_more told at t (slice_get_within told at t is) ∙ ap (λ x. take at told ++ x ∷ []) (get_or_from_slice_get told at t t is)
 
--- a list's front has what the list has
+-- the front of a list has what the list has
 taken : {X : Type 0} (xs : List X) (n i : ℕ) → i < n → slice_get (take n xs) i ≡ slice_get xs i
 taken xs zero i within = absurd (omega arith)
 taken [] (suc n) i within = refl

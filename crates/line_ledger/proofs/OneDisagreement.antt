@@ -1,4 +1,4 @@
--- A disagreement is one.
+-- A disagreement is unique: one participant, at one position.
 use Rattle.std.proofs.Common.{◌≡◌, ◌<◌, ◌+◌, ℕ, List, length, slice_get, Some, get_or, inl, inr, refl, ap, subst, ◌∙◌, sym, arith}
 use Rattle.std.proofs.lemmas.Bool.{cases_lt}
 use Rattle.std.proofs.lemmas.Option.{same_Some, slice_get_read, slice_get_within}
@@ -11,7 +11,7 @@ use Rattle.line_ledger.proofs.Differences.{differs_apart, differs_once, same_fro
 pub listed_at : (read listed : List ℕ) (k who : ℕ) → read ≡ listed → k < length read → who ≡ get_or read k who → slice_get listed k ≡ Some who
 listed_at read listed k who same within is = subst (λ ps. slice_get ps k ≡ Some who) same (slice_get_read read (length read) k who refl within is)
 
--- where the seat of the next participant was told its entries too
+-- the seat of the next participant was told its entries too
 pub told_more_seats : (n : ℕ) (participants : List ℕ) (entries : List Entry) (seats : List SeatState) (who : ℕ) → FirstTold n participants entries seats
     → slice_get participants n ≡ Some who → told_by who seats ≡ told_of who entries → FirstTold (n + 1) participants entries seats
 told_more_seats n participants entries seats who told here same k other below at = elim (cases_lt k n) [
@@ -27,7 +27,7 @@ module _ (participants : List ℕ) (entries : List Entry) (seats : List SeatStat
       (two : DisagreesAt participants entries seats other place) → one.k < two.k → ⊥
   not-before who at other place one two less = differs_apart (told_by who seats) (told_of who entries) at one.first (two.before one.k who less one.listed)
 
-  -- where there is a disagreement, not all seats were told their entries
+  -- if there is a disagreement, not all seats were told their entries
   pub either : (who at : ℕ) → DisagreesAt participants entries seats who at → FirstTold (length participants) participants entries seats → ⊥
   either who at one told = differs_apart (told_by who seats) (told_of who entries) at one.first
       (told one.k who (slice_get_within participants one.k who one.listed) one.listed)

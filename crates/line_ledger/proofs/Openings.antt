@@ -1,4 +1,4 @@
--- The faults of an opening.
+-- The opening of an open and empty tape is never 7 NotEmpty.
 use Rattle.std.proofs.Common.{◌≡◌, ◌≢◌, ◌↔◌, ◌⊎◌, inl, inr, Bool, true, false, true≢false, List, [], Result, Err, subst, ap, sym, ◌∙◌, arith}
 use Rattle.std.specs.Prelude.{IfErr}
 use Rattle.tape_core.specs.declared.entry.Entry.{Entry}
@@ -6,7 +6,7 @@ use Rattle.line_ledger.specs.declared.open_fault.OpenFault.{OpenFault}
 use Rattle.line_ledger.specs.declared.open_fault.OpenFault.TheVariants.{NotEmpty, OutOfMemory}
 use Rattle.line_ledger.specs.Faults.{open_fault_code}
 
--- what lacks memory alone is 7 as exactly as a tape that is open and empty is closed or has an entry: never
+-- a result that lacks memory alone is 7 exactly if an open and empty tape is closed or has an entry: never
 pub none_of_seven : {P : Type 0} (r : Result P OpenFault) (closed : Bool) (entries : List Entry) → closed ≡ false → entries ≡ []
     → IfErr r (λ fault. fault ≡ OutOfMemory) → (r ≡ Err NotEmpty) ↔ ((closed ≡ true) ⊎ (entries ≢ []))
 none_of_seven {P = P} r closed entries unclosed empty memory = (

@@ -1,4 +1,4 @@
--- What a publication set, by what was seen in the cells and by tokens.
+-- What a publication set, shown by what was seen in the cells and by tokens.
 use Rattle.std.proofs.Common.{◌≡◌, ◌≤◌, ◌+◌, ℕ, List, length, subst, sym, ap, ◌∙◌, arith}
 use Rattle.tape_core.specs.declared.entry.Entry.{Entry}
 use Rattle.seen_cells.specs.declared.Seen.{Seen}
@@ -20,7 +20,7 @@ module _ (l l' : LockedState) (names : List ℕ) (most : ℕ) (seen : List (Seen
   pub within_kept : l.set ≤ length l.tape.entries → l.set + length seen ≤ length entries
   within_kept within = omega (arith, did.many, within, ap length same)
 
-  -- a token of each is what a publication answers
+  -- a token of each is what a publication returns
   pub publishes : (tokens : List TokenState) → length tokens ≡ length seen → NextTokens names entries l.set tokens → Publishes l names most tokens l'
   publishes tokens many next = record {
     many = many ∙ did.many;

@@ -1,4 +1,4 @@
--- Lists of tokens, and of what was seen, with one more, and the front of such a list.
+-- Lists of tokens and of what was seen: with one more element, and their fronts.
 use Rattle.std.proofs.Common.{◌≡◌, ℕ, suc, subst, ◌+◌, ◌<◌, List, [], ◌∷◌, ◌++◌, length, length-append, min, take, slice_index_or, sym, ap, ◌∙◌, ◌⊎◌, inl, inr, arith, ◌≤◌}
 use Rattle.std.proofs.Math.Nat.{eq-or-lt_of_le}
 use Rattle.std.proofs.lemmas.Option.{slice_get_within}
@@ -12,13 +12,13 @@ use Rattle.seen_cells.specs.declared.Seen.{Seen}
 use Rattle.line_ledger.specs.Cells.{TokenState, IsTokenOf, Each, TokenAt, NextTokens, FirstTokens, shown, SeenAt, FirstSeen, NextSeen}
 use Rattle.line_ledger.specs.Publishing.{GoesOn}
 
--- what holds of each element and of a further one holds at a place of the longer list
+-- what holds of each element and of one more holds at a place of the longer list
 each_at : {X : Type 0} (P : ℕ → X → Type 0) (xs : List X) (x : X) → Each P xs → P (length xs) x → (i : ℕ) (d : X)
     → (i ≡ length xs) ⊎ (i < length xs) → P i (slice_index_or (xs ++ x ∷ []) i d)
 each_at P xs x each last i d (inl e) = rw (get_or_push xs x d i (sym e), e) last
 each_at P xs x each last i d (inr below) = rw (get_or_append_left xs (x ∷ []) d i below) (each i d below)
 
--- what holds of each element and of a further one holds of each of the longer list
+-- what holds of each element and of one more holds of each of the longer list
 each_push : {X : Type 0} (P : ℕ → X → Type 0) (xs : List X) (x : X) → Each P xs → P (length xs) x → Each P (xs ++ x ∷ [])
 each_push P xs x each last i d within = each_at P xs x each last i d (eq-or-lt_of_le (omega (arith, length-append xs (x ∷ []), within)))
 
@@ -34,12 +34,12 @@ each_take P xs n each i d within =
 pub next_none : (names : List ℕ) (entries : List Entry) (set : ℕ) (ts : List TokenState) → ts ≡ [] → NextTokens names entries set ts
 next_none names entries set ts none = λ i d within. absurd (omega (arith, within, ap length none))
 
--- one cell more was set
+-- one more cell was set
 pub next_push : (names : List ℕ) (entries : List Entry) (set : ℕ) (ts ts' : List TokenState) (t : TokenState) → NextTokens names entries set ts
     → TokenAt names entries (set + length ts + 1) t → ts' ≡ ts ++ t ∷ [] → NextTokens names entries set ts'
 next_push names entries set ts ts' t each at pushed = rw pushed (each_push (λ i t. TokenAt names entries (set + i + 1) t) ts t each at)
 
--- one cell more was set, as was seen in it
+-- one more cell was set, as was seen in it
 pub next_seen_push : (names : List ℕ) (entries : List Entry) (set : ℕ) (seen seen' : List (Seen Entry)) (s : Seen Entry) → NextSeen names entries set seen
     → SeenAt names entries (set + length seen) s → seen' ≡ seen ++ s ∷ [] → NextSeen names entries set seen'
 next_seen_push names entries set seen seen' s each at pushed = rw pushed (each_push (λ i s. SeenAt names entries (set + i) s) seen s each at)
@@ -63,17 +63,17 @@ seen_within names entries set (s ∷ ss) each =
     let within : set + length ss < length names = slice_get_within names (set + length ss) (slice_index_or (s ∷ ss) (length ss) s).cell last.0 in
     omega (arith, within)
 
--- one cell more was seen to hold its entry
+-- one more cell was seen to hold its entry
 pub seen_push : (names : List ℕ) (entries : List Entry) (seen seen' : List (Seen Entry)) (s : Seen Entry) (at : ℕ) → FirstSeen names entries seen
     → length seen ≡ at → SeenAt names entries at s → seen' ≡ seen ++ s ∷ [] → FirstSeen names entries seen'
 seen_push names entries seen seen' s at each len found pushed = rw pushed (each_push (λ i s. SeenAt names entries i s) seen s each (rw len found))
 
--- one cell more was found to hold an entry
+-- one more cell was found to hold an entry
 pub first_push : (names : List ℕ) (ts ts' : List TokenState) (t : TokenState) → FirstTokens names ts → t.number ≡ length ts + 1
     → IsTokenOf names t → ts' ≡ ts ++ t ∷ [] → FirstTokens names ts'
 first_push names ts ts' t each number of pushed = rw pushed (each_push (λ i t. IsTokenOf names t × (t.number ≡ i + 1)) ts t each (of, number))
 
--- the first of them are tokens of the first cells
+-- the front of tokens of the first cells are tokens of the first cells
 pub first_take : (names : List ℕ) (ts ts' : List TokenState) (n : ℕ) → FirstTokens names ts → ts' ≡ take n ts → FirstTokens names ts'
 first_take names ts ts' n each cut = rw cut (each_take (λ i t. IsTokenOf names t × (t.number ≡ i + 1)) ts n each)
 
@@ -85,7 +85,7 @@ list_push es e list number carries places = record {
   places = each_push (λ i x. HasNoLaterPlaces x) es e list.places places;
 }
 
--- and so may what tokens show
+-- what tokens show may go on in the same way
 pub published_push : (ts ts' : List TokenState) (t : TokenState) → IsPublished (shown ts) → t.entry.number ≡ t.number → t.number ≡ length ts + 1
     → Carries t.entry → HasNoLaterPlaces t.entry → ts' ≡ ts ++ t ∷ [] → IsPublished (shown ts')
 published_push ts ts' t list same number carries places pushed =
@@ -102,11 +102,11 @@ published_take ts ts' n list cut =
 pub goes_on_none : (ts : List TokenState) → GoesOn ts ts
 goes_on_none ts = ([], sym (append-nil ts))
 
--- a list that goes on where another ends, which goes on where a third ends
+-- a list that goes on from a second one, which goes on from a third, goes on from the third
 pub goes_on_more : (ts ts' ts'' : List TokenState) → GoesOn ts ts' → GoesOn ts' ts'' → GoesOn ts ts''
 goes_on_more ts ts' ts'' first then = (first.0 ++ then.0, then.1 ∙ ap (λ (xs : List TokenState). xs ++ then.0) first.1 ∙ append_assoc ts first.0 then.0)
 
--- a list goes on with one token more at its end
+-- a list with one more token at its end goes on
 pub goes_on_push : (ts ts' : List TokenState) (t : TokenState) → ts' ≡ ts ++ t ∷ [] → GoesOn ts ts'
 goes_on_push ts ts' t pushed = (t ∷ [], pushed)
 

@@ -105,13 +105,13 @@ module _ (t : TapeState) (m : Message) where
 pub agrees-last : (t : TapeState) (s : SeatState) → agrees t s ≡ true → last_number (messages_of t.entries) s.who ≡ last_told 0 s.told
 agrees-last t s same = grind (arith, nat_tests)
 
--- the reasons, by whose message it is and by whether the tape has what the seat was told
+-- the reason, by whose message it is and by whether the tape has what the seat was told
 pub record IsWhy (t : TapeState) (s : SeatState) (m : Message) (why : LineRefusal) : Type 0 where
   pub wrong_line : (header_of m).participant ≢ s.who → why ≡ Refused WrongLine
   pub behind : (header_of m).participant ≡ s.who → agrees t s ≡ false → why ≡ Behind
   pub tape : (header_of m).participant ≡ s.who → agrees t s ≡ true → why ≡ Refused (unwrap_or (refusal t m) OutOfMemory)
 
--- a line refuses as the tape does, and as out of memory where the tape has no reason
+-- a line refuses as the tape does, or as out of memory if the tape has no reason
 unwrap-map : (o : Option Refusal) → unwrap_or (option_map Refused o) (Refused OutOfMemory) ≡ Refused (unwrap_or o OutOfMemory)
 unwrap-map None = refl
 unwrap-map (Some r) = refl
@@ -120,11 +120,11 @@ unwrap-map (Some r) = refl
 refuses_other : (t : TapeState) (s : SeatState) (m : Message) → (header_of m).participant ≢ s.who → line_refusal t s m ≡ Some (Refused WrongLine)
 refuses_other t s m other = grind (arith, nat_tests, other)
 
--- an own message is refused as behind where the tape does not have what the seat was told
+-- a message of the seat's own is refused as behind if the tape does not have what the seat was told
 refuses_behind : (t : TapeState) (s : SeatState) (m : Message) → (header_of m).participant ≡ s.who → agrees t s ≡ false → line_refusal t s m ≡ Some Behind
 refuses_behind t s m own late = grind (arith, nat_tests, own, late)
 
--- an own message is refused as the tape refuses it where the tape has what the seat was told
+-- a message of the seat's own is refused as the tape refuses it if the tape has what the seat was told
 refuses_as_tape : (t : TapeState) (s : SeatState) (m : Message) → (header_of m).participant ≡ s.who → agrees t s ≡ true
     → line_refusal t s m ≡ option_map Refused (refusal t m)
 refuses_as_tape t s m own same = grind (arith, nat_tests, own, same)
@@ -137,7 +137,7 @@ is_why t s m why is = record {
   tape = λ own same. is ∙ ap (λ o. unwrap_or o (Refused OutOfMemory)) (refuses_as_tape t s m own same) ∙ unwrap-map (refusal t m);
 }
 
--- where the message is the seat's own and the tape has what the seat was told, the reason is the tape's
+-- if the message is the seat's own and the tape has what the seat was told, the reason is the tape's
 pub why_as_tape : (t : TapeState) (s : SeatState) (m : Message) (r : Refusal) → (header_of m).participant ≡ s.who → agrees t s ≡ true
     → r ≡ unwrap_or (refusal t m) OutOfMemory → Refused r ≡ unwrap_or (line_refusal t s m) (Refused OutOfMemory)
 why_as_tape t s m r own same is =
@@ -152,7 +152,7 @@ pub record Learns (terms : Terms) (s : SeatState) (m : Message) (code : ℕ) : T
   pub never_closed : code ≡ 31 → ⊥
   pub never_unknown : code ≡ 34 → ⊥
 
--- what is not true is false
+-- a boolean whose negation is true is false
 not-true : (b : Bool) → not b ≡ true → b ≡ false
 not-true true is = absurd (true≢false (sym is))
 not-true false is = refl

@@ -17,14 +17,14 @@ line_refusal t s m =
     else if not (agrees t s) then Some Behind
     else option_map Refused (refusal t m)
 
--- the message was admitted under the next number, and its line was told so
+-- the message was admitted under the next number and its line was told so
 pub record Admits (t : TapeState) (s : SeatState) (m : Message) (number : ℕ) (t' : TapeState) (s' : SeatState) : Type 0 where
   pub may : line_refusal t s m ≡ None
   pub number_is : number ≡ length t.entries + 1
   pub tape : t' ≡ with_message t m
   pub told : s' ≡ with_told s number m
 
--- tape and seat are unchanged, and the answer is the first refusal, or out of memory where there is none
+-- the tape and the seat are unchanged, and the reason is the first refusal, or out of memory if there is none
 pub record Refuses (t : TapeState) (s : SeatState) (m : Message) (why : LineRefusal) (t' : TapeState) (s' : SeatState) : Type 0 where
   pub why_is : why ≡ unwrap_or (line_refusal t s m) (Refused OutOfMemory)
   pub tape : t' ≡ t

@@ -21,7 +21,7 @@ Each {X = X} P xs = (i : ℕ) (d : X) → i < length xs → P i (slice_index_or 
 abbrev pub TokenAt : List ℕ → List Entry → ℕ → TokenState → Type 0
 TokenAt names entries number t = (t.number ≡ number) × IsTokenOf names t × (slice_get entries (number - 1) ≡ Some t.entry)
 
--- tokens of the cells after the first so many, in order
+-- tokens of the cells after the first `set`, in order
 abbrev pub NextTokens : List ℕ → List Entry → ℕ → List TokenState → Type 0
 NextTokens names entries set tokens = Each (λ i t. TokenAt names entries (set + i + 1) t) tokens
 
@@ -45,6 +45,6 @@ SeenAt names entries at s = (slice_get names at ≡ Some s.cell) × ((e : Entry)
 abbrev pub FirstSeen : List ℕ → List Entry → List (Seen Entry) → Type 0
 FirstSeen names entries seen = Each (λ i s. SeenAt names entries i s) seen
 
--- the cells after the first so many were seen to hold the entries of their numbers, in order
+-- the cells after the first `set` were seen to hold the entries of their numbers, in order
 abbrev pub NextSeen : List ℕ → List Entry → ℕ → List (Seen Entry) → Type 0
 NextSeen names entries set seen = Each (λ i s. SeenAt names entries (set + i) s) seen

@@ -8,7 +8,8 @@ use Rattle.line_ledger.specs.declared.told.Told.{Told}
 use Rattle.line_ledger.specs.Ends.{told_by, told_entry, told_of, DiffersFirst}
 use Rattle.line_ledger.specs.Seats.{SeatState}
 
--- what was told has been compared with the first entries: they are what was told up to here, or the two first differ here
+-- what was told has been compared with the first entries: they are what was told up to this position, or the two first differ
+-- at it
 pub record Compared (told entries : List Told) (at : ℕ) (differs : Bool) : Type 0 where
   pub same : differs ≡ false → (entries ≡ take at told) × (at ≤ length told)
   pub first : differs ≡ true → DiffersFirst told entries at × (at < length entries)
@@ -17,7 +18,7 @@ pub record Compared (told entries : List Told) (at : ℕ) (differs : Bool) : Typ
 abbrev pub StandsAt : List Told → List Told → Cursor → Type 0
 StandsAt told entries c = (c.told.now ≡ told) × Compared told entries c.at c.differs
 
--- a cursor before and after one entry more
+-- a cursor before and after one more entry
 abbrev pub Passes : Entry → Cursor → Cursor → Type 0
 Passes e before after = (told entries : List Told) → StandsAt told entries before → StandsAt told (entries ++ told_entry e ∷ []) after
 

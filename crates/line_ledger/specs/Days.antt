@@ -1,11 +1,11 @@
--- A day's tape, as it lies behind the lock.
+-- The terms of a day, its tape behind the lock, and its ended tape.
 use Rattle.std.specs.Prelude.{◌≡◌, ℕ, ◌==◌, Bool, false, ◌&&◌, List}
 use Rattle.tape_types.specs.Names.{Names}
 use Rattle.sale_matrix.specs.declared.matrix.Matrix.{Matrix}
 use Rattle.tape_core.specs.Standing.{count_of, sizes_of, last_number}
 use Rattle.tape_core.specs.Tape.{TapeState, IsTape, messages_of}
 
--- what a day is named by, and its tape keeps to
+-- the terms that name a day and that its tape keeps to
 pub record Terms : Type 0 where
   pub listing : Names
   pub matrix : Matrix

@@ -1,4 +1,4 @@
--- The faults by number and name.
+-- The number and the name of each error and refusal.
 use Rattle.std.specs.Prelude.{ℕ, List, codes}
 use Rattle.tape_core.specs.Refusals.{refusal_code, refusal_name}
 use Rattle.line_ledger.specs.declared.line_refusal.LineRefusal.{LineRefusal}

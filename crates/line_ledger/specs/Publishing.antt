@@ -9,19 +9,19 @@ use Rattle.line_ledger.specs.Days.{LockedState}
 abbrev pub unset : LockedState → ℕ
 unset l = length l.tape.entries - l.set
 
--- the next cells were set to the tape's next entries, as many as there are but at most so many, and are counted
+-- the next cells were set to the tape's next entries, as many as there are up to the most, and are counted
 pub record Publishes (l : LockedState) (names : List ℕ) (most : ℕ) (tokens : List TokenState) (l' : LockedState) : Type 0 where
   pub many : length tokens ≡ min most (unset l)
   pub next : NextTokens names l.tape.entries l.set tokens
   pub counted : l' ≡ record l { set = l.set + length tokens }
 
--- the same by what was seen in the cells that were set
+-- the same, by what was seen in the cells that were set
 pub record Sets (l : LockedState) (names : List ℕ) (most : ℕ) (seen : List (Seen Entry)) (l' : LockedState) : Type 0 where
   pub many : length seen ≡ min most (unset l)
   pub next : NextSeen names l.tape.entries l.set seen
   pub counted : l' ≡ record l { set = l.set + length seen }
 
--- fewer of the next cells were set to the tape's next entries, as was seen in them, and those are counted
+-- fewer of the next cells were seen to be set to the tape's next entries, and those are counted
 pub record Stops (l : LockedState) (names : List ℕ) (most : ℕ) (l' : LockedState) : Type 0 where
   pub seen : List (Seen Entry)
   pub fewer : length seen < min most (unset l)

@@ -1,4 +1,4 @@
-//! The cells beside the lock, each of which is set once and read by anyone.
+//! Keeps the cells beside the lock. Each is set once, and anyone can read it.
 ghost use Rattle.std.specs.Prelude.{◌≡◌, ◌↔◌, ◌+◌, ◌-◌, ◌<◌, ◌≤◌, [], length, slice_get, IfErr, IfOk, IfSome, IsTrue, Some};
 ghost use Rattle.std.specs.Vec.{vec_capacity};
 ghost use Rattle.line_ledger.specs.Cells.{IsTokenOf, TokenAt, FirstTokens, NextTokens, HaveAll, SeenAt, FirstSeen, NextSeen};
@@ -12,8 +12,8 @@ use std::alloc::{AllocError, Global};
 use std::marker::Model;
 use tape_core::Entry;
 
-/// A row of cells, one for each number from 1 up to a tape's limit. A contract sees the names of the cells. An empty cell
-/// takes 8 bytes; one that is set, an entry's memory too.
+/// A row of cells, one for each number from 1 up to a tape's limit. A contract sees the names of the cells. An empty cell takes
+/// 8 bytes; one that is set also takes the memory of its entry.
 #[derive(Drop)]
 pub struct CellRow {
     alloc: Global,
@@ -33,7 +33,7 @@ impl Model for CellRow {
 }
 
 impl CellRow {
-    /// So many empty cells.
+    /// Makes `many` empty cells.
     pub(crate) fn new(alloc: Global, many: u32) -> Result<CellRow, AllocError>
         ensures { IfOk result (λ row. length row ≡ many) }
     {
@@ -45,20 +45,20 @@ impl CellRow {
         Ok(CellRow { alloc, many, cells })
     }
 
-    /// How many cells there are.
+    /// Returns the number of cells.
     pub(crate) fn many(&self) -> u32
         ensures { result ≡ length self.now }
     {
         self.many
     }
 
-    /// Where the memory of the cells comes from.
+    /// Returns the allocator of the cells.
     pub(crate) fn alloc(&self) -> Global {
         self.alloc
     }
 
-    /// Reads the cell of a number: `None` where it is empty, or where there is none. It takes no lock and never waits, and the
-    /// same few steps at each number.
+    /// Reads the cell of a number, and returns `None` if it is empty or there is no such cell. It takes no lock, never waits,
+    /// and takes the same few steps at each number.
     pub fn look(&self, number: u32) -> Option<Token>
         ensures token { IfSome result (λ token. (token.number ≡ number) × IsTokenOf self.now token) }
     {
@@ -73,15 +73,15 @@ impl CellRow {
         })
     }
 
-    /// Whether there is a cell of this number that is empty. It takes no memory.
+    /// Returns whether there is a cell of this number and it is empty. It does not allocate.
     pub(crate) fn is_vacant(&self, number: u32) -> bool
         ensures { IsTrue result → (1 ≤ number) × (number ≤ length self.now) }
     {
         number > 0 && number <= self.many && self.cells[number as usize - 1].get().is_none()
     }
 
-    /// Sets the cell of a number, and answers what was seen in it: `Ok(None)` where it was set before, or where there is none.
-    /// No memory is asked for where the cell is seen to be set, or is not there. Where memory runs out, the cell is as it was.
+    /// Sets the cell of a number, and returns what was seen in it, or `Ok(None)` if it was set before or there is no such cell.
+    /// It does not allocate if the cell is seen to be set or does not exist. If memory runs out, the cell is unchanged.
     pub(crate) fn set(&self, number: u32, entry: &Entry) -> Result<Option<Seen<Entry>>, AllocError>
         ensures known { IfOk result (λ set. IfSome set (λ seen. seen.known ≡ Some entry.now)) }
         ensures cell { IfOk result (λ set. IfSome set (λ seen. (1 ≤ number) × (slice_get self.now (number - 1) ≡ Some seen.cell))) }
@@ -99,7 +99,7 @@ impl CellRow {
         Ok(Some(Seen::of(&mut note)))
     }
 
-    /// The token of a cell that was seen to hold its entry, both at this position, from 0.
+    /// Returns the token of a cell that was seen to hold its entry, both at this position, from 0.
     fn token_of(&self, at: u32, entries: &[Entry], seen: Seen<Entry>) -> Token
         requires within { at < length entries.now }
         requires most { length entries.now ≤ TAPE_MOST }
@@ -114,8 +114,8 @@ impl CellRow {
         }
     }
 
-    /// A token of each cell that was seen to hold its entry, in order, the first being the one after so many cells. They are put
-    /// into a vector with room for them.
+    /// Returns a token of each cell that was seen to hold its entry, in order. The first cell is the one after `set` cells. The
+    /// tokens are put into `room`, which has room for them.
     pub(crate) fn tokens_of(
         &self,
         set: u32,
@@ -141,7 +141,8 @@ impl CellRow {
         tokens
     }
 
-    /// What shows that the cell at this position, from 0, holds the entry at this position. `None` where it was not seen to.
+    /// Returns what shows that the cell at this position, from 0, holds the entry at this position, or `None` if it was not
+    /// seen to.
     fn seen_at(&self, at: usize, entries: &[Entry]) -> Option<Seen<Entry>>
         ensures { IfSome result (SeenAt self.now entries.now at) }
     {
@@ -154,7 +155,7 @@ impl CellRow {
         Some(Seen::of(&mut note))
     }
 
-    /// Reads the cells from the first on, as far as each holds the entry of its number. What was seen is kept in the room.
+    /// Reads the cells from the first on, as far as each holds the entry of its number. What was seen is put into `room`.
     pub(crate) fn first_seen(&self, entries: &[Entry], room: Vec<Seen<Entry>>) -> Vec<Seen<Entry>>
         requires empty { room.items ≡ [] }
         requires roomy { length entries.now ≤ vec_capacity room }
@@ -171,7 +172,7 @@ impl CellRow {
         seen
     }
 
-    /// A token of the same cell with the same entry.
+    /// Returns a token of the same cell with the same entry.
     pub(crate) fn again(&self, token: &Token) -> Token
         ensures { result ≡ token.now }
     {
@@ -182,8 +183,8 @@ impl CellRow {
         }
     }
 
-    /// The token of a cell that was seen to hold its entry, which is read there again. It takes no lock and never waits, and the same few
-    /// steps at each number.
+    /// Returns the token of a cell that was seen to hold its entry, which is read there again. It takes no lock, never waits,
+    /// and takes the same few steps at each number.
     pub(crate) fn show(&self, number: u32, sighting: &Sighting) -> Token
         requires cell { IsTokenOf self.now sighting.now }
         requires number { sighting.now.number ≡ number }
@@ -202,7 +203,7 @@ impl CellRow {
         }
     }
 
-    /// Whether the entries have at this number what was seen in the cell of the number, which is read there again.
+    /// Returns whether the entries have at this number what was seen in the cell of the number, which is read there again.
     fn has_seen(&self, entries: &[Entry], number: u32, sighting: &Sighting) -> bool
         requires cell { IsTokenOf self.now sighting.now }
         requires number { sighting.now.number ≡ number }
@@ -215,7 +216,7 @@ impl CellRow {
         }
     }
 
-    /// Whether the entries have what was seen in each of the first so many cells.
+    /// Returns whether the entries have what was seen in each of the first `many` cells.
     pub(crate) fn have_all_seen(
         &self,
         entries: &[Entry],
@@ -234,7 +235,7 @@ impl CellRow {
         true
     }
 
-    /// Two tokens of one cell show one entry.
+    /// Shows that two tokens of one cell have the same entry.
     pub(crate) fn compare(&self, one: &Token, other: &Token)
         requires one { IsTokenOf self.now one.now }
         requires other { IsTokenOf self.now other.now }

@@ -1,4 +1,4 @@
-//! How far what the participants' lines were told has been compared with the tape.
+//! Compares what the participants' lines were told with the tape, by a cursor for each participant.
 ghost use Rattle.std.specs.Prelude.{◌≡◌, ◌↔◌, ℕ, [], ◌++◌, ◌∷◌, false, IsTrue, IfSome, List, MatchOption, Some, slice_get};
 ghost use Rattle.tape_core.specs.declared.entry.Entry.{Entry};
 ghost use Rattle.tape_core.specs.Standing.{is_of};
@@ -12,18 +12,18 @@ use crate::{DayName, LineSeat, Told};
 use tape_core::Entry;
 use tape_types::{PARTICIPANTS_MOST, Participant};
 
-/// What one participant's line was told, and how much of it the participant's entries so far are.
+/// What one participant's line was told, and how much of it the participant's entries so far match.
 #[derive(Clone, Copy)]
 pub(crate) struct Cursor<'a> {
     told: &'a [Told],
-    /// How many entries were told in order, from the first.
+    /// How many entries, from the first, are as they were told.
     at: usize,
     /// Whether the next entry was told otherwise.
     differs: bool,
 }
 
 impl<'a> Cursor<'a> {
-    /// A cursor that has passed no entry.
+    /// Makes a cursor that has passed no entry.
     pub(crate) fn new(told: &'a [Told]) -> Cursor<'a>
         ensures told { result.told.now ≡ told.now }
         ensures compared { Compared told.now [] result.at result.differs }
@@ -55,8 +55,8 @@ impl<'a> Cursor<'a> {
         }
     }
 
-    /// Once all of the participant's entries are passed: the first position, from 0, where what was told differs from them,
-    /// one list being longer included.
+    /// Returns, once all of the participant's entries are passed, the first position, from 0, where what was told differs from
+    /// them. One list being longer is a difference too.
     pub(crate) fn difference(self) -> Option<usize>
         ensures { (told entries : List Told) → StandsAt told entries self.entry → MatchOption result (told ≡ entries) (DiffersFirst told entries) }
     {
@@ -68,14 +68,14 @@ impl<'a> Cursor<'a> {
     }
 }
 
-/// Whether this entry was told here.
+/// Returns whether this entry was told at this position.
 fn tells(told: &[Told], at: usize, entry: &Entry) -> bool
     ensures { IsTrue result ↔ (slice_get told.now at ≡ Some (told_entry entry.now)) }
 {
     at < told.len() && is_told(&told[at], entry)
 }
 
-/// Whether the entry is the one that was told.
+/// Returns whether the entry is the one that was told.
 fn is_told(told: &Told, entry: &Entry) -> bool
     ensures { IsTrue result ↔ (told.now ≡ told_entry entry.now) }
 {
@@ -89,7 +89,8 @@ pub(crate) struct Cursors<'a> {
 }
 
 impl<'a> Cursors<'a> {
-    /// Cursors that have passed no entry, each at what the participant's first seat was told, or at nothing where it has none.
+    /// Makes cursors that have passed no entry, each over what the participant's first seat was told, or over nothing if it has
+    /// no seat.
     pub(crate) fn new<D: DayName>(seats: &'a [LineSeat<D>]) -> Cursors<'a>
         ensures { AllStandAt result.row seats.now [] }
     {
@@ -100,7 +101,7 @@ impl<'a> Cursors<'a> {
         Cursors { row }
     }
 
-    /// The participant's cursor.
+    /// Returns the participant's cursor.
     fn of(&self, who: Participant) -> Cursor<'a>
         ensures cursor { cursor_at self.now who ≡ Some result }
         ensures letter { IsParticipant who }
@@ -109,7 +110,8 @@ impl<'a> Cursors<'a> {
         row[who.row_index()]
     }
 
-    /// The first position, from 0, where what the participant's first seat was told differs from its entries that were passed.
+    /// Returns the first position, from 0, where what the participant's first seat was told differs from its entries that were
+    /// passed.
     pub(crate) fn difference(&self, who: Participant) -> Option<usize>
         ensures { (seats : List SeatState) (entries : List Entry) → AllStandAt self.now.row seats entries
             → MatchOption result (told_by who seats ≡ told_of who entries) (DiffersFirst (told_by who seats) (told_of who entries)) }
@@ -117,7 +119,7 @@ impl<'a> Cursors<'a> {
         self.of(who).difference()
     }
 
-    /// Passes the tape's next entry, whose participant's cursor it moves.
+    /// Passes the tape's next entry, which moves the cursor of its participant.
     pub(crate) fn pass(&mut self, entry: &Entry)
         ensures own { (who : ℕ) → IsParticipant who → IsTrue (is_of who entry.now.message)
             → IfSome (cursor_at self.new who) (λ after. MatchOption (cursor_at self.old who) ⊥ (λ before. Passes entry.now before after)) }

@@ -1,4 +1,4 @@
-//! Which day it is, and what is left of it.
+//! The name of a day, and the ended day, which keeps its closed tape and its cells and confirms tokens.
 ghost use Rattle.std.specs.Prelude.{◌≡◌, ◌↔◌, ◌+◌, ◌-◌, ◌<◌, ◌≤◌, [], length, slice_get, IsTrue, Some};
 ghost use Rattle.std.specs.Result.{IsOk};
 ghost use Rattle.sale_matrix.specs.declared.matrix.Matrix.TheVariants.{One};
@@ -13,10 +13,10 @@ use std::sync::ledger::Ledger;
 use summaries::IndexStore;
 use tape_core::{Entry, Tape};
 
-/// The name of one shared day: its ledger, which has one part for each participant, and its terms. A function over it is
-/// called with `Brand`, once for each day.
+/// The name of one shared day: its ledger, which has one part for each participant, and its terms. A function over it is called
+/// with `Brand` once for each day.
 pub trait DayName: Ledger {
-    /// The terms of the day, which its tape keeps to.
+    /// The terms that the day's tape keeps to.
     ghost terms: { Terms };
 }
 
@@ -47,15 +47,15 @@ impl Model for Day {
 }
 
 impl Day {
-    /// The day's tape, which is closed.
+    /// Returns the day's tape, which is closed.
     pub fn tape(&self) -> &Tape<IndexStore>
         ensures tape { result.now ≡ self.now.tape }
     {
         &self.tape
     }
 
-    /// How many of the first cells the day's end found to hold the tape's first entries, from 0 to the tape's length. A cell
-    /// that was set may be missed, so it is at most what was published.
+    /// Returns how many of the first cells the day's end found to hold the tape's first entries, from 0 to the tape's length. A
+    /// cell that was set may be missed, so it is at most what was published.
     pub fn published(&self) -> u32
         ensures count { result ≡ self.now.published }
         ensures within { result ≤ length self.now.tape.entries }
@@ -63,7 +63,7 @@ impl Day {
         self.seen.len() as u32
     }
 
-    /// Confirms that the day has the token's entry at its number, or answers 93 NotOnTape. It confirms every token up to the
+    /// Confirms that the day has the token's entry at its number, or returns 93 NotOnTape. It confirms every token up to the
     /// published count.
     pub fn confirm(&self, token: &Token) -> Result<(), NotOnTape>
         requires { IsTokenOf self.now.names token.now }
@@ -81,8 +81,8 @@ impl Day {
         }
     }
 
-    /// Confirms that the day has what was seen in the cell of this number, or answers 93 NotOnTape, as `confirm` does with a token of the
-    /// cell.
+    /// Confirms that the day has what was seen in the cell of this number, or returns 93 NotOnTape, as `confirm` does with a
+    /// token of the cell.
     pub fn confirm_seen(&self, number: u32, sighting: &Sighting) -> Result<(), NotOnTape>
         requires cell { IsTokenOf self.now.names sighting.now }
         requires number { sighting.now.number ≡ number }
@@ -92,7 +92,8 @@ impl Day {
         self.confirm(&self.row.show(number, sighting))
     }
 
-    /// Whether the day has what was seen in each of the first so many cells: whether `confirm_seen` would confirm each sighting.
+    /// Returns whether the day has what was seen in each of the first `many` cells: whether `confirm_seen` would confirm each
+    /// sighting.
     pub fn has_all_seen(&self, sightings: &Vec<Sighting>, many: u32) -> bool
         requires cells { FirstTokens self.now.names sightings.now.items }
         requires many { length sightings.now.items ≡ many }
@@ -101,7 +102,7 @@ impl Day {
         self.row.have_all_seen(self.tape.entries(), sightings, many)
     }
 
-    /// A cell is set once, so the token shows the entry that the end saw in its cell, which is the day's.
+    /// Shows that the token has the entry that the end saw in its cell, which is the day's, since a cell is set once.
     fn settle(&self, at: usize, token: &Token)
         requires number { at + 1 ≡ token.now.number }
         requires cell { IsTokenOf self.now.names token.now }

@@ -1,4 +1,4 @@
-//! Why a day did not end, or ended in a disagreement.
+//! The errors of a day's end, with the tape and the seats that they return.
 ghost use Rattle.std.specs.Prelude.{◌≡◌, codes};
 ghost use Rattle.line_ledger.specs.declared.end_fault.EndFault.TheVariants.{MissingSeat, Disagrees};
 
@@ -7,7 +7,7 @@ use summaries::IndexStore;
 use tape_core::Tape;
 use tape_types::Participant;
 
-/// A day that did not end. Its seats must be spent: by an end with one seat of each participant.
+/// A day that did not end. Its seats must be spent by an end with one seat of each participant.
 pub struct Unended<D: DayName> {
     /// The shared tape, which is open.
     pub shared: SharedTape<D>,
@@ -20,17 +20,17 @@ pub struct Unended<D: DayName> {
 pub struct Disagreement {
     /// The first participant, in listing order, whose seat was told otherwise.
     pub participant: Participant,
-    /// The first position, from 0, where what its seat was told differs from its entries.
+    /// The first position, from 0, where what the seat was told differs from the participant's entries.
     pub at: usize,
     /// The day's tape, which is closed.
     pub tape: Tape<IndexStore>,
 }
 
-/// Why a day did not end, or ended in a disagreement. Like the seats that it may hold it must be spent.
+/// Why a day did not end, or ended in a disagreement. It must be spent, like the seats that it may hold.
 pub enum EndFault<D: DayName> {
-    /// 91 MissingSeat: there is not exactly one seat of each participant. Tape and seats come back, the tape open.
+    /// 91 MissingSeat: there is not exactly one seat of each participant. It has the open tape and the seats.
     MissingSeat(Unended<D>),
-    /// 92 Disagrees: a seat was not told what the tape has of its participant. The closed tape comes back, the seats are spent.
+    /// 92 Disagrees: a seat was not told what the tape has of its participant. It has the closed tape; the seats are spent.
     Disagrees(Disagreement),
 }
 

@@ -1,4 +1,4 @@
-//! What an end looks at: whether there is one seat of each participant, and whether each was told what the tape has.
+//! Checks the seats at a day's end: whether there is one of each participant, and whether each was told what the tape has.
 ghost use Rattle.std.specs.Prelude.{◌≡◌, ◌↔◌, length, IsTrue, MatchOption};
 ghost use Rattle.line_ledger.specs.Cursors.{AllStandAt};
 ghost use Rattle.line_ledger.specs.Ends.{seats_of, IsOneEach, FirstTold, DisagreesAt};
@@ -9,7 +9,7 @@ use summaries::IndexStore;
 use tape_core::{Entry, Tape};
 use tape_types::Participant;
 
-/// How many seats are the participant's.
+/// Returns how many seats are the participant's.
 fn seats_of<D: DayName>(seats: &[LineSeat<D>], who: Participant) -> usize
     ensures { result ≡ seats_of who seats.now }
 {
@@ -22,7 +22,7 @@ fn seats_of<D: DayName>(seats: &[LineSeat<D>], who: Participant) -> usize
     many
 }
 
-/// Whether there is exactly one seat of each participant.
+/// Returns whether there is exactly one seat of each participant.
 pub(crate) fn is_one_each<D: DayName>(participants: &[Participant], seats: &[LineSeat<D>]) -> bool
     ensures { IsTrue result ↔ IsOneEach participants.now seats.now }
 {
@@ -37,7 +37,7 @@ pub(crate) fn is_one_each<D: DayName>(participants: &[Participant], seats: &[Lin
     true
 }
 
-/// Compares what the seats were told with the tape's entries, which are gone over once for all participants.
+/// Compares what the seats were told with the tape's entries, in one pass for all participants.
 fn compare<'a, D: DayName>(seats: &'a [LineSeat<D>], entries: &[Entry]) -> Cursors<'a>
     ensures { AllStandAt result.row seats.now entries.now }
 {
@@ -48,7 +48,8 @@ fn compare<'a, D: DayName>(seats: &'a [LineSeat<D>], entries: &[Entry]) -> Curso
     cursors
 }
 
-/// The first participant, in listing order, whose seat was not told what the tape has, with the first position where.
+/// Returns the first participant, in listing order, whose seat was not told what the tape has, and the first position where
+/// they differ.
 pub(crate) fn find_disagreement<D: DayName>(
     tape: &Tape<IndexStore>,
     seats: &[LineSeat<D>],

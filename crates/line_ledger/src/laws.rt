@@ -1,4 +1,4 @@
-//! Where what a line was told first differs from a tape, and laws over seats, ends and confirmed tokens.
+//! Finds where what a line was told first differs from a tape, and states laws over seats, ends and confirmed tokens.
 ghost use Rattle.std.specs.Prelude.{◌≡◌, ◌≤◌, ◌↔◌, ℕ, IsTrue, MatchOption, slice_get, Some, List, length};
 ghost use Rattle.tape_core.specs.declared.entry.Entry.{Entry};
 ghost use Rattle.tape_core.specs.Tape.{TapeState};
@@ -17,8 +17,8 @@ use crate::cursor::Cursor;
 use tape_core::Entry;
 use tape_types::Participant;
 
-/// The first position, from 0, where what was told differs from the participant's entries, one list being longer included.
-/// `None` exactly where they are the same.
+/// Returns the first position, from 0, where what was told differs from the participant's entries, or `None` exactly if they
+/// are the same. One list being longer is a difference too.
 pub fn first_difference(told: &[Told], entries: &[Entry], who: Participant) -> Option<usize>
     ensures first { MatchOption result (told.now ≡ told_of who entries.now) (DiffersFirst told.now (told_of who entries.now)) }
 {
@@ -31,13 +31,13 @@ pub fn first_difference(told: &[Told], entries: &[Entry], who: Participant) -> O
     cursor.difference()
 }
 
-/// Where there is exactly one seat of each participant, that stays so, whatever the seats are told.
+/// If there is exactly one seat of each participant, that stays so, whatever the seats are told.
 pub fn seats()
     ensures each { (participants : List ℕ) (old new : List SeatState) → IsOneEach participants old → whos new ≡ whos old → IsOneEach participants new }
 {}
 
 /// A disagreement is unique: lists that first differ somewhere are not the same and first differ nowhere else, and an end that
-/// could answer 92 could not answer a day, nor name another participant or position.
+/// could return 92 could not return a day, nor name another participant or position.
 pub fn disagreement()
     ensures differ { (told entries : List Told) (at : ℕ) → DiffersFirst told entries at → ¬ (told ≡ entries) }
     ensures first { (told entries : List Told) (at other : ℕ) → DiffersFirst told entries at → DiffersFirst told entries other → at ≡ other }
@@ -47,8 +47,8 @@ pub fn disagreement()
         → DisagreesAt participants entries seats who at → DisagreesAt participants entries seats other place → (who ≡ other) × (at ≡ place) }
 {}
 
-/// Where each token is confirmed, tokens of the first cells show the first entries of the tape. So each packet that is cut from
-/// what they show was cut from the tape, whenever that was, and the tape may be the closed one of a day that has ended.
+/// If each token is confirmed, tokens of the first cells show the first entries of the tape. So each packet that is cut from
+/// what they show is cut from the tape, whenever that was. The tape may be the closed one of a day that has ended.
 pub fn confirmed()
     ensures prefix { (names : List ℕ) (tokens : List TokenState) (entries : List Entry)
         → FirstTokens names tokens → HaveAll entries tokens → BeginsWith (shown tokens) entries }

@@ -1,5 +1,5 @@
-//! A day's tape behind one lock, a seat for each participant's line, a ledger of what the lines were told, and cells beside
-//! the lock that show the published entries to anyone.
+//! Shares a day's tape behind one lock. It keeps a seat for each participant's line, a ledger of what the lines were told, and
+//! cells beside the lock that show the published entries to anyone.
 #![tactic(auto)]
 
 mod cell_row;

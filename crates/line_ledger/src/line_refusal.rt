@@ -1,4 +1,4 @@
-//! Why a message is not admitted on a line.
+//! The refusals of a message on a line: by the line, or by the tape.
 ghost use Rattle.std.specs.Prelude.{◌≡◌, Some};
 ghost use Rattle.line_ledger.specs.Faults.{line_refusal_code, line_refusal_name};
 
@@ -6,13 +6,13 @@ use std::fmt;
 use tape_core::Refusal;
 use thiserror::Error;
 
-/// Why a message is not admitted on a line, the first reason that applies. Tape and seat are unchanged.
+/// Why a message is not admitted on a line, the first reason that applies. The tape and the seat are unchanged.
 #[derive(Clone, Copy, Debug, PartialEq, Eq, Error)]
 pub enum LineRefusal {
     /// 94 Behind: the tape's count, sizes or last number of the participant is not what its line was told.
     Behind,
-    /// `WrongLine` where the message is of another participant; else, after 94, the tape's own refusal, `OutOfMemory` last: any of
-    /// these but `Closed` and `UnknownParticipant`.
+    /// `WrongLine` if the message is of another participant; otherwise, after 94, the tape's own refusal, `OutOfMemory` last:
+    /// any of these but `Closed` and `UnknownParticipant`.
     Refused(Refusal),
 }
 

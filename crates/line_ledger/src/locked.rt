@@ -1,4 +1,4 @@
-//! What lies behind the lock, and the seats. A seat's share and what it was told grow only here, in `Locked::admit`.
+//! Keeps the value behind the lock, and the seats. A seat's share and what it was told grow only here, in `Locked::admit`.
 ghost use Rattle.std.specs.Prelude.{◌≡◌, ◌↔◌, ◌+◌, ◌≤◌, ◌++◌, ◌∷◌, [], true, length, map, IfOk, IfErr, IfNone, IfSome, None, OnErr, OnOk};
 ghost use Rattle.std.specs.Prelude.{MatchResult, Some, IsTrue, unwrap_or};
 ghost use Rattle.reports.specs.Messages.{header_of};
@@ -55,8 +55,8 @@ impl<D: DayName> Model for Locked<D> {
         × (l.set ≤ length l.tape.entries) × (l.room.items ≡ []) × (l.tape.limit ≤ vec_capacity l.room) };
 }
 
-/// The right of one participant's line to admit messages, and what the line was told. It can't be dropped: only an end of
-/// the day takes it.
+/// The right of one participant's line to admit messages, and what the line was told. It can't be dropped; only an end of the
+/// day takes it.
 pub struct LineSeat<D: DayName> {
     who: Participant,
     share: Share<D>,
@@ -75,7 +75,7 @@ impl<D: DayName> Model for LineSeat<D> {
     ghost invariant = { λ s. IsCounted D.terms.listing s.who s.share.parts s.share.amount s.sizes s.last s.told.items };
 }
 
-/// What an admission answers: the tape number that the message got. Only `Locked::admit` makes one.
+/// What an admission returns: the tape number of the message. Only `Locked::admit` makes one.
 #[derive(Drop)]
 pub struct Receipt {
     number: TapeNumber,
@@ -90,7 +90,7 @@ impl Model for Receipt {
 }
 
 impl Receipt {
-    /// The tape number of the entry.
+    /// Returns the tape number of the entry.
     pub fn number(&self) -> TapeNumber
         ensures number { result ≡ self.now }
     {
@@ -116,28 +116,28 @@ impl Model for View {
 }
 
 impl View {
-    /// The symbol that was asked for.
+    /// Returns the symbol that was asked for.
     pub fn symbol(&self) -> Symbol
         ensures symbol { result ≡ self.now.symbol }
     {
         self.symbol
     }
 
-    /// How many entries the tape had, from 0 to `TAPE_MOST`.
+    /// Returns how many entries the tape had, from 0 to `TAPE_MOST`.
     pub fn count(&self) -> u32
         ensures count { result ≡ self.now.count }
     {
         self.count
     }
 
-    /// How many of them are of the seat's participant: as many as the seat was told of.
+    /// Returns how many of them are of the seat's participant: as many as the seat was told of.
     pub fn mine(&self) -> u32
         ensures mine { result ≡ self.now.mine }
     {
         self.mine
     }
 
-    /// The symbol's consolidated summary.
+    /// Returns the symbol's consolidated summary.
     pub fn summary(&self) -> Summary
         ensures summary { result ≡ self.now.summary }
     {
@@ -146,14 +146,14 @@ impl View {
 }
 
 impl<D: DayName> LineSeat<D> {
-    /// The participant of the line.
+    /// Returns the participant of the line.
     pub fn participant(&self) -> Participant
         ensures participant { result ≡ self.now.who }
     {
         self.who
     }
 
-    /// How many admissions it was told of, from 0 to `TAPE_MOST`.
+    /// Returns how many admissions the line was told of, from 0 to `TAPE_MOST`.
     pub fn count(&self) -> u32
         ensures count { result ≡ length self.now.told }
     {
@@ -161,21 +161,22 @@ impl<D: DayName> LineSeat<D> {
         told.len() as u32
     }
 
-    /// The sizes of the reports that it was told of, added up, each as it was reported: no other message adds any.
+    /// Returns the sum of the sizes of the reports that the line was told of, each as it was reported. No other message adds to
+    /// it.
     pub fn sizes(&self) -> u64
         ensures sizes { result ≡ sizes_told self.now.told }
     {
         self.sizes
     }
 
-    /// The participant's number of the last message that it was told of, 0 for none.
+    /// Returns the participant's number of the last message that the line was told of, or 0 if there is none.
     pub fn last(&self) -> u32
         ensures last { result ≡ last_told 0 self.now.told }
     {
         self.last
     }
 
-    /// The admissions that it was told of, in order.
+    /// Returns the admissions that the line was told of, in order.
     pub fn told(&self) -> &[Told]
         ensures told { result.now ≡ self.now.told }
     {
@@ -183,7 +184,7 @@ impl<D: DayName> LineSeat<D> {
     }
 }
 
-/// Whether the tape has these figures of the participant.
+/// Returns whether the tape has these figures of the participant.
 fn has_figures(
     tape: &Tape<IndexStore>,
     who: Participant,
@@ -197,8 +198,8 @@ fn has_figures(
     figures.count as usize == count && figures.sizes == sizes && figures.last == last
 }
 
-/// Admits a message to the tape and tells it to a line: the tape number that it got. Refused as the tape refuses it, `OutOfMemory`
-/// last; then the tape and what was told are unchanged.
+/// Admits a message to the tape, tells it to a line, and returns its tape number. Its errors are the tape's refusals,
+/// `OutOfMemory` last, which leave the tape and what was told unchanged.
 #[inline(always)]
 fn admit_and_tell(
     tape: &mut Tape<IndexStore>,
@@ -224,8 +225,8 @@ fn admit_and_tell(
     Ok(number)
 }
 
-/// A seat for each of the day's participants, in their order and told nothing, each with a part of what is left of the ledger.
-/// They are put into a vector with room for them.
+/// Makes a seat for each of the day's participants, in their order and told nothing, each with a part of what is left of the
+/// ledger. They are put into `seats`, which has room for them.
 fn untold_seats<D: DayName>(
     alloc: Global,
     participants: &[Participant],
@@ -255,7 +256,7 @@ fn untold_seats<D: DayName>(
     seats
 }
 
-/// Spends seats: their shares go to what is left of the ledger.
+/// Spends seats and adds their shares to what is left of the ledger.
 fn take_shares<D: DayName>(rest: &mut Share<D>, seats: Vec<LineSeat<D>>)
     ensures parts { rest.new.parts ≡ rest.old.parts + length seats.items }
     ensures amount { rest.new.amount ≡ rest.old.amount + told_in_all seats.items }
@@ -275,9 +276,9 @@ fn take_shares<D: DayName>(rest: &mut Share<D>, seats: Vec<LineSeat<D>>)
 }
 
 impl<D: DayName> Locked<D> {
-    /// Opens the ledger: the value to lock, the cells to stand beside the lock, and a seat for each participant, in listing
-    /// order and told nothing. What was prepared is spent; where memory runs out it is 8 OutOfMemory. `D` is to name what was
-    /// prepared.
+    /// Opens the ledger. It returns the value to lock, the cells beside the lock, and a seat for each participant, in listing
+    /// order and told nothing, or 8 OutOfMemory if memory runs out. What was prepared is spent in both cases. `D` must name
+    /// what was prepared.
     pub fn start(prepared: Prepared) -> Result<(Locked<D>, CellRow, Vec<LineSeat<D>>), OpenFault>
         requires name { prepared.blank.name ≡ D.name }
         requires parts { prepared.blank.parts ≡ D.parts }
@@ -317,8 +318,8 @@ impl<D: DayName> Locked<D> {
         Ok((locked, row, seats))
     }
 
-    /// Why a seat's message does not come to the tape: `WrongLine` where it is another participant's, then 94 Behind where the
-    /// tape's count, sizes or last number of the participant is not the seat's.
+    /// Returns why a seat's message is refused before it reaches the tape: `WrongLine` if it is another participant's, then 94
+    /// Behind if the tape's count, sizes or last number of the participant is not the seat's.
     #[inline(always)]
     fn refusal_at_seat(&self, seat: &LineSeat<D>, message: &Message) -> Option<LineRefusal>
         ensures day { IsDay D.terms self.now.tape }
@@ -327,7 +328,7 @@ impl<D: DayName> Locked<D> {
         ensures own { IfNone result ((header_of message.now).participant ≡ seat.now.who) }
         ensures agrees { IfNone result (agrees self.now.tape seat.now ≡ true) }
     {
-        // For the proof alone: this value's own invariant is known once a field is looked at.
+        // For the proof alone: this value's own invariant is known after a field is read.
         let _ = &self.tape;
         if message.header().participant != seat.who {
             return Some(LineRefusal::Refused(Refusal::WrongLine));
@@ -338,10 +339,10 @@ impl<D: DayName> Locked<D> {
         None
     }
 
-    /// Admits a message of the seat's participant: the tape has it, the seat is told so, and share, count, sizes and last
-    /// number rise with it. Refused, the first that applies: `WrongLine` where it is another participant's message, 94 Behind
-    /// where the tape's count, sizes or last number of the participant is not the seat's, and then as the tape refuses it,
-    /// `OutOfMemory` last. On a refusal tape and seat are unchanged.
+    /// Admits a message of the seat's participant to the tape and tells the seat so: its share, count, sizes and last number
+    /// rise with it. Errors, the first that applies: `WrongLine` if it is another participant's message, 94 Behind if the
+    /// tape's count, sizes or last number of the participant is not the seat's, and then the tape's own refusals, `OutOfMemory`
+    /// last. A refusal leaves the tape and the seat unchanged.
     #[inline(always)]
     pub fn admit(
         &mut self,
@@ -371,15 +372,15 @@ impl<D: DayName> Locked<D> {
         Ok(Receipt { number })
     }
 
-    /// Shows the seat's holder a symbol's consolidated summary and how long the tape is: at least as long as the seat was told.
-    /// Refused: `UnknownSymbol` where the symbol is not listed, then 94 Behind where the tape's count, sizes or last number
-    /// of the participant is not the seat's.
+    /// Shows the seat's holder a symbol's consolidated summary and the length of the tape, which is at least the seat's count.
+    /// Errors, the first that applies: `UnknownSymbol` if the symbol is not listed, 94 Behind if the tape's count, sizes or
+    /// last number of the participant is not the seat's.
     pub fn view(&self, seat: &LineSeat<D>, symbol: Symbol) -> Result<View, ViewFault>
         ensures day { IsDay D.terms self.now.tape }
         ensures answer { MatchResult result (Shows self.now.tape seat.now symbol) (λ fault. view_fault self.now.tape seat.now symbol ≡ Some fault) }
         ensures told { IfOk result (λ view. length seat.now.told ≤ view.count) }
     {
-        // For the proof alone: this value's own invariant is known once a field is looked at.
+        // For the proof alone: this value's own invariant is known after a field is read.
         let _ = &self.tape;
         let Some(summary) = self.tape.summary(symbol) else {
             return Err(ViewFault::UnknownSymbol);
@@ -395,19 +396,19 @@ impl<D: DayName> Locked<D> {
         })
     }
 
-    /// Whether there is exactly one seat of each participant of the day.
+    /// Returns whether there is exactly one seat of each participant of the day.
     pub(crate) fn is_each(&self, seats: &[LineSeat<D>]) -> bool
         ensures { IsTrue result ↔ IsOneEach D.terms.listing.participants seats.now }
     {
-        // For the proof alone: this value's own invariant is known once a field is looked at.
+        // For the proof alone: this value's own invariant is known after a field is read.
         let _ = &self.tape;
         is_one_each(self.tape.listing().participants().as_slice(), seats)
     }
 
-    /// Ends the day with one seat of each participant, in any order, and closes its tape, whose length is the sum of the
-    /// seats' counts: the shares show it, and nothing adds them up. Where a seat was not told what the tape has of its
-    /// participant, that is a disagreement, which hands the closed tape back. Else the day keeps the cells and what was seen
-    /// in them. The seats are spent in each case.
+    /// Ends the day with one seat of each participant, in any order, and closes its tape, whose length is the sum of the seats'
+    /// counts: the shares prove it, and no code adds them up. If a seat was not told what the tape has of its participant, it
+    /// returns a disagreement with the closed tape. Otherwise the day keeps the cells and what was seen in them. The seats are
+    /// spent in each case.
     pub fn finish(self, row: CellRow, seats: Vec<LineSeat<D>>) -> Result<Day, Disagreement>
         requires { IsOneEach D.terms.listing.participants seats.items }
         ensures day { IsDay D.terms self.tape }

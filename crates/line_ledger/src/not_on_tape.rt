@@ -1,4 +1,4 @@
-//! That a token's entry is not the day's.
+//! The error for a token whose entry is not the day's.
 ghost use Rattle.std.specs.Prelude.{◌≡◌, codes, Some};
 
 use std::fmt;
@@ -9,14 +9,14 @@ use thiserror::Error;
 pub struct NotOnTape;
 
 impl NotOnTape {
-    /// The number of the fault.
+    /// Returns the number of the fault.
     pub fn code(self) -> u8
         ensures number { result ≡ 93 }
     {
         93
     }
 
-    /// The name of the fault, as it is printed.
+    /// Returns the name of the fault, as it is printed.
     pub fn name(self) -> &'static str
         ensures text { result.now ≡ codes "NotOnTape" }
     {

@@ -1,4 +1,4 @@
-//! Why a day is not opened.
+//! The errors of preparing and opening a day.
 ghost use Rattle.std.specs.Prelude.{◌≡◌, Some};
 ghost use Rattle.line_ledger.specs.Faults.{open_fault_code, open_fault_name};
 
@@ -15,7 +15,7 @@ pub enum OpenFault {
 }
 
 impl OpenFault {
-    /// The number of the fault.
+    /// Returns the number of the fault.
     pub fn code(self) -> u8
         ensures number { result ≡ open_fault_code self }
     {
@@ -25,7 +25,7 @@ impl OpenFault {
         }
     }
 
-    /// The name of the fault, as it is printed.
+    /// Returns the name of the fault, as it is printed.
     pub fn name(self) -> &'static str
         ensures text { result.now ≡ open_fault_name self }
     {

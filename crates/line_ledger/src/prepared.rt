@@ -1,4 +1,4 @@
-//! What opens a day.
+//! Prepares a shared day: an empty open tape, its ledger, its cells and room for what will be seen in them.
 ghost use Rattle.std.specs.Prelude.{◌≡◌, ◌≢◌, ◌≤◌, ◌⊎◌, ◌↔◌, [], length, false, true, IfOk, IfErr, IfSome, Err};
 ghost use Rattle.std.specs.Vec.{vec_capacity};
 ghost use Rattle.line_ledger.specs.declared.open_fault.OpenFault.TheVariants.{NotEmpty, OutOfMemory};
@@ -27,9 +27,9 @@ pub struct Prepared {
     pub ghost roomy: { tape.limit ≤ vec_capacity room },
 }
 
-/// Prepares a tape for a shared day, with 8 bytes for the cell of each number up to the tape's limit; what is opened later
-/// takes its memory from `alloc`. A tape that is closed or has an entry is 7 NotEmpty, exactly; where memory runs out it is
-/// 8 OutOfMemory. The tape is spent in each case.
+/// Prepares a tape for a shared day, with 8 bytes for the cell of each number up to the tape's limit. What is opened later
+/// allocates from `alloc`. It returns 7 NotEmpty exactly if the tape is closed or has an entry, and 8 OutOfMemory if memory
+/// runs out. The tape is spent in each case.
 pub fn prepare(alloc: Global, tape: Tape<IndexStore>) -> Result<Prepared, OpenFault>
     ensures ok { IfOk result (λ prepared. prepared.tape ≡ tape) }
     ensures not_empty { (result ≡ Err NotEmpty) ↔ ((tape.closed ≡ true) ⊎ (tape.entries ≢ [])) }
@@ -60,7 +60,7 @@ fn prepare_empty(alloc: Global, tape: Tape<IndexStore>) -> Result<Prepared, Open
     })
 }
 
-/// So many empty cells, and room for what will be seen in them.
+/// Returns `limit` empty cells and room for what will be seen in them, or `None` if memory runs out.
 fn cells_and_room(alloc: Global, limit: u32) -> Option<(CellRow, Vec<Seen<Entry>>)>
     ensures cells { IfSome result (λ made. length made.0 ≡ limit) }
     ensures unused { IfSome result (λ made. made.1.items ≡ []) }

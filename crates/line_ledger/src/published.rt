@@ -1,4 +1,4 @@
-//! The published entries, as a source of packets.
+//! Reads the published entries from the cells, as a source of packets that takes no lock.
 ghost use Rattle.std.specs.Prelude.{◌≡◌, ◌≤◌, ◌↔◌, [], take, length, OnOk, OnErr, IsTrue};
 ghost use Rattle.scratch_fold.specs.Places.{HasPlacesUpTo, IsPlacedUpTo};
 ghost use Rattle.tape_frames.specs.EntryRows.{Carries, HasNoLaterPlaces};
@@ -14,8 +14,9 @@ use tape_core::Entry;
 use tape_frames::Source;
 use tape_types::TapeNumber;
 
-/// The entries that were found in a shared tape's cells, from the first on, as a source: it takes no lock, so it never waits
-/// for the lines. It keeps what was seen, which takes no bytes, and how many entries there are, and reads an entry in its cell again.
+/// The entries that were found in a shared tape's cells, from the first on, as a source. It takes no lock, so it never waits
+/// for the lines. It keeps what was seen, which takes no bytes, and the number of entries, and reads an entry in its cell
+/// again.
 #[derive(Drop)]
 pub struct Published<'a, D: DayName> {
     shared: &'a SharedTape<D>,
@@ -37,7 +38,7 @@ impl<'a, D: DayName> Model for Published<'a, D> {
 }
 
 impl<'a, D: DayName> Published<'a, D> {
-    /// Nothing found yet. It takes no memory.
+    /// Makes a source that has found no entry yet. It does not allocate.
     pub fn new(shared: &'a SharedTape<D>) -> Published<'a, D>
         ensures cells { result.names ≡ shared.now }
         ensures none { result.tokens ≡ [] }
@@ -49,7 +50,7 @@ impl<'a, D: DayName> Published<'a, D> {
         }
     }
 
-    /// What was seen of each entry, in order.
+    /// Returns what was seen of each entry, in order.
     pub fn into_sightings(self) -> Vec<Sighting>
         ensures tokens { result.items ≡ self.entry.tokens }
         ensures first { FirstTokens self.entry.names result.items }
@@ -63,7 +64,7 @@ impl<'a, D: DayName> Published<'a, D> {
         found
     }
 
-    /// Looks at the next cell: whether it had one entry more.
+    /// Looks at the next cell, and returns whether it had one more entry.
     #[tactic(auto, using(crate::proofs::Pushes::goes_on_none, crate::proofs::Pushes::goes_on_push))]
     fn look_on(&mut self) -> Result<bool, AllocError>
         ensures cells { self.new.names ≡ self.old.names }
@@ -84,7 +85,7 @@ impl<'a, D: DayName> Published<'a, D> {
         Ok(true)
     }
 
-    /// Keeps the first so many alone.
+    /// Keeps only the first `count` entries.
     fn keep_first(&mut self, count: u32)
         requires { count ≤ length self.old.tokens }
         ensures { self.new ≡ record self.old { tokens = take count self.old.tokens } }
@@ -94,22 +95,22 @@ impl<'a, D: DayName> Published<'a, D> {
     }
 }
 
-/// Whether a source may have the entry under this number: it has that number, carries what its kind does, and names no place
-/// after its own. What a cell holds comes with no proof of it, so it is looked at.
+/// Returns whether a source may have the entry under this number: it has that number, carries what its kind does, and names no
+/// place after its own. No proof of this comes with what a cell holds, so it is checked.
 fn can_follow(entry: &Entry, number: u32) -> bool
     ensures { IsTrue result ↔ ((entry.now.number ≡ number) × Carries entry.now × HasNoLaterPlaces entry.now) }
 {
     entry.number.value() == number && carries(entry) && has_no_later_places(entry)
 }
 
-/// Whether the entry carries a summary exactly where its kind does.
+/// Returns whether the entry carries a summary exactly if its kind does.
 fn carries(entry: &Entry) -> bool
     ensures { IsTrue result ↔ Carries entry.now }
 {
     entry.message.target().is_some() == entry.after.is_some()
 }
 
-/// Whether no mark of what the entry carries has a place above the entry's number.
+/// Returns whether no mark of what the entry carries has a place above the entry's number.
 fn has_no_later_places(entry: &Entry) -> bool
     ensures { IsTrue result ↔ HasNoLaterPlaces entry.now }
 {
@@ -119,7 +120,7 @@ fn has_no_later_places(entry: &Entry) -> bool
     }
 }
 
-/// Whether no mark of the summary has a place above this one.
+/// Returns whether no mark of the summary has a place above this one.
 fn has_places_up_to(summary: &Summary, most: TapeNumber) -> bool
     ensures { IsTrue result ↔ HasPlacesUpTo most summary.now }
 {
@@ -129,7 +130,7 @@ fn has_places_up_to(summary: &Summary, most: TapeNumber) -> bool
         && is_placed_up_to(&summary.last, most)
 }
 
-/// Whether a mark, where there is one, has no place above this one.
+/// Returns whether a mark, if there is one, has no place above this one.
 fn is_placed_up_to(figure: &Option<Mark>, most: TapeNumber) -> bool
     ensures { IsTrue result ↔ IsPlacedUpTo most figure.now }
 {
@@ -142,8 +143,8 @@ fn is_placed_up_to(figure: &Option<Mark>, most: TapeNumber) -> bool
 impl<D: DayName> Source for Published<'_, D> {
     ghost list = { λ p. shown p.tokens };
 
-    /// Looks on from its own count, up to the first cell that shows no entry which can follow. Where memory runs out, it is as
-    /// it was.
+    /// Looks on from its own count, up to the first cell without an entry that can follow. If memory runs out, the source is
+    /// unchanged.
     #[tactic(auto, using(crate::proofs::Pushes::shown_goes_on))]
     fn refresh(&mut self) -> Result<(), AllocError>
         ensures cells { self.new.names ≡ self.old.names }

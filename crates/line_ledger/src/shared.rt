@@ -1,4 +1,4 @@
-//! The tape behind one lock.
+//! Shares a day's tape behind one lock, with its cells beside the lock: calls admit, view, publish, read and end.
 ghost use Rattle.std.specs.Prelude.{◌≡◌, ◌≤◌, ◌↔◌, false, map, length, IfOk, IfErr, IfSome, IsTrue, Err};
 ghost use Rattle.tape_core.specs.Tape.{lists_symbol};
 ghost use Rattle.line_ledger.specs.Days.{terms_of};
@@ -23,18 +23,18 @@ use std::sync::{Mutex, MutexGuard, Wait};
 use tape_core::Entry;
 use tape_types::Symbol;
 
-/// How often a call of the sender or of a viewer tries for the lock before it may sleep for it.
+/// How often a call of the sender or of a viewer tries the lock before it may sleep.
 const TRIES: u32 = 30;
 
-/// How often a line tries for the lock before it may sleep for it: less often, so that lines that meet at the lock sleep and let
-/// the sender pass.
+/// How often a line tries the lock before it may sleep: less often, so that lines that meet at the lock sleep and let the
+/// sender pass.
 const LINE_TRIES: u32 = 6;
 
-/// How many turns of `spin_loop` are between two tries: about as long as ten admissions take. With more frequent tries the lock
-/// and the end of the tape would move from one processor's caches to another's at each message.
+/// The number of turns of `spin_loop` between two tries, about as long as ten admissions take. With more frequent tries the
+/// lock and the end of the tape would move from one processor's caches to another's at each message.
 const TURNS: u32 = 200;
 
-/// Lets some time pass.
+/// Spins for `TURNS` turns.
 fn pause() {
     for _ in 0..TURNS {
         spin_loop();
@@ -58,8 +58,8 @@ impl<D: DayName> Model for SharedTape<D> {
 }
 
 impl<D: DayName> SharedTape<D> {
-    /// Opens the day: the shared tape, and a seat for each participant, in listing order and told nothing. What was prepared
-    /// is spent; where memory runs out it is 8 OutOfMemory. `D` is to name what was prepared.
+    /// Opens the day. It returns the shared tape and a seat for each participant, in listing order and told nothing, or 8
+    /// OutOfMemory if memory runs out. What was prepared is spent in both cases. `D` must name what was prepared.
     pub fn open(prepared: Prepared) -> Result<(SharedTape<D>, Vec<LineSeat<D>>), OpenFault>
         requires name { prepared.blank.name ≡ D.name }
         requires parts { prepared.blank.parts ≡ D.parts }
@@ -79,7 +79,7 @@ impl<D: DayName> SharedTape<D> {
         ))
     }
 
-    /// Takes the lock. Its holder is soon done, sooner than a thread could sleep and be woken, so the lock is tried so many times
+    /// Takes the lock. Its holder is done sooner than a thread could sleep and be woken, so the lock is tried `tries` times
     /// before the thread may sleep.
     #[inline(always)]
     fn lock(&self, rt: &impl Wait, tries: u32) -> MutexGuard<'_, Locked<D>> {
@@ -92,8 +92,8 @@ impl<D: DayName> SharedTape<D> {
         self.locked.lock(rt)
     }
 
-    /// Admits a message of the seat's participant under the lock, as `Locked::admit` does, with its refusals. What the tape
-    /// was at that moment no clause can name, so these say what the seat's holder learns. It may wait for the lock.
+    /// Admits a message of the seat's participant under the lock, as `Locked::admit` does, with its refusals. No clause can
+    /// name the tape of that moment, so the clauses say what the seat's holder learns. It may wait for the lock.
     #[inline(always)]
     pub fn admit(
         &self,
@@ -122,8 +122,9 @@ impl<D: DayName> SharedTape<D> {
         self.lock(rt, TRIES).view(seat, symbol)
     }
 
-    /// Publishes the tape's next entries under the lock, at most so many, as `Locked::publish` does, with its faults: how many
-    /// cells were set. No memory is asked for but that of the cells. It may wait for the lock; whoever looks at the cells does not.
+    /// Publishes the tape's next entries under the lock, at most `most`, as `Locked::publish` does, with its errors, and
+    /// returns how many cells were set. It allocates only the memory of the cells. It may wait for the lock; whoever looks at
+    /// the cells does not.
     pub fn publish(&self, rt: &impl Wait, most: u32) -> Result<u32, PublishFault>
         ensures most { IfOk result (λ set. set ≤ most) }
         ensures cells { IfOk result (λ set. set ≤ length self.now) }
@@ -132,22 +133,22 @@ impl<D: DayName> SharedTape<D> {
         Ok(seen.len() as u32)
     }
 
-    /// Takes the lock for a reader of the tape, as when the lines have ended: what it guards is lent, and whoever admits, views or publishes
-    /// waits until the guard is dropped. It may wait for the lock.
+    /// Takes the lock for a reader of the tape, for example when the lines have ended. It lends what the lock guards, and
+    /// whoever admits, views or publishes waits until the guard is dropped. It may wait for the lock.
     pub fn read(&self, rt: &impl Wait) -> MutexGuard<'_, Locked<D>> {
         self.lock(rt, TRIES)
     }
 
-    /// Reads the cell of a tape number: `None` where the number is 0, above the tape's limit, or not seen to be published.
-    /// It takes no lock and never waits, whatever the lines do, and the same few steps at each number. That what was published
-    /// is seen is not promised.
+    /// Reads the cell of a tape number, and returns `None` if the number is 0, above the tape's limit, or not seen to be
+    /// published. It takes no lock, never waits, whatever the lines do, and takes the same few steps at each number. It may
+    /// miss what was published.
     pub fn look(&self, number: u32) -> Option<Token>
         ensures token { IfSome result (λ token. (token.number ≡ number) × IsTokenOf self.now token) }
     {
         self.row.look(number)
     }
 
-    /// A token of the same cell with the same entry.
+    /// Returns a token of the same cell with the same entry.
     pub fn again(&self, token: &Token) -> Token
         requires { IsTokenOf self.now token.now }
         ensures same { result ≡ token.now }
@@ -155,7 +156,8 @@ impl<D: DayName> SharedTape<D> {
         self.row.again(token)
     }
 
-    /// The token of a cell that was seen to hold its entry, which is read there again. It takes no lock and never waits.
+    /// Returns the token of a cell that was seen to hold its entry, which is read there again. It takes no lock and never
+    /// waits.
     pub fn show(&self, number: u32, sighting: &Sighting) -> Token
         requires cell { IsTokenOf self.now sighting.now }
         requires number { sighting.now.number ≡ number }
@@ -164,7 +166,7 @@ impl<D: DayName> SharedTape<D> {
         self.row.show(number, sighting)
     }
 
-    /// Two tokens of one number show one entry, whichever threads got them.
+    /// Shows that two tokens of one number have the same entry, whichever threads got them.
     pub fn compare(&self, one: &Token, other: &Token)
         requires one { IsTokenOf self.now one.now }
         requires other { IsTokenOf self.now other.now }
@@ -174,8 +176,8 @@ impl<D: DayName> SharedTape<D> {
         self.row.compare(one, other);
     }
 
-    /// Whether these entries have what was seen in each of the first so many cells, as the entries of a tape of the day have. It takes no
-    /// lock.
+    /// Returns whether these entries have what was seen in each of the first `many` cells, as the entries of a tape of the day
+    /// have. It takes no lock.
     pub fn have_all_seen(&self, entries: &[Entry], sightings: &Vec<Sighting>, many: u32) -> bool
         requires cells { FirstTokens self.now sightings.now.items }
         requires many { length sightings.now.items ≡ many }
@@ -184,23 +186,23 @@ impl<D: DayName> SharedTape<D> {
         self.row.have_all_seen(entries, sightings, many)
     }
 
-    /// How many cells there are: the tape's limit.
+    /// Returns the number of cells: the tape's limit.
     pub(crate) fn cells(&self) -> u32
         ensures { result ≡ length self.now }
     {
         self.row.many()
     }
 
-    /// Where the memory of the cells comes from.
+    /// Returns the allocator of the cells.
     pub(crate) fn alloc(&self) -> Global {
         self.row.alloc()
     }
 
-    /// Ends the day, with the seats in any order. Where there is not exactly one seat of each participant it is 91 MissingSeat:
-    /// shared tape and seats are handed back, and the tape stays open. Else the tape is closed and the seats are spent, and
-    /// it is 92 Disagrees where a seat was not told what the tape has of its participant. It waits for nobody: the owner of the
-    /// shared tape has joined every thread that borrowed it. It goes over the tape once for all participants, and once over the
-    /// cells.
+    /// Ends the day, with the seats in any order. If there is not exactly one seat of each participant, it returns 91
+    /// MissingSeat with the shared tape, which stays open, and the seats. Otherwise it closes the tape and spends the seats,
+    /// and returns 92 Disagrees if a seat was not told what the tape has of its participant. It waits for nobody: the owner of
+    /// the shared tape has joined every thread that borrowed it. It reads the tape once for all participants, and the cells
+    /// once.
     pub fn end(self, seats: Vec<LineSeat<D>>) -> Result<Day, EndFault<D>>
         ensures ok { IfOk result (λ day. IsEnd D.terms seats.items day.tape) }
         ensures cells { IfOk result (λ day. day.names ≡ self) }

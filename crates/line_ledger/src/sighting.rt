@@ -1,4 +1,4 @@
-//! That a cell was seen to hold its entry, without the entry.
+//! Records that a cell was seen to hold its entry, without keeping the entry.
 ghost use Rattle.std.specs.Prelude.{◌≡◌, Some};
 
 use seen_cells::Seen;
@@ -6,8 +6,8 @@ use std::marker::Model;
 use std::snapshot::Snapshot;
 use tape_core::Entry;
 
-/// That a cell was seen to hold its entry, by the cell's number. It takes no bytes: clauses see a token, and the entry is read in the cell
-/// again. It may be lent to threads.
+/// A record that the cell of a number was seen to hold its entry. It takes no bytes: clauses see a token, and the entry is read
+/// in the cell again. It may be lent to threads.
 #[derive(Drop)]
 pub struct Sighting {
     pub(crate) number: Snapshot<u32>,
@@ -27,7 +27,7 @@ impl Model for Sighting {
 }
 
 impl Sighting {
-    /// What was seen in the cell of this number: this entry.
+    /// Records that this entry was seen in the cell of this number.
     pub(crate) fn of(number: u32, entry: &Entry, seen: Seen<Entry>) -> Sighting
         requires { seen.known ≡ Some entry.now }
         ensures { result ≡ record { number = number; entry = entry.now; cell = seen.cell } }

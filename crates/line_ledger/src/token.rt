@@ -1,4 +1,4 @@
-//! What one cell was seen to hold.
+//! Keeps the entry that one cell was seen to hold.
 ghost use Rattle.std.specs.Prelude.{◌≡◌};
 
 use crate::Sighting;
@@ -6,8 +6,8 @@ use seen_cells::Seen;
 use std::marker::Model;
 use tape_core::Entry;
 
-/// The entry that a cell was seen to hold, by the cell's number. A cell is set once, so a token stays true; it may be lent
-/// to threads. Only a cell that holds an entry gives one.
+/// The entry that the cell of a number was seen to hold. A cell is set once, so a token stays true. It may be lent to threads.
+/// Only a cell that holds an entry makes one.
 #[derive(Drop)]
 pub struct Token {
     pub(crate) number: u32,
@@ -27,21 +27,21 @@ impl Model for Token {
 }
 
 impl Token {
-    /// The number of the cell, from 1, which is the entry's tape number where the day confirms it.
+    /// Returns the number of the cell, from 1, which is the entry's tape number if the day confirms it.
     pub fn number(&self) -> u32
         ensures number { result ≡ self.now.number }
     {
         self.number
     }
 
-    /// The entry that the cell holds.
+    /// Returns the entry that the cell holds.
     pub fn entry(&self) -> Entry
         ensures entry { result ≡ self.now.entry }
     {
         self.entry
     }
 
-    /// That the cell was seen to hold the entry, which takes no bytes.
+    /// Returns the record that the cell was seen to hold the entry, which takes no bytes.
     pub fn into_sighting(self) -> Sighting
         ensures same { result ≡ self }
     {

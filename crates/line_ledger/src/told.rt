@@ -1,4 +1,4 @@
-//! What a line is told.
+//! An admission as a line is told of it.
 
 use reports::Message;
 use tape_types::TapeNumber;

@@ -1,4 +1,4 @@
-//! Why a line is not shown the tape.
+//! The errors of a view of the tape.
 ghost use Rattle.std.specs.Prelude.{◌≡◌, Some};
 ghost use Rattle.line_ledger.specs.Faults.{view_fault_code, view_fault_name};
 
@@ -8,14 +8,14 @@ use thiserror::Error;
 /// Why a line is not shown a symbol's summary, the first reason that applies.
 #[derive(Clone, Copy, Debug, PartialEq, Eq, Error)]
 pub enum ViewFault {
-    /// The symbol is not listed. It has the number of the tape's refusal of this name.
+    /// The symbol is not listed. This fault has the number of the tape's refusal of this name.
     UnknownSymbol,
     /// 94 Behind: the tape's count, sizes or last number of the participant is not what its line was told.
     Behind,
 }
 
 impl ViewFault {
-    /// The number of the fault.
+    /// Returns the number of the fault.
     pub fn code(self) -> u8
         ensures number { result ≡ view_fault_code self }
     {
@@ -25,7 +25,7 @@ impl ViewFault {
         }
     }
 
-    /// The name of the fault, as it is printed.
+    /// Returns the name of the fault, as it is printed.
     pub fn name(self) -> &'static str
         ensures text { result.now ≡ view_fault_name self }
     {

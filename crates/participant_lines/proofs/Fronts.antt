@@ -1,4 +1,4 @@
--- The front of a frame, as it is read.
+-- Shows what the front of a frame is, as it is read: its length, its body, and a body that ends too early.
 use Rattle.std.proofs.Common.{◌≡◌, ℕ, ◌+◌, ◌<◌, ◌≤◌, ◌⊎◌, List, ◌++◌, Option, length, length-append, length-take-le, take, take-take, take_all, ap, arith}
 use Rattle.std.proofs.Common.{subst, sym, inr, ◌∙◌}
 use Rattle.std.specs.Int.{w16, from_be_bytes}
@@ -19,7 +19,7 @@ front_frame bytes len is within fits =
       whole = omega (arith, length-take-le (2 + len) bytes fits, announced);
     }
 
--- the two bytes of a length, as they stand in a row
+-- the two bytes of a length, as they are in a row
 pub head_read : (had left : Option (List ℕ)) (old row : List ℕ) (n : ℕ) → n ≡ 2
     → (piece : List ℕ) × (0 + length piece ≡ n) × (take n row ≡ take 0 old ++ piece) × Consumes had left piece
     → Consumes had left (take 2 row)
@@ -60,7 +60,7 @@ module _ (had mid left : Option (List ℕ)) (head piece : List ℕ) (len : ℕ) 
     inr (subst IsLength (sym is_len) within, omega (arith, size, is_len, short)),
   )
 
-  -- a frame whose body ends too early, where the input ends
+  -- a frame whose body ends too early because the input ends
   pub cut_off : length piece < len → IsAtEnd left
       → (part : List ℕ) × Consumes had left part × (1 ≤ length part) × IsPart part × IsAtEnd left
   unfolding unfinished

@@ -1,4 +1,4 @@
--- What a frame spells.
+-- Shows that a message that is read from a frame is spelled by all of it.
 use Rattle.std.proofs.Common.{◌≡◌, ℕ, ◌+◌, ◌≤◌, ◌==◌, ◌||◌, List, Result, Ok, Err, cond, ltb, length, take, drop, sym, ap, subst, ◌∙◌}
 use Rattle.std.proofs.Math.Seq.{take-length}
 use Rattle.reports.specs.Fields.{◌>>=◌}
@@ -10,7 +10,7 @@ use Rattle.reports.specs.declared.message.Message.{Message}
 use Rattle.reports.specs.Lemmas.Fields.{passed, bind_ok, ok_is}
 use Rattle.participant_lines.specs.Frames.{IsFrame}
 
--- a message that is read of a frame takes all of it
+-- a message that is read from a frame takes all of it
 pub whole_message : (frame : List ℕ) (x : Message × ℕ) → IsFrame frame → Ok x ≡ message_at frame → x.1 ≡ length frame
 unfolding message_at
 whole_message frame x is read =
@@ -24,7 +24,7 @@ whole_message frame x is read =
     let b = bind_ok (body_message inner) (λ m. Ok (m, 2 + len)) x g3.1 in
     ap (λ (y : Message × ℕ). y.1) (sym (ok_is fault.Short (b.0, 2 + len) x b.2)) ∙ sym is.whole
 
--- a message that is read of a frame is spelled by all of it
+-- a message that is read from a frame is spelled by all of it
 pub spelled : (frame : List ℕ) (x : Message × ℕ) → IsFrame frame → Ok x ≡ message_at frame → (x.1 ≤ length frame) × Spells (take x.1 frame) x.0
     → Spells frame x.0
 spelled frame x is read found =

@@ -1,4 +1,4 @@
--- A line's frames, done one after the other.
+-- Shows what a line's frames do, one after the other, and how the line ends.
 use Rattle.std.proofs.Common.{◌≡◌, ◌≢◌, ℕ, ◌+◌, ◌<◌, ◌≤◌, List, [], ◌∷◌, ◌++◌, ◌^◌, Option, Some, None, IfSome, Result, Ok, Err, IfOk, IfErr, inl, inr}
 use Rattle.std.specs.Prelude.{Bool, IfNone, false, true, if◌then◌else◌}
 use Rattle.std.proofs.Common.{length, length-append, append-nil, refl, sym, ap, subst, ◌∙◌, arith}
@@ -33,7 +33,7 @@ abbrev mark_in : Result (Option Mark) Ended → Option Mark
 mark_in (Ok mark) = mark
 mark_in (Err ended) = None
 
--- the effect of a refusal, by whether it is for want of memory
+-- the effect of a refusal, by whether it is `OutOfMemory`
 abbrev effect_by : Bool → ℕ → Refusal → Result (Option Mark) Ended
 effect_by memory number r = if memory then Err OutOfMemory else Ok (Some (record { reason = ByTape r; number = number }))
 
@@ -94,7 +94,7 @@ stopped_by terms s s' m r tells = by (is_out_of_memory r) refl
         (tells.seat, subst (TellsWhy terms s m (line.Refused tape.OutOfMemory)) tells.seat told)
     by false is = tt
 
--- an answer at which the line ends leaves the seat as it was, and gives the reason of the end
+-- an answer at which the line ends leaves the seat as it was, and is the reason of the end
 effect-stops : (terms : Terms) (s s' : SeatState) (m : Message) (answer : Result ℕ LineRefusal) → IsAnswered terms s m answer s'
     → IfErr (effect_of (header_of m).number answer) (λ ended. (s' ≡ s) × StopsAt ended terms s m)
 effect-stops terms s s' m (Ok number) tells = tt
@@ -107,7 +107,7 @@ pub stopped : (terms : Terms) (s s' : SeatState) (m : Message) (answer : Result 
 stopped terms s s' m answer result tells is =
     subst (λ (r : Result (Option Mark) Ended). IfErr r (λ ended. (s' ≡ s) × StopsAt ended terms s m)) (sym is) (effect-stops terms s s' m answer tells)
 
--- where nothing was read, no frame is done and the seat is as it was
+-- if nothing was read, no frame is done and the seat is as it was
 pub does_none : (terms : Terms) (s : SeatState) (had : Option (List ℕ)) → Does terms s had had 0 [] s
 unfolding AreDone
 does_none terms s had = record {
@@ -120,7 +120,7 @@ does_none terms s had = record {
   same = refl;
 }
 
--- where one frame was read and done, one is done
+-- if one frame was read and done, one is done
 pub does_one : (terms : Terms) (s s' : SeatState) (had rest : Option (List ℕ)) (frame : List ℕ) (mark : Option Mark) → IsFrame frame
     → IsDone terms s frame mark s' → Consumes had rest frame → Does terms s had rest 1 (cons_option mark []) s'
 unfolding AreDone
@@ -195,15 +195,15 @@ refusal_end TooMany terms s had rest frame m read is spells stop = absurd stop
 refusal_end OutOfMemory terms s had rest frame m read is spells stop = (frame, m, read, is, spells, stop)
 refusal_end Behind terms s had rest frame m read is spells stop = (frame, m, read, is, spells, stop)
 
--- neither brings the end of as many frames as ever are
+-- an end that the input brings is not `TooMany`
 pub input_few : (ended : Ended) (had rest : Option (List ℕ)) → EndsInput ended had rest → ended ≢ TooMany
 input_few ended had rest end is = subst (λ (e : Ended). EndsInput e had rest) is end
 
--- nor is the end at a message that of as many frames as ever are
+-- nor is an end at a message
 pub refusal_few : (ended : Ended) (terms : Terms) (s : SeatState) (m : Message) → StopsAt ended terms s m → ended ≢ TooMany
 refusal_few ended terms s m stop is = subst (λ (e : Ended). StopsAt e terms s m) is stop
 
--- a line that ended before it did as many frames as ever are
+-- a line that ended before it did `FRAMES_MOST` frames
 pub runs_ended : (terms : Terms) (s s' s'' : SeatState) (had left rest : Option (List ℕ)) (many : ℕ) (marks : List Mark) (ended : Ended)
     → Does terms s had left many marks s' → s'' ≡ s' → EndsAfter ended terms s' left rest → ended ≢ TooMany → many < FRAMES_MOST
     → RunsSo terms s had rest marks ended s''
@@ -217,7 +217,7 @@ runs_ended terms s s' s'' had left rest many marks ended does same after goes_on
       fewer = λ _. fewer;
     })
 
--- a line that did as many frames as ever are
+-- a line that did `FRAMES_MOST` frames
 pub runs_most : (terms : Terms) (s s' : SeatState) (had rest : Option (List ℕ)) (many : ℕ) (marks : List Mark)
     → Does terms s had rest many marks s' → many ≡ FRAMES_MOST → RunsSo terms s had rest marks TooMany s'
 runs_most terms s s' had rest many marks does all = record {
@@ -234,7 +234,7 @@ pub runs_counted : (terms : Terms) (s s' : SeatState) (had rest : Option (List �
     → refused ≡ tally.refused → RunsTallied terms s had rest tally ended s' → Runs terms s had rest refused ended s'
 runs_counted terms s s' had rest tally refused ended is (marks, counted, runs) = (marks, is ∙ counted.all, runs)
 
--- a tally with what is counted of one frame more, if anything
+-- a tally with one more frame, if it is counted
 pub counted_next : (marks : List Mark) (mark : Option Mark) (old new : Tally) → IfNone mark (new ≡ old)
     → IfSome mark (λ m. length marks + 1 < 2 ^ 32 → AreCounted marks old → AreCounted (marks ++ m ∷ []) new)
     → length marks + 1 < 2 ^ 32 → AreCounted marks old → AreCounted (marks ++ cons_option mark []) new

@@ -1,4 +1,4 @@
--- What is counted of one refused frame more.
+-- Shows that a tally counts one more refused frame for its reason.
 use Rattle.std.proofs.Common.{◌≡◌, ◌≢◌, ◌<◌, ◌≤◌, ◌+◌, ◌-◌, ◌^◌, ◌==◌, ◌∷◌, ◌++◌, ◌∙◌, [], ℕ, List, Bool, true, false, cond, Option, Some, None, IfSome}
 use Rattle.std.proofs.Common.{ap, arith, inl, inr, length, length-append, refl, replicate, subst, sym, zero-add}
 use Rattle.std.proofs.lemmas.Bool.{cases_Bool, eq-eqb}
@@ -55,7 +55,7 @@ pub code_range : (r : Reason) → (11 ≤ reason_code r) × (reason_code r ≤ 4
 code_range (Unspelled f) = fault_range f
 code_range (ByTape r) = refusal_range r
 
--- each reason is among all
+-- each reason is in `ALL_REASONS`
 pub reason-known : (why : Reason) → Contains all_reasons why
 reason-known (Unspelled fault.Oversize) = (0, omega arith, refl)
 reason-known (Unspelled fault.Short) = (1, omega arith, refl)
@@ -84,7 +84,7 @@ reason-known (ByTape tape.NotInMatrix) = (23, omega arith, refl)
 
 -- ## Lists
 
--- an element more that fails a test is not the first to pass it
+-- one more element that fails a test is not the first to pass it
 find-fails : {X : Type 0} (p : X → Bool) (xs : List X) (x : X) → p x ≡ false → find p (xs ++ x ∷ []) ≡ find p xs
 find-fails p [] x fails = rw fails refl
 find-fails p (y ∷ xs) x fails = elim (cases_Bool (p y)) [
@@ -100,7 +100,7 @@ find-found p (z ∷ xs) x y found = elim (cases_Bool (p z)) [
   | inr other ↦ rw other (find-found p xs x y (rw other at found))
 ]
 
--- an element more is the first that passes a test where none did
+-- one more element is the first that passes a test if none did
 find-new : {X : Type 0} (p : X → Bool) (xs : List X) (x : X) → find p xs ≡ None → p x ≡ true → find p (xs ++ x ∷ []) ≡ Some x
 find-new p [] x none passes = rw passes refl
 find-new p (y ∷ xs) x none passes = elim (cases_Bool (p y)) [
@@ -108,7 +108,7 @@ find-new p (y ∷ xs) x none passes = elim (cases_Bool (p y)) [
   | inr other ↦ rw other (find-new p xs x (rw other at none) passes)
 ]
 
--- where nothing passes a test, none are counted
+-- if nothing passes a test, none are counted
 count_by-none : {X : Type 0} (p : X → Bool) (xs : List X) → find p xs ≡ None → count_by p xs ≡ 0
 count_by-none p [] none = refl
 count_by-none p (y ∷ xs) none = elim (cases_Bool (p y)) [
@@ -117,11 +117,11 @@ count_by-none p (y ∷ xs) none = elim (cases_Bool (p y)) [
       ∙ rw other (zero-add _ ∙ count_by-none p xs (rw other at none))
 ]
 
--- an element more is counted where it passes
+-- one more element is counted if it passes
 count_by-passes : {X : Type 0} (p : X → Bool) (xs : List X) (x : X) → p x ≡ true → count_by p (xs ++ x ∷ []) ≡ count_by p xs + 1
 count_by-passes p xs x passes = sum_by_push (λ x. cond (p x) 1 0) xs x ∙ rw passes refl
 
--- and not where it fails
+-- and not if it fails
 count_by-fails : {X : Type 0} (p : X → Bool) (xs : List X) (x : X) → p x ≡ false → count_by p (xs ++ x ∷ []) ≡ count_by p xs
 count_by-fails p xs x fails = sum_by_push (λ x. cond (p x) 1 0) xs x ∙ rw fails (omega arith)
 
@@ -139,7 +139,7 @@ refused_frames-same reason marks mark other =
     ap (λ (n : ℕ). counted n (find (is_for reason) (marks ++ mark ∷ []))) (count_by-fails (is_for reason) marks mark other)
     ∙ ap (counted (count_by (is_for reason) marks)) (find-fails (is_for reason) marks mark other)
 
--- one frame more that was refused for this reason
+-- one more frame that was refused for this reason
 refused_frames-more : (reason : Reason) (marks : List Mark) (mark : Mark) → is_for reason mark ≡ true
     → refused_frames reason (marks ++ mark ∷ []) ≡ Some (one_more (refused_frames reason marks) mark.number)
 unfolding refused_frames
@@ -157,7 +157,7 @@ refused_frames-more reason marks mark same = cases (find p marks) refl
         ap (counted (count_by p (marks ++ mark ∷ []))) (find-found p marks mark first found)
         ∙ ap (λ (n : ℕ). counted n (Some first)) (count_by-passes p marks mark same)
 
--- the marks that are counted are among all
+-- no more marks are counted than there are
 refused_frames-few : (reason : Reason) (marks : List Mark) → IfSome (refused_frames reason marks) (λ refused. refused.count ≤ length marks)
 unfolding refused_frames
 refused_frames-few reason marks = cases (find (is_for reason) marks)
@@ -166,14 +166,14 @@ refused_frames-few reason marks = cases (find (is_for reason) marks)
     cases None = tt
     cases (Some mark) = count_by-le-length (is_for reason) marks
 
--- what holds of a value holds of less
+-- if a stronger fact holds of a value, a weaker one does
 if_some-weaker : {A : Type 0} (P Q : A → Type 0) (o : Option A) → ((a : A) → P a → Q a) → IfSome o P → IfSome o Q
 if_some-weaker P Q None f h = tt
 if_some-weaker P Q (Some a) f h = f a h
 
 -- ## Tallies
 
--- nothing is refused of no frames
+-- an empty tally is that of no refused frame
 pub AreCounted-none : (tally : Tally) → tally.reasons ≡ replicate 34 None → tally.refused ≡ 0 → AreCounted [] tally
 unfolding refused_frames
 AreCounted-none tally none nothing = record {
@@ -184,7 +184,7 @@ AreCounted-none tally none nothing = record {
       ∙ get_or-replicate 34 (reason_code reason - 11) None None (omega (arith, range.1));
 }
 
--- a frame more is counted for its reason
+-- one more frame is counted for its reason
 more_at : (old new : Tally) (mark : Mark) (place : ℕ) (more : Refused) (marks : List Mark)
     → length old.reasons ≡ 34 → place + 11 ≡ reason_code mark.reason → new.reasons ≡ slice_set old.reasons place (Some more)
     → (IfSome (slice_index_or old.reasons place None) (λ refused. refused.count + 1 < 2 ^ 32)
@@ -215,7 +215,7 @@ more_at old new mark place more marks size at set is fits had reason =
           ∙ had.each reason ∙ sym (refused_frames-same reason marks mark other)
     ]
 
--- so the tally is that of all
+-- so the tally is that of all the frames
 pub AreCounted-more : (old new : Tally) (mark : Mark) (place : ℕ) (more : Refused) (marks : List Mark)
     → length old.reasons ≡ 34 → place + 11 ≡ reason_code mark.reason → new.reasons ≡ slice_set old.reasons place (Some more)
     → (IfSome (slice_index_or old.reasons place None) (λ refused. refused.count + 1 < 2 ^ 32)

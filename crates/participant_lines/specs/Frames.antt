@@ -1,4 +1,4 @@
--- A line's input: frames one after the other, and what may stand after them.
+-- Defines a line's input: frames one after the other, and what may come after them.
 use Rattle.std.specs.Prelude.{◌≡◌, ◌+◌, ◌<◌, ◌≤◌, ◌⊎◌, ℕ, List, [], length, Option, Result, Ok, Err}
 use Rattle.std.specs.Io.KnownBytes.{Consumes, IsAtEnd}
 use Rattle.reports.specs.Reading.{announced_length, message_at, LONGEST_BODY}
@@ -17,12 +17,12 @@ pub record IsFrame (frame : List ℕ) : Type 0 where
   pub len : IsLength (announced_length frame)
   pub whole : length frame ≡ 2 + announced_length frame
 
--- what a frame spells: a message that is all of it, or none, for this fault
+-- what a frame spells: a message that is all of it, or no message, for this fault
 abbrev pub IsSpelled : List ℕ → Result Message MessageFault → Type 0
 IsSpelled frame (Ok m) = Spells frame m
 IsSpelled frame (Err fault) = message_at frame ≡ Err fault
 
--- a frame was read of what a reader had, which left the rest, and spells this
+-- a frame was read from what a reader had, which left the rest, and spells this
 abbrev pub ReadsFrame : Option (List ℕ) → Option (List ℕ) → Result Message MessageFault → Type 0
 ReadsFrame had rest found = (frame : List ℕ) × IsFrame frame × Consumes had rest frame × IsSpelled frame found
 
@@ -30,7 +30,7 @@ ReadsFrame had rest found = (frame : List ℕ) × IsFrame frame × Consumes had 
 abbrev pub IsPart : List ℕ → Type 0
 IsPart part = (length part < 2) ⊎ (IsLength (announced_length part) × (length part < 2 + announced_length part))
 
--- what was read of an input in which no whole frame comes next, by the end that it brings
+-- what was read from an input in which no whole frame comes next, by the end of the line
 abbrev pub EndsInput : Ended → Option (List ℕ) → Option (List ℕ) → Type 0
 EndsInput Clean had rest = Consumes had rest [] × IsAtEnd rest
 EndsInput Truncated had rest = (part : List ℕ) × Consumes had rest part × (1 ≤ length part) × IsPart part × IsAtEnd rest

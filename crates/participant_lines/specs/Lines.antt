@@ -1,4 +1,4 @@
--- A line's run, from its seat and its reader to its end.
+-- Defines a line's run, from its seat and its reader to its end.
 use Rattle.std.specs.Prelude.{ℕ, List, Option, Some}
 use Rattle.line_ledger.specs.Days.{Terms}
 use Rattle.line_ledger.specs.Seats.{SeatState}

@@ -1,4 +1,4 @@
--- What a line does with its frames, and how it ends.
+-- Defines what a line does with its frames, and how it ends.
 use Rattle.std.specs.Prelude.{◌≡◌, ◌≢◌, ◌+◌, ◌<◌, ◌≤◌, ◌⊎◌, ℕ, List, [], ◌∷◌, length, Option, Some, None, Result, Ok, Err, if◌then◌else◌}
 use Rattle.std.specs.List.{cons_option}
 use Rattle.std.specs.List.{concat}
@@ -28,13 +28,13 @@ use Rattle.participant_lines.specs.declared.line_end.Ended.TheVariants.{Clean, T
 abbrev pub FRAMES_MOST : ℕ
 FRAMES_MOST = 33554432
 
--- what a tape's refusal of the message of this number does to its line: out of memory ends it, and each other one is counted
+-- what a tape's refusal of the message of this number does to its line: `OutOfMemory` ends it, and any other is counted
 abbrev pub refusal_effect : ℕ → Refusal → Result (Option Mark) Ended
 refusal_effect number refusal =
     if is_out_of_memory refusal then Err OutOfMemory else Ok (Some (record { reason = ByTape refusal; number = number }))
 
--- what an answer to the message of this number does to its line: the refusal that is counted, none at an admission, or the end that
--- it brings
+-- what an answer to the message of this number does to its line: the refusal to count, none on an admission, or the end of the
+-- line
 abbrev pub effect_of : ℕ → Result ℕ LineRefusal → Result (Option Mark) Ended
 effect_of number (Ok tape_number) = Ok None
 effect_of number (Err line.Behind) = Err Behind
@@ -63,8 +63,8 @@ AreDone terms s (frame ∷ frames) marks s' =
     (between : SeatState) × (mark : Option Mark) × (others : List Mark) × IsFrame frame × IsDone terms s frame mark between
     × AreDone terms between frames others s' × (marks ≡ cons_option mark others)
 
--- so many frames were read of what a reader had, which left the rest, and were done: each was told of or is among those that were
--- refused, and the seat is the same participant's
+-- so many frames were read from what a reader had, which left the rest, and were done: each was told of or is among those that
+-- were refused, and the seat is the same participant's
 pub record Does (terms : Terms) (s : SeatState) (had rest : Option (List ℕ)) (many : ℕ) (marks : List Mark) (s' : SeatState) : Type 0 where
   pub frames : List (List ℕ)
   pub number : length frames ≡ many
@@ -99,7 +99,7 @@ EndsAfter TooMany terms s had rest = Consumes had rest []
 EndsAfter OutOfMemory terms s had rest = IsStopped OutOfMemory terms s had rest
 EndsAfter Behind terms s had rest = IsStopped Behind terms s had rest
 
--- a line's run, in which these frames were refused: frames were done, as many as ever are with TooMany alone, and then it ended so
+-- a line's run, in which these frames were refused: frames were done, `FRAMES_MOST` only with `TooMany`, and then it ended so
 pub record RunsSo (terms : Terms) (s : SeatState) (had rest : Option (List ℕ)) (marks : List Mark) (ended : Ended) (s' : SeatState) : Type 0 where
   pub many : ℕ
   pub left : Option (List ℕ)

@@ -1,4 +1,4 @@
--- Refused frames, counted by what they were refused for.
+-- Defines the reasons for refused frames, and how these are counted by reason.
 use Rattle.std.specs.Prelude.{◌≡◌, ◌+◌, ◌-◌, ◌==◌, ℕ, Bool, List, [], ◌∷◌, Option, Some, None, find, length}
 use Rattle.std.specs.List.{count_by, slice_index_or}
 use Rattle.std.specs.Option.{option_map}
@@ -35,7 +35,7 @@ all_reasons =
 abbrev pub is_for : Reason → Mark → Bool
 is_for reason mark = reason_code mark.reason == reason_code reason
 
--- those of refused frames that were refused for this reason, if any: how many, and the message number of the first
+-- the refused frames of this reason, if any: how many, and the message number of the first
 unfoldable pub refused_frames : Reason → List Mark → Option Refused
 refused_frames reason marks =
     option_map (λ mark. record { count = count_by (is_for reason) marks; first = mark.number }) (find (is_for reason) marks)
@@ -44,12 +44,12 @@ refused_frames reason marks =
 abbrev pub refused_for : Tally → Reason → Option Refused
 refused_for tally reason = slice_index_or tally.reasons (reason_code reason - 11) None
 
--- this is the tally of these refused frames: how many they are, and for each reason those of it
+-- this is the tally of these refused frames: how many they are, and for each reason how many and the first
 pub record AreCounted (marks : List Mark) (tally : Tally) : Type 0 where
   pub all : tally.refused ≡ length marks
   pub each : (reason : Reason) → refused_for tally reason ≡ refused_frames reason marks
 
--- those refused for a reason, with one more
+-- the refused frames of a reason, with one more
 abbrev pub one_more : Option Refused → ℕ → Refused
 one_more None number = record { count = 1; first = number }
 one_more (Some refused) number = record { count = refused.count + 1; first = refused.first }

@@ -1,4 +1,4 @@
-//! Frames read from a line.
+//! Reads frames from a line: from the reader's buffer if a whole frame is there, else into a row of bytes.
 ghost use Rattle.std.specs.Prelude.{◌≡◌, ◌+◌, ◌≤◌, ◌<◌, ◌++◌, List, ℕ, None, IfErr, IfOk, IfNone, IfSome, length, take};
 ghost use Rattle.std.specs.Io.KnownBytes.{Consumes, IsAtEnd, Keeps};
 ghost use Rattle.reports.specs.Reading.{announced_length, LONGEST_FRAME};
@@ -6,14 +6,14 @@ ghost use Rattle.participant_lines.specs.Frames.{EndsInput, IsFrame, IsLength, I
 
 use crate::Ended;
 use reports::{LONGEST_FRAME, Message, MessageFault, Unread, decode, is_oversize};
-use row_reads::fill;
 use std::io::{BufRead, ErrorKind, Read};
+use whole_io::fill;
 
 /// How many bytes a frame's length has.
 const LENGTH_BYTES: usize = 2;
 
-/// Reads on from one position of the row until another or until the input ends: up to which position, or `None` where a
-/// read failed.
+/// Reads on from one position of the row to another or until the input ends. Returns the position that it reached, or `None` if
+/// a read failed.
 #[inline(always)]
 fn read_on<R: Read>(
     reader: &mut R,
@@ -29,13 +29,11 @@ fn read_on<R: Read>(
     ensures end { IfSome result (λ n. n < to → IsAtEnd (R.remaining reader.new)) }
     ensures failed { IfNone result ((piece : List ℕ) × Consumes (R.remaining reader.old) (R.remaining reader.new) piece × (from + length piece < to)) }
 {
-    match fill(reader, &mut row[from..to]) {
-        Some(read) => Some(from + read),
-        None => None,
-    }
+    let read = fill(reader, &mut row[from..to])?;
+    Some(from + read)
 }
 
-/// The length that bytes announce at their front; `None` where they are fewer than a length has.
+/// The length that bytes announce at their front; `None` if they are fewer than a length has.
 #[tactic(auto, unfolding(reports::specs::Fields::number_at, reports::specs::Fields::bytes_at, reports::specs::Reading::announced_length))]
 fn length_in_front(bytes: &[u8]) -> Option<usize>
     ensures some { IfSome result (λ len. (len ≡ announced_length bytes.now) × (2 ≤ length bytes.now)) }
@@ -48,7 +46,7 @@ fn length_in_front(bytes: &[u8]) -> Option<usize>
     }
 }
 
-/// Reads the length of the next frame to the front of the row, or tells what comes in its place.
+/// Reads the length of the next frame to the front of the row, and returns it, or how the line ends instead.
 #[inline(always)]
 fn read_length<R: Read>(reader: &mut R, row: &mut [u8; LONGEST_FRAME]) -> Result<usize, Ended>
     ensures len { IfOk result IsLength }
@@ -69,17 +67,14 @@ fn read_length<R: Read>(reader: &mut R, row: &mut [u8; LONGEST_FRAME]) -> Result
     Ok(len)
 }
 
-/// Reads the next frame to the front of the row: how many bytes it has, or what comes in its place.
+/// Reads the next frame to the front of the row, and returns how many bytes it has, or how the line ends instead.
 #[inline(always)]
 fn read_frame<R: Read>(reader: &mut R, row: &mut [u8; LONGEST_FRAME]) -> Result<usize, Ended>
     ensures within { IfOk result (λ len. len ≤ LONGEST_FRAME) }
     ensures ok { IfOk result (λ len. IsFrame (take len row.new) × Consumes (R.remaining reader.old) (R.remaining reader.new) (take len row.new)) }
     ensures err { IfErr result (λ ended. EndsInput ended (R.remaining reader.old) (R.remaining reader.new)) }
 {
-    let len = match read_length(reader, row) {
-        Ok(len) => len,
-        Err(ended) => return Err(ended),
-    };
+    let len = read_length(reader, row)?;
     let whole = LENGTH_BYTES + len;
     match read_on(reader, row, LENGTH_BYTES, whole) {
         None => Err(Ended::ReadFault),
@@ -88,7 +83,7 @@ fn read_frame<R: Read>(reader: &mut R, row: &mut [u8; LONGEST_FRAME]) -> Result<
     }
 }
 
-/// What a frame spells: its message, or why it is none.
+/// What a frame spells: its message, or why it spells none.
 pub(crate) type Spelled = Result<Message, MessageFault>;
 
 /// Reads what a frame spells.
@@ -103,7 +98,7 @@ fn spelled(frame: &[u8]) -> Spelled
     }
 }
 
-/// The frame at the front of some bytes, where it stands there whole.
+/// The frame at the front of some bytes, if it is there whole.
 #[inline(always)]
 fn frame_in(bytes: &[u8]) -> Option<&[u8]>
     ensures within { IfSome result (λ frame. length frame.now ≤ length bytes.now) }
@@ -117,8 +112,8 @@ fn frame_in(bytes: &[u8]) -> Option<&[u8]>
     Some(&bytes[..LENGTH_BYTES + len])
 }
 
-/// Reads the next frame where the reader has it whole at hand, and copies none of it: what it spells, or `None` where it
-/// is not there, and then nothing was read.
+/// Reads the next frame if the reader's buffer has it whole, without copying it. Returns what it spells, or `None` if it is not
+/// there, and then nothing was read.
 #[inline(always)]
 fn read_at_hand<R: BufRead>(reader: &mut R) -> Result<Option<Spelled>, Ended>
     ensures some { IfOk result (λ found. IfSome found (ReadsFrame (R.remaining reader.old) (R.remaining reader.new))) }
@@ -127,7 +122,7 @@ fn read_at_hand<R: BufRead>(reader: &mut R) -> Result<Option<Spelled>, Ended>
 {
     let piece = match reader.fill_buf() {
         Ok(piece) => piece,
-        // Whatever reads next reads again.
+        // The next read tries again.
         Err(error) if error.kind() == ErrorKind::Interrupted => return Ok(None),
         Err(_) => return Err(Ended::ReadFault),
     };
@@ -140,8 +135,8 @@ fn read_at_hand<R: BufRead>(reader: &mut R) -> Result<Option<Spelled>, Ended>
     Ok(Some(found))
 }
 
-/// Reads the next frame: what it spells, or what comes in its place. One that the reader has not whole at hand is put together
-/// in the row, which is only room.
+/// Reads the next frame, and returns what it spells, or how the line ends instead. A frame that the reader's buffer has not
+/// whole is put together in the row, which is only room.
 #[inline(always)]
 pub(crate) fn read_spelled<R: BufRead>(
     reader: &mut R,
@@ -150,13 +145,9 @@ pub(crate) fn read_spelled<R: BufRead>(
     ensures ok { IfOk result (ReadsFrame (R.remaining reader.old) (R.remaining reader.new)) }
     ensures err { IfErr result (λ ended. EndsInput ended (R.remaining reader.old) (R.remaining reader.new)) }
 {
-    match read_at_hand(reader) {
-        Err(ended) => return Err(ended),
-        Ok(Some(found)) => return Ok(found),
-        Ok(None) => {}
+    if let Some(found) = read_at_hand(reader)? {
+        return Ok(found);
     }
-    match read_frame(reader, row) {
-        Err(ended) => Err(ended),
-        Ok(len) => Ok(spelled(&row[..len])),
-    }
+    let len = read_frame(reader, row)?;
+    Ok(spelled(&row[..len]))
 }

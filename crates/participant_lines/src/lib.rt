@@ -1,4 +1,4 @@
-//! The lines of a day's participants: each brings its messages as bytes, and all of them run at once over one shared tape.
+//! Runs the lines of a day's participants: each brings its messages as bytes, and all of them run at once over one shared tape.
 #![tactic(auto)]
 
 mod frame;

@@ -1,4 +1,4 @@
-//! How a line ends.
+//! Holds how a line ends: its seat, its refused frames, and why it does no more.
 
 use crate::Tally;
 use line_ledger::{DayName, LineSeat};
@@ -28,8 +28,8 @@ pub enum Ended {
 pub struct LineEnd<D: DayName> {
     /// The line's seat, with what it was told.
     pub seat: LineSeat<D>,
-    /// How many frames were refused, from 0 to `FRAMES_MOST`: those that spell no message, and those whose message the tape does
-    /// not take, out of memory aside.
+    /// How many frames were refused, from 0 to `FRAMES_MOST`: those that spell no message, and those whose message the tape
+    /// does not take, out of memory aside.
     pub refused: u32,
     /// Why no more were done.
     pub ended: Ended,

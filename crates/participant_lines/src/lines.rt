@@ -1,4 +1,4 @@
-//! All lines of a day, run at once.
+//! Runs all lines of a day at once, each in its own worker, and returns their ends in the order of the lines.
 ghost use Rattle.std.specs.Prelude.{◌≡◌, ◌<◌, ◌≤◌, ℕ, IfErr, IfOk, None, Some, [], length, map, slice_index_or, vec_len};
 ghost use Rattle.std.specs.Vec.{vec_capacity};
 ghost use Rattle.participant_lines.specs.Lines.{HasRun, HasTallied, held};
@@ -22,7 +22,7 @@ struct Running<D: DayName, R> {
     outcome: Outcome,
 }
 
-/// Lines that were not started, for want of this.
+/// Returns the lines as not started, with no ends, for this lack.
 fn unstarted<D: DayName, R>(
     alloc: Global,
     lines: Vec<(LineSeat<D>, R)>,
@@ -37,7 +37,7 @@ fn unstarted<D: DayName, R>(
     }
 }
 
-/// The lines as they are before they run, or the lines again where memory runs out.
+/// Returns the lines as they are before they run, or the lines again if memory runs out.
 fn running_lines<D: DayName, R>(
     alloc: Global,
     lines: Vec<(LineSeat<D>, R)>,
@@ -63,7 +63,7 @@ fn running_lines<D: DayName, R>(
     Ok(running)
 }
 
-/// The ends of lines that have run, put into a vector with room for them.
+/// Returns the ends of lines that have run, put into a vector with room for them.
 fn tallied_ends<D: DayName, R: Drop>(
     running: Vec<Running<D, R>>,
     ends: Vec<TalliedEnd<D>>,
@@ -87,7 +87,7 @@ fn tallied_ends<D: DayName, R: Drop>(
     ends
 }
 
-/// The same ends without their tallies, put into a vector with room for them.
+/// Returns the same ends without their tallies, put into a vector with room for them.
 fn line_ends<D: DayName>(tallied: Vec<TalliedEnd<D>>, ends: Vec<LineEnd<D>>) -> Vec<LineEnd<D>>
     requires room { vec_len tallied ≤ vec_capacity ends }
     requires empty { ends.items ≡ [] }
@@ -107,7 +107,7 @@ fn line_ends<D: DayName>(tallied: Vec<TalliedEnd<D>>, ends: Vec<LineEnd<D>>) -> 
     ends
 }
 
-/// Runs each line in a worker of its own: the workers are started by halves, and all are joined.
+/// Runs each line in its own worker: the workers are started by halves, and all are joined.
 fn run_each<
     D: DayName + Send + Sync,
     R: BufRead + Send + Drop,
@@ -134,7 +134,7 @@ fn run_each<
     thread::for_each_mut(rt, lines, workers, &work);
 }
 
-/// Runs one line, and lets go of its reader as soon as the line has ended: its peer is not kept waiting for the other lines.
+/// Runs one line, and drops its reader as soon as the line has ended, so that its peer does not wait for the other lines.
 fn run_one<D: DayName, R: BufRead + Drop, G: LineWatch, W: Wait>(
     rt: &W,
     shared: &SharedTape<D>,
@@ -157,8 +157,8 @@ fn run_one<D: DayName, R: BufRead + Drop, G: LineWatch, W: Wait>(
     }
 }
 
-/// Runs all lines at once as `run_lines` does, tells the watch after each frame of each, and hands their tallies back with their ends.
-/// Nothing is started, and all lines come back with their seats, where `run_lines` starts none.
+/// Runs all lines at once as `run_lines` does, calls the watch after each frame of each, and returns their tallies with their
+/// ends. The errors are those of `run_lines`: nothing is started, and all lines are returned with their seats.
 pub fn run_watched_lines<
     D: DayName + Send + Sync,
     R: BufRead + Send + Drop,
@@ -198,13 +198,13 @@ pub fn run_watched_lines<
     Ok(tallied_ends(running, ends))
 }
 
-/// Runs all lines at once, each in a worker as `run_line` runs it, with its position from 0 as its number, and waits for
-/// their ends, which come in the order of the lines. The workers are started by halves. A line's reader is dropped when
-/// that line has ended, while others may still run.
+/// Runs all lines at once, each in a worker as `run_line` runs it, with its position from 0 as its number, and waits for their
+/// ends, which it returns in the order of the lines. The workers are started by halves. A line's reader is dropped when that
+/// line has ended, while others may still run.
 ///
-/// Nothing is started, and all lines come back with their seats, where memory runs out (`Lack::Memory`) or, with two lines or
-/// more, no thread can be started (`Lack::Worker`). Where a thread is refused later, its half of the lines is run by the
-/// thread that asked for it.
+/// Nothing is started, and all lines are returned with their seats, if memory runs out (`Lack::Memory`) or, with two lines or
+/// more, if no thread can be started (`Lack::Worker`). If a thread is refused later, its half of the lines is run by the thread
+/// that asked for it.
 pub fn run_lines<
     D: DayName + Send + Sync,
     R: BufRead + Send + Drop,

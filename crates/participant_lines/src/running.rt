@@ -1,4 +1,4 @@
-//! One line run to its end.
+//! Runs one line to its end: reads its frames, admits their messages, and counts the refused ones.
 ghost use Rattle.std.specs.Prelude.{◌≡◌, ◌≢◌, [], IfErr, IfOk};
 ghost use Rattle.std.specs.List.{cons_option};
 ghost use Rattle.reports.specs.Messages.{header_of};
@@ -17,7 +17,7 @@ use tape_types::Gate;
 /// How many frames a line does at most.
 pub const FRAMES_MOST: u32 = 33_554_432;
 
-/// The outcome of a run, beside its seat.
+/// The outcome of a run, besides its seat.
 #[derive(Clone, Copy, Debug, PartialEq, Eq)]
 pub(crate) struct Outcome {
     /// The frames that were refused.
@@ -26,8 +26,8 @@ pub(crate) struct Outcome {
     pub ended: Ended,
 }
 
-/// What an answer to the message of this number does to its line: the refusal that is counted, none at an admission, or the end that
-/// it brings. Nothing else decides which refusals end a line.
+/// Returns what an answer to the message of this number does to its line: the refusal to count, `None` on an admission, or the
+/// end of the line. Nothing else decides which refusals end a line.
 #[inline(always)]
 fn effect_of(answer: Result<Receipt, LineRefusal>, number: u32) -> Result<Option<Mark>, Ended>
     ensures { result ≡ effect_of number answer }
@@ -48,7 +48,7 @@ fn effect_of(answer: Result<Receipt, LineRefusal>, number: u32) -> Result<Option
     }
 }
 
-/// Admits a message: its refusal, if it is refused so that the line goes on, or why the line ends at it.
+/// Admits a message, and returns its refusal, if it is refused and the line goes on, or why the line ends at it.
 #[inline(always)]
 fn take_message<D: DayName, W: Wait>(
     rt: &W,
@@ -63,8 +63,8 @@ fn take_message<D: DayName, W: Wait>(
     effect_of(shared.admit(rt, seat, message), number)
 }
 
-/// Reads the next frame and does it: the refusal that is counted, if it is refused, or why the line ends before or at it. The row is
-/// only room.
+/// Reads the next frame and does it, and returns the refusal to count, if it is refused, or why the line ends before or at it.
+/// The row is only room.
 #[inline(always)]
 fn do_frame<D: DayName, R: BufRead, W: Wait>(
     rt: &W,
@@ -78,11 +78,7 @@ fn do_frame<D: DayName, R: BufRead, W: Wait>(
     ensures err { IfErr result (λ ended. EndsAfter ended D.terms seat.old (R.remaining reader.old) (R.remaining reader.new)) }
     ensures goes_on { IfErr result (λ ended. ended ≢ TooMany) }
 {
-    let spelled = match read_spelled(reader, row) {
-        Ok(spelled) => spelled,
-        Err(ended) => return Err(ended),
-    };
-    match spelled {
+    match read_spelled(reader, row)? {
         Ok(message) => take_message(rt, shared, seat, message),
         Err(fault) => Ok(Some(Mark {
             reason: Reason::Unspelled(fault),
@@ -91,7 +87,7 @@ fn do_frame<D: DayName, R: BufRead, W: Wait>(
     }
 }
 
-/// Does a line's frames until it ends, and tells the watch after each.
+/// Does a line's frames until it ends, and calls the watch after each.
 pub(crate) fn run_frames<D: DayName, R: BufRead, G: LineWatch, W: Wait>(
     rt: &W,
     shared: &SharedTape<D>,
@@ -121,9 +117,9 @@ pub(crate) fn run_frames<D: DayName, R: BufRead, G: LineWatch, W: Wait>(
 /// to `LONGEST_BODY` in two bytes, big-endian, and as many bytes. One that spells no message is refused, and so is one whose
 /// message the tape does not take, out of memory aside: that is counted, and the line goes on.
 ///
-/// It ends as `Ended` says, and hands the seat back in each case. It reads no byte after those that decide the end, takes no
-/// memory but what an admission takes, and may wait for the lock. After each frame that is done it calls the gate with the
-/// number of the line, `line`, and how many of its frames are done, from 1.
+/// It ends as `Ended` says, and returns the seat in each case. It reads no byte after those that decide the end, allocates only
+/// what an admission does, and may wait for the lock. After each frame that is done it calls the gate with the number of the
+/// line, `line`, and how many of its frames are done, from 1.
 pub fn run_line<D: DayName, R: BufRead, G: Gate, W: Wait>(
     rt: &W,
     shared: &SharedTape<D>,

@@ -1,4 +1,4 @@
-//! The seats of lines, taken back once the lines have ended or were not started.
+//! Takes back the seats of lines that have ended or were not started.
 ghost use Rattle.std.specs.Prelude.{◌≡◌, ◌≤◌, [], map, vec_len};
 ghost use Rattle.std.specs.Vec.{vec_capacity};
 ghost use Rattle.line_ledger.specs.Ends.{whos};
@@ -6,8 +6,8 @@ ghost use Rattle.line_ledger.specs.Ends.{whos};
 use crate::{LineEnd, TalliedEnd};
 use line_ledger::{DayName, LineSeat};
 
-/// The seats of lines that have ended, in the order of the ends given. They are put into an empty vector with room for them, so
-/// that no memory is taken.
+/// Returns the seats of lines that have ended, in the order of the ends. It puts them into an empty vector with room for them,
+/// so it does not allocate.
 pub fn seats_of_ends<D: DayName>(ends: Vec<LineEnd<D>>, room: Vec<LineSeat<D>>) -> Vec<LineSeat<D>>
     requires room { vec_len ends ≤ vec_capacity room }
     requires empty { room.items ≡ [] }
@@ -28,7 +28,7 @@ pub fn seats_of_ends<D: DayName>(ends: Vec<LineEnd<D>>, room: Vec<LineSeat<D>>) 
     seats
 }
 
-/// The seats of lines that have ended, as `seats_of_ends` takes them back, from their ends with tallies.
+/// Returns the seats of lines that have ended as `seats_of_ends` does, from their ends with tallies.
 pub fn seats_of_tallied<D: DayName>(
     tallied: Vec<TalliedEnd<D>>,
     room: Vec<LineSeat<D>>,
@@ -52,8 +52,8 @@ pub fn seats_of_tallied<D: DayName>(
     seats
 }
 
-/// The seats of lines that were not started, in the order of the lines, whose readers are dropped. They are put into an empty
-/// vector with room for them, so that no memory is taken.
+/// Returns the seats of lines that were not started, in the order of the lines, and drops their readers. It puts them into an
+/// empty vector with room for them, so it does not allocate.
 pub fn seats_of_lines<D: DayName, R: Drop>(
     lines: Vec<(LineSeat<D>, R)>,
     room: Vec<LineSeat<D>>,

@@ -1,4 +1,4 @@
-//! The refused frames of a line, counted by what they were refused for.
+//! Counts the refused frames of a line by reason, and keeps for each reason the message number of the first.
 ghost use Rattle.std.specs.Prelude.{◌≡◌, ◌+◌, ◌<◌, ◌≤◌, ◌^◌, ◌++◌, ◌∷◌, List, [], Option, Some, IfSome, length};
 ghost use Rattle.std.specs.List.{Contains, cons_option};
 ghost use Rattle.participant_lines.specs.Tallies.{AreCounted, all_reasons, one_more, reason_code, reason_name, refused_for};
@@ -47,7 +47,7 @@ pub const ALL_REASONS: [Reason; 24] = [
 /// The number of the first reason.
 const FIRST_REASON: u8 = 11;
 
-/// How many numbers reasons have, with those between them that no reason has.
+/// How many numbers there are from the first reason to the last, with those that no reason has.
 const REASONS: usize = 34;
 
 impl Reason {
@@ -61,7 +61,7 @@ impl Reason {
         }
     }
 
-    /// Its name, as it is printed.
+    /// The name of the reason, as it is printed.
     pub fn name(self) -> &'static str
         ensures text { result.now ≡ reason_name self }
     {
@@ -71,7 +71,7 @@ impl Reason {
         }
     }
 
-    /// Its place among those of all reasons.
+    /// The reason's place in the row of a tally, from 0.
     #[tactic(auto, using(crate::proofs::Tallies::code_range))]
     fn place(self) -> usize
         ensures within { result < REASONS }
@@ -86,7 +86,7 @@ impl Reason {
 pub struct Mark {
     /// Why it was refused.
     pub reason: Reason,
-    /// The number of its message, or 0 where it spells none.
+    /// The number of its message, or 0 if it spells none.
     pub number: u32,
 }
 
@@ -95,7 +95,7 @@ pub struct Mark {
 pub struct Refused {
     /// How many they are, 1 or more.
     pub count: u32,
-    /// The message number of the first of them, or 0 where it spells no message.
+    /// The message number of the first of them, or 0 if it spells no message.
     pub first: u32,
 }
 
@@ -106,7 +106,7 @@ pub struct Tally {
     refused: u32,
 }
 
-/// One frame more that is refused for a reason.
+/// Adds one more frame to those that were refused for a reason.
 fn one_more(refused: Option<Refused>, number: u32) -> Refused
     ensures { IfSome refused (λ refused. refused.count + 1 < 2 ^ 32) → result ≡ one_more refused number }
 {
@@ -125,7 +125,7 @@ fn one_more(refused: Option<Refused>, number: u32) -> Refused
 impl Tally {
     ghost use Rattle.participant_lines.specs.declared.tally.Mark.{Mark as TheMark};
 
-    /// Nothing is refused.
+    /// Returns the tally of no refused frame.
     pub fn none() -> Tally
         ensures counts { AreCounted [] result }
     {
@@ -142,14 +142,14 @@ impl Tally {
         self.refused
     }
 
-    /// The frames that were refused for this reason, or `None` where none was.
+    /// The frames that were refused for this reason, or `None` if none was.
     pub fn of(&self, reason: Reason) -> Option<Refused>
         ensures refused { result ≡ refused_for self.now reason }
     {
         self.reasons[reason.place()]
     }
 
-    /// Counts a refused frame more.
+    /// Counts one more refused frame.
     pub(crate) fn add(&mut self, mark: Mark)
         ensures counts { (marks : List TheMark) → length marks + 1 < 2 ^ 32 → AreCounted marks self.old
             → AreCounted (marks ++ mark ∷ []) self.new }
@@ -160,7 +160,7 @@ impl Tally {
         self.refused = self.refused.saturating_add(1);
     }
 
-    /// Counts a refused frame more, if there is one.
+    /// Counts one more refused frame, if there is one.
     #[inline(always)]
     pub(crate) fn count(&mut self, mark: Option<Mark>)
         ensures counts { (marks : List TheMark) → length marks + 1 < 2 ^ 32 → AreCounted marks self.old
@@ -172,7 +172,7 @@ impl Tally {
     }
 }
 
-/// Each reason is among all.
+/// Each reason is in `ALL_REASONS`.
 pub fn each_reason()
     ensures holds { (why : Why) → Contains all_reasons why }
 {}

@@ -1,9 +1,9 @@
-//! Lines that were not started.
+//! Holds the lines that were not started, and why.
 
 use crate::LineEnd;
 use line_ledger::{DayName, LineSeat};
 
-/// What there was too little of.
+/// The reason why lines were not started.
 #[derive(Clone, Copy, Debug, PartialEq, Eq)]
 pub enum Lack {
     /// Memory ran out.
@@ -18,6 +18,6 @@ pub struct Unstarted<D: DayName, R> {
     pub ends: Vec<LineEnd<D>>,
     /// The lines that were not started, with their seats and readers.
     pub lines: Vec<(LineSeat<D>, R)>,
-    /// Why they were not.
+    /// Why they were not started.
     pub why: Lack,
 }

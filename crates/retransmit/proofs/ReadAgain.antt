@@ -36,17 +36,17 @@ use Rattle.retransmit.proofs.LawProofs.{answers_are_read, packet_count-few}
 use Rattle.retransmit.proofs.PacketRuns.{ArePackets-short, length-packet_texts}
 use Rattle.tape_frames.specs.Lemmas.Lengths.{length-data_text}
 
--- a fact that holds anyway
+-- a fact that holds whatever the result
 pub OnOk-always : {A E P : Type 0} (r : Result A E) → P → OnOk r P
 OnOk-always (Ok x) p = p
 OnOk-always (Err e) p = tt
 
--- a fact that follows
+-- a fact that follows from one that holds if the result is Ok
 pub OnOk-then : {A E P Q : Type 0} (r : Result A E) → (P → Q) → OnOk r P → OnOk r Q
 OnOk-then (Ok x) f p = f p
 OnOk-then (Err e) f p = tt
 
--- after its first byte an answer is read by that byte
+-- after its first byte, an answer is read by that byte
 after_first : (first : ℕ) (rest : List ℕ) → first < 256 → answer_at (to_be_bytes w8 first ++ rest) ≡ answered_at first rest
 unfolding answer_at
 after_first first rest byte =
@@ -74,7 +74,7 @@ range_is_read es session version from to order few short rest =
     let read = answers_are_read texts rest (omega (arith, count)) (omega (arith, count, below)) short in
     ap (λ (n : ℕ). answer_at (0 ∷ n ∷ (flat_map framed texts ++ rest))) (sym count) ∙ read
 
--- what is given is read again
+-- each answer is read again
 given_is_read : (es : List Entry) (session : ℕ) (version : Version) (a : Answer) → IsAnswer version es a → IsShort es session version a → (rest : List ℕ)
     → Reads (given_packets es session version a) rest (answer_at (given_text es session version a ++ rest))
 given_is_read es session version (Refused refusal) is short rest = refusal_is_read refusal rest
@@ -85,7 +85,7 @@ pub answer_is_read : (es : List Entry) (session : ℕ) (version : Version) (byte
     → answer_of es session version r ≡ a → IsAnswer version es a → IsShort es session version a → IsReadAgain es session version bytes
 answer_is_read es session version bytes r a read is within short rest = rw (read, is) (given_is_read es session version a within short rest)
 
--- the answer to bytes that are no request is read again
+-- the answer to bytes that are not a request is read again
 pub fault_is_read : (es : List Entry) (session : ℕ) (version : Version) (bytes : List ℕ) (bad : RequestFault) → request_of bytes ≡ Err bad → IsReadAgain es session version bytes
 fault_is_read es session version bytes request.BadSpan read rest = rw read (refusal_is_read BadSpan rest)
 
@@ -106,7 +106,7 @@ request_span bytes r read =
     ∙ ap (λ (x : Request). x.count) (ok_is request.BadSpan all.0.0 r all.2) in
     (omega (arith, leb-true _ _ range.0, is), omega (arith, leb-true _ _ range.1, is))
 
--- what is answered is an answer
+-- the answer to a request satisfies `IsAnswer`
 answer_within : (es : List Entry) (session : ℕ) (version : Version) (r : Request) → IsSpan r.count → IsAnswer version es (answer_of es session version r)
 answer_within es session version r span = elim (cases_Bool (r.session == session)) [
   | inl same ↦ elim (cases_Bool ((r.from == 0) || nat_lt (last_sendable version es) r.from)) [
@@ -120,7 +120,7 @@ answer_within es session version r span = elim (cases_Bool (r.session == session
   | inr other ↦ rw other tt
 ]
 
--- a packet that is cut is as long as packets may be
+-- a cut packet is as long as packets may be
 cut_short : (session : ℕ) (version : Version) (es : List Entry) (from : ℕ) → All (IsEntry Two) es
     → length (packet_text (packet_cut session version es from)) ≤ LONGEST_PACKET
 cut_short session version es from all =
@@ -139,7 +139,7 @@ answer_short es session version (Range from to) all =
     ArePackets-short (packet_count version from to) session version (take to es) from (λ k lt. cut_short session version (take to es)
     (from + entries_most version * k) (All-take (IsEntry Two) to es all))
 
--- whatever was read of a request, the answer is read again
+-- whether a request or a fault was read, the answer is read again
 read_cases : (es : List Entry) (session : ℕ) (version : Version) (bytes : List ℕ) (read : Result Request RequestFault) → request_of bytes ≡ read → All (IsEntry Two) es
     → IsReadAgain es session version bytes
 read_cases es session version bytes (Ok r) is all =

@@ -1,4 +1,4 @@
--- The fields of an answer, read of a reader.
+-- The fields of an answer, read from a reader.
 use Rattle.std.proofs.Common.{◌≡◌, ℕ, ◌<◌, ◌≤◌, Bool, true, false, cond, ltb, List, [], ◌++◌, Option, Result}
 use Rattle.std.proofs.Common.{Ok, Err, length, length-append, append-nil, take, refl, sym, subst, ap, ◌∙◌, arith, inl, inr}
 use Rattle.std.specs.Prelude.{nat_le, ◌&&◌, ◌==◌}
@@ -11,25 +11,25 @@ use Rattle.reports.specs.Fields.{Reads, bytes_at, number_at, ranged_at}
 use Rattle.reports.specs.Lemmas.Fields.{ok_is}
 use Rattle.retransmit.specs.Asking.{Follows, answered_at, as_is, answer_fault, range_at, texts_of}
 use Rattle.retransmit.specs.Faults.{refusal_code}
-use Rattle.row_reads.specs.FailedReads.{ReadsFewer}
+use Rattle.whole_io.specs.FailedReads.{ReadsFewer}
 use Rattle.retransmit.specs.declared.ask_fault.AskFault.{AskFault}
 use Rattle.retransmit.specs.declared.ask_fault.AskFault.TheVariants.{ReadFault, BadAnswer}
 use Rattle.retransmit.specs.declared.refusal.Refusal.TheVariants.{OtherSession, Beyond, BadSpan}
 use Rattle.retransmit.proofs.Readings.{Follows-fault, Follows-here, Follows-same, Follows-stops, Follows-then, Tells}
 
--- bytes at the front, as many as asked for, are read
+-- bytes at the front, as many as requested, are read
 pub bytes_read : (n : ℕ) (row left : List ℕ) → length row ≡ n → bytes_at {F = AskFault} ReadFault n (row ++ left) ≡ Ok (row, left)
 unfolding bytes_at
 bytes_read n row left size =
     let long : ltb (length (row ++ left)) n ≡ false = le-ltb _ _ (omega (arith, length-append row left, size)) in
     rw (long, take_at row left n size, drop_at row left n size) refl
 
--- fewer bytes are none
+-- fewer bytes are a fault
 bytes_short : (n : ℕ) (part : List ℕ) → length part < n → bytes_at {F = AskFault} ReadFault n part ≡ Err ReadFault
 unfolding bytes_at
 bytes_short n part lt = rw (lt-ltb _ _ lt) refl
 
--- as many bytes as asked for
+-- as many bytes as requested
 pub Follows-bytes : {A : Type 0} (view : A → List ℕ) (x : A) (n : ℕ) (a b : Option (List ℕ)) → length (view x) ≡ n → Consumes a b (view x)
     → Follows view (Ok x) a b (bytes_at ReadFault n)
 Follows-bytes view x n a b size taken = record {
@@ -57,11 +57,11 @@ number_whole w row size =
     subst (λ (l : List ℕ). bytes_at {F = AskFault} ReadFault (byte_len w) l ≡ Ok (row, [])) (append-nil row) (bytes_read (byte_len w) row [] size) in
     rw whole refl
 
--- what is read is no fault
+-- a value is not a fault
 ok_err : (x : ℕ × List ℕ) (fault : AskFault) → Ok x ≡ Err fault → ⊥
 ok_err x fault is = absurd cc
 
--- reading a number gives the one that its bytes say
+-- reading a number returns the one that its bytes spell
 pub Follows-number : (w : Width) (x : ℕ) (row : List ℕ) (a b : Option (List ℕ)) → x ≡ from_be_bytes w row → length row ≡ byte_len w → Consumes a b row
     → Follows as_is (Ok x) a b (number_at ReadFault w)
 unfolding number_at
@@ -70,7 +70,7 @@ Follows-number w x row a b is size taken =
     (Follows-bytes as_is row (byte_len w) a b size taken)
     (Follows-here as_is x b (λ bytes. Ok (from_be_bytes w row, bytes)) (λ bytes. ap (λ (n : ℕ). Ok (n, bytes)) (sym is)))
 
--- a number that is read of as many bytes as it has
+-- a number read from all its bytes
 pub Follows-whole : (w : Width) (result : Result ℕ AskFault) (rest row : List ℕ) (a b : Option (List ℕ)) → Reads result rest (number_at ReadFault w row)
     → length row ≡ byte_len w → Consumes a b row → Follows as_is result a b (number_at ReadFault w)
 Follows-whole w (Ok x) rest row a b reads size taken =
@@ -78,7 +78,7 @@ Follows-whole w (Ok x) rest row a b reads size taken =
     Follows-number w x row a b (ap (λ (p : ℕ × List ℕ). p.0) same) size taken
 Follows-whole w (Err fault) rest row a b reads size taken = absurd (ok_err (from_be_bytes w row, []) fault (sym (number_whole w row size) ∙ reads))
 
--- a number of which bytes are missing
+-- a number with missing bytes
 pub Follows-number-short : (w : Width) (a b : Option (List ℕ)) → ReadsFewer a b (byte_len w) → Follows {A = ℕ} as_is (Err ReadFault) a b (number_at ReadFault w)
 unfolding number_at
 Follows-number-short w a b part =
@@ -120,25 +120,25 @@ Follows-number-stops w low high fault a b number = Follows-stops as_is as_is fau
 
 -- ---- the first byte
 
--- of two faults that tell, each tells
+-- if two faults are decided by the bytes read, so is either
 cond_tells : (b : Bool) (x y : AskFault) → Tells x → Tells y → Tells (cond b x y)
 cond_tells true x y p q = p
 cond_tells false x y p q = q
 
--- what is wrong with a first byte tells
+-- the fault of a first byte is decided by that byte
 first_tells : (first : ℕ) → Tells (answer_fault first)
 first_tells first =
     cond_tells (first == refusal_code OtherSession) _ _ tt
     (cond_tells (first == refusal_code Beyond) _ _ tt (cond_tells (first == refusal_code BadSpan) _ _ tt tt))
 
--- a first byte of no range
+-- a first byte that begins no range
 pub Follows-first : (first : ℕ) (fault : AskFault) (a : Option (List ℕ)) → (first ≡ 0 → ⊥) → fault ≡ answer_fault first
     → Follows texts_of (Err fault) a a (answered_at first)
 unfolding answered_at
 Follows-first first fault a some is =
     rw is (Follows-fault texts_of (answer_fault first) a (answered_at first) (first_tells first) (λ bytes. rw (ne_eqb first 0 some) refl))
 
--- the first byte of a range
+-- the first byte that begins a range
 pub Follows-range : (first : ℕ) (result : Result (Vec (Vec ℕ)) AskFault) (a b : Option (List ℕ)) → first ≡ 0 → Follows texts_of result a b range_at
     → Follows texts_of result a b (answered_at first)
 unfolding answered_at

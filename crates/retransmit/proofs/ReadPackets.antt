@@ -11,11 +11,11 @@ use Rattle.retransmit.proofs.Readings.{Follows-gives_up, Follows-here, Follows-s
 abbrev Texts : Type 0
 Texts = List (List ℕ) × List ℕ
 
--- what is read, put after these packets
+-- the packets read, put after these
 abbrev after : Texts → Texts → Result Texts AskFault
 after x y = Ok (x.0 ++ y.0, y.1)
 
--- a packet in front of what is read
+-- a packet in front of those read
 abbrev before : List ℕ × List ℕ → Texts → Result Texts AskFault
 before first others = Ok (first.0 ∷ others.0, others.1)
 
@@ -58,12 +58,12 @@ packets_at-add (suc n) m bytes =
     let is : suc n + m ≡ suc (n + m) = omega arith in
     ap (λ (k : ℕ). packets_at k bytes) is ∙ first_step n m (sized_packet_at bytes) (packets_at-add n m)
 
--- reading no packets takes no bytes and gives none
+-- reading no packets takes no bytes and returns none
 pub Follows-none : (a : Option (List ℕ)) → Follows {A = List (List ℕ)} as_is (Ok []) a a (packets_at 0)
 unfolding packets_at
 Follows-none a = Follows-here as_is [] a (packets_at 0) (λ bytes. refl)
 
--- reading one packet gives the list of it alone
+-- reading one packet returns the list of it alone
 one_packet : (packet : Vec ℕ) (b c : Option (List ℕ)) → Follows text_of (Ok packet) b c sized_packet_at
     → Follows {A = List (List ℕ)} as_is (Ok (packet.items ∷ [])) b c (packets_at 1)
 unfolding packets_at
@@ -71,7 +71,7 @@ one_packet packet b c first =
     Follows-then text_of as_is packet (Ok (packet.items ∷ [])) b c c sized_packet_at (first_at 0) first
     (Follows-here as_is (packet.items ∷ []) c (λ bytes. first_at 0 (packet.items, bytes)) (λ bytes. refl))
 
--- reading one packet more gives those before it, and then it
+-- reading one more packet returns those before it, and then it
 pub Follows-push : (texts : List (List ℕ)) (packet : Vec ℕ) (place : ℕ) (a b c : Option (List ℕ)) → Follows as_is (Ok texts) a b (packets_at place)
     → Follows text_of (Ok packet) b c sized_packet_at
     → Follows as_is (Ok (texts ++ packet.items ∷ [])) a c (packets_at (place + 1))
@@ -82,7 +82,7 @@ Follows-push texts packet place a b c some first =
     Follows-same as_is (Ok (texts ++ packet.items ∷ [])) a c (λ bytes. packets_at place bytes >>= more_at 1) (packets_at (place + 1)) (packets_at-add place 1)
     (Follows-then as_is as_is texts (Ok (texts ++ packet.items ∷ [])) a b c (packets_at place) (more_at 1) some put)
 
--- the packet after those that were read faults, so all of them do
+-- the packet after those already read is a fault, so reading all of them is
 pub Follows-at_packet : (texts : List (List ℕ)) (fault : AskFault) (place count : ℕ) (a b c : Option (List ℕ)) → place < count
     → Follows as_is (Ok texts) a b (packets_at place)
     → Follows text_of (Err fault) b c sized_packet_at → Follows {A = List (List ℕ)} as_is (Err fault) a c (packets_at count)
@@ -96,7 +96,7 @@ Follows-at_packet texts fault place count a b c more some first =
     (λ bytes. ap (λ (k : ℕ). packets_at k bytes) is ∙ packets_at-add place (suc left) bytes)
     (Follows-then as_is as_is texts (Err fault) a b c (packets_at place) (more_at (suc left)) some put)
 
--- there is no room for the packet after those that were read
+-- there is no room for the packet after those already read
 pub Follows-no_push : (texts : List (List ℕ)) (packet : Vec ℕ) (place count : ℕ) (a b c : Option (List ℕ)) → place < count
     → Follows as_is (Ok texts) a b (packets_at place)
     → Follows text_of (Ok packet) b c sized_packet_at → Follows {A = List (List ℕ)} as_is (Err OutOfMemory) a c (packets_at count)

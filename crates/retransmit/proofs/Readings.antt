@@ -1,4 +1,4 @@
--- What is read of a reader, one thing after the other.
+-- Readings from a reader, one after the other.
 use Rattle.std.proofs.Common.{◌≡◌, ℕ, ◌+◌, ◌-◌, ◌<◌, List, [], ◌++◌, Option, Result, Ok, Err}
 use Rattle.std.proofs.Common.{append_assoc, length, length-append, take, sym, ap, ◌∙◌, arith, inl, inr}
 use Rattle.std.proofs.KnownBytes.{Consumes-nil, Consumes-trans}
@@ -10,11 +10,11 @@ use Rattle.retransmit.specs.Asking.{Follows, IsFaultOf, IsReadAs, as_is}
 use Rattle.retransmit.specs.declared.ask_fault.AskFault.{AskFault}
 use Rattle.retransmit.specs.declared.ask_fault.AskFault.TheVariants.{ReadFault, WriteFault, BadAnswer, Refused, OutOfMemory}
 
--- what is read of bytes and what follows it, or a fault
+-- the value read from bytes and the bytes after it, or a fault
 abbrev pub Read : Type 0 → Type 0
 Read B = Result (B × List ℕ) AskFault
 
--- a fault of the bytes that were read, which no byte after them changes
+-- a fault that the bytes read decide, whatever bytes follow them
 abbrev pub Tells : AskFault → Type 0
 Tells ReadFault = ⊥
 Tells WriteFault = ⊥
@@ -24,12 +24,12 @@ Tells OutOfMemory = Unit {0}
 
 -- ---- one reading
 
--- a value that is there without reading
+-- a value found without reading
 pub Follows-here : {A B : Type 0} (view : A → B) (x : A) (a : Option (List ℕ)) (read : List ℕ → Read B) → ((bytes : List ℕ) → read bytes ≡ Ok (view x, bytes))
     → Follows view (Ok x) a a read
 Follows-here view x a read always = record { text = []; taken = Consumes-nil a; least = λ len lt. absurd (omega (arith, lt)); says = always }
 
--- a fault that all bytes give is one of none of them
+-- a fault for all bytes is also one for no bytes
 always_fault : {B : Type 0} (fault : AskFault) (read : List ℕ → Read B) → Tells fault → ((bytes : List ℕ) → read bytes ≡ Err fault) → IsFaultOf fault read []
 always_fault ReadFault read tells always = absurd tells
 always_fault WriteFault read tells always = absurd tells
@@ -37,7 +37,7 @@ always_fault BadAnswer read tells always = always
 always_fault (Refused refusal) read tells always = always
 always_fault OutOfMemory read tells always = tt
 
--- a fault that is there without reading
+-- a fault found without reading
 pub Follows-fault : {A B : Type 0} (view : A → B) (fault : AskFault) (a : Option (List ℕ)) (read : List ℕ → Read B) → Tells fault
     → ((bytes : List ℕ) → read bytes ≡ Err fault) → Follows view (Err fault) a a read
 Follows-fault view fault a read tells always =
@@ -47,7 +47,7 @@ Follows-fault view fault a read tells always =
 pub Follows-no_room : {A B : Type 0} (view : A → B) (a : Option (List ℕ)) (read : List ℕ → Read B) → Follows view (Err OutOfMemory) a a read
 Follows-no_room view a read = record { text = []; taken = Consumes-nil a; least = λ len lt. absurd (omega (arith, lt)); says = tt }
 
--- a view of a value is the value as it is
+-- a value may be seen through its view
 pub Follows-viewed : {A B : Type 0} (view : A → B) (x : A) (y : B) (a b : Option (List ℕ)) (read : List ℕ → Read B) → view x ≡ y
     → Follows as_is (Ok y) a b read → Follows view (Ok x) a b read
 Follows-viewed {B = B} view x y a b read is f =
@@ -58,7 +58,7 @@ pub Follows-refused : {A B C : Type 0} (view : A → B) (other : C → B) (fault
     → Follows other (Err fault) a b read → Follows view (Err fault) a b read
 Follows-refused view other fault a b read f = record { text = f.text; taken = f.taken; least = f.least; says = f.says }
 
--- readings that agree on all bytes have one fault
+-- readings that agree on all bytes have the same fault
 same_fault : {B : Type 0} (fault : AskFault) (read other : List ℕ → Read B) (text : List ℕ) → ((bytes : List ℕ) → other bytes ≡ read bytes)
     → IsFaultOf fault read text → IsFaultOf fault other text
 same_fault ReadFault read other text same is = same text ∙ is
@@ -67,14 +67,14 @@ same_fault BadAnswer read other text same is = λ rest. same (text ++ rest) ∙ 
 same_fault (Refused refusal) read other text same is = λ rest. same (text ++ rest) ∙ is rest
 same_fault OutOfMemory read other text same is = tt
 
--- readings that agree on all bytes say the same
+-- readings that agree on all bytes have the same result
 same_says : {A B : Type 0} (view : A → B) (result : Result A AskFault) (read other : List ℕ → Read B) (text : List ℕ)
     → ((bytes : List ℕ) → other bytes ≡ read bytes) → IsReadAs view result read text
     → IsReadAs view result other text
 same_says view (Ok x) read other text same is = λ rest. same (text ++ rest) ∙ is rest
 same_says view (Err fault) read other text same is = same_fault fault read other text same is
 
--- readings that agree on all bytes are one
+-- readings that agree on all bytes are interchangeable
 pub Follows-same : {A B : Type 0} (view : A → B) (result : Result A AskFault) (a b : Option (List ℕ)) (read other : List ℕ → Read B)
     → ((bytes : List ℕ) → other bytes ≡ read bytes)
     → Follows view result a b read → Follows view result a b other
@@ -88,7 +88,7 @@ Follows-same view result a b read other same f =
 
 -- ---- two readings, one after the other
 
--- a fault of the first is one of both
+-- a fault of the first is a fault of both
 stopped : {B D : Type 0} (fault : AskFault) (read : List ℕ → Read B) (next : B × List ℕ → Read D) (text : List ℕ) → IsFaultOf fault read text
     → IsFaultOf fault (λ bytes. read bytes >>= next) text
 stopped {B = B} ReadFault read next text is = ap (λ (r : Read B). r >>= next) is
@@ -121,7 +121,7 @@ module _ {B D : Type 0} (v : B) (one two : List ℕ) (read : List ℕ → Read B
   joined_end : (read (one ++ two) >>= next) ≡ next (v, two)
   joined_end = ap (λ (r : Read B). r >>= next) (first two)
 
-  -- a fault of the second, after the first, is one of both
+  -- a fault of the second, after the first, is a fault of both
   joined_fault : (fault : AskFault) → IsFaultOf fault (λ bytes. next (v, bytes)) two → IsFaultOf fault (λ bytes. read bytes >>= next) (one ++ two)
   joined_fault ReadFault is = joined_end ∙ is
   joined_fault WriteFault is = absurd is
@@ -129,13 +129,13 @@ module _ {B D : Type 0} (v : B) (one two : List ℕ) (read : List ℕ → Read B
   joined_fault (Refused refusal) is = λ rest. joined rest ∙ is rest
   joined_fault OutOfMemory is = tt
 
-  -- what the second says, after the first, both say
+  -- the result of the second, after the first, is the result of both
   joined_says : {C : Type 0} (view : C → D) (result : Result C AskFault) → IsReadAs view result (λ bytes. next (v, bytes)) two
       → IsReadAs view result (λ bytes. read bytes >>= next) (one ++ two)
   joined_says view (Ok y) is = λ rest. joined rest ∙ is rest
   joined_says view (Err fault) is = joined_fault fault is
 
-  -- no front of both texts would do
+  -- no shorter prefix of both texts is enough
   joined_least : ((len : ℕ) → len < length one → read (take len one) ≡ Err ReadFault) → ((len : ℕ) → len < length two → next (v, take len two) ≡ Err ReadFault)
       → (len : ℕ) → len < length (one ++ two) → (read (take len (one ++ two)) >>= next) ≡ Err ReadFault
   joined_least least_one least_two len lt = elim (cases_lt len (length one)) [

@@ -11,7 +11,7 @@ refusal_code OtherSession = 71
 refusal_code Beyond = 72
 refusal_code BadSpan = 73
 
--- the name of a refusal, as it is printed
+-- the name of a refusal, as printed
 abbrev pub refusal_name : Refusal → List ℕ
 refusal_name OtherSession = codes "OtherSession"
 refusal_name Beyond = codes "Beyond"
@@ -25,7 +25,7 @@ ask_fault_code BadAnswer = 76
 ask_fault_code (Refused refusal) = 77
 ask_fault_code OutOfMemory = 78
 
--- the name of a fault, as it is printed
+-- the name of a fault, as printed
 abbrev pub ask_fault_name : AskFault → List ℕ
 ask_fault_name ReadFault = codes "ReadFault"
 ask_fault_name WriteFault = codes "WriteFault"

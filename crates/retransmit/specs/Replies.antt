@@ -1,4 +1,4 @@
--- What the one who asked reads in an answer.
+-- The result that the asker reads from an answer.
 use Rattle.std.specs.Prelude.{ℕ, List, ◌++◌, Result, Ok, Err}
 use Rattle.reports.specs.Fields.{Reads}
 use Rattle.tape_core.specs.declared.entry.Entry.{Entry}
@@ -14,17 +14,17 @@ use Rattle.retransmit.specs.declared.reply.Answer.{Answer}
 use Rattle.retransmit.specs.declared.reply.Answer.TheVariants.{Refused, Range}
 use Rattle.retransmit.specs.declared.refusal.Refusal.TheVariants.{BadSpan}
 
--- what is read of an answer: its packets' bytes, or the refusal
+-- the result read from an answer: its packets' bytes, or the refusal
 abbrev pub given_packets : List Entry → ℕ → Version → Answer → Result (List (List ℕ)) AskFault
 given_packets es session version (Refused refusal) = Err (fault.Refused refusal)
 given_packets es session version (Range from to) = Ok (range_packets es session version from to)
 
--- what is read of the answer to what was read of a request
+-- the result read from the answer to the request or the fault that was read
 abbrev pub reply_packets : List Entry → ℕ → Version → Result Request RequestFault → Result (List (List ℕ)) AskFault
 reply_packets es session version (Ok r) = given_packets es session version (answer_of es session version r)
 reply_packets es session version (Err bad) = Err (fault.Refused BadSpan)
 
--- what is read of the answer to the request that the bytes are
+-- the result read from the answer to the request that the bytes spell
 abbrev pub answer_packets : List Entry → ℕ → Version → List ℕ → Result (List (List ℕ)) AskFault
 answer_packets es session version bytes = reply_packets es session version (request_of bytes)
 

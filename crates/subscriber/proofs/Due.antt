@@ -7,13 +7,13 @@ use Rattle.tape_core.specs.declared.entry.Entry.{Entry}
 use Rattle.arbitration.specs.Deliveries.{entry_numbered, slots_after}
 use Rattle.arbitration.specs.Windows.{flat, ready_entries}
 
--- each slot is empty or has the entry of the list at its place
+-- each slot is empty or holds the list's entry at its place
 abbrev pub FromDue : List (Option Entry) → List Entry → Type 0
 FromDue [] due = Unit {0}
 FromDue (slot ∷ slots) [] = (slot ≡ None) × FromDue slots []
 FromDue (slot ∷ slots) (e ∷ due) = IfSome slot (λ other. other ≡ e) × FromDue slots due
 
--- empty slots are of any list
+-- empty slots fit any list
 pub FromDue-replicate : (n : ℕ) (due : List Entry) → FromDue (replicate n None) due
 FromDue-replicate zero due = tt
 FromDue-replicate (suc n) [] = (refl, FromDue-replicate n [])
@@ -48,14 +48,14 @@ ready_first (Some e ∷ slots) [] h = absurd (none-some e (sym h.0))
 ready_first (Some e ∷ slots) (x ∷ due) h =
     let rest = ready_first slots due h.1 in (rest.0, (λ i. sym h.0 i ∷ rest.1 i))
 
--- a slot that takes what a packet has under its number
+-- a slot after it takes the packet's entry of its number
 slot_from : (slot found : Option Entry) (e : Entry) → IfSome slot (λ other. other ≡ e) → ((x : Entry) → found ≡ Some x → x ≡ e)
     → IfSome (option_or slot found) (λ other. other ≡ e)
 slot_from (Some y) found e h is = h
 slot_from None (Some x) e h is = is x refl
 slot_from None None e h is = tt
 
--- a slot stays empty where the packet has nothing under its number
+-- a slot stays empty if the packet has no entry of its number
 slot_none : (slot found : Option Entry) → slot ≡ None → ((x : Entry) → found ≡ Some x → ⊥) → option_or slot found ≡ None
 slot_none (Some y) found h is = h
 slot_none None (Some x) h is = absurd (is x refl)
@@ -80,7 +80,7 @@ FromDue-slots_after next (slot ∷ slots) (d ∷ due) es h is =
           is (suc k) e (ap (λ n. entry_numbered n es) (sym later) ∙ found)),
     )
 
--- what waits is of the list
+-- the waiting entries are from the list
 pub FromDue-at : (slots : List (Option Entry)) (due : List Entry) (k : ℕ) (e : Entry) → FromDue slots due
     → flat (slice_get slots k) ≡ Some e → slice_get due k ≡ Some e
 FromDue-at [] due k e h found = absurd (none-some e found)
@@ -90,7 +90,7 @@ FromDue-at (None ∷ slots) (d ∷ due) zero e h found = absurd (none-some e fou
 FromDue-at (Some x ∷ slots) (d ∷ due) zero e h found = ap Some (sym h.0) ∙ found
 FromDue-at (slot ∷ slots) (d ∷ due) (suc k) e h found = FromDue-at slots due k e h.1 found
 
--- once all that is ready was taken out, the first slot is empty
+-- once all ready entries are taken out, the first slot is empty
 pub after_ready : (slots : List (Option Entry)) (n : ℕ) → flat (slice_get (drop (length (ready_entries slots)) slots ++ replicate n None) 0) ≡ None
 after_ready [] zero = refl
 after_ready [] (suc n) = refl

@@ -1,4 +1,4 @@
--- What was brought stays, until it is held.
+-- Entries that were brought are kept until they are held.
 use Rattle.std.proofs.Common.{◌≡◌, ℕ, zero, suc, ◌+◌, ◌-◌, ◌≤◌, ◌<◌, ◌⊎◌, true, false, List, [], ◌∷◌, ◌++◌, length}
 use Rattle.std.proofs.Common.{drop, get_or, Option, None, Some, refl, sym, ap, subst, ◌∙◌, inl, inr, arith}
 use Rattle.std.specs.Prelude.{slice_get, is_some, nat_lt}
@@ -24,7 +24,7 @@ use Rattle.subscriber.proofs.Sound.{IsSound, keeps, keeps_all}
 abbrev IsKept : SubscriberState → ℕ → Type 0
 IsKept s n = (n ≤ length s.tape.entries) ⊎ (is_some (waiting_entry (s.window.base + 1) s.window.slots n) ≡ true)
 
--- what a slot has after a packet
+-- what a slot holds after a packet
 settled_at : (next : ℕ) (slots : List (Option Entry)) (es : List Entry) (k : ℕ) (slot : Option Entry) → slice_get slots k ≡ Some slot
     → slice_get (slots_after next slots es) k ≡ Some (option_or slot (entry_numbered (next + k) es))
 settled_at next [] es k slot found = absurd (false≢true (ap is_some found))
@@ -35,12 +35,12 @@ settled_at next (x ∷ slots) es (suc k) slot found =
     let p : (next + 1) + k ≡ next + suc k = omega arith in
     settled_at (next + 1) slots es k slot found ∙ ap (λ n. Some (option_or slot (entry_numbered n es))) p
 
--- what is there stays
+-- an entry in a slot stays
 or_left_some : (o p : Option Entry) → is_some o ≡ true → is_some (option_or o p) ≡ true
 or_left_some None p h = absurd (false≢true h)
 or_left_some (Some x) p h = refl
 
--- what comes is there
+-- an entry that comes is in its slot
 or_right_some : (o p : Option Entry) → is_some p ≡ true → is_some (option_or o p) ≡ true
 or_right_some None p h = h
 or_right_some (Some x) p h = refl
@@ -63,7 +63,7 @@ waits_where next slots n h = elim (cases_lt n next) [
       )
 ]
 
--- what waited, or is in the packet, waits after it
+-- an entry that waited or is in the packet waits after it
 settled_waits : (next : ℕ) (slots : List (Option Entry)) (es : List Entry) (n k : ℕ) → n ≡ next + k → k < length slots
     → (is_some (flat (slice_get slots k)) ≡ true) ⊎ (is_some (entry_numbered n es) ≡ true)
     → is_some (waiting_entry next (slots_after next slots es) n) ≡ true
@@ -114,7 +114,7 @@ based_drained : (m : ℕ) (s : SubscriberState) → s.window.base ≡ length s.t
 based_drained zero s base = base
 based_drained (suc m) s base = based_drained m (subscriber_after_entry (next_of s.window) s) (based_replayed s (next_of s.window) base)
 
--- a drain gives nothing up
+-- a drain drops nothing
 grows_drained : (m : ℕ) (s : SubscriberState) → length s.tape.entries ≤ length (subscriber_after m s).tape.entries
 grows_drained zero s = omega arith
 grows_drained (suc m) s =
@@ -136,7 +136,7 @@ kept_step w (Comes line packet) n s stays (inr waits) =
 kept_step w (Drains count) n s stays kept = kept_drained count w.subscriber n s.base kept
 kept_step w Restarts n s stays kept = absurd (false≢true (sym stays))
 
--- no event but a restart gives anything up
+-- no event but a restart drops anything
 grows_step : (w : World) (event : Event) → is_restart event ≡ false → length w.subscriber.tape.entries ≤ length (world_after w event).subscriber.tape.entries
 grows_step w (Admits message) stays = omega arith
 grows_step w Closes stays = omega arith
@@ -166,7 +166,7 @@ kept_run : (events : List Event) (w : World) (n : ℕ) → IsSound w → IsSched
 kept_run [] w n s ok stays kept = kept
 kept_run (event ∷ events) w n s ok stays kept = kept_run events (world_after w event) n (keeps w event s ok.0) ok.1 stays.1 (kept_step w event n s stays.0 kept)
 
--- a schedule without a restart gives nothing up
+-- a schedule without a restart drops nothing
 grows_run : (events : List Event) (w : World) → HasNoRestart events → length w.subscriber.tape.entries ≤ length (run w events).subscriber.tape.entries
 grows_run [] w stays = omega arith
 grows_run (event ∷ events) w stays = let one = grows_step w event stays.0 in let rest = grows_run events (world_after w event) stays.1 in omega arith
@@ -181,7 +181,7 @@ brought_run (event ∷ events) w n s ok stays near (inr then') =
     let one = grows_step w event stays.0 in
     brought_run events (world_after w event) n (keeps w event s ok.0) ok.1 stays.1 (omega arith) then'
 
--- where nothing is ready, the first missing number is the number held plus 1
+-- if nothing is ready, the first missing number is the number held plus 1
 pub gap_next : (w : World) (from count : ℕ) → IsSound w → next_of w.subscriber.window ≡ None → IsGap w.subscriber.window from count
     → from ≡ length w.subscriber.tape.entries + 1
 gap_next w from count s empty gap =

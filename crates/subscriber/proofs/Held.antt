@@ -1,4 +1,4 @@
--- A packet of entries that are all held leaves a subscriber as it was.
+-- A packet whose entries are all held leaves a subscriber unchanged.
 use Rattle.std.proofs.Common.{◌≡◌, ℕ, ◌+◌, ◌≤◌, ◌==◌, Bool, true, false, cond, List, [], ◌∷◌, length, max, Option, None, Some, Result, Ok, Err, refl, ap, ap₂, subst, ◌∙◌, arith}
 use Rattle.std.proofs.lemmas.Bool.{cond-false, ne_eqb, lt-ltb}
 use Rattle.std.specs.Option.{option_or}
@@ -29,7 +29,7 @@ none_past first (e ∷ es) n numbered past =
     cond-false (e.number == n) _ _ (ne_eqb _ _ (λ same. omega (arith, numbered.0, same)))
     ∙ none_past (first + 1) es n numbered.1 (omega arith)
 
--- slots of whose numbers none comes stay as they are
+-- slots stay unchanged if no entry of their numbers comes
 slots_stay : (next : ℕ) (slots : List (Option Entry)) (es : List Entry) → ((n : ℕ) → next ≤ n → entry_numbered n es ≡ None)
     → slots_after next slots es ≡ slots
 slots_stay next [] es none = refl
@@ -46,18 +46,18 @@ none_fresh first next slots (e ∷ es) numbered below =
     let repeated : is_fresh (placing_of next slots e) ≡ false = rw is_below refl in
     rw repeated (none_fresh (first + 1) next slots es numbered.1 (omega (arith, below)))
 
--- a line that brings no more has brought what it had
+-- the counts are unchanged if a line brings nothing more
 brings_none : (b : Brought) (line : Line) → brought_with b line 0 ≡ b
 brings_none b A = let same : b.a + 0 ≡ b.a = omega arith in λ i. record { a = same i; b = b.b; r = b.r }
 brings_none b B = let same : b.b + 0 ≡ b.b = omega arith in λ i. record { a = b.a; b = same i; r = b.r }
 brings_none b R = let same : b.r + 0 ≡ b.r = omega arith in λ i. record { a = b.a; b = b.b; r = same i }
 
--- a last entry that is told of is that of a packet with entries
+-- a stated last entry belongs to a packet with entries
 last_of_entries : (other last : ℕ) (b : Bool) → IsSomeAnd (cond b (Some last) None) (λ l. l ≤ other) → last ≤ other
 last_of_entries other last true held = held
 last_of_entries other last false held = absurd held
 
--- a packet of entries that are all at or below the base leaves the window
+-- a packet whose entries are all at or below the base leaves the window unchanged
 window_stays : (s : SubscriberState) (line : Line) (packet : Packet) → s.window.base ≡ length s.tape.entries → IsWindow s.window → IsPacket packet
     → BringsHeld s packet → window_after s.window line packet ≡ s.window
 window_stays s line (Data session row) base window valid held =
@@ -75,7 +75,7 @@ window_stays s line (Data session row) base window valid held =
 window_stays s line (Beat session last) base window valid held = absurd held
 window_stays s line (End session count) base window valid held = absurd held
 
--- so the bytes of such a packet leave the subscriber, where they are taken
+-- so the bytes of such a packet leave the subscriber unchanged if they are taken
 pub stays : (s : SubscriberState) → s.window.base ≡ length s.tape.entries → IsWindow s.window → (bytes : List ℕ) (line : Line)
     (taken : Taken) (after : SubscriberState) → (is : Delivers line bytes taken s after) → BringsHeld s is.packet → after ≡ s
 stays s base window bytes line taken after is held =
@@ -86,7 +86,7 @@ pub brings : (s : SubscriberState) (packet : Packet) (last : ℕ) → Some last 
     → BringsHeld s packet
 brings s packet last is within = subst (λ (o : Option ℕ). IsSomeAnd o (λ l. l ≤ length s.tape.entries)) is within
 
--- and whatever is answered
+-- and so whatever is returned
 pub stays_anyway : (s : SubscriberState) (bytes : List ℕ) (line : Line) (answer : Result Taken DeliveryFault) (after : SubscriberState)
     → ((taken : Taken) → Delivers line bytes taken s after → after ≡ s)
     → IfOk answer (λ taken. Delivers line bytes taken s after) → OnErr answer (after ≡ s) → after ≡ s

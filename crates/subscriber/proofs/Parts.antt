@@ -1,4 +1,4 @@
--- What a part of a tape has under a number.
+-- The entries that a part of a tape has under its numbers.
 use Rattle.std.proofs.Common.{◌≡◌, ℕ, suc, ◌+◌, ◌≤◌, List, [], ◌∷◌, ◌++◌, length, Some, ap, subst, ◌∙◌, arith, length-append}
 use Rattle.std.specs.Prelude.{slice_get}
 use Rattle.std.proofs.lemmas.Option.{none-some, slice_get_within}
@@ -22,7 +22,7 @@ part_at tape es h part m e found =
     ∙ slice_get-append-add part.0 (es ++ part.1) place.0
     ∙ slice_get-append-lt es part.1 place.0 (slice_get_within es place.0 e place.2) ∙ place.2
 
--- an entry of a part stands in the tape at the place of its number
+-- an entry of a part is in the tape at the place of its number
 pub part_stands : (tape es : List Entry) → IsNumberedFrom 1 tape → IsPartOf es tape → (k : ℕ) (e : Entry) → slice_get es k ≡ Some e
     → (m : ℕ) × (e.number ≡ suc m) × (slice_get tape m ≡ Some e)
 part_stands tape es h part k e found =

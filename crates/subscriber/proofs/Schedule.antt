@@ -1,4 +1,4 @@
--- What a sound world says of packets and drains.
+-- What follows from a sound world for packets and drains.
 use Rattle.std.proofs.Common.{◌≡◌, ℕ, zero, suc, ◌+◌, ◌-◌, ◌≤◌, ◌==◌, ◌⊎◌, max, Bool, true, false, cond, List, [], ◌∷◌, ◌++◌, length}
 use Rattle.std.proofs.Common.{take, drop, get_or, Option, None, Some, refl, sym, ap, subst, ◌∙◌, inl, inr, arith, length-append, eq-eqb}
 use Rattle.std.specs.Prelude.{slice_get, IfOk, IfSome, Result, is_some, unwrap_or, nat_lt}
@@ -56,17 +56,17 @@ announced_run (Comes line packet ∷ events) w most h =
 announced_run (Drains count ∷ events) w most h = announced_run events (world_after w (Drains count)) most (announced-after count w.subscriber ∙ h)
 announced_run (Restarts ∷ events) w most h = announced_run events (world_after w Restarts) 0 refl
 
--- what a window has announced is what its packets told since the last restart
+-- what a window has announced is what its packets stated since the last restart
 pub announced_told : (events : List Event) (w : World) → LeadsTo events w → w.subscriber.window.announced ≡ announced_by 0 events
 announced_told events w h =
     ap (λ (v : World). v.subscriber.window.announced) (sym h.ends) ∙ announced_run events (start h.listing h.matrix h.tape_limit h.limit h.session) 0 refl
 
--- what holds of each value there holds of the option
+-- what holds for each possible value holds for the option
 if_some : {A : Type 0} (o : Option A) (P : A → Type 0) → ((x : A) → o ≡ Some x → P x) → IfSome o P
 if_some None P h = tt
 if_some (Some x) P h = h x refl
 
--- what is known under a number is the tape's entry of that number
+-- the entry known under a number is the tape's entry of that number
 pub known_stands : (w : World) → IsSound w → (m : ℕ) (e : Entry)
     → known_entry w.subscriber.tape.entries (w.subscriber.window.base + 1) w.subscriber.window.slots (suc m) ≡ Some e
     → slice_get w.tape.entries m ≡ Some e
@@ -130,11 +130,11 @@ accepts w packet s cut =
       in_time = or_from _ _ (not_beyond window.ended _ _ ended last) (not_other window.ended (end_of packet) _ _ ended end (omega arith));
     }
 
--- bytes spell one packet
+-- bytes spell at most one packet
 pub one_packet : (bytes : List ℕ) (a b : Packet) → Spells bytes a → Spells bytes b → a ≡ b
 one_packet bytes a b spells_a spells_b = (one_packet_spelling a b bytes bytes [] [] spells_a spells_b refl).0
 
--- so its bytes are refused for no reason
+-- so its bytes are never refused
 pub never_refused : (w : World) (packet : Packet) (bytes : List ℕ) (fault : DeliveryFault) → IsSound w → IsCut w packet
     → Spells bytes packet → ¬ (RefusesDelivery w.subscriber bytes fault)
 never_refused w packet bytes fault s cut spelled = by fault
@@ -158,7 +158,7 @@ never_refused w packet bytes fault s cut spelled = by fault
         by_window f (subst (λ (q : Packet). Refuses w.subscriber.window w.subscriber.tape.entries q f) (one_packet bytes refused.1 packet refused.2 spelled)
         refused.3)
 
--- bytes that are taken are the event of their packet
+-- taking bytes is the event of their packet
 pub bytes_come : (w : World) (line : Line) (packet : Packet) (bytes : List ℕ) (taken : Taken) (after : SubscriberState) → Spells bytes packet
     → Delivers line bytes taken w.subscriber after → world_after w (Comes line packet) ≡ record w { subscriber = after }
 bytes_come w line packet bytes taken after spelled is =
@@ -166,23 +166,23 @@ bytes_come w line packet bytes taken after spelled is =
     (ap (λ (q : Packet). record w.subscriber { window = window_after w.subscriber.window line q }) (one_packet bytes packet is.packet spelled is.spelled)
     ∙ sym is.state)
 
--- the first slot, where something is ready
+-- the first slot, if something is ready
 first_ready : (slots : List (Option Entry)) (n : ℕ) → length (ready_entries slots) ≡ suc n
     → (e : Entry) × (flat (slice_get slots 0) ≡ Some e) × (length (ready_entries (drop 1 slots ++ None ∷ [])) ≡ n)
 first_ready [] n h = absurd (omega arith)
 first_ready (None ∷ slots) n h = absurd (omega arith)
 first_ready (Some e ∷ slots) n h = (e, refl, omega (arith, h, ap length (ready-past (Some e ∷ slots) e refl)))
 
--- a subscriber whose next entry changes nothing stays as it is
+-- a subscriber whose next entry changes nothing stays unchanged
 stays_drained : (n : ℕ) (s : SubscriberState) → subscriber_after_entry (next_of s.window) s ≡ s → subscriber_after n s ≡ s
 stays_drained zero s stays = refl
 stays_drained (suc n) s stays = ap (subscriber_after n) stays ∙ stays_drained n s stays
 
--- an open tape refuses each message where it is full
+-- an open tape refuses each message if it is full
 limit-open : (t : TapeState) (b : Bool) → t.closed ≡ false → (length t.entries == t.limit) ≡ b → limit_refusal t ≡ cond b (Some Full) None
 limit-open t b open' full = cond-false t.closed (Some Closed) _ open' ∙ ap (λ c. cond c (Some Full) None) full
 
--- a drain of all that is ready leaves nothing ready, or stops at the subscriber's limit
+-- a drain of all ready entries leaves nothing ready, or stops at the subscriber's limit
 pub empties : (n : ℕ) (w : World) → IsSound w → length (ready_entries w.subscriber.window.slots) ≡ n
     → (next_of (subscriber_after n w.subscriber).window ≡ None) ⊎ (length (subscriber_after n w.subscriber).tape.entries ≡ w.limit)
 empties zero w s size = inl ((none_ready w.subscriber.window.slots).0 size)
@@ -203,7 +203,7 @@ empties (suc n) w s size =
           (empties n (record w { subscriber = with_entry e own }) (takes w e s first.1) first.2)
     ]
 
--- the own tape refuses nothing of an honest feed but at its limit
+-- the own tape refuses nothing from an honest feed except at its limit
 honest_refusal : (w : World) (why : Refusal) → IsSound w → IsRefused why w.subscriber → IsHonestStop (Refused why) w.subscriber
 honest_refusal w why s h =
     let own = w.subscriber.tape in
@@ -213,7 +213,7 @@ honest_refusal w why s h =
       | inr room ↦ inl (h.first ∙ ap (λ o. unwrap_or o OutOfMemory) (refused ∙ limit-open own false s.unclosed room))
     ]
 
--- a drain on an honest feed stops out of memory or at the subscriber's limit alone
+-- a drain on an honest feed stops only out of memory or at the subscriber's limit
 pub honest_stop : (w : World) (fault : DrainFault) (after : SubscriberState) → IsSound w → DrainStops fault w.subscriber after → IsHonestStop fault.why after
 honest_stop w fault after s h = subst (IsHonestStop fault.why) (sym h.state) (by fault.why fault.drained h.why)
   where
@@ -222,19 +222,19 @@ honest_stop w fault after s h = subst (IsHonestStop fault.why) (sym h.state) (by
     by OtherSummary n is = absurd (is.3 (next_own (record w { subscriber = subscriber_after (n - 1) w.subscriber }) (drains (n - 1) w s)))
     by Failed n is = absurd (both_ways w.subscriber.failed s.running is.0)
 
--- a summary is one of the listing, the matrix and the entries
+-- a summary depends on the listing, the matrix and the entries alone
 summary-same : (t u : TapeState) (symbol : List ℕ) → t.listing ≡ u.listing → t.matrix ≡ u.matrix → t.entries ≡ u.entries
     → summary_at t symbol ≡ summary_at u symbol
 summary-same t u symbol listing matrix entries =
     λ i. summary_at (record { listing = listing i; matrix = matrix i; limit = t.limit; closed = t.closed; entries = entries i }) symbol
 
--- a participant's own summary is one of the listing, the matrix and the entries
+-- a participant's own summary depends on the listing, the matrix and the entries alone
 own_summary-same : (t u : TapeState) (symbol : List ℕ) (who : ℕ) → t.listing ≡ u.listing → t.matrix ≡ u.matrix → t.entries ≡ u.entries
     → participant_summary_at t symbol who ≡ participant_summary_at u symbol who
 own_summary-same t u symbol who listing matrix entries =
     λ i. participant_summary_at (record { listing = listing i; matrix = matrix i; limit = t.limit; closed = t.closed; entries = entries i }) symbol who
 
--- what is held is the first of the tape
+-- the entries held are the tape's first ones
 held_first : (w : World) → IsSound w → w.subscriber.tape.entries ≡ take (length w.subscriber.tape.entries) w.tape.entries
 held_first w s =
     let held = w.subscriber.tape.entries in

@@ -1,11 +1,11 @@
--- What every event of a schedule keeps.
+-- The invariant of a world that every event of a schedule keeps.
 use Rattle.std.proofs.Common.{◌≡◌, ℕ, zero, suc, ◌+◌, ◌-◌, ◌≤◌, true, false, List, [], ◌∷◌, ◌++◌, length, take, drop, Option}
 use Rattle.std.proofs.Common.{None, Some, refl, sym, ap, subst, ◌∙◌, arith, length-append, length-take-le, append-nil, append_assoc}
 use Rattle.std.specs.Prelude.{slice_get, IfSome, is_some}
 use Rattle.std.specs.Option.{option_or}
 use Rattle.std.proofs.lemmas.List.{length_push, length-replicate, take-append-drop}
 use Rattle.std.proofs.Math.Seq.{take-append_seam}
-use Rattle.std.proofs.lemmas.Bool.{cond-true, cond-false, both_ways}
+use Rattle.std.proofs.lemmas.Bool.{both_ways}
 use Rattle.std.proofs.lemmas.Option.{none-some, same_Some}
 use Rattle.tape_types.specs.Names.{Names}
 use Rattle.sale_matrix.specs.declared.matrix.Matrix.{Matrix}
@@ -30,7 +30,9 @@ use Rattle.arbitration.specs.Lemmas.Slots.{length-slots_after}
 use Rattle.subscriber.specs.Drains.{DrainsAll}
 use Rattle.subscriber.specs.Subscribers.{SubscriberState, NextIsOwn, new_subscriber, own_entry, with_entry, subscriber_after_entry, subscriber_after}
 use Rattle.subscriber.specs.Schedules.{World, Event, Admits, Closes, Comes, Drains, Restarts, world_after}
-use Rattle.subscriber.specs.Schedules.{run, start, IsCut, IsAllowed, IsSchedule, LeadsTo, tape_after}
+use Rattle.subscriber.specs.Schedules.{run, start, IsCut, IsAllowed, IsSchedule, LeadsTo}
+use Rattle.tape_core.specs.Answers.{tape_after}
+use Rattle.tape_core.specs.Lemmas.Answered.{tape_after-admitted, tape_after-kept}
 use Rattle.subscriber.proofs.Parts.{part_at, part_stands, part_last}
 use Rattle.subscriber.proofs.Due.{FromDue, FromDue-replicate, FromDue-grow, FromDue-append, FromDue-slots_after}
 use Rattle.subscriber.specs.Lemmas.Turns.{after_entry-admitted, after_entry-refused, own_runs}
@@ -54,7 +56,7 @@ pub record IsSound (w : World) : Type 0 where
   pub ended : IfSome w.subscriber.window.ended (λ count. (w.tape.closed ≡ true) × (count ≡ length w.tape.entries))
   pub running : w.subscriber.failed ≡ false
 
--- with a new subscriber a world is sound: all entries of its tape are later
+-- a world with a new subscriber is sound: all entries of its tape are later
 restart-sound : (w : World) → IsLegal w.tape → IsSound (record w { subscriber = new_subscriber w.tape.listing w.limit w.session w.tape.matrix })
 restart-sound w legal = record {
   due = [];
@@ -79,7 +81,7 @@ pub start-sound : (listing : Names) (matrix : Matrix) (tape_limit limit session 
 start-sound listing matrix tape_limit limit session =
     restart-sound (start listing matrix tape_limit limit session) (IsLegal-empty listing tape_limit matrix)
 
--- with a tape that goes on with these entries, or is closed, a world stays sound
+-- a world stays sound if its tape goes on with these entries or is closed
 tape-sound : (w : World) (t : TapeState) (more : List Entry) → IsSound w → IsLegal t → t.entries ≡ w.tape.entries ++ more
     → t.listing ≡ w.tape.listing → t.matrix ≡ w.tape.matrix → IfSome w.subscriber.window.ended (λ count. (t.closed ≡ true) × (count ≡ length t.entries))
     → IsSound (record w { tape = t })
@@ -120,12 +122,12 @@ sends w m s = by (refusal w.tape m) refl
   where
     by : (r : Option Refusal) → refusal w.tape m ≡ r → IsSound (record w { tape = tape_after w.tape m })
     by None free =
-        subst (λ t. IsSound (record w { tape = t })) (sym (cond-false (is_some (refusal w.tape m)) w.tape (with_message w.tape m) (ap is_some free)))
+        subst (λ t. IsSound (record w { tape = t })) (sym (tape_after-admitted w.tape m free))
         (admits w m s free)
     by (Some r) refused =
-        subst (λ t. IsSound (record w { tape = t })) (sym (cond-true (is_some (refusal w.tape m)) w.tape (with_message w.tape m) (ap is_some refused))) s
+        subst (λ t. IsSound (record w { tape = t })) (sym (tape_after-kept w.tape m r refused)) s
 
--- what a packet that was cut from the tape tells
+-- what a packet cut from the tape states
 pub record Tells (w : World) (packet : Packet) : Type 0 where
   pub session : session_of packet ≡ w.session
   pub stands : (k : ℕ) (e : Entry) → slice_get (entries_of packet) k ≡ Some e → (m : ℕ) × (e.number ≡ suc m) × (slice_get w.tape.entries m ≡ Some e)
@@ -133,7 +135,7 @@ pub record Tells (w : World) (packet : Packet) : Type 0 where
   pub last : last_of packet ≤ length w.tape.entries
   pub ended : IfSome (end_of packet) (λ count. (w.tape.closed ≡ true) × (count ≡ length w.tape.entries))
 
--- a packet that was cut from a legal tape tells what stands there
+-- a packet cut from a legal tape states what is on that tape
 pub tells : (w : World) (packet : Packet) → IsLegal w.tape → IsCut w packet → Tells w packet
 tells w (Data session row) legal cut =
     let numbers = (legal-IsPublished w.tape legal).numbered in
@@ -165,7 +167,7 @@ tells w (End session count) legal cut = record {
   ended = (cut.1, cut.2);
 }
 
--- what holds of both ends holds of the one that is kept
+-- what holds for both ends holds for the one that is kept
 either_end : (P : ℕ → Type 0) (one other : Option ℕ) → IfSome one P → IfSome other P → IfSome (option_or one other) P
 either_end P None other h k = k
 either_end P (Some x) other h k = h
@@ -212,7 +214,7 @@ comes w line packet s has =
       running = s.running;
     }
 
--- the next entry that is ready is the next that is due
+-- the next ready entry is the next due one
 next_due : (slots : List (Option Entry)) (due : List Entry) (e : Entry) → FromDue slots due → flat (slice_get slots 0) ≡ Some e
     → (rest : List Entry) × (due ≡ e ∷ rest) × FromDue (drop 1 slots) rest
 next_due [] due e h next = absurd (none-some e next)
@@ -225,12 +227,12 @@ same_size : (slots : List (Option Entry)) (e : Entry) → flat (slice_get slots 
 same_size [] e next = absurd (none-some e next)
 same_size (x ∷ slots) e next = length_push slots None ∙ omega arith
 
--- the next entry that is ready: it is the tape's next after those that are held
+-- the next ready entry: it is the tape's next after those held
 pub record IsNext (w : World) (e : Entry) : Type 0 where
   pub own : own_entry w.subscriber e.message ≡ e
   pub refused : refusal w.subscriber.tape e.message ≡ limit_refusal w.subscriber.tape
 
--- the next entry that is ready is the tape's next
+-- the next ready entry is the tape's next
 pub next_ready : (w : World) (e : Entry) → IsSound w → next_of w.subscriber.window ≡ Some e → IsNext w e
 next_ready w e s next =
     let held = w.subscriber.tape.entries in
@@ -292,7 +294,7 @@ drains zero w s = s
 drains (suc n) w s = drains n (record w { subscriber = subscriber_after_entry (next_of w.subscriber.window) w.subscriber })
     (replays w (next_of w.subscriber.window) s refl)
 
--- each event that is allowed keeps a world sound
+-- each allowed event keeps a world sound
 pub keeps : (w : World) (event : Event) → IsSound w → IsAllowed w event → IsSound (world_after w event)
 keeps w (Admits message) s ok = sends w message s
 keeps w Closes s ok =
@@ -321,7 +323,7 @@ pub after_drain : (w : World) (n : ℕ) (after : SubscriberState) → IsSound w 
     → IsSound (record w { subscriber = after })
 after_drain w n after s all = subst (λ (t : SubscriberState). IsSound (record w { subscriber = t })) (sym all.state) (drains n w s)
 
--- the next entry that is ready is the own tape's
+-- the next ready entry is the own tape's
 pub next_own : (w : World) → IsSound w → NextIsOwn w.subscriber
 next_own w s = go (next_of w.subscriber.window) refl
   where

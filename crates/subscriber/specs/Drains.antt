@@ -1,4 +1,4 @@
--- What a delivery and a drain answer.
+-- The results of a delivery and of a drain, and the state after them.
 use Rattle.std.specs.Prelude.{◌≡◌, ℕ, ◌+◌, ◌-◌, ◌≤◌, ◌<◌, ◌⊎◌, true, false, Option, None, Some, Err, List, length, unwrap_or, IsSomeAnd}
 use Rattle.tape_core.specs.declared.entry.Entry.{Entry}
 use Rattle.tape_core.specs.declared.refusal.Refusal.{Refusal}
@@ -37,11 +37,11 @@ RefusesDelivery s bytes (delivery.NoPacket fault) = (s.failed ≡ false) × (pac
 RefusesDelivery s bytes (delivery.Refused fault) =
     (s.failed ≡ false) × (packet : Packet) × Spells bytes packet × Refuses s.window s.tape.entries packet fault
 
--- a packet of the session brings entries, and each of their numbers is held
+-- the packet is of the session and brings entries, and each of their numbers is held
 abbrev pub BringsHeld : SubscriberState → Packet → Type 0
 BringsHeld s packet = IsSomeAnd (last_entry_of s.window.session packet) (λ last. last ≤ length s.tape.entries)
 
--- each of the next n entries is what its own tape makes of the message
+-- each of the next n entries is the one that its own tape makes from the message
 abbrev pub OwnFor : ℕ → SubscriberState → Type 0
 OwnFor n s = (k : ℕ) → k < n → NextIsOwn (subscriber_after k s)
 
@@ -53,7 +53,7 @@ pub record DrainsAll (n : ℕ) (old new : SubscriberState) : Type 0 where
   pub state : new ≡ subscriber_after n old
   pub nothing_ready : next_of new.window ≡ None
 
--- none was ready, or the entry that was next is held, and it is the feed's
+-- none was ready, or the next entry is held and is the feed's
 abbrev pub DrainsNext : Option Entry → SubscriberState → SubscriberState → Type 0
 DrainsNext None old new = (old.failed ≡ false) × (next_of old.window ≡ None) × (new ≡ old)
 DrainsNext (Some entry) old new =
@@ -71,13 +71,13 @@ StopsFor (Refused why) n s = (s.failed ≡ false) × OwnFor n s × IsRefused why
 StopsFor OtherSummary n s = (s.failed ≡ false) × (1 ≤ n) × OwnFor (n - 1) s × ¬ (NextIsOwn (subscriber_after (n - 1) s))
 StopsFor Failed n s = (s.failed ≡ true) × (n ≡ 0)
 
--- a drain stops, and those that it counts are held
+-- a drain stops, and the entries that it counts are held
 pub record DrainStops (fault : DrainFault) (old new : SubscriberState) : Type 0 where
   pub why : StopsFor fault.why fault.drained old
   pub held : length new.tape.entries ≡ length old.tape.entries + fault.drained
   pub state : new ≡ subscriber_after fault.drained old
 
--- a stop that an honest feed lets come: out of memory, or at the subscriber's own limit
+-- a stop that can come with an honest feed: out of memory, or at the subscriber's own limit
 abbrev pub IsHonestStop : Stop → SubscriberState → Type 0
 IsHonestStop (Refused why) s = (why ≡ refused.OutOfMemory) ⊎ ((why ≡ refused.Full) × (length s.tape.entries ≡ s.tape.limit))
 IsHonestStop OtherSummary s = ⊥

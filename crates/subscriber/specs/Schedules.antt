@@ -1,9 +1,10 @@
 -- The schedules of a tape and a subscriber: messages are admitted, packets come, the subscriber drains and restarts.
-use Rattle.std.specs.Prelude.{◌≡◌, ℕ, Bool, true, false, if◌then◌else◌, List, [], ◌∷◌, length, max, is_some, ◌⊎◌}
+use Rattle.std.specs.Prelude.{◌≡◌, ℕ, Bool, true, false, List, [], ◌∷◌, length, max, is_some, ◌⊎◌}
 use Rattle.tape_types.specs.Names.{Names}
 use Rattle.sale_matrix.specs.declared.matrix.Matrix.{Matrix}
 use Rattle.reports.specs.declared.message.Message.{Message}
-use Rattle.tape_core.specs.Tape.{TapeState, empty_tape, refusal, tape_before, with_message}
+use Rattle.tape_core.specs.Answers.{tape_after}
+use Rattle.tape_core.specs.Tape.{TapeState, empty_tape, tape_before}
 use Rattle.tape_frames.specs.declared.packet.Packet.{Packet}
 use Rattle.tape_frames.specs.Cuts.{IsCutOf}
 use Rattle.tape_frames.specs.Packets.{entries_of, last_of}
@@ -11,7 +12,7 @@ use Rattle.arbitration.specs.declared.line.Line.{Line}
 use Rattle.arbitration.specs.Deliveries.{window_after, entry_numbered}
 use Rattle.subscriber.specs.Subscribers.{SubscriberState, new_subscriber, subscriber_after}
 
--- a tape, the session under which it is sent, and a subscriber with a limit of its own
+-- a tape, the session that it is sent under, and a subscriber with its own limit
 pub record World : Type 0 where
   pub session : ℕ
   pub limit : ℕ
@@ -29,20 +30,17 @@ start listing matrix tape_limit limit session = record {
 
 -- what may happen next
 pub data Event : Type 0 where
-  -- the tape is sent a message, which it admits or refuses
+  -- the tape gets a message, which it admits or refuses
   Admits : (message : Message) → Event
   -- the tape is closed
   Closes : Event
   -- a packet comes by a line and is taken
   Comes : (line : Line) → (packet : Packet) → Event
-  -- the subscriber drains, and ends after this many entries: nothing more is ready, it is out of memory, or it stops otherwise
+  -- the subscriber drains, and ends after this many entries: nothing more is ready, memory runs out, or it stops for another
+  -- reason
   Drains : (count : ℕ) → Event
   -- the subscriber restarts
   Restarts : Event
-
--- the tape after it was sent a message
-abbrev pub tape_after : TapeState → Message → TapeState
-tape_after t m = if is_some (refusal t m) then t else with_message t m
 
 -- the world after an event
 abbrev pub world_after : World → Event → World
@@ -61,11 +59,11 @@ run w (event ∷ events) = run (world_after w event) events
 abbrev pub held_prefix : World → TapeState
 held_prefix w = tape_before w.tape (length w.subscriber.tape.entries)
 
--- a packet that was cut from the tape as it is now
+-- a packet cut from the tape as it is at this point
 abbrev pub IsCut : World → Packet → Type 0
 IsCut w packet = IsCutOf w.session w.tape packet
 
--- each packet that comes was cut from the tape as it is then
+-- each packet that comes is cut from the tape as it is at that point
 abbrev pub IsAllowed : World → Event → Type 0
 IsAllowed w (Admits message) = Unit {0}
 IsAllowed w Closes = Unit {0}
@@ -73,7 +71,7 @@ IsAllowed w (Comes line packet) = IsCut w packet
 IsAllowed w (Drains count) = Unit {0}
 IsAllowed w Restarts = Unit {0}
 
--- each of the events is allowed in its turn
+-- each event is allowed in its turn
 abbrev pub IsSchedule : World → List Event → Type 0
 IsSchedule w [] = Unit {0}
 IsSchedule w (event ∷ events) = IsAllowed w event × IsSchedule (world_after w event) events

@@ -1,4 +1,4 @@
-//! Why bytes are not taken.
+//! The faults that delivered bytes are refused with, each with its number and name.
 ghost use Rattle.std.specs.Prelude.{◌≡◌, Some};
 ghost use Rattle.subscriber.specs.Faults.{delivery_fault_code, delivery_fault_name};
 
@@ -7,19 +7,19 @@ use std::fmt;
 use tape_frames::PacketFault;
 use thiserror::Error;
 
-/// Why bytes that came by a line are not taken, the first reason that applies. The subscriber is unchanged.
+/// Why bytes that came by a line are refused: the first reason that applies. The subscriber is unchanged.
 #[derive(Clone, Copy, Debug, PartialEq, Eq, Error)]
 pub enum DeliveryFault {
-    /// A drain has met another summary, and the subscriber takes nothing any more, not even a good packet.
+    /// A drain met an entry that differs from the subscriber's own, and from then on every packet is refused, even a good one.
     Failed,
-    /// The bytes are no packet, for this fault, the first from the front.
+    /// The bytes are not a packet; this is the first fault from the front.
     NoPacket(PacketFault),
-    /// The window refuses the packet, for this fault.
+    /// The window refuses the packet with this fault.
     Refused(DeliverFault),
 }
 
 impl DeliveryFault {
-    /// The number of the fault: its own where the subscriber has failed, and else that of the packet's or the window's fault.
+    /// The number of the fault: 64 if the subscriber has failed, otherwise that of the packet's or the window's fault.
     pub fn code(self) -> u8
         ensures number { result ≡ delivery_fault_code self }
     {
@@ -30,7 +30,7 @@ impl DeliveryFault {
         }
     }
 
-    /// The name of the fault, as it is printed.
+    /// The name of the fault, as printed.
     pub fn name(self) -> &'static str
         ensures text { result.now ≡ delivery_fault_name self }
     {

@@ -1,4 +1,4 @@
-//! Why a drain stops.
+//! The reasons for which a drain stops early, each with its number and name.
 ghost use Rattle.std.specs.Prelude.{◌≡◌, Some};
 ghost use Rattle.subscriber.specs.Faults.{stop_code, stop_name};
 
@@ -9,20 +9,21 @@ use thiserror::Error;
 /// Why a drain stops before nothing is ready.
 #[derive(Clone, Copy, Debug, PartialEq, Eq, Error)]
 pub enum Stop {
-    /// The subscriber's own tape refuses the next entry's message, for this reason: `Full` where the subscriber's limit is reached,
-    /// `OutOfMemory`, and any other only where the feed is no tape. The entry stays in the window, and the next drain tries it again.
+    /// The subscriber's own tape refuses the next entry's message for this reason: `Full` if the subscriber's limit is reached,
+    /// `OutOfMemory`, and any other only if the feed is not a tape. The entry stays in the window, and the next drain tries it
+    /// again.
     Refused(Refusal),
-    /// The subscriber's own entry is not the feed's. The own one is held and counted as drained, the
-    /// feed's is taken out of the window, and from then on each delivery and drain answers `Failed`.
+    /// The subscriber's own entry differs from the feed's. Its own is held and counted as drained, the feed's is taken out of
+    /// the window, and from then on each delivery and drain returns `Failed`.
     OtherSummary,
-    /// An earlier drain has answered `OtherSummary`. Nothing is drained.
+    /// An earlier drain returned `OtherSummary`. Nothing is drained.
     Failed,
 }
 
-/// A drain that stopped: the entries that it counts are held, and the rest stays in the window.
+/// A drain that stopped: the entries that it counts are held, and the others stay in the window.
 #[derive(Clone, Copy, Debug, PartialEq, Eq, Error)]
 pub struct DrainFault {
-    /// How many entries this drain has put on the subscriber's own tape, from 0 to `REACH`.
+    /// How many entries this drain put on the subscriber's own tape, 0 to `REACH`.
     pub drained: u32,
     /// Why it stopped.
     pub why: Stop,
@@ -40,7 +41,7 @@ impl Stop {
         }
     }
 
-    /// The name of the stop, as it is printed.
+    /// The name of the stop, as printed.
     pub fn name(self) -> &'static str
         ensures text { result.now ≡ stop_name self }
     {

@@ -17,7 +17,7 @@ use Rattle.tape_frames.specs.declared.version.Version.{Version}
 use Rattle.tape_frames.specs.Headers.{header_at, header_number_of, last_entry_of}
 use Rattle.tape_frames.specs.declared.header.Header.{Header}
 
--- a header as it is spelled is read
+-- a spelled header is read
 header_again : (version : Version) (kind session number count : ℕ) (bytes : List ℕ) → kind < 2 ^ 8 → session < 2 ^ 64 → number < 2 ^ 32 → count < 2 ^ 8
     → header_at (header_text version kind session number count ++ bytes) ≡ Ok (record { kind = kind; session = session; number = number; count = count }, bytes)
 unfolding header_at
@@ -65,7 +65,7 @@ of_text (End session count) valid = (
 same_header : (r : Result (Header × List ℕ) PacketFault) (a b : Header) (x y : List ℕ) → r ≡ Ok (a, x) → r ≡ Ok (b, y) → a ≡ b
 same_header r a b x y one other = ap (λ (p : Header × List ℕ). p.0) (ok_is Short (a, x) (b, y) (sym one ∙ other))
 
--- a header that is spelled is not too short
+-- a spelled header is not too short
 not_short : (r : Result (Header × List ℕ) PacketFault) (fault : PacketFault) (a : Header) (x : List ℕ) → r ≡ Err fault → r ≡ Ok (a, x) → ⊥
 not_short r fault a x one other = absurd cc
 

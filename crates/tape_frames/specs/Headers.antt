@@ -19,7 +19,7 @@ header_at bytes = do
   count ← number_at Short w8 number.1
   Ok (record { kind = kind.0; session = session.0; number = number.0; count = count.0 }, count.1)
 
--- the number in a packet's header: of its first entry, or the one that a beat or an end tells
+-- the number in a packet's header: of its first entry, or the one that a beat or an end states
 abbrev pub header_number_of : Packet → ℕ
 header_number_of (Data session row) = first_number row.entries
 header_number_of (Beat session last) = last.count

@@ -20,11 +20,11 @@ entry_length (Cancel header target) = 4 + (2 + CANCEL_LENGTH) + SUMMARY_LENGTH
 entry_length (Correct header target content) = LONGEST_ENTRY
 entry_length (Reinstate header target) = 4 + (2 + REINSTATEMENT_LENGTH) + SUMMARY_LENGTH
 
--- each entry has as many bytes as its kind asks for
+-- each entry has as many bytes as its kind needs
 abbrev pub EntryLengths : Type 0
 EntryLengths = (version : Version) (e : Entry) → IsEntry version e → length (entry_text e) ≡ entry_length e.message
 
--- each packet has a header at least, and no packet is longer than the longest of its version
+-- each packet has at least a header, and no packet is longer than the longest of its version
 abbrev pub PacketLengths : Type 0
 PacketLengths = (q : Packet) → IsPacket q → (HEADER_LENGTH ≤ length (packet_text q)) × (length (packet_text q) ≤ longest_packet (version_of q))
 

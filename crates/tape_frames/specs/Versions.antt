@@ -1,4 +1,4 @@
--- What the versions of the format are, and how they differ.
+-- The versions of the format: their bytes, limits and ranges of numbers.
 use Rattle.std.specs.Prelude.{ℕ, ◌+◌, ◌*◌, ◌≤◌, ◌==◌, Option, Some, None, if◌then◌else◌}
 use Rattle.tape_types.specs.Ranges.{TAPE_MOST}
 use Rattle.tape_frames.specs.declared.version.Version.{Version}
@@ -19,7 +19,7 @@ abbrev pub entries_most : Version → ℕ
 entries_most One = ENTRIES_MOST_ONE
 entries_most Two = ENTRIES_MOST
 
--- the greatest number that a packet tells of
+-- the greatest number in a packet
 abbrev pub number_most : Version → ℕ
 number_most One = NUMBER_MOST_ONE
 number_most Two = TAPE_MOST
@@ -28,15 +28,15 @@ number_most Two = TAPE_MOST
 abbrev pub longest_packet : Version → ℕ
 longest_packet version = HEADER_LENGTH + entries_most version * LONGEST_ENTRY
 
--- a tape number that a packet can tell of
+-- a tape number that a packet can state
 abbrev pub IsNumberIn : Version → ℕ → Type 0
 IsNumberIn version n = (1 ≤ n) × (n ≤ number_most version)
 
--- a number of entries that a packet can tell of
+-- a number of entries that a packet can state
 abbrev pub IsCountIn : Version → ℕ → Type 0
 IsCountIn version n = n ≤ number_most version
 
--- a packet can begin with the entry of this number of a tape, which is any number of a tape but for version 1
+-- a packet can begin with the entry of this number of a tape, which is any tape number unless the version is 1
 abbrev pub CanBegin : Version → ℕ → Type 0
 CanBegin One from = from ≤ NUMBER_MOST_ONE
 CanBegin Two from = Unit {0}

@@ -1,4 +1,4 @@
-//! What the header of a packet says, before the packet is read.
+//! Reads a packet's header alone, without the entries that follow it.
 ghost use Rattle.std.specs.Prelude.{◌≡◌, Some};
 ghost use Rattle.reports.specs.Fields.{Reads};
 ghost use Rattle.tape_frames.specs.declared.packet.Packet.{Packet};
@@ -9,14 +9,14 @@ use crate::PacketFault;
 use crate::kinds::DATA;
 use reports::Unread;
 
-/// What a header says of the entries that follow it.
+/// What a header says about the entries that follow it.
 #[derive(Clone, Copy)]
 struct Header {
     /// The kind of the packet.
     kind: u8,
-    /// The session under which it is sent.
+    /// The session that it is sent under.
     session: u64,
-    /// The number of its first entry, or the one that it tells where it has none.
+    /// The number of its first entry, or the number that a beat or an end states.
     number: u32,
     /// How many entries it has.
     count: u8,
@@ -40,8 +40,9 @@ fn read_header(unread: &mut Unread<'_>) -> Result<Header, PacketFault>
     })
 }
 
-/// The number in the header of the packet with these bytes: that of its first entry, or the one that a beat or an end tells.
-/// `None` for fewer bytes than a header has. Nothing else is looked at, so bytes that are no packet have a number too.
+/// The number in the header of the packet with these bytes: that of its first entry, or the one that a beat or an end states.
+/// `None` if there are fewer bytes than a header has. Nothing else is checked, so bytes that are not a packet have a number
+/// too.
 pub fn header_number(bytes: &[u8]) -> Option<u32>
     ensures number { (packet : Packet) → Spells bytes.now packet → result ≡ Some (header_number_of packet) }
 {
@@ -52,8 +53,8 @@ pub fn header_number(bytes: &[u8]) -> Option<u32>
     }
 }
 
-/// The number of the last entry that the packet with these bytes brings, by its header alone: `None` where it brings none or
-/// is of another session.
+/// The number of the last entry that the packet with these bytes brings, by its header alone: `None` if it brings none or
+/// belongs to another session.
 pub fn last_entry(session: u64, bytes: &[u8]) -> Option<u64>
     ensures last { (packet : Packet) → Spells bytes.now packet → result ≡ last_entry_of session packet }
 {

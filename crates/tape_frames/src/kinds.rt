@@ -1,4 +1,4 @@
-//! The kinds of packets, each by the byte after the version.
+//! The bytes that stand for the kinds of packets, after the version.
 
 /// The kind of a packet with entries.
 pub(crate) const DATA: u8 = b'D';

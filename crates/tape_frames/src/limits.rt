@@ -1,4 +1,4 @@
-//! The limits of packets and requests, each once.
+//! The limits of packets and requests: numbers of entries, greatest numbers, and lengths in bytes.
 
 use reports::LONGEST_MESSAGE;
 
@@ -14,13 +14,13 @@ pub const NUMBER_MOST_ONE: u32 = 1_048_576;
 /// How many entries a request asks for at most.
 pub const LONGEST_SPAN: u16 = 64;
 
-/// How many bytes stand before a packet's entries: version 1, kind 1, session 8, number 4, count 1.
+/// How many bytes come before a packet's entries: version 1, kind 1, session 8, number 4, count 1.
 pub const HEADER_LENGTH: usize = 15;
 
 /// How many bytes a mark has, or the zeros in its place: price 8, place 4, participant 1.
 pub const MARK_LENGTH: usize = 13;
 
-/// The presence byte of a summary that has all four marks, which is the greatest one.
+/// The presence byte of a summary that has all four marks, the greatest one.
 pub const ALL_MARKS: u8 = 0x0f;
 
 /// How many bytes a summary has: presence 1, four marks, volume 8, trades 4.

@@ -1,4 +1,4 @@
-//! The versions of the format.
+//! The two versions of the format and their limits.
 ghost use Rattle.std.specs.Prelude.{◌≡◌, ◌≤◌, ◌↔◌, IsTrue};
 ghost use Rattle.tape_types.specs.Ranges.{TAPE_MOST};
 ghost use Rattle.tape_frames.specs.Limits.{ENTRIES_MOST};
@@ -7,7 +7,7 @@ ghost use Rattle.tape_frames.specs.Versions.{CanBegin, entries_most, number_most
 use crate::limits::{ENTRIES_MOST, ENTRIES_MOST_ONE, NUMBER_MOST_ONE};
 use tape_types::TAPE_MOST;
 
-/// A version of the format of packets. Both have the same fields; the second has more entries in a packet, and greater numbers.
+/// A version of the packet format. Both have the same fields; the second allows more entries in a packet and greater numbers.
 #[derive(Clone, Copy, Debug, PartialEq, Eq)]
 pub enum Version {
     /// Up to `ENTRIES_MOST_ONE` entries, and numbers up to `NUMBER_MOST_ONE`.
@@ -24,7 +24,7 @@ impl Version {
         self as u8
     }
 
-    /// The version of a packet with this first byte.
+    /// The version of a packet with this first byte, or `None` if it is neither 1 nor 2.
     pub(crate) fn of_byte(byte: u8) -> Option<Version>
         ensures version { result ≡ version_of_byte byte }
     {
@@ -47,7 +47,7 @@ impl Version {
         }
     }
 
-    /// The greatest number that a packet tells of: of an entry, of a mark's place, of a beat or an end.
+    /// The greatest number in a packet: of an entry, a mark's place, a beat or an end.
     pub fn number_most(self) -> u32
         ensures value { result ≡ number_most self }
         ensures within { result ≤ TAPE_MOST }
@@ -58,7 +58,7 @@ impl Version {
         }
     }
 
-    /// Whether a packet can begin with the entry of this number of a tape.
+    /// Whether a packet can begin with the entry of this tape number.
     pub fn can_begin(self, from: u32) -> bool
         ensures exact { IsTrue result ↔ CanBegin self from }
     {

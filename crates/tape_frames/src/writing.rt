@@ -1,4 +1,4 @@
-//! A packet written as its spelling.
+//! Writes a packet as its spelling: into a fixed row of bytes first, then into the caller's text.
 ghost use Rattle.std.specs.Prelude.{◌≡◌, ◌+◌, ◌*◌, ◌≤◌, ◌++◌, All, length, OnOk, OnErr, flat_map};
 ghost use Rattle.reports.specs.ByteRows.{Puts};
 ghost use Rattle.tape_frames.specs.Limits.{ENTRIES_MOST, HEADER_LENGTH, MARK_LENGTH, SUMMARY_LENGTH, LONGEST_ENTRY, LONGEST_PACKET, ALL_MARKS};
@@ -17,11 +17,11 @@ use scratch_fold::{Mark, Summary};
 use std::alloc::AllocError;
 use tape_core::Entry;
 
-/// Appends the packet's spelling to the text. Where memory runs out, the text is as it was. The spelling is made in a row of
-/// `LONGEST_PACKET` bytes, and the text grows once.
+/// Appends the packet's spelling to the text. If memory runs out, the text is unchanged. The spelling is built in a row of
+/// `LONGEST_PACKET` bytes, so the text grows only once.
 pub fn write_packet(packet: &Packet, text: &mut Vec<u8>) -> Result<(), AllocError>
     ensures ok { OnOk result (text.new.items ≡ text.old.items ++ packet_text packet.now) }
-    // With `ok`, what was written spells the packet.
+    // With `ok`: the bytes appended spell the packet.
     ensures valid { IsPacket packet.now }
     ensures short { length (packet_text packet.now) ≤ longest_packet (version_of packet.now) }
     ensures err { OnErr result (text.new.items ≡ text.old.items) }
@@ -31,7 +31,7 @@ pub fn write_packet(packet: &Packet, text: &mut Vec<u8>) -> Result<(), AllocErro
     text.extend_from_slice(&row[..end])
 }
 
-// Each of these puts a text after the first `at` bytes of the row, and answers where the text ends.
+// Each of these functions puts a text after the first `at` bytes of the row and returns where the text ends.
 
 /// The whole packet, at the front of the row.
 fn put_packet(row: &mut [u8], packet: &Packet) -> usize
@@ -74,7 +74,7 @@ fn put_header(
     put(row, at, &[count])
 }
 
-/// The entries, one after the other, which a packet of the version can have.
+/// The entries, one after the other. A packet of the version can have each of them.
 fn put_entries(row: &mut [u8], at: usize, version: Version, entries: &[Entry]) -> usize
     requires few { length entries.now ≤ ENTRIES_MOST }
     requires carry { All Carries entries.now }
@@ -109,7 +109,7 @@ fn put_entry(row: &mut [u8], at: usize, version: Version, entry: &Entry) -> usiz
     }
 }
 
-/// A summary: which marks are there, the marks, and the two sums.
+/// A summary: which marks are present, the marks, and the two sums.
 fn put_summary(row: &mut [u8], at: usize, version: Version, summary: &Summary) -> usize
     requires room { at + SUMMARY_LENGTH ≤ length row.old }
     requires places { HasPlacesUpTo (number_most version) summary.now }
@@ -126,7 +126,7 @@ fn put_summary(row: &mut [u8], at: usize, version: Version, summary: &Summary) -
     put(row, at, &summary.trades.to_be_bytes())
 }
 
-/// Which marks are there: a bit for each, from the lowest.
+/// Which marks are present: a bit for each, from the lowest.
 fn presence(summary: &Summary) -> u8
     ensures value { result ≡ presence summary.now }
     ensures low { result ≤ ALL_MARKS }
@@ -137,7 +137,7 @@ fn presence(summary: &Summary) -> u8
         + 8 * u8::from(summary.last.is_some())
 }
 
-/// A mark that is there, or zeros.
+/// A mark if it is present, otherwise zeros.
 fn put_figure(row: &mut [u8], at: usize, version: Version, figure: &Option<Mark>) -> usize
     requires room { at + MARK_LENGTH ≤ length row.old }
     requires place { IsPlacedUpTo (number_most version) figure.now }

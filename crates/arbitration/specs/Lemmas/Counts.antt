@@ -1,4 +1,4 @@
--- What is counted of slots and entries.
+-- Counts of slots and entries, and how one more entry changes them.
 use Rattle.std.proofs.Common.{◌≡◌, ℕ, zero, suc, ◌+◌, ◌≤◌, ◌<◌, Bool, true, false, List, [], ◌∷◌, ◌++◌}
 use Rattle.std.proofs.Common.{length, take, get_or, cond, Option, None, Some, refl, sym, ap, ◌∙◌, arith}
 use Rattle.std.proofs.lemmas.Grind.{common_steps}
@@ -77,7 +77,7 @@ pub few_taken : (next : ℕ) (slots : List (Option Entry)) (es : List Entry)
     → ((taken_of next slots es).fresh ≤ length es) × ((taken_of next slots es).repeated ≤ length es) × ((taken_of next slots es).beyond ≤ length es)
 few_taken next slots es = (count_by-le-length _ es, count_by-le-length _ es, count_by-le-length _ es)
 
--- one more entry fills a slot where it is fresh
+-- one more entry fills a slot if it is fresh
 pub fresh_more : (n : ℕ) (t : Taken) (placing : Placing) → (n + t.fresh) + fresh_count placing ≡ n + (taken_with t placing).fresh
 fresh_more n t Fresh = omega arith
 fresh_more n t Repeated = omega arith

@@ -1,4 +1,4 @@
--- What is ready in a window, and its first gap.
+-- The ready entries of a window, and its first gap.
 use Rattle.std.proofs.Common.{◌≡◌, ℕ, zero, suc, ◌+◌, ◌-◌, ◌≤◌, ◌<◌, true, List, [], ◌∷◌, ◌++◌, length, Option, None, Some, refl, sym, ap, ap₂, ◌∙◌}
 use Rattle.std.proofs.Common.{drop, inl, inr, arith, min}
 use Rattle.std.proofs.lemmas.Bool.{cases_lt, cond-false, le-ltb, false≢true}
@@ -14,7 +14,7 @@ ready_within [] = omega arith
 ready_within (None ∷ slots) = omega arith
 ready_within (Some e ∷ slots) = let rest = ready_within slots in omega arith
 
--- nothing is ready exactly where the first slot is empty
+-- nothing is ready if and only if the first slot is empty
 pub none_ready : (slots : List (Option Entry)) → (length (ready_entries slots) ≡ 0) ↔ (flat (slice_get slots 0) ≡ None)
 none_ready [] = (λ h. refl, λ h. refl)
 none_ready (None ∷ slots) = (λ h. refl, λ h. refl)
@@ -40,7 +40,7 @@ ready_full (None ∷ slots) k below empty = omega arith
 ready_full (Some e ∷ slots) zero below empty = none-some e (sym empty)
 ready_full (Some e ∷ slots) (suc k) below empty = ready_full slots k (omega arith) empty
 
--- what waits under a number, by its slot
+-- the entry that waits under a number, by its slot
 pub waiting_at : (next : ℕ) (slots : List (Option Entry)) (n k : ℕ) → n ≡ next + k → waiting_entry next slots n ≡ flat (slice_get slots k)
 waiting_at next slots n k p =
     let place : n - next ≡ k = omega arith in
@@ -56,7 +56,7 @@ missing_from w n missing = elim (cases_lt n (w.base + 1 + length (ready_entries 
   | inr from ↦ from
 ]
 
--- the empty slots after the ready ones are the gap, as far as it was announced
+-- the empty slots after the ready ones are the gap, as far as the tape was announced
 pub the_gap : (w : WindowState) (full most count : ℕ) → full ≡ length (ready_entries w.slots) → w.base + 1 + full ≤ w.announced
     → most ≡ min (w.announced - (w.base + 1 + full) + 1) ASKED_MOST → count ≤ most
     → ((k : ℕ) → k < count → flat (slice_get w.slots (full + k)) ≡ None)

@@ -42,7 +42,7 @@ numbered_place first es n e h found = elim (cases_lt n first) [
       (n - first, p, sym (entry_numbered-place first es (n - first) h) ∙ ap (λ i. entry_numbered i es) (sym p) ∙ found)
 ]
 
--- the entry of a number stands in the list, and has the number
+-- the entry of a number is in the list and has the number
 pub find_place : (es : List Entry) (n : ℕ) (e : Entry) → entry_numbered n es ≡ Some e → (k : ℕ) × (slice_get es k ≡ Some e) × (e.number ≡ n)
 find_place [] n e found = absurd (none-some e found)
 find_place (x ∷ es) n e found = elim (cases_Bool (x.number == n)) [
@@ -54,7 +54,7 @@ find_place (x ∷ es) n e found = elim (cases_Bool (x.number == n)) [
       (suc rest.0, rest.1, rest.2)
 ]
 
--- no two entries of a row have one number
+-- no two entries of a row have the same number
 pub number_is_new : (first : ℕ) (es : List Entry) (k : ℕ) (d : Entry) → IsNumberedFrom first es → k < length es
     → entry_numbered (get_or es k d).number (take k es) ≡ None
 number_is_new first es k d h within =
@@ -85,13 +85,13 @@ packet_numbers (Data session row) h n e found =
 packet_numbers (Beat session last) h n e found = absurd (cc)
 packet_numbers (End session count) h n e found = absurd (cc)
 
--- the last number of a packet is one of a tape
+-- the last number of a packet is within a tape's range
 pub packet_within : (q : Packet) → HasNumbers q → last_of q ≤ TAPE_MOST
 packet_within (Data session row) h = let within = h.within in omega arith
 packet_within (Beat session last) h = h
 packet_within (End session count) h = h
 
--- the end that a packet tells of is its last number
+-- the end that a packet states is its last number
 pub packet_end : (q : Packet) → IfSome (end_of q) (λ count. last_of q ≡ count)
 packet_end (Data session row) = tt
 packet_end (Beat session last) = tt

@@ -1,4 +1,4 @@
--- What a packet does to the slots.
+-- How a packet's entries change the slots, one entry after the other.
 use Rattle.std.proofs.Common.{◌≡◌, ℕ, zero, suc, ◌+◌, ◌-◌, ◌≤◌, ◌<◌, ◌==◌, true, false, List, [], ◌∷◌, ◌++◌, length}
 use Rattle.std.proofs.Common.{set, take, get_or, Option, None, Some, refl, sym, ap, ap₂, ◌∙◌, inl, inr, arith, eq-eqb}
 use Rattle.std.proofs.lemmas.Bool.{cases_lt, cond-true, cond-false, ne_eqb, le-ltb, lt-ltb, true≢false, false≢true}
@@ -13,7 +13,7 @@ use Rattle.arbitration.specs.Counts.{placing_of, placing_in}
 use Rattle.arbitration.specs.Deliveries.{entry_numbered, slots_after}
 use Rattle.arbitration.specs.declared.taken.Placing.TheVariants.{Fresh, Repeated, Beyond}
 
--- the first of three that is there
+-- the first of three that is present
 or_assoc : (o p q : Option Entry) → option_or (option_or o p) q ≡ option_or o (option_or p q)
 or_assoc None p q = refl
 or_assoc (Some x) p q = refl
@@ -31,7 +31,7 @@ pub slots_after-none : (next : ℕ) (slots : List (Option Entry)) → slots_afte
 slots_after-none next [] = refl
 slots_after-none next (slot ∷ slots) = ap₂ ◌∷◌ (option_or-none slot) (slots_after-none (next + 1) slots)
 
--- the slots stay as many
+-- the number of slots stays the same
 pub length-slots_after : (next : ℕ) (slots : List (Option Entry)) (es : List Entry) → length (slots_after next slots es) ≡ length slots
 length-slots_after next [] es = refl
 length-slots_after next (slot ∷ slots) es = ap suc (length-slots_after (next + 1) slots es)
@@ -40,7 +40,7 @@ length-slots_after next (slot ∷ slots) es = ap suc (length-slots_after (next +
 pub other_number : (next : ℕ) (e : Entry) → (e.number ≡ next → ⊥) → entry_numbered next (e ∷ []) ≡ None
 other_number next e other = cond-false (e.number == next) _ _ (ne_eqb _ _ other)
 
--- an entry whose number no slot has changes none
+-- an entry whose number has no slot changes no slot
 slots_after-other : (next : ℕ) (slots : List (Option Entry)) (e : Entry) → ((k : ℕ) → k < length slots → e.number ≡ next + k → ⊥)
     → slots_after next slots (e ∷ []) ≡ slots
 slots_after-other next [] e other = refl
@@ -48,15 +48,15 @@ slots_after-other next (slot ∷ slots) e other =
     ap₂ ◌∷◌ (ap (option_or slot) (other_number next e (λ same. other 0 (omega arith) (omega arith))) ∙ option_or-none slot)
     (slots_after-other (next + 1) slots e (λ k within same. other (suc k) (omega arith) (omega arith)))
 
--- an entry below the first slot changes none
+-- an entry below the first slot changes no slot
 pub slots_after-below : (next : ℕ) (slots : List (Option Entry)) (e : Entry) → e.number < next → slots_after next slots (e ∷ []) ≡ slots
 slots_after-below next slots e below = slots_after-other next slots e (λ k within same. omega arith)
 
--- an entry past the last slot changes none
+-- an entry past the last slot changes no slot
 pub slots_after-past : (next : ℕ) (slots : List (Option Entry)) (e : Entry) → next + length slots ≤ e.number → slots_after next slots (e ∷ []) ≡ slots
 slots_after-past next slots e past = slots_after-other next slots e (λ k within same. omega arith)
 
--- an entry whose slot is full changes none
+-- an entry whose slot is full changes no slot
 pub slots_after-full : (next : ℕ) (slots : List (Option Entry)) (e x : Entry) (k : ℕ) → e.number ≡ next + k → slice_get slots k ≡ Some (Some x)
     → slots_after next slots (e ∷ []) ≡ slots
 slots_after-full next [] e x k h found = refl
@@ -88,7 +88,7 @@ placing_past next slots e h =
     let p : e.number ≡ next + (e.number - next) = omega arith in
     placing_at next slots e _ p ∙ ap placing_in (slice_get_past slots (e.number - next) (omega arith))
 
--- an entry whose slot is full changes none and is repeated
+-- an entry whose slot is full changes no slot and is repeated
 pub full_slot : (next : ℕ) (slots : List (Option Entry)) (e : Entry) (o : Option Entry) (k : ℕ) → e.number ≡ next + k → slice_get slots k ≡ Some o
     → is_some o ≡ true → (slots_after next slots (e ∷ []) ≡ slots) × (placing_of next slots e ≡ Repeated)
 full_slot next slots e None k p found full = absurd (false≢true full)

@@ -1,4 +1,4 @@
--- What keeps the invariant of a window.
+-- The steps that keep a window's invariant.
 use Rattle.std.proofs.Common.{◌≡◌, ℕ, zero, suc, ◌+◌, ◌^◌, ◌≤◌, ◌<◌, ◌==◌, true, false, List, [], ◌∷◌, ◌++◌, length, set}
 use Rattle.std.proofs.Common.{take, drop, Option, None, Some, refl, sym, ap, subst, ◌∙◌, arith, lit<, ◌||◌, max, not}
 use Rattle.std.proofs.lemmas.Bool.{false≢true, or_parts, ltb-false, not-false, eqb-true}
@@ -34,7 +34,7 @@ pub REACH-asked : ASKED_MOST ≤ REACH
 unfolding REACH
 REACH-asked = omega arith
 
--- a slot that got the entry of its number is placed
+-- a slot filled with the entry of its number is placed
 placed_found : (next more : ℕ) (o : Option Entry) (slots : List (Option Entry)) → ((e : Entry) → o ≡ Some e → (e.number ≡ next) × (next ≤ more))
     → ArePlaced (next + 1) more slots → ArePlaced next more (o ∷ slots)
 placed_found next more None slots has h = h
@@ -60,7 +60,7 @@ ArePlaced-push next announced [] h = tt
 ArePlaced-push next announced (None ∷ slots) h = ArePlaced-push (next + 1) announced slots h
 ArePlaced-push next announced (Some e ∷ slots) h = (h.0, h.1, ArePlaced-push (next + 1) announced slots h.2)
 
--- the end that is known after a packet is not below what was announced then
+-- after a packet, the known end is not below what has been announced
 pub end_after : (ended end : Option ℕ) (announced last : ℕ) → (is_beyond ended last || is_other_end ended announced end) ≡ false
     → IfSome ended (λ count. announced ≤ count) → IfSome end (λ count. last ≡ count) → IfSome (option_or end ended) (λ count. max announced last ≤ count)
 end_after None None announced last ok h k = tt
@@ -72,7 +72,7 @@ end_after (Some known) (Some count) announced last ok h k =
     let same : count ≡ known = eqb-true count known (not-false (count == known) (or_parts (is_beyond (Some known) last) (not (count == known)) ok).1) in
     omega arith
 
--- an empty window is one
+-- an empty window satisfies the invariant
 pub IsWindow-empty : (session : ℕ) → IsWindow (empty_window session)
 IsWindow-empty session = record {
   size = length-replicate REACH None;
@@ -83,7 +83,7 @@ IsWindow-empty session = record {
   counted = let none = count_none REACH in omega arith;
 }
 
--- a window is one after a packet
+-- a window satisfies it after a packet
 pub IsWindow-window_after : (w : WindowState) (line : Line) (q : Packet) → IsWindow w → HasNumbers q → is_past_end w q ≡ false
     → count_by is_some (slots_after (w.base + 1) w.slots (entries_of q)) ≡ count_by is_some w.slots + (taken_of (w.base + 1) w.slots (entries_of q)).fresh
     → IsWindow (window_after w line q)
@@ -102,7 +102,7 @@ IsWindow-window_after w line q h packet in_time count =
       counted = brought_sum w.brought line fresh ∙ ap (λ n. n + fresh) h.counted ∙ omega arith ∙ ap (λ n. w.base + n) (sym count);
     }
 
--- a window is one without its next entry
+-- a window satisfies it without its next entry
 pub IsWindow-window_past : (w : WindowState) → IsWindow w → is_some (next_of w) ≡ true → IsWindow (window_past 1 w)
 IsWindow-window_past w h ready = go w.slots refl
   where

@@ -1,4 +1,4 @@
--- Seats of distinct participants.
+-- Seats of distinct participants are one of each, at the opening and after lines.
 use Rattle.std.proofs.Common.{◌≡◌, ℕ, zero, suc, ◌+◌, ◌==◌, nat_eq, nat_lt, Bool, false, cond, ◌||◌, List, [], ◌∷◌, length, map, slice_get, Some, None}
 use Rattle.std.proofs.Common.{refl, ap, subst, ◌∙◌, sym, arith, true≢false, eq-eqb}
 use Rattle.std.specs.List.{list_any}
@@ -13,17 +13,17 @@ use Rattle.line_ledger.specs.Seats.{SeatState, untold}
 use Rattle.line_ledger.specs.Ends.{whos, seats_of, IsOneEach}
 use Rattle.tape_types.specs.Ranges.{SYMBOLS_MOST, PARTICIPANTS_MOST}
 
--- where no number passes a test, the one at a position does not
+-- if no number passes a test, the one at a position does not
 any-at : (t : ℕ → Bool) (ps : List ℕ) (k p : ℕ) → list_any t ps ≡ false → slice_get ps k ≡ Some p → t p ≡ false
 any-at t [] k p none here = absurd (none-some p here)
 any-at t (x ∷ xs) zero p none here = ap t (sym (same_Some x p here)) ∙ (or_parts (t x) _ none).0
 any-at t (x ∷ xs) (suc k) p none here = any-at t xs k p (or_parts (t x) _ none).1 here
 
--- a seat more counts where it is the participant's
+-- one more seat counts if it is the participant's
 seats_of-cons : (who : ℕ) (s : SeatState) (seats : List SeatState) → seats_of who (s ∷ seats) ≡ cond (s.who == who) 1 0 + seats_of who seats
 seats_of-cons who s seats = sum_by-cons (λ (x : SeatState). cond (x.who == who) 1 0) s seats
 
--- a participant who is at none of the seats has no seat
+-- a participant that none of the seats is of has no seat
 none-of : (who : ℕ) (seats : List SeatState) → list_any (λ y. nat_eq y who) (whos seats) ≡ false → seats_of who seats ≡ 0
 none-of who [] none = refl
 none-of who (s ∷ seats) none =
@@ -32,7 +32,7 @@ none-of who (s ∷ seats) none =
     let rest : seats_of who seats ≡ 0 = none-of who seats parts.1 in
     seats_of-cons who s seats ∙ omega (arith, first, rest)
 
--- a participant at one of the seats, whose participants are distinct, has one seat
+-- a participant that one of the seats is of has one seat, if their participants are distinct
 one-of : (who k : ℕ) (seats : List SeatState) → has_repeat nat_eq (whos seats) ≡ false → slice_get (whos seats) k ≡ Some who → seats_of who seats ≡ 1
 one-of who k [] distinct here = absurd (none-some who here)
 one-of who zero (s ∷ seats) distinct here =
@@ -65,12 +65,12 @@ distinct symbols participants is =
     let many = none_first (nat_lt SYMBOLS_MOST (length symbols) || nat_lt PARTICIPANTS_MOST (length participants)) TooMany _ empty.1 in
     (or_parts (has_repeat symbol_eq symbols) _ (none_first (has_repeat symbol_eq symbols || has_repeat nat_eq participants) Repeated None many.1).0).1
 
--- seats that were told nothing yet are of the participants that they were made for
+-- seats that were told nothing are of the participants that they were made for
 whos-untold : (participants : List ℕ) → whos (map untold participants) ≡ participants
 whos-untold [] = refl
 whos-untold (p ∷ ps) = ap (λ l. p ∷ l) (whos-untold ps)
 
--- the seats of an opening
+-- the seats of an opening are one of each participant
 pub opened_each : (symbols : List (List ℕ)) (participants : List ℕ) (seats : List SeatState) → names_fault symbols participants ≡ None
     → seats ≡ map untold participants → IsOneEach participants seats
 opened_each symbols participants seats is untold_is = one_each participants seats (distinct symbols participants is)
@@ -88,14 +88,14 @@ seats_of-whos who a b is = counted who a ∙ ap (count who) is ∙ sym (counted 
     counted w [] = refl
     counted w (s ∷ seats) = seats_of-cons w s seats ∙ ap (λ n. cond (s.who == w) 1 0 + n) (counted w seats)
 
--- and they stay so, whatever they are told
+-- seats that are one of each participant stay so, whatever they are told
 pub each_kept : (participants : List ℕ) (old new : List SeatState) → IsOneEach participants old → whos new ≡ whos old → IsOneEach participants new
 each_kept participants old new each is = record {
   many = sym (length-map new (λ s. s.who)) ∙ ap length is ∙ length-map old (λ s. s.who) ∙ each.many;
   one = λ k who here. seats_of-whos who new old is ∙ each.one k who here;
 }
 
--- so the seats after lines are of the same participants as those at the opening
+-- the seats after lines are of the same participants as those at the opening
 pub after_lines : (participants lines : List ℕ) (opened ended : List SeatState) → IsOneEach participants opened → lines ≡ whos opened → whos ended ≡ lines
     → IsOneEach participants ended
 after_lines participants lines opened ended each before after = each_kept participants opened ended each (after ∙ before)

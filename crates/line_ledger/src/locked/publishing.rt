@@ -1,4 +1,4 @@
-//! What sets the next cells to the tape's next entries and counts them, under the lock.
+//! Publishes under the lock: sets the next cells to the tape's next entries and counts them.
 ghost use Rattle.std.specs.Prelude.{◌≡◌, ◌+◌, ◌<◌, ◌≤◌, [], min, length, IfOk, IfErr, Err};
 ghost use Rattle.std.specs.Vec.{vec_capacity};
 ghost use Rattle.line_ledger.specs.declared.publish_fault.PublishFault.TheVariants.{Unpublished, OutOfMemory as NoMemory};
@@ -11,10 +11,13 @@ use seen_cells::Seen;
 use tape_core::Entry;
 
 impl<D: DayName> Locked<D> {
-    /// Publishes the tape's next entries, at most so many: sets the next cells to them, and answers a token of each, in order.
-    /// 81 Unpublished where the cell of the next number was set before or is not there, which is looked at for the first number
-    /// before any memory is asked for, and 82 OutOfMemory where memory runs out: what was set before that stays set, and is
-    /// counted. Where nothing is left to publish, the answer is Ok and takes no memory. The row is to be the one that `start` gave.
+    /// Publishes the tape's next entries, at most `most`: sets the next cells to them, and returns a token of each, in order.
+    /// If nothing is left to publish, it returns an empty vector and does not allocate. The row must be the one that `start`
+    /// returned.
+    ///
+    /// Errors: 81 Unpublished if the cell of the next number was set before or does not exist, which is checked for the first
+    /// number before it allocates, and 82 OutOfMemory if memory runs out. The cells that were set before the error stay set and
+    /// are counted.
     #[tactic(auto, using(crate::proofs::Publications::next_kept, crate::proofs::Publications::within_kept, crate::proofs::Publications::publishes))]
     pub fn publish(&mut self, row: &CellRow, most: u32) -> Result<Vec<Token>, PublishFault>
         ensures ok { IfOk result (λ tokens. Publishes self.old row.now most tokens.items self.new) }
@@ -28,8 +31,8 @@ impl<D: DayName> Locked<D> {
         Ok(row.tokens_of(before, self.tape.entries(), seen, room))
     }
 
-    /// Sets the next cells as `publish` does, with its faults, and answers what was seen in each, which takes no bytes: no memory
-    /// is asked for but that of the cells.
+    /// Sets the next cells as `publish` does, with its errors, and returns what was seen in each, which takes no bytes: it
+    /// allocates only the memory of the cells.
     pub(crate) fn set_next(
         &mut self,
         row: &CellRow,
@@ -48,8 +51,8 @@ impl<D: DayName> Locked<D> {
         Ok(seen)
     }
 
-    /// How many entries a publication of at most so many is to set, and a vector with room for something of each. The cell of
-    /// the first is looked at before memory is asked for.
+    /// Returns how many entries a publication of at most `most` has to set, and a vector with room for something of each. It
+    /// checks the cell of the first before it allocates.
     fn room_for<T>(&self, row: &CellRow, most: u32) -> Result<(u32, Vec<T>), PublishFault>
         ensures many { IfOk result (λ r. r.0 ≡ min most (unset self.now)) }
         ensures empty { IfOk result (λ r. r.1.items ≡ []) }

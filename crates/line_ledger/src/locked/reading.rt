@@ -1,4 +1,4 @@
-//! What is read of the tape under the lock.
+//! Reads the tape under the lock.
 ghost use Rattle.std.specs.Prelude.{◌≡◌, ℕ, length, true, false};
 ghost use Rattle.line_ledger.specs.Days.{IsDay};
 ghost use Rattle.line_ledger.specs.Ends.{DisagreesAt, FirstTold};
@@ -10,7 +10,7 @@ use summaries::IndexStore;
 use tape_core::Tape;
 
 impl<D: DayName> Locked<D> {
-    /// The day's tape, which is open.
+    /// Returns the day's tape, which is open.
     pub fn tape(&self) -> &Tape<IndexStore>
         ensures day { IsDay D.terms self.now.tape }
         ensures tape { result.now ≡ self.now.tape }
@@ -18,8 +18,8 @@ impl<D: DayName> Locked<D> {
         &self.tape
     }
 
-    /// Whether the seat of each participant was told what the tape has of it: whether an end with these seats would not disagree. It goes
-    /// over the tape once for all participants.
+    /// Returns whether the seat of each participant was told what the tape has of it: whether an end with these seats would not
+    /// disagree. It reads the tape once for all participants.
     pub fn was_told(&self, seats: &[LineSeat<D>]) -> bool
         ensures told { let listed = self.now.tape.listing.participants in
             result ≡ true → FirstTold (length listed) listed self.now.tape.entries seats.now }

@@ -1,4 +1,4 @@
--- A drain, one entry after another.
+-- A drain, one entry after another: its turns, and where it stops.
 use Rattle.std.proofs.Common.{◌≡◌, ℕ, zero, suc, ◌+◌, ◌-◌, ◌≤◌, ◌<◌, not, Bool, true, false, List, [], ◌∷◌}
 use Rattle.std.proofs.Common.{◌++◌, length, drop, Option, None, Some, refl, sym, ap, subst, ◌∙◌, inl, inr, arith, add-one}
 use Rattle.std.specs.Prelude.{slice_get, IfSome, is_some, count_by, unwrap_or}
@@ -19,7 +19,7 @@ use Rattle.subscriber.specs.Subscribers.{SubscriberState, own_entry, with_entry,
 use Rattle.subscriber.specs.Drains.{OwnFor, StopsFor, IsRefused}
 use Rattle.subscriber.specs.Lemmas.Turns.{after_entry-admitted}
 
--- a drain of one entry more is a turn more at its end
+-- a drain of one more entry is one more turn at its end
 pub after-more : (n : ℕ) (s : SubscriberState)
     → subscriber_after (n + 1) s ≡ subscriber_after_entry (next_of (subscriber_after n s).window) (subscriber_after n s)
 after-more n s = ap (λ k. subscriber_after k s) (add-one n) ∙ go n s
@@ -28,13 +28,13 @@ after-more n s = ap (λ k. subscriber_after k s) (add-one n) ∙ go n s
     go zero s = refl
     go (suc n) s = go n (subscriber_after_entry (next_of s.window) s)
 
--- one turn: the state after an entry more
+-- one turn: the state after one more entry
 turn_after : (n : ℕ) (s now : SubscriberState) (e : Entry) → now ≡ subscriber_after n s → next_of now.window ≡ Some e
     → subscriber_after_entry (Some e) now ≡ subscriber_after (n + 1) s
 turn_after n s now e so_far next =
     ap (λ o. subscriber_after_entry o now) (sym next) ∙ ap (λ t. subscriber_after_entry (next_of t.window) t) so_far ∙ sym (after-more n s)
 
--- one entry more that is its own
+-- one more entry that is its own
 pub OwnFor-more : (n : ℕ) (s now : SubscriberState) (e : Entry) → now ≡ subscriber_after n s → next_of now.window ≡ Some e
     → own_entry now e.message ≡ e → OwnFor n s → OwnFor (n + 1) s
 OwnFor-more n s now e so_far next own before k below = elim (cases_lt k n) [
@@ -55,7 +55,7 @@ next_number w e h next = go w.slots h.placed next
     go (None ∷ slots) placed found = absurd (none-some e found)
     go (Some x ∷ slots) placed found = (ap (λ (y : Entry). y.number) (sym (same_Some x e found)) ∙ placed.0, placed.1)
 
--- fewer wait after an entry was taken out
+-- fewer entries wait after one is taken out
 pub fewer_wait : (w : WindowState) (e : Entry) → next_of w ≡ Some e → count_by is_some (window_past 1 w).slots < count_by is_some w.slots
 fewer_wait w e next = go w.slots next
   where
@@ -64,21 +64,21 @@ fewer_wait w e next = go w.slots next
     go (None ∷ slots) found = absurd (none-some e found)
     go (Some x ∷ slots) found = omega (arith, count_full x slots, count_push_no is_some slots None refl)
 
--- where `!=` says no the entries are one
+-- if `!=` is false, the entries are equal
 pub same_entry : (a b : Entry) → not (entry_eq a b) ≡ false → a ≡ b
 same_entry a b h = (entry-Decides a b).0 (not-false (entry_eq a b) h)
 
--- where it says yes they are not
+-- if it is true, they are not
 pub other_entry : (a b : Entry) → not (entry_eq a b) ≡ true → a ≡ b → ⊥
 other_entry a b h same = true≢false (sym ((entry-Decides a b).1 same) ∙ not-true (entry_eq a b) h)
 
--- what a turn of the drain has in its hands: the state so far, and the next entry, under the next number
+-- what a turn of the drain starts from: the state so far, and the next entry, under the next number
 pub record IsTurn (n : ℕ) (s : SubscriberState) (window : WindowState) (tape : TapeState) (failed : Bool) (e : Entry) : Type 0 where
   pub so_far : ◌≡◌ {A = SubscriberState} (record { window = window; tape = tape; failed = failed }) (subscriber_after n s)
   pub next : next_of window ≡ Some e
   pub number : e.number ≡ length tape.entries + 1
 
--- what the loop knows at the head of a turn
+-- the facts at the start of a turn of the loop
 pub turn : (n : ℕ) (s : SubscriberState) (window : WindowState) (tape : TapeState) (failed : Bool) (e : Entry)
     → ◌≡◌ {A = SubscriberState} (record { window = window; tape = tape; failed = failed }) (subscriber_after n s)
     → next_of window ≡ Some e → IsWindow window → window.base ≡ length tape.entries → IsTurn n s window tape failed e
@@ -111,7 +111,7 @@ stops_refused n s window tape failed e why running own is refused =
     } in
     (running, own, subst (IsRefused why) is.so_far here)
 
--- a stop at an entry that is not the own one
+-- a stop at an entry that is not its own
 pub stops_other : (n : ℕ) (s : SubscriberState) (window : WindowState) (tape : TapeState) (failed : Bool) (e own : Entry)
     → s.failed ≡ false → OwnFor n s → IsTurn n s window tape failed e → own ≡ next_entry tape.matrix tape.entries e.message → (own ≡ e → ⊥)
     → StopsFor OtherSummary (n + 1) s

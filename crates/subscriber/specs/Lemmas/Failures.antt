@@ -1,4 +1,4 @@
--- A drain leaves a subscriber failed exactly where it answers "other summary".
+-- A drain leaves a subscriber failed if and only if it returns `OtherSummary`.
 use Rattle.std.proofs.Common.{◌≡◌, ℕ, zero, suc, ◌+◌, ◌-◌, ◌≤◌, Bool, true, false, length, Option, None, Some, refl, sym, ap, subst, ◌∙◌, arith}
 use Rattle.std.specs.Prelude.{IfSome, is_some}
 use Rattle.std.proofs.lemmas.Bool.{false≢true, both_ways}
@@ -25,16 +25,16 @@ runs_for (suc n) s running own =
     (λ e next _ _. own_runs s e (subst (λ o. IfSome o (λ x. own_entry s x.message ≡ x)) next here)))
     (λ k below. own (suc k) (omega arith))
 
--- after a drain that is Ok it has not failed
+-- after a drain that is Ok, it has not failed
 pub runs : (n : ℕ) (s after : SubscriberState) → DrainsAll n s after → after.failed ≡ false
 runs n s after all = ap (λ (t : SubscriberState). t.failed) all.state ∙ runs_for n s all.running all.own
 
--- a turn holds at most one entry more
+-- a turn adds at most one entry to those held
 pub one_entry_more : (s : SubscriberState) (o : Option Entry) → length (subscriber_after_entry o s).tape.entries ≤ length s.tape.entries + 1
 one_entry_more s o = after_entry-keeps (λ t. length t.tape.entries ≤ length s.tape.entries + 1) s o (omega arith)
     (λ e _ _ _. let more = length-with_entry s e in omega arith)
 
--- a drain of n entries holds at most n more
+-- a drain of n entries adds at most n to those held
 pub at_most : (n : ℕ) (s : SubscriberState) → length (subscriber_after n s).tape.entries ≤ length s.tape.entries + n
 at_most zero s = omega arith
 at_most (suc n) s =
@@ -42,7 +42,7 @@ at_most (suc n) s =
     let one = one_entry_more s (next_of s.window) in
     omega arith
 
--- a turn that holds another entry than the feed's makes it fail
+-- a turn that adds an entry other than the feed's makes it fail
 other_fails : (t : SubscriberState) → t.failed ≡ false → ¬ (NextIsOwn t)
     → length (subscriber_after_entry (next_of t.window) t).tape.entries ≡ length t.tape.entries + 1
     → (subscriber_after_entry (next_of t.window) t).failed ≡ true
@@ -68,7 +68,7 @@ is_other (Refused why) = false
 is_other OtherSummary = true
 is_other Failed = false
 
--- after a drain it has failed exactly where the stop is another summary
+-- after a drain, it has failed if and only if the stop is another summary
 fails_for : (why : Stop) (n : ℕ) (s : SubscriberState) → s.failed ≡ false → StopsFor why n s
     → length (subscriber_after n s).tape.entries ≡ length s.tape.entries + n
     → (subscriber_after n s).failed ≡ is_other why
@@ -85,7 +85,7 @@ fails_for OtherSummary n s running is held =
     ≡ length s.tape.entries + n = ap (λ (u : SubscriberState). length u.tape.entries) (sym last) ∙ held in
     ap (λ (u : SubscriberState). u.failed) last ∙ other_fails t (runs_for (n - 1) s running is.2) is.3 (omega arith)
 
--- a drain that stops leaves it failed exactly where it answers "other summary"
+-- a drain that stops leaves it failed if and only if it returns `OtherSummary`
 pub fails : (fault : DrainFault) (s after : SubscriberState) → DrainStops fault s after → s.failed ≡ false
     → (after.failed ≡ true → fault.why ≡ OtherSummary) × (fault.why ≡ OtherSummary → after.failed ≡ true)
 fails fault s after stops running =
@@ -99,7 +99,7 @@ fails fault s after stops running =
     the_other OtherSummary h = refl
     the_other Failed h = absurd (false≢true h)
 
--- and it answers that exactly where one of the entries that it counts is not its own
+-- and it returns that if and only if one of the entries that it counts is not its own
 pub other_summary : (fault : DrainFault) (s after : SubscriberState) → DrainStops fault s after → s.failed ≡ false
     → (fault.why ≡ OtherSummary → ¬ (OwnFor fault.drained s)) × (¬ (OwnFor fault.drained s) → fault.why ≡ OtherSummary)
 other_summary fault s after stops running = by fault.why fault.drained stops.why

@@ -1,4 +1,4 @@
--- What holds whatever comes: the own tape stays legal, and fails by another entry alone.
+-- Whatever comes, the own tape stays legal, and only a differing entry makes the subscriber fail.
 use Rattle.std.proofs.Common.{◌≡◌, ℕ, zero, suc, true, false, not, List, [], ◌∷◌, None, Some, refl, sym, ap, subst, ◌∙◌, Bool}
 use Rattle.std.proofs.lemmas.Bool.{true≢false, not-true, not_from_false}
 use Rattle.tape_core.specs.declared.entry.Entry.{Entry}
@@ -42,7 +42,7 @@ pub legal : (events : List Event) (w : World) → EndsIn events w → IsLegal w.
 legal events w h = subst (λ v. IsLegal v.subscriber.tape) h.ends
     (legal-run events (start h.listing h.matrix h.tape_limit h.limit h.session) (IsLegal-empty h.listing h.limit h.matrix))
 
--- one replay fails exactly where the own entry is another
+-- a replay makes it fail if and only if its own entry differs
 pub fails_by_other : (s : SubscriberState) (e : Entry) → s.failed ≡ false → refusal s.tape e.message ≡ None
     → ((subscriber_after_entry (Some e) s).failed ≡ true → ¬ (own_entry s e.message ≡ e))
     × (¬ (own_entry s e.message ≡ e) → (subscriber_after_entry (Some e) s).failed ≡ true)

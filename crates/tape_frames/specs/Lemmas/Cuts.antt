@@ -1,4 +1,4 @@
--- What is cut from a tape.
+-- Packets cut from a tape: their entries are a part of it.
 use Rattle.std.proofs.Common.{◌≡◌, ℕ, ◌-◌, List, ◌++◌, take, drop, sym, ap, ◌∙◌}
 use Rattle.std.proofs.lemmas.List.{append_assoc, take-append-drop}
 use Rattle.tape_core.specs.declared.entry.Entry.{Entry}
@@ -20,7 +20,7 @@ take_is_part es tape from many begin =
           ∙ ap (λ xs. skipped ++ xs) (append_assoc (take many left) after begin.0),
     )
 
--- what packets of a version can tell of is a prefix
+-- the entries that packets of a version can state are a prefix
 sendable_begins : (version : Version) (es tape : List Entry) → BeginsWith es tape → BeginsWith (sendable version es) tape
 sendable_begins version es tape begin =
     let left = drop (number_most version) es in (

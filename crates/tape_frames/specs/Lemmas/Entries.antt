@@ -1,4 +1,4 @@
--- Entries that are read were spelled so, and what is spelled is read again.
+-- The bytes spell the entries that are read from them, and spelled entries are read again.
 use Rattle.std.proofs.Common.{◌≡◌, ℕ, zero, suc, ◌+◌, List, [], ◌∷◌, ◌++◌, ◌==◌, length, drop, Option}
 use Rattle.std.proofs.Common.{Some, None, Result, Ok, Err, refl, sym, ap, subst, ◌∙◌, append_assoc, arith}
 use Rattle.std.specs.Prelude.{All, IfSome, flat_map}
@@ -33,7 +33,7 @@ use Rattle.tape_frames.specs.Lemmas.Summaries.{summary_reader}
 number_reader : (version : Version) → IsReader (ranged_at Short w32 1 (number_most version) BadEntry) (to_be_bytes w32) (IsNumberIn version)
 number_reader version = ranged_reader Short wide32 1 (number_most version) BadEntry (omega (arith, number_most-within version))
 
--- a message that is read in an entry was spelled so
+-- the bytes spell the message that is read in an entry
 message_taken : (bytes : List ℕ) (read : Result (Message × ℕ) MessageFault) (x : Message × List ℕ) → AreBytes bytes → message_at bytes ≡ read
     → message_of bytes read ≡ Ok x → Takes bytes (spelling x.0) x.1 × IsMessage x.0
 message_taken bytes (Ok y) x fits read e =
@@ -59,7 +59,7 @@ message_reader = record {
 abbrev IsCarried : Version → Option ℕ → Option Summary → Type 0
 IsCarried version named after = IfSome after (IsSummary version) × CarriesFor named after
 
--- a summary that has to be there is read again
+-- a required summary is read again
 some_again : (version : Version) (target : ℕ) (after : Option Summary) (rest : List ℕ) → IsCarried version (Some target) after
     → carried_at version (Some target) (carried_text after ++ rest) ≡ Ok (after, rest)
 unfolding carried_at
@@ -75,7 +75,7 @@ none_again : (after : Option Summary) (rest : List ℕ) → after ≡ None → a
 none_again None rest is = refl
 none_again (Some z) rest is = absurd (cc is)
 
--- what a kind carries was spelled so, and is read again
+-- the bytes spell what a kind carries, and it is read again
 carried_reader : (version : Version) (named : Option ℕ) → IsReader (carried_at version named) carried_text (IsCarried version named)
 unfolding carried_at
 carried_reader version None = record {
@@ -135,7 +135,7 @@ numbered_reader version number = record {
 abbrev pub AreEntries : Version → ℕ → ℕ → List Entry → Type 0
 AreEntries version count number es = (length es ≡ count) × (IsNumberedFrom number es × All (IsEntry version) es)
 
--- entries that are read were spelled so
+-- the bytes spell the entries that are read from them
 entries_take : (version : Version) (count number : ℕ) (bytes : List ℕ) (x : List Entry × List ℕ) → AreBytes bytes
     → entries_at version count number bytes ≡ Ok x → Takes bytes (flat_map entry_text x.0) x.1 × AreEntries version count number x.0
 unfolding entries_at

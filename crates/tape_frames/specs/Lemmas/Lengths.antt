@@ -1,4 +1,4 @@
--- How long the spellings are.
+-- The proofs of how long the spellings are.
 use Rattle.std.proofs.Common.{◌≡◌, ℕ, ◌+◌, ◌*◌, ◌≤◌, List, [], ◌∷◌, ◌++◌, length, length-append, Option, Some, None, refl, sym, subst, arith}
 use Rattle.std.specs.Prelude.{All, flat_map}
 use Rattle.std.proofs.lemmas.List.Elements.{All-head, All-tail}
@@ -24,12 +24,12 @@ use Rattle.tape_frames.specs.Lemmas.Packets.{length-packet_text}
 
 -- ---- entries
 
--- what is carried where a target is named is a summary
+-- an entry whose message names a target carries a summary
 abbrev carried_length : Option ℕ → ℕ
 carried_length None = 0
 carried_length (Some target) = SUMMARY_LENGTH
 
--- what is carried is as long as the kind asks for
+-- what is carried is as long as the kind needs
 length-carried_text : (named : Option ℕ) (after : Option Summary) → CarriesFor named after → length (carried_text after) ≡ carried_length named
 length-carried_text None None carries = refl
 length-carried_text None (Some z) carries = absurd (cc carries)
@@ -43,7 +43,7 @@ entry_sum (Cancel h n) = refl
 entry_sum (Correct h n c) = refl
 entry_sum (Reinstate h n) = refl
 
--- each entry has as many bytes as its kind asks for
+-- each entry has as many bytes as its kind needs
 pub entry_lengths : EntryLengths
 entry_lengths version e is = omega (
   arith,
@@ -80,8 +80,8 @@ data_length : (header text most : ℕ) → header ≡ HEADER_LENGTH → (count :
     → header + text ≤ HEADER_LENGTH + most * LONGEST_ENTRY
 data_length header text most is count short few = omega (arith, is, short, few)
 
--- a data packet of no more entries than a packet of the version has is no longer than the longest one of the version, and the entries may
--- be those of another version
+-- a data packet of no more entries than a packet of the version has is no longer than the version's longest one, even if the
+-- entries are those of another version
 pub length-data_text : (version : Version) (session : ℕ) (row : RowState) → All (IsEntry version) row.entries → length row.entries ≤ entries_most row.version
     → length (packet_text (Data session row)) ≤ longest_packet row.version
 length-data_text version session row all few =
@@ -91,7 +91,7 @@ length-data_text version session row all few =
     subst (λ (n : ℕ). n ≤ longest_packet row.version) (sym whole)
     (data_length (length header) (length (flat_map entry_text es)) (entries_most row.version) refl (length es) (length-entries version es all) few)
 
--- each packet has a header at least, and no packet is longer than the longest of its version
+-- each packet has at least a header, and no packet is longer than the longest of its version
 pub packet_lengths : PacketLengths
 packet_lengths (Data session row) is = (
   length-packet_text (Data session row),

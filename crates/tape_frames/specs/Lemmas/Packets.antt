@@ -1,4 +1,4 @@
--- The two laws of packets: what is read is spelled so, and what is spelled so is read.
+-- The two laws of packets: the bytes spell the packet that is read from them, and each spelled packet is read again.
 use Rattle.std.proofs.Common.{◌≡◌, ℕ, ◌+◌, ◌^◌, ◌<◌, ◌≤◌, true, false, cond, ltb, List, [], ◌∷◌, ◌++◌, ◌==◌, length, lit<}
 use Rattle.std.proofs.Common.{length-append, append-nil, Option, Some, None, Result, Ok, Err, refl, sym, ap, subst, ◌∙◌, append_assoc, arith, inl, inr}
 use Rattle.std.specs.Option.{ok_or}
@@ -39,7 +39,7 @@ all_carry version (e ∷ es) all =
     let first : IsEntry version e = All-head (IsEntry version) e es all in
     All-cons Carries e es first.carries (all_carry version es (All-tail (IsEntry version) e es all))
 
--- a mark that is spelled has a place that the version can tell of
+-- the place of a spelled mark is one that the version can state
 figure-placed : (version : Version) (figure : Option Mark) → IfSome figure (IsMark version) → IsPlacedUpTo (number_most version) figure
 figure-placed version None is = tt
 figure-placed version (Some m) is = is.place.1
@@ -126,7 +126,7 @@ row_taken version count number bytes x e =
     subst (λ (y : RowState × List ℕ). (y.0.version ≡ version) × (entries_at version count number bytes ≡ Ok (y.0.entries, y.1)))
     {x = made} (ok_is Short made x b.2) (refl, b.1)
 
--- a data packet's entries that are read were spelled so
+-- the bytes spell a data packet's entries that are read from them
 data_takes : (version : Version) (session number count : ℕ) (bytes : List ℕ) (x : Packet × List ℕ) → AreBytes bytes → session < 2 ^ 64
     → (row_at version number count bytes >>= λ row. Ok (Data session row.0, row.1)) ≡ Ok x
     → IsPacketContent (header_text version DATA session number count) bytes x
@@ -166,7 +166,7 @@ count_taken version number count last e =
     let both = and_parts (count == 0) (nat_le number (number_most version)) good.0 in
     (eqb-true count 0 both.0, (leb-true number (number_most version) both.1, good.1))
 
--- a beat or an end that is read was spelled so
+-- the bytes spell the beat or end that is read from them
 alone_takes : (kind : ℕ) (make : ℕ → CountState → Packet)
     → ((session : ℕ) (c : CountState) → packet_text (make session c) ≡ header_text c.version kind session c.count 0)
     → ((session : ℕ) (c : CountState) → session < 2 ^ 64 → c.count ≤ number_most c.version → IsPacket (make session c))
@@ -189,7 +189,7 @@ alone_takes kind make text valid version session number count bytes x fits sessi
       valid = subst (λ (c : CountState). IsPacket (make session c)) parts.1.1 (valid session is session_fits parts.1.0);
     })
 
--- what is read after a header was spelled so
+-- the bytes spell what is read after a header
 content_takes : (version : Version) (kind session number count : ℕ) (bytes : List ℕ) (x : Packet × List ℕ) → AreBytes bytes → session < 2 ^ 64
     → packet_content version kind session number count bytes ≡ Ok x → IsPacketContent (header_text version kind session number count) bytes x
 unfolding packet_content
@@ -257,7 +257,7 @@ version_reader = record {
 number_reader_32 : IsReader (number_at Short w32) (to_be_bytes w32) (λ n. n < 2 ^ 32)
 number_reader_32 = number_reader Short wide32
 
--- a packet of which the header is there, and that is read, was spelled so
+-- the bytes spell a packet that is read and whose header is complete
 framed_takes : (bytes : List ℕ) (x : Packet × List ℕ) → AreBytes bytes → framed_at bytes ≡ Ok x → Takes bytes (packet_text x.0) x.1 × IsPacket x.0
 unfolding framed_at
 framed_takes bytes x fits e =
@@ -326,7 +326,7 @@ framed_again (End session count) rest valid =
     header_again count.version END session count.count 0 rest (lit< tt) valid.0 (omega (arith, valid.1, number_most-within count.version)) (lit< tt)
     ∙ rw (alone_again count valid.1) refl
 
--- a packet has at least its header
+-- a packet has at least a header
 pub length-packet_text : (q : Packet) → HEADER_LENGTH ≤ length (packet_text q)
 length-packet_text (Data session row) =
     let es = row.entries in
@@ -345,7 +345,7 @@ packet_reader = record {
       rw long (framed_again q rest valid);
 }
 
--- a packet that is read was spelled so
+-- the bytes spell the packet that is read from them
 packet_takes : (bytes : List ℕ) (q : Packet) → AreBytes bytes → packet_of bytes ≡ Ok q → Spells bytes q
 unfolding packet_of
 packet_takes bytes q fits e =
@@ -356,7 +356,7 @@ packet_takes bytes q fits e =
     let text : bytes ≡ packet_text b.0.0 = read.0.parts ∙ ap (λ (t : List ℕ). packet_text b.0.0 ++ t) empty ∙ append-nil (packet_text b.0.0) in
     subst (Spells bytes) last.1 (read.1, text)
 
--- what is spelled so is read
+-- each spelled packet is read again
 pub packet_again : (q : Packet) → IsPacket q → packet_of (packet_text q) ≡ Ok q
 unfolding packet_of
 packet_again q valid =
@@ -382,7 +382,7 @@ one_packet_spelling a b text_a text_b x y spells_a spells_b same =
     let one = one_value packet_reader a b x y spells_a.0 spells_b.0 spelled in
     (one, spells_a.1 ∙ ap packet_text one ∙ sym spells_b.1)
 
--- what a reader answered is spelled so
+-- the bytes spell the packet that a reader returned
 pub packet_of-Ok : (bytes : List ℕ) (r : Result Packet PacketFault) → AreBytes bytes → r ≡ packet_of bytes → IfOk r (λ q. Spells bytes q)
 packet_of-Ok bytes (Ok q) fits read = packet_takes bytes q fits (sym read)
 packet_of-Ok bytes (Err e) fits read = tt

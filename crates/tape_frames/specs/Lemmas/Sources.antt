@@ -1,4 +1,4 @@
--- What a source gives, by its list, and what is cut from it.
+-- The entries that a source returns, by its list, and the packets cut from it.
 use Rattle.std.proofs.Common.{◌≡◌, ℕ, ◌+◌, ◌-◌, ◌<◌, ◌≤◌, List, [], ◌∷◌, ◌++◌, length, length-drop, length-take}
 use Rattle.std.proofs.Common.{get_or, take, drop, Some, min, sym, ap, subst, ◌∙◌, arith, inl, inr}
 use Rattle.std.specs.Prelude.{All, slice_get}
@@ -39,7 +39,7 @@ last_number es e numbered got =
     let within : length es - 1 < length es = slice_get_within es (length es - 1) e got in
     listed_number es (length es) e numbered (omega (arith, within)) got
 
--- one entry more is cut
+-- one more entry is cut
 pub cut_more : (es : List Entry) (from place : ℕ) (e : Entry) → 1 ≤ from → slice_get es ((from + place) - 1) ≡ Some e
     → take (place + 1) (drop (from - 1) es) ≡ take place (drop (from - 1) es) ++ e ∷ []
 cut_more es from place e some got =
@@ -57,7 +57,7 @@ cut_first es from e some got =
     let same : (from + 0) - 1 ≡ from - 1 = omega arith in
     sym (cut_more es from 0 e some (ap (λ (i : ℕ). slice_get es i) same ∙ got))
 
--- an entry whose number a version can tell of is found among those that it can send
+-- an entry whose number a version can state is found among those that it can send
 pub sendable_get : (version : Version) (es : List Entry) (k : ℕ) (e : Entry) → k < number_most version → slice_get es k ≡ Some e
     → slice_get (sendable version es) k ≡ Some e
 sendable_get version es k e low got =

@@ -1,4 +1,4 @@
--- A summary that is read was spelled so, and what is spelled is read again.
+-- The bytes spell the summary that is read from them, and each spelled summary is read again.
 use Rattle.std.proofs.Common.{◌≡◌, ◌≢◌, ℕ, ◌+◌, ◌*◌, ◌/◌, ◌%◌, ◌^◌, ◌<◌, ◌≤◌, Bool, true, false, ltb, List, ◌++◌, ◌==◌, length}
 use Rattle.std.proofs.Common.{length-append, lit<, Option, Some, None, Ok, refl, sym, ap, subst, ◌∙◌, append_assoc, arith, inl, inr}
 use Rattle.std.specs.Prelude.{is_some}
@@ -55,31 +55,31 @@ mark_reader version = record {
       ap (mark_at version) regrouped ∙ rw (first, second, third) refl;
 }
 
--- the zeros of a mark that is not there
+-- the zeros in place of an absent mark
 no_mark_reader : IsReader (text_at BadEntry MARK_LENGTH is_no_mark BadEntry) (λ text. text) (λ text. text ≡ no_mark_text)
 no_mark_reader =
     text_reader BadEntry MARK_LENGTH is_no_mark BadEntry (λ text. text ≡ no_mark_text) (λ text. bytes_eq-Decides text no_mark_text)
     (λ text is. ap length is)
 
--- a mark that is there, or none
+-- a present mark, or none
 abbrev IsFigureThere : Version → Bool → Option Mark → Type 0
 IsFigureThere version is_there figure = IsFigure version figure × (is_some figure ≡ is_there)
 
--- a mark that is there is read again
+-- a present mark is read again
 figure_there : (version : Version) (figure : Option Mark) (rest : List ℕ) → IsFigureThere version true figure
     → figure_at version true (figure_text figure ++ rest) ≡ Ok (figure, rest)
 unfolding figure_at
 figure_there version None rest fits = absurd (false≢true fits.1)
 figure_there version (Some m) rest fits = rw ((mark_reader version).again m rest fits.0) refl
 
--- the zeros of a mark that is not there are read again
+-- the zeros in place of an absent mark are read again
 figure_gone : (version : Version) (figure : Option Mark) (rest : List ℕ) → IsFigureThere version false figure
     → figure_at version false (figure_text figure ++ rest) ≡ Ok (figure, rest)
 unfolding figure_at
 figure_gone version None rest fits = rw (no_mark_reader.again no_mark_text rest refl) refl
 figure_gone version (Some m) rest fits = absurd (false≢true (sym fits.1))
 
--- a mark where one is there, and zeros where none is
+-- a mark if it is present, otherwise zeros
 figure_reader : (version : Version) (is_there : Bool) → IsReader (figure_at version is_there) figure_text (IsFigureThere version is_there)
 unfolding figure_at
 figure_reader version true = record {
@@ -174,14 +174,14 @@ trades_reader = number_reader BadEntry wide32
 abbrev four_text : Marks → List ℕ
 four_text m = figure_text m.0 ++ (figure_text m.1 ++ (figure_text m.2 ++ figure_text m.3))
 
--- each mark is there where the byte has its bit
+-- each mark is present if the byte has its bit
 record AreThere (version : Version) (presence : ℕ) (m : Marks) : Type 0 where
   opening : IsFigureThere version (has_bit presence 1) m.0
   high : IsFigureThere version (has_bit presence 2) m.1
   low : IsFigureThere version (has_bit presence 4) m.2
   last : IsFigureThere version (has_bit presence 8) m.3
 
--- the four marks, each where the byte has its bit
+-- the four marks, each present if the byte has its bit
 marks_reader : (version : Version) (presence : ℕ) → IsReader (marks_at version presence) four_text (AreThere version presence)
 unfolding marks_at
 marks_reader version presence = record {
@@ -206,11 +206,11 @@ marks_reader version presence = record {
       ap (marks_at version presence) regrouped ∙ rw (first, second, third, fourth) refl;
 }
 
--- the byte of marks that are there by its bits
+-- the byte of the present marks, by its bits
 presence_is : (version : Version) (p : ℕ) (m : Marks) → p ≤ ALL_MARKS → AreThere version p m → presence_of (is_some m.0) (is_some m.1) (is_some m.2) (is_some m.3) ≡ p
 presence_is version p m low there = rw (there.opening.1, there.high.1, there.low.1, there.last.1) (presence_read p low)
 
--- the marks of a summary are there by the bits of its byte
+-- the marks of a summary are present by the bits of its byte
 marks_there : (version : Version) (z : Summary) → IsSummary version z → AreThere version (presence z) (z.opening, z.high, z.low, z.last)
 marks_there version z fits =
     let a = is_some z.opening in
@@ -261,7 +261,7 @@ pub length-figure_text : (figure : Option Mark) → length (figure_text figure) 
 length-figure_text None = refl
 length-figure_text (Some m) = refl
 
--- a summary has all its bytes, whichever marks are there
+-- a summary has all its bytes, whichever marks are present
 pub length-summary_text : (z : Summary) → length (summary_text z) ≡ SUMMARY_LENGTH
 length-summary_text z =
     let a = figure_text z.opening in

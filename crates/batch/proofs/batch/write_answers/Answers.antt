@@ -4,9 +4,9 @@ use Rattle.std.specs.List.{flat_map}
 use Rattle.std.proofs.lemmas.Grind.{flat_map-append}
 use Rattle.std.proofs.lemmas.List.{take-append-drop, take_more}
 use Rattle.batch.specs.Batch.{answer_line}
-use Rattle.row_reads.specs.Writing.{WritesPrefix, WritesUpTo}
+use Rattle.whole_io.specs.Writing.{WritesPrefix, WritesUpTo}
 use Rattle.batch.specs.declared.batch_refusal.BatchRefusal.{BatchRefusal}
-use Rattle.row_reads.specs.Lemmas.WriteLemmas.{WritesPrefix-after, WritesPrefix-gathered, WritesPrefix-longer, WritesUpTo-gathered}
+use Rattle.whole_io.specs.Lemmas.WriteLemmas.{WritesPrefix-after, WritesPrefix-gathered, WritesPrefix-longer, WritesUpTo-gathered}
 use Rattle.batch.proofs.batch.write_answers.Goals as goal
 
 -- what holds anyway holds at an error

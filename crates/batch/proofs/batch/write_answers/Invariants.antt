@@ -2,7 +2,7 @@ use Rattle.std.proofs.Common.{◌≤◌, length, take}
 use Rattle.std.specs.List.{flat_map}
 use Rattle.batch.specs.Batch.{answer_line}
 use Rattle.batch.specs.declared.answer_buffer.TheConstants.{PIECE}
-use Rattle.row_reads.specs.Writing.{WritesUpTo}
+use Rattle.whole_io.specs.Writing.{WritesUpTo}
 use Rattle.batch.proofs.batch.write_answers.Given as goal
 
 -- the text of the answers so far was written up to what is gathered

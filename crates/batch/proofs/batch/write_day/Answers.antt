@@ -2,8 +2,8 @@ use Rattle.std.proofs.Common.{List, ℕ, ◌∙◌, subst}
 use Rattle.std.specs.List.{flat_map}
 use Rattle.batch.specs.Batch.{answer_line, tape_report}
 use Rattle.batch.specs.Finish.{report_unless}
-use Rattle.row_reads.specs.Writing.{WritesPrefix}
-use Rattle.row_reads.specs.Lemmas.WriteLemmas.{WritesPrefix-longer, WritesPrefix-then}
+use Rattle.whole_io.specs.Writing.{WritesPrefix}
+use Rattle.whole_io.specs.Lemmas.WriteLemmas.{WritesPrefix-longer, WritesPrefix-then}
 use Rattle.batch.proofs.batch.write_day.Goals as goal
 
 pub returns-in_err-write_answers-clause-fault : goal.returns-in_err-write_answers-clause-fault

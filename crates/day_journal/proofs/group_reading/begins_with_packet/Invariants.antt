@@ -2,7 +2,7 @@ use Rattle.std.proofs.Common.{◌≡◌, ◌+◌, ◌≤◌, length}
 use Rattle.day_journal.specs.GroupReading.{begins_with_packet}
 use Rattle.day_journal.proofs.group_reading.begins_with_packet.Given as goal
 
--- the fronts that are left decide
+-- the fronts that are left decide the result
 abbrev pub invariant-loop-len : goal.invariant-loop-len
 invariant-loop-len l = record {
   within : l.len ≤ length l.bytes + 1;

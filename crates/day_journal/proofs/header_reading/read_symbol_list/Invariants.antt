@@ -2,6 +2,6 @@ use Rattle.std.proofs.Common.{◌≡◌, ◌-◌, []}
 use Rattle.day_journal.specs.Headers.{symbol_at, values_at}
 use Rattle.day_journal.proofs.header_reading.read_symbol_list.Given as goal
 
--- those so far and those that are left are all of them
+-- the symbols so far and those that are left are all of them
 abbrev pub invariant-loop-place : goal.invariant-loop-place
 invariant-loop-place l = values_at symbol_at (l.count - l.place) l.symbols.items l.unread.rest.now ≡ values_at symbol_at l.fn.count [] l.fn.unread.rest.now

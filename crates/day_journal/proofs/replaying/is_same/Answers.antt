@@ -3,7 +3,7 @@ use Rattle.tape_core.specs.Laws.{entry_eq}
 use Rattle.tape_core.specs.Lemmas.Equality.{entry-Decides}
 use Rattle.day_journal.proofs.replaying.is_same.Goals as goal
 
--- `==` of entries decides whether they are one
+-- `==` of entries decides whether they are the same
 pub returns : goal.returns
 returns c =
     let decides = entry-Decides c.args.own.now c.args.entry.now in

@@ -4,7 +4,7 @@ use Rattle.std.proofs.lemmas.Bool.Decides.{Decides-eqb}
 use Rattle.std.proofs.lemmas.Slice.Eq.{slice_eq-Decides}
 use Rattle.journal_start.proofs.day_terms.same_participants.Goals as goal
 
--- `==` of participants decides whether they are one
+-- `==` of participants decides whether they are the same
 pub returns : goal.returns
 returns c =
     let is : c.eq.result ≡ pointwise nat_eq c.args.one.now c.args.other.now = search rules in

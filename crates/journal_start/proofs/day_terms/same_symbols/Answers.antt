@@ -4,7 +4,7 @@ use Rattle.std.proofs.lemmas.Slice.Eq.{bytes_eq-Decides, slice_eq-Decides}
 use Rattle.tape_types.specs.Names.{symbol_eq}
 use Rattle.journal_start.proofs.day_terms.same_symbols.Goals as goal
 
--- `==` of symbols decides whether they are one
+-- `==` of symbols decides whether they are the same
 pub returns : goal.returns
 returns c =
     let is : c.eq.result ≡ pointwise symbol_eq c.args.one.now c.args.other.now = search rules in

@@ -9,7 +9,7 @@ use Rattle.journal_start.proofs.journal_groups.read_on.Goals as goal
 pub loop-init : goal.loop-init
 loop-init c = ([], reads_none c.args.reader.now, lines_none c.args.lines.now.items)
 
--- one group more
+-- one more group
 pub loop-preserved : goal.loop-preserved
 loop-preserved c =
     let groups = c.loop.invariant.0 in

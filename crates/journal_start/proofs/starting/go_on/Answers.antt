@@ -2,7 +2,7 @@ use Rattle.std.proofs.Common.{◌≡◌, ℕ, ap, false, refl, rules, subst}
 use Rattle.day_journal.specs.Headers.{Terms}
 use Rattle.journal_start.proofs.starting.go_on.Goals as goal
 
--- the journal goes on behind its whole groups
+-- the journal is continued behind its whole groups
 pub returns-clause-goes : goal.returns-clause-goes
 returns-clause-goes g c = λ terms has. record {
   header = c.args.header;

@@ -3,7 +3,7 @@ use Rattle.std.proofs.lemmas.List.{nil_from_length}
 use Rattle.line_ledger.proofs.Openings.{none_of_seven}
 use Rattle.line_ledger.proofs.prepared.prepare.Goals as goal
 
--- an empty open tape lacks memory alone
+-- with an empty open tape, only memory can be lacking
 pub returns-clause-not_empty : goal.returns-clause-not_empty
 returns-clause-not_empty c =
     let none : length c.args.tape.entries ≡ 0 = search rules in

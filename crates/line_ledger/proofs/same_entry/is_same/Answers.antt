@@ -3,7 +3,7 @@ use Rattle.tape_core.specs.Laws.{entry_eq}
 use Rattle.tape_core.specs.Lemmas.Equality.{entry-Decides}
 use Rattle.line_ledger.proofs.same_entry.is_same.Goals as goal
 
--- `==` of entries decides whether they are one
+-- `==` of entries decides whether they are the same
 pub returns : goal.returns
 returns c =
     let decides = entry-Decides c.args.one.now c.args.other.now in

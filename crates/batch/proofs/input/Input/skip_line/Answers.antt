@@ -1,5 +1,5 @@
 use Rattle.std.proofs.Common.{rules}
-use Rattle.batch.proofs.InputLemmas.{TakesLines-skipped, skipped-too_large}
+use Rattle.batch.proofs.InputLemmas.{EndsReading-line, TakesLines-skipped, skipped-too_large}
 use Rattle.batch.proofs.input.Input.skip_line.Goals as goal
 
 pub returns-clause-took : goal.returns-clause-took
@@ -11,3 +11,7 @@ pub returns-in_err-count-clause-err : goal.returns-in_err-count-clause-err
 returns-in_err-count-clause-err g c =
     let over = skipped-too_large (g.B.Read.remaining c.args.self.now.left) _ c.in-Ok.len _ c.in_err-count.ensures.err c.in-Ok.ensures.count in
     search (rules, over)
+
+pub returns-in-Err-clause-err : goal.returns-in-Err-clause-err
+returns-in-Err-clause-err g c =
+    EndsReading-line (g.B.Read.remaining c.args.self.now.left) c.args.self.now.taken c.failed_read.result c.from.result c.from.ensures

@@ -2,7 +2,7 @@ use Rattle.std.proofs.Common.{rules}
 use Rattle.line_ledger.proofs.Pushes.{seen_push}
 use Rattle.line_ledger.proofs.cell_row.CellRow.first_seen.Goals as goal
 
--- one cell more holds its entry
+-- one more cell holds its entry
 pub loop-at-preserved : goal.loop-at-preserved
 loop-at-preserved c = (
   search rules,

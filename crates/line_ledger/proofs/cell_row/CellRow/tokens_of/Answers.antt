@@ -25,7 +25,7 @@ token_of-requires-clause-seen c =
     (next_seen_first c.args.self.now c.args.entries.now c.loop-one.at c.in-Some.one rest
     (subst (λ (xs : List (Seen Entry)). NextSeen c.args.self.now c.args.entries.now c.loop-one.at xs) here c.loop-one.invariant.4)).0
 
--- one token more
+-- one more token
 pub loop-one-preserved : goal.loop-one-preserved
 loop-one-preserved c =
     let names = c.args.self.now in

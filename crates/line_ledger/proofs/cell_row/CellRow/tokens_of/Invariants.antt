@@ -4,7 +4,7 @@ use Rattle.std.specs.Vec.Iter.{into_iter_items, into_iter_len}
 use Rattle.line_ledger.specs.Cells.{NextSeen, NextTokens}
 use Rattle.line_ledger.proofs.cell_row.CellRow.tokens_of.Given as goal
 
--- those that are taken have their tokens, and the others are seen to go on
+-- the cells that were taken have their tokens, and what was seen in the others goes on
 abbrev pub invariant-loop-one : goal.invariant-loop-one
 invariant-loop-one l =
     (l.at ≡ l.fn.set + length l.tokens.items) × (length l.tokens.items + into_iter_len l.left ≡ length l.fn.seen.items)

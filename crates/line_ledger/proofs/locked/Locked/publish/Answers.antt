@@ -4,7 +4,7 @@ use Rattle.line_ledger.specs.Publishing.{Sets}
 use Rattle.line_ledger.proofs.Publications.{next_kept}
 use Rattle.line_ledger.proofs.locked.Locked.publish.Goals as goal
 
--- what was seen in the cells is of the tape that is there still
+-- what was seen in the cells is of the tape, which is unchanged
 pub tokens_of-requires-clause-seen : goal.tokens_of-requires-clause-seen
 tokens_of-requires-clause-seen g c =
     let old = c.args.self.now in

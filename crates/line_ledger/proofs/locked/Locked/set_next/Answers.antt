@@ -5,7 +5,7 @@ use Rattle.line_ledger.specs.Days.{LockedState}
 use Rattle.line_ledger.proofs.Pushes.{next_seen_push}
 use Rattle.line_ledger.proofs.locked.Locked.set_next.Goals as goal
 
--- one cell more was set, and is counted
+-- one more cell was set and is counted
 pub loop-done-preserved : goal.loop-done-preserved
 loop-done-preserved g c =
     let first = c.args.self.now in

@@ -5,7 +5,7 @@ use Rattle.line_ledger.specs.Cells.{TokenState}
 use Rattle.line_ledger.proofs.Pushes.{first_push, published_push}
 use Rattle.line_ledger.proofs.published.Published.look_on.Goals as goal
 
--- one token more, whose entry follows
+-- one more token, whose entry follows
 pub invariant_of-self-2 : goal.invariant_of-self-2
 invariant_of-self-2 g c =
     let found = c.self.inside.found.items in

@@ -2,7 +2,7 @@ use Rattle.std.proofs.Common.{rules, ◌≡◌, ◌≤◌, length, arith}
 use Rattle.line_ledger.proofs.Pushes.{seen_within}
 use Rattle.line_ledger.proofs.shared.SharedTape.publish.Goals as goal
 
--- each that was set is one of the cells
+-- each cell that was set is one of the row
 pub returns-clause-cells : goal.returns-clause-cells
 returns-clause-cells g c =
     let seen = c.in_ok-seen.seen.items in

@@ -10,7 +10,7 @@ use Rattle.subscriber.specs.declared.drain_fault.Stop.TheVariants.{OtherSummary,
 use Rattle.subscriber.specs.Lemmas.Drains.{turn, after_turn, same_entry, other_entry, stops_refused, stops_other}
 use Rattle.subscriber.proofs.subscriber.Subscriber.drain_next.Goals as goal
 
--- of no entries each is its own
+-- each of no entries is its own
 own_for_none : (s : SubscriberState) → OwnFor 0 s
 own_for_none s k below = absurd (omega (arith, below))
 
