@@ -1,4 +1,4 @@
--- An answer that is read byte by byte.
+-- Follows an answer that is read byte by byte.
 use Rattle.std.proofs.Common.{◌≡◌, ◌≢◌, ◌≤◌, ℕ, List, [], ◌∷◌, ◌++◌, Bool, true, false, not, Option, length, refl, sym, ap, ◌∙◌, append-nil, append_assoc, inl, inr, nat_eq, subst, arith}
 use Rattle.std.proofs.lemmas.Bool.Decides.{eqb_tells}
 use Rattle.std.proofs.lemmas.List.Concat.{flat_map-append}

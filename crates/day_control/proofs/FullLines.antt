@@ -1,4 +1,4 @@
--- The lines of a text that are not empty, byte by byte.
+-- Puts the lines of a text that are not empty, byte by byte.
 use Rattle.std.proofs.Common.{◌≡◌, ◌==◌, ◌∙◌, ℕ, Bool, true, false, cond, List, [], ◌∷◌, ◌++◌, filter, refl, sym, ap}
 use Rattle.std.specs.List.{flat_map, slice_split, onto_first}
 use Rattle.day_control.specs.Lines.{full_lines, is_full, line_text}
@@ -6,12 +6,12 @@ use Rattle.day_control.specs.Lines.{full_lines, is_full, line_text}
 abbrev is_line_feed : ℕ → Bool
 is_line_feed byte = byte == 10
 
--- what is put for the rest of a text, where a line is begun or not
+-- what is put for the rest of a text, after whether a line is begun
 abbrev pub put_rest : Bool → List ℕ → List ℕ
 put_rest is_begun [] = cond is_begun (10 ∷ []) []
 put_rest is_begun (byte ∷ rest) = cond (byte == 10) (cond is_begun (10 ∷ put_rest false rest) (put_rest false rest)) (byte ∷ put_rest true rest)
 
--- what is put for these parts of a text, where a line is begun or not
+-- what is put for these parts of a text, after whether a line is begun
 abbrev put_parts : Bool → List (List ℕ) → List ℕ
 put_parts is_begun [] = cond is_begun (10 ∷ []) []
 put_parts true (part ∷ parts) = line_text part ++ flat_map line_text (filter is_full parts)

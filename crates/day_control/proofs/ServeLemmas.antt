@@ -1,10 +1,10 @@
--- Commands answered one after the other.
+-- Serves lines one after the other: the calls they make, and the answers that are written.
 use Rattle.std.proofs.Common.{◌≡◌, ℕ, ◌+◌, List, [], ◌∷◌, ◌++◌, Option, Some, None, append-nil, append_assoc}
 use Rattle.std.proofs.Common.{length-append, refl, sym, ap, subst, ◌∙◌, arith, Result, Ok, Err, OnOk, IfErr, inl, inr}
 use Rattle.std.specs.List.{flat_map}
 use Rattle.std.specs.Io.KnownBytes.{Appends, Consumes}
 use Rattle.std.proofs.KnownBytes.{Appends-nil, Appends-trans, Consumes-nil, Consumes-trans}
-use Rattle.row_reads.specs.Writing.{WritesPrefix}
+use Rattle.whole_io.specs.Writing.{WritesPrefix}
 use Rattle.day_control.specs.Answers.{Answers, AnswersTo, AnswerFails, UNKNOWN_LINE}
 use Rattle.day_control.specs.Calls.{Call, Makes}
 use Rattle.day_control.specs.Commands.{command_of}
@@ -77,7 +77,7 @@ Serves-one before after had left held holds line text calls whole answers made r
   written = written;
 }
 
--- lines that are served after others are served together with them
+-- lines that are served after others are all served together
 pub Serves-both : (before midst after : Option (List Call)) (had left rest held holds kept : Option (List ℕ)) (n m k : ℕ)
     → Serves before midst had left held holds n → Serves midst after left rest holds kept m
     → k ≡ n + m → Serves before after had rest held kept k
@@ -112,13 +112,13 @@ ServesTo-after OutOfMemory before midst after had left rest held holds kept n on
 ServesTo-after TooMany before midst after had left rest held holds kept n one two =
     Serves-both before midst after had left rest held holds kept n 0 n one two (omega arith)
 
--- what is no command was answered
+-- a line that is no command was answered
 pub unknown_answered : {A E : Type 0} (result : Result A E) (known : Option (List Call)) (held holds : Option (List ℕ)) → OnOk result (Appends held holds (answer_text (UNKNOWN_LINE ∷ [])))
     → OnOk result (AnswersTo None known known held holds)
 unknown_answered (Ok done) known held holds written = ([], answer_text (UNKNOWN_LINE ∷ []), (refl, refl), Makes-nil known, written)
 unknown_answered (Err fault) known held holds written = written
 
--- a prefix of the answer to what is no command was written
+-- a prefix of the answer to a line that is no command was written
 unknown_fails : (end : Ended) (known : Option (List Call)) (held holds : Option (List ℕ)) → end ≡ WriteFault
     → WritesPrefix (answer_text (UNKNOWN_LINE ∷ [])) held holds → AnswerFails end None known known held holds
 unknown_fails end known held holds is prefix = rw is ([], answer_text (UNKNOWN_LINE ∷ []), (refl, refl), Makes-nil known, prefix)
@@ -142,14 +142,14 @@ line_fails TooLong before after had left held holds line whole read fails = absu
 line_fails ReadFault before after had left held holds line whole read fails = absurd fails
 line_fails TooMany before after had left held holds line whole read fails = absurd fails
 
--- the same of a result
+-- a line that is no command was not answered, by its result
 pub unknown_failed : {A : Type 0} (result : Result A Ended) (known : Option (List Call)) (held holds : Option (List ℕ))
     → IfErr result (λ end. (end ≡ WriteFault) × WritesPrefix (answer_text (UNKNOWN_LINE ∷ [])) held holds)
     → IfErr result (λ end. AnswerFails end None known known held holds)
 unknown_failed (Ok done) known held holds fails = fails
 unknown_failed (Err end) known held holds fails = unknown_fails end known held holds fails.0 fails.1
 
--- a line that was read, where it was answered
+-- a line that was read, if it was answered
 pub read_answered : {A : Type 0} (result : Result A Ended) (command : Option Command) (before after : Option (List Call)) (had left held holds : Option (List ℕ)) (line : List ℕ)
     → IsWhole line → Consumes had left (line_text line) → command ≡ command_of line
     → OnOk result (AnswersTo command before after held holds) → OnOk result (Serves before after had left held holds 1)
@@ -157,7 +157,7 @@ read_answered (Ok done) command before after had left held holds line whole read
     line_answered before after had left held holds line whole read (subst (λ (c : Option Command). AnswersTo c before after held holds) is answers)
 read_answered (Err end) command before after had left held holds line whole read is answers = answers
 
--- a line that was read, where it was not answered
+-- a line that was read, if it was not answered
 pub read_failed : {A : Type 0} (result : Result A Ended) (command : Option Command) (before after : Option (List Call)) (had left held holds : Option (List ℕ)) (line : List ℕ)
     → IsWhole line → Consumes had left (line_text line) → command ≡ command_of line
     → IfErr result (λ end. AnswerFails end command before after held holds) → IfErr result (λ end. ServesTo end before after had left held holds 0)
@@ -165,7 +165,7 @@ read_failed (Ok done) command before after had left held holds line whole read i
 read_failed (Err end) command before after had left held holds line whole read is fails =
     line_fails end before after had left held holds line whole read (subst (λ (c : Option Command). AnswerFails end c before after held holds) is fails)
 
--- a line that is too long, where its answer was not written whole
+-- a line that is too long, if its answer was not written whole
 pub too_long_failed : (end : Ended) (known : Option (List Call)) (had left held holds : Option (List ℕ)) (line : List ℕ) → IsTooLong line → Consumes had left line
     → end ≡ WriteFault → WritesPrefix (answer_text (UNKNOWN_LINE ∷ [])) held holds → ServesTo end known known had left held holds 0
 too_long_failed end known had left held holds line long read is prefix =

@@ -1,7 +1,7 @@
--- What a command does, and what is answered.
+-- Defines the calls that a command makes, and its answer.
 use Rattle.std.specs.Prelude.{◌≡◌, ℕ, Bool, true, false, List, [], ◌∷◌, Option, None, Some, codes, All}
 use Rattle.std.specs.Io.KnownBytes.{Appends}
-use Rattle.row_reads.specs.Writing.{WritesPrefix}
+use Rattle.whole_io.specs.Writing.{WritesPrefix}
 use Rattle.day_control.specs.declared.command.Command.{Command}
 use Rattle.day_control.specs.declared.command.Command.TheVariants.{Status, End}
 use Rattle.day_control.specs.Calls.{Call, tells, ends, IsTold, Makes}
@@ -9,22 +9,22 @@ use Rattle.day_control.specs.Lines.{answer_text, full_lines}
 use Rattle.day_control.specs.declared.serve_end.Ended.{Ended}
 use Rattle.day_control.specs.declared.serve_end.Ended.TheVariants.{OutOfMemory, WriteFault}
 
--- the line that answers what is no command
+-- the answer's line for a line that is no command
 abbrev pub UNKNOWN_LINE : List ℕ
 UNKNOWN_LINE = codes "unknown command; status or end"
 
--- the line that answers an end: the first, or another
+-- the answer's line for an end: the first, or another
 abbrev pub ending_line : Bool → List ℕ
 ending_line true = codes "ending"
 ending_line false = codes "ending without waiting for followers"
 
--- a command makes these calls and gets this answer, and what is no command makes none
+-- a command makes these calls and gets this answer; a line that is no command makes no call
 abbrev pub Answers : Option Command → List Call → List ℕ → Type 0
 Answers None calls text = (calls ≡ []) × (text ≡ answer_text (UNKNOWN_LINE ∷ []))
 Answers (Some Status) calls text = (told : List ℕ) × (calls ≡ tells told ∷ []) × (text ≡ answer_text (full_lines told))
 Answers (Some End) calls text = (is_first : Bool) × (calls ≡ ends is_first ∷ []) × (text ≡ answer_text (ending_line is_first ∷ []))
 
--- a command for whose answer memory ran out is a status, and nothing was changed
+-- if memory ran out for a command's answer, the command is a status, and nothing was changed
 abbrev pub Fails : Option Command → List Call → Type 0
 Fails command calls = (command ≡ Some Status) × All IsTold calls
 

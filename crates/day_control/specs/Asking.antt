@@ -1,4 +1,4 @@
--- An answer as it is read.
+-- Defines what is read of an answer.
 use Rattle.std.specs.Prelude.{◌≡◌, ◌≤◌, ℕ, List, length, Option, All, flat_map}
 use Rattle.std.specs.Io.KnownBytes.{Appends, Consumes}
 use Rattle.day_control.specs.Lines.{IsLine, answer_text, line_text}

@@ -1,14 +1,14 @@
--- The lines that ask.
+-- Defines the lines of the commands.
 use Rattle.std.specs.Prelude.{◌∷◌, ℕ, List, [], Option, codes, find}
 use Rattle.std.specs.Str.{bytes_eq}
 use Rattle.day_control.specs.declared.command.Command.{Command}
 use Rattle.day_control.specs.declared.command.Command.TheVariants.{Status, End}
 
--- the line that asks so, without its line feed
+-- the line of a command, without its line feed
 abbrev pub command_name : Command → List ℕ
 command_name Status = codes "status"
 command_name End = codes "end"
 
--- what a line asks, without its line feed
+-- the command of a line, without its line feed
 abbrev pub command_of : List ℕ → Option Command
 command_of line = find (λ command. bytes_eq line (command_name command)) (Status ∷ End ∷ [])

@@ -1,4 +1,4 @@
--- The statuses of faults.
+-- Defines the statuses of faults.
 use Rattle.std.specs.Prelude.{ℕ}
 use Rattle.day_control.specs.declared.control_fault.ControlFault.{ControlFault}
 use Rattle.day_control.specs.declared.control_fault.ControlFault.TheVariants.{OpenFolder, NoFolder, NotASocket, InUse, Unopened, Unanswered, CutOff, WriteFault, OutOfMemory}

@@ -1,4 +1,4 @@
--- Lines of bytes, the text of an answer, and what is read of a line.
+-- Defines lines of bytes, the text of an answer, and what is read of a line.
 use Rattle.std.specs.Prelude.{◌≢◌, ◌≤◌, ◌==◌, ℕ, List, [], ◌∷◌, ◌++◌, length, take, flat_map, filter, Bool, true, false, Option, All}
 use Rattle.std.specs.List.{slice_split}
 use Rattle.std.specs.Io.KnownBytes.{Consumes, IsAtEnd}
@@ -26,7 +26,7 @@ is_full (byte ∷ rest) = true
 abbrev pub full_lines : List ℕ → List (List ℕ)
 full_lines text = filter is_full (slice_split (λ byte. byte == 10) text)
 
--- what was read of a line, which stands in front in a row
+-- what was read of a line, which is at the front of a row
 abbrev pub ReadsLine : LineRead → Option (List ℕ) → Option (List ℕ) → List ℕ → Type 0
 ReadsLine (Line len) had left row = (len ≤ 64) × IsLine (take len row) × Consumes had left (line_text (take len row))
 ReadsLine TooLong had left row = IsLine row × Consumes had left row

@@ -1,4 +1,4 @@
--- Where a control socket is, and who can enter its folder.
+-- Defines where a control socket is, and who can enter its folder.
 use Rattle.std.specs.Prelude.{◌≡◌, ℕ, List, [], ◌∷◌, bit_and, codes, Bool, true, false, Option, Some, None, Result, Ok, Err}
 use Rattle.std.specs.Path.{path_parent}
 use Rattle.std.specs.Net.Addr.{ipv4_octets}
@@ -18,21 +18,21 @@ pub record IsHere (address : SocketAddr) (port : ℕ) : Type 0 where
   pub octets : ipv4_octets ip ≡ 127 ∷ 0 ∷ 0 ∷ 1 ∷ []
   pub has_port : socket_port address ≡ port
 
--- the folder before a name, or the one that the program runs in where none stands there
+-- the folder before a name, or the program's working folder if none is there
 abbrev pub named_folder : Option (List ℕ) → List ℕ
 named_folder None = codes "."
 named_folder (Some []) = codes "."
 named_folder (Some (byte ∷ rest)) = byte ∷ rest
 
--- the folder that a path names a file of
+-- the folder of the file at a path
 abbrev pub folder_of : List ℕ → List ℕ
 folder_of path = named_folder (path_parent path)
 
--- a folder of this mode gives its group and others nothing
+-- a folder of this mode grants its group and others nothing
 abbrev pub IsPrivate : ℕ → Type 0
 IsPrivate mode = bit_and mode 63 ≡ 0
 
--- whether what stands at a path is removed before a socket is made there: a socket that nobody answers at, and nothing else
+-- whether what is at a path is removed before a socket is made there: only a socket that nobody answers at
 abbrev pub cleared : Standing → Result Bool ControlFault
 cleared Nothing = Ok false
 cleared Deserted = Ok true

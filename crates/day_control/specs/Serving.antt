@@ -1,7 +1,7 @@
--- Commands answered one after the other.
+-- Defines which commands are answered one after the other, and what was done at each end.
 use Rattle.std.specs.Prelude.{◌≡◌, ◌≤◌, ℕ, List, [], ◌∷◌, ◌++◌, ◌⊎◌, length, Option, None, flat_map}
 use Rattle.std.specs.Io.KnownBytes.{Appends, Consumes, IsAtEnd}
-use Rattle.row_reads.specs.Writing.{WritesPrefix}
+use Rattle.whole_io.specs.Writing.{WritesPrefix}
 use Rattle.day_control.specs.Answers.{Answers, Fails, UNKNOWN_LINE}
 use Rattle.day_control.specs.Calls.{Call, Makes}
 use Rattle.day_control.specs.Commands.{command_of}
@@ -24,8 +24,8 @@ Answered (line ∷ lines) calls text =
     (own others : List Call) × (answer answers : List ℕ) × IsWhole line × Answers (command_of line) own answer × (calls ≡ own ++ others)
     × (text ≡ answer ++ answers) × Answered lines others answers
 
--- as many lines as were served were read of what a reader had, which left the rest; they made the calls that were made, and their answers were
--- appended to what a writer held; where a reader, a writer or the calls are not known, nothing is said of them
+-- as many lines as were served were read of what a reader had, which left the rest; they made the calls that were made, and
+-- their answers were appended to what a writer held; if a reader, a writer or the calls are not known, nothing is said of them
 pub record Serves (before after : Option (List Call)) (had left held holds : Option (List ℕ)) (served : ℕ) : Type 0 where
   pub lines : List (List ℕ)
   pub calls : List Call
@@ -40,19 +40,20 @@ pub record Serves (before after : Option (List Call)) (had left held holds : Opt
 abbrev pub ServesTo : Ended → Option (List Call) → Option (List Call) → Option (List ℕ) → Option (List ℕ) → Option (List ℕ) → Option (List ℕ) → ℕ → Type 0
 -- the input ended
 ServesTo Clean before after had rest held holds served = Serves before after had rest held holds served × IsAtEnd rest
--- the input ended after some bytes more, without a line feed, to which nothing was answered
+-- the input ended after some more bytes without a line feed, which got no answer
 ServesTo Truncated before after had rest held holds served =
     (left : Option (List ℕ)) × (part : List ℕ) × Serves before after had left held holds served
     × IsLine part × (1 ≤ length part) × Consumes left rest part × IsAtEnd rest
--- the front of a line that is too long was read, which called nothing and got the answer of what is no command
+-- the front of a line that is too long was read; it made no call and got the answer to a line that is no command
 ServesTo TooLong before after had rest held holds served =
     (left between : Option (List ℕ)) × (line : List ℕ) × Serves before after had left held between served
     × IsTooLong line × Consumes left rest line × Appends between holds (answer_text (UNKNOWN_LINE ∷ []))
--- fewer bytes more than a line that is too long were read, without a line feed
+-- further bytes without a line feed were read, fewer than of a line that is too long
 ServesTo ReadFault before after had rest held holds served =
     (left : Option (List ℕ)) × (part : List ℕ) × Serves before after had left held holds served
     × IsLine part × (length part ≤ 64) × Consumes left rest part
--- the next line was read and made its calls, and a prefix of its answer was written; or the front of a line that is too long, which made none
+-- the next line was read and made its calls, or the front of a line that is too long, which made none; a prefix of its answer
+-- was written
 ServesTo WriteFault before after had rest held holds served =
     (midst : Option (List Call)) × (left between : Option (List ℕ)) × (line answer : List ℕ) × (calls : List Call) × Serves before midst had left held between served
     × Makes midst after calls × WritesPrefix answer between holds

@@ -1,4 +1,4 @@
-//! The answers' texts: lines, and then an empty one.
+//! Puts together the texts of answers: lines, and then an empty one.
 ghost use Rattle.std.specs.Prelude.{◌≡◌, ◌∷◌, [], OnOk};
 ghost use Rattle.day_control.specs.Answers.{UNKNOWN_LINE, ending_line};
 ghost use Rattle.day_control.specs.Lines.{answer_text, full_lines};
@@ -13,7 +13,7 @@ pub(crate) fn unknown() -> &'static [u8]
     b"unknown command; status or end\n\n"
 }
 
-/// The answer to an end: whether it was the first.
+/// The answer to an end, which was the first or not.
 pub(crate) fn ending(is_first: bool) -> &'static [u8]
     ensures { result.now ≡ answer_text (ending_line is_first ∷ []) }
 {
@@ -24,7 +24,7 @@ pub(crate) fn ending(is_first: bool) -> &'static [u8]
     }
 }
 
-/// Puts the answer of which these are the lines in place of a text. An empty line would end it, so the lines that are empty are left out.
+/// Replaces `text` with the answer of these lines. An empty line would end the answer, so empty lines are left out.
 pub(crate) fn put_answer(told: &[u8], text: &mut Vec<u8>) -> Result<(), AllocError>
     ensures { OnOk result (text.new.items ≡ answer_text (full_lines told.now)) }
 {

@@ -1,6 +1,7 @@
-//! A command sent, and its answer read.
+//! Sends a command to a peer, reads its answer up to the empty line, and writes the answer's lines.
 ghost use Rattle.std.specs.Prelude.{◌≡◌, ◌≢◌, [], OnOk, IfErr, Err};
 ghost use Rattle.std.specs.Io.KnownBytes.{Appends};
+ghost use Rattle.whole_io.specs.Writing.{WritesPrefix};
 ghost use Rattle.day_control.specs.Asking.{AnswerRead, Told};
 ghost use Rattle.day_control.specs.Commands.{command_name};
 ghost use Rattle.day_control.specs.Lines.{line_text};
@@ -15,8 +16,9 @@ use std::io::{Read, Write};
 /// How many bytes of an answer are read at most.
 pub const ANSWER_MOST: u32 = 1_048_576;
 
-/// Sends a command to a peer, reads the answer, and writes its lines and flushes the writer. The faults in their order are `Unanswered` where the command
-/// can't be sent, `CutOff` and `OutOfMemory` as the answer comes, and `WriteFault`; before that nothing was written. No byte is read behind the answer.
+/// Sends a command to a peer, reads the answer, writes its lines and flushes the writer. Errors, the first that applies:
+/// `Unanswered` if the command can't be sent, `CutOff` or `OutOfMemory` while the answer is read, and `WriteFault`; before that
+/// nothing was written. No byte after the answer is read.
 pub fn ask_over<R: Read, P: Write, W: Write>(
     alloc: Global,
     command: Command,
@@ -24,8 +26,9 @@ pub fn ask_over<R: Read, P: Write, W: Write>(
     peer: &mut P,
     writer: &mut W,
 ) -> Result<(), ControlFault>
-    // Where it could be sent, the command was sent, and nothing else.
+    // The command was sent, or a prefix of it if it couldn't be sent, and nothing else.
     ensures asked { result ≢ Err Unanswered → Appends (P.contents peer.old) (P.contents peer.new) (line_text (command_name command)) }
+    ensures part { WritesPrefix (line_text (command_name command)) (P.contents peer.old) (P.contents peer.new) }
     // The lines of the answer were written, and nothing else.
     ensures told { OnOk result (Told (R.remaining reader.old) (R.remaining reader.new) (W.contents writer.old) (W.contents writer.new)) }
     ensures untold { IfErr result (λ fault. fault ≢ WriteFault → writer.new ≡ writer.old) }
@@ -41,7 +44,7 @@ pub fn ask_over<R: Read, P: Write, W: Write>(
     Ok(())
 }
 
-/// Reads the lines of an answer behind a text that is empty, up to the empty line, which is read too.
+/// Reads the lines of an answer into a text that is empty, up to the empty line, which is read too.
 fn read_answer<R: Read>(reader: &mut R, text: &mut Vec<u8>) -> Result<(), ControlFault>
     requires { text.old.items ≡ [] }
     ensures ok { OnOk result (AnswerRead (R.remaining reader.old) (R.remaining reader.new) text.new.items) }

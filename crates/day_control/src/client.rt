@@ -1,4 +1,4 @@
-//! The client's side of a control socket.
+//! The client's side of a control socket: connects, sends a command and writes the lines of the answer.
 ghost use Rattle.std.specs.Prelude.{◌≡◌, ◌≢◌, List, ℕ, Option, IfErr, OnOk};
 ghost use Rattle.day_control.specs.Asking.{Told};
 ghost use Rattle.day_control.specs.declared.control_fault.ControlFault.TheVariants.{WriteFault};
@@ -13,7 +13,7 @@ use std::os::fd::OwnedFd;
 use std::os::unix::net::UnixStream;
 use std::time::Duration;
 
-/// How long the answer is waited for, in seconds.
+/// How long to wait for the answer, in seconds.
 const ANSWERS_WITHIN: u64 = 10;
 
 /// Connects to a control socket, of either kind.
@@ -32,8 +32,8 @@ fn connect<R: Net<Listener = TcpListener, Stream = TcpStream>>(
     Ok(connection)
 }
 
-/// Asks the day whose control socket this is, and writes the lines of its answer, all or none, and flushes the writer. An answer that does not come
-/// within ten seconds is `CutOff`.
+/// Sends a command to the day whose control socket this is, writes the lines of its answer, all or none, and flushes the
+/// writer. An answer that does not come within ten seconds is `CutOff`.
 pub fn ask_control<R: Net<Listener = TcpListener, Stream = TcpStream>, W: Write>(
     rt: &R,
     alloc: Global,

@@ -1,20 +1,20 @@
-//! What a client asks.
+//! The commands of a client, and the lines by which it sends them.
 ghost use Rattle.std.specs.Prelude.{◌≡◌, Some};
 ghost use Rattle.day_control.specs.Commands.{command_name, command_of};
 ghost use Rattle.day_control.specs.Lines.{line_text};
 
-/// What a client asks.
+/// A client's command.
 #[derive(Clone, Copy, Debug, PartialEq, Eq)]
 pub enum Command {
-    /// What there is to say of the day.
+    /// Asks for the day's status.
     Status,
-    /// That the day ends. A second one has it wait for followers no longer.
+    /// Ends the day. A second one makes the day wait no longer for followers.
     End,
 }
 
 const ALL_COMMANDS: [Command; 2] = [Command::Status, Command::End];
 
-/// The first command of this name.
+/// Returns the first command of this name.
 fn first_named(line: &[u8]) -> Option<Command>
     ensures { result ≡ command_of line.now }
 {
@@ -25,7 +25,7 @@ fn first_named(line: &[u8]) -> Option<Command>
 }
 
 impl Command {
-    /// The line that asks so, without its line feed.
+    /// The command's line, without its line feed.
     pub fn name(self) -> &'static [u8]
         ensures { result.now ≡ command_name self }
     {
@@ -35,7 +35,7 @@ impl Command {
         }
     }
 
-    /// The line that asks so, with its line feed.
+    /// The command's line, with its line feed.
     pub(crate) fn line(self) -> &'static [u8]
         ensures { result.now ≡ line_text (command_name self) }
     {
@@ -45,7 +45,8 @@ impl Command {
         }
     }
 
-    /// What a line asks, without its line feed: `None` where it is none of the names. Each command has one.
+    /// Returns the command of a line without its line feed, or `None` if the line is no command's name. Each command has a
+    /// line.
     pub fn of_line(line: &[u8]) -> Option<Command>
         ensures command { result ≡ command_of line.now }
         ensures each { (command : Command) → line.now ≡ command_name command → result ≡ Some command }

@@ -1,4 +1,4 @@
-//! The connections that are open, in the order in which they came.
+//! Keeps the connections that are open, in the order in which they came.
 ghost use Rattle.std.specs.Prelude.{◌≡◌, ◌≤◌, ◌++◌, ◌∷◌, [], ◌==◌, not, filter, length, IfOk, OnErr, IsSome, option_to_list};
 
 use std::alloc::{AllocError, Global};
@@ -6,7 +6,7 @@ use std::alloc::{AllocError, Global};
 /// How many connections are open at most.
 pub const CONNECTIONS_MOST: usize = 32;
 
-/// A connection with the number by which it came.
+/// A connection with its number in order of arrival.
 #[derive(Drop)]
 pub(crate) struct Numbered<C> {
     pub(crate) number: u64,
@@ -21,7 +21,7 @@ pub(crate) struct Connections<C> {
 }
 
 impl<C: Drop> Connections<C> {
-    /// None is open. It takes no memory.
+    /// No connection is open. It allocates nothing.
     pub(crate) fn new(alloc: Global) -> Connections<C>
         ensures { result.open.items ≡ [] }
     {
@@ -30,7 +30,7 @@ impl<C: Drop> Connections<C> {
         }
     }
 
-    /// Takes in a connection that came. Where there are too many then, the oldest is given, which is open no longer.
+    /// Adds a connection that came. If too many are open then, it removes the oldest and returns it.
     pub(crate) fn enter(&mut self, came: Numbered<C>) -> Result<Option<Numbered<C>>, AllocError>
         ensures order { IfOk result (λ oldest. option_to_list oldest ++ self.new.open.items ≡ self.old.open.items ++ came ∷ []) }
         ensures full { IfOk result (λ oldest. IsSome oldest → length self.old.open.items ≡ 32) }
@@ -45,7 +45,7 @@ impl<C: Drop> Connections<C> {
         Ok(Some(oldest))
     }
 
-    /// Takes note that the connection of this number has ended.
+    /// Removes the connection of this number, which has ended.
     pub(crate) fn leave(&mut self, number: u64)
         ensures { self.new.open.items ≡ filter (λ c. not (c.number == number)) self.old.open.items }
     {

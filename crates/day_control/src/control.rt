@@ -1,4 +1,4 @@
-//! A control socket that is served: all connections at once, each in a thread of its own.
+//! Serves a control socket: all connections at once, each in a thread of its own.
 
 use crate::connections::{Connections, Numbered};
 use crate::listener::ControlListener;
@@ -17,7 +17,7 @@ use std::{io, thread};
 /// How long a peer may take to receive an answer, in milliseconds.
 const WRITES_WITHIN: u64 = 1_000;
 
-/// How long bytes behind a line that is too long are waited for, in milliseconds, and how often.
+/// How long to wait for bytes after a line that is too long, in milliseconds, and how often.
 const DRAINS_WITHIN: u64 = 100;
 
 const DRAINS_MOST: u32 = 16;
@@ -36,7 +36,7 @@ const IN_THREAD: Patience = Patience {
     lines_most: 65_536,
 };
 
-/// A connection for which no thread could be started: the next one waits for its end.
+/// A connection for which no thread could be started: the next one waits until it ends.
 const BETWEEN_OTHERS: Patience = Patience {
     reads_within: 200,
     lines_most: 1,
@@ -61,13 +61,13 @@ impl Read for Lines<'_> {
     }
 }
 
-/// Has a connection's calls wait no longer than this.
+/// Sets how long a connection's calls wait at most.
 fn set_patience(connection: &UnixStream, reads_within: u64) -> io::Result<()> {
     connection.set_read_timeout(Some(Duration::from_millis(reads_within)))?;
     connection.set_write_timeout(Some(Duration::from_millis(WRITES_WITHIN)))
 }
 
-/// Reads on behind a line that was too long: bytes that nobody read would cost the peer its answer.
+/// Reads on after a line that was too long: unread bytes would cost the peer its answer.
 fn drain(connection: &UnixStream) {
     let _ = connection.shutdown(Shutdown::Write);
     if set_patience(connection, DRAINS_WITHIN).is_err() {
@@ -82,7 +82,7 @@ fn drain(connection: &UnixStream) {
     }
 }
 
-/// Answers the lines of a connection until it ends. However its peer behaves, that ends the connection alone.
+/// Answers the lines of a connection until it ends. However its peer behaves, only this connection ends.
 fn answer_lines<R: Wait + Clock, O: Operated>(
     rt: &R,
     alloc: Global,
@@ -111,7 +111,8 @@ fn answer_lines<R: Wait + Clock, O: Operated>(
     }
 }
 
-/// Takes in a connection, and shuts down the oldest where there are too many: what that one reads and writes returns. `None` where memory ran out.
+/// Adds a connection, and shuts down the oldest if there are too many, so that its reads and writes return. Returns `None` if
+/// memory runs out.
 fn enter<R: Wait>(
     rt: &R,
     alloc: Global,
@@ -131,7 +132,7 @@ fn enter<R: Wait>(
     Some(connection)
 }
 
-/// Has every connection that is open end with the answer that it is at.
+/// Makes every open connection end after its current answer.
 fn end_all<R: Wait>(rt: &R, open: &Mutex<Open>) {
     let connections = open.lock(rt);
     for open in connections.open() {
@@ -139,10 +140,11 @@ fn end_all<R: Wait>(rt: &R, open: &Mutex<Open>) {
     }
 }
 
-/// Serves a control socket until it is closed, and returns once all its connections have ended: each ends with the answer that it is at, and no
-/// peer holds that up for more than `WRITES_WITHIN` a write. Connections are served at once, each in a thread of its own, `CONNECTIONS_MOST` at most: the
-/// oldest is shut down where one more comes. One that is silent for ten seconds ends. Where no thread can be started for it, one line of a connection is
-/// answered before the next is accepted. Want of memory ends a connection and nothing else.
+/// Serves a control socket until it is closed, and returns when all its connections have ended: each ends after its current
+/// answer, which no peer holds up for more than `WRITES_WITHIN` a write. Connections are served at once, each in a thread of
+/// its own, `CONNECTIONS_MOST` at most: the oldest is shut down if one more comes. One that is silent for ten seconds ends. If
+/// no thread can be started for a connection, one line of it is answered before the next is accepted. If memory runs out, only
+/// a connection ends.
 pub fn serve_control<R: Threads + Wait + Clock + Sync, O: Operated + Sync>(
     rt: &R,
     alloc: Global,

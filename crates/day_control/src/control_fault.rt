@@ -1,19 +1,19 @@
-//! Why a control socket was not opened or not asked.
+//! The faults of opening a control socket and of its clients, and their statuses.
 ghost use Rattle.std.specs.Prelude.{◌≡◌, ◌≤◌};
 ghost use Rattle.day_control.specs.Faults.{fault_status};
 
 use thiserror::Error;
 
-/// Why a control socket was not opened or not asked. It prints as what is wrong, which goes behind the place.
+/// Why a control socket was not opened or not asked. It prints as what is wrong, to be put after the place.
 #[derive(Clone, Copy, Debug, PartialEq, Eq, Error)]
 pub enum ControlFault {
     /// The folder of the path can be entered by others than its owner. Nothing was made or removed.
     #[error("others than its owner can enter its folder")]
     OpenFolder,
-    /// The folder of the path is none, or it is not there and can't be made.
+    /// The path has no folder, or its folder is not there and can't be made.
     #[error("its folder can't be entered or made")]
     NoFolder,
-    /// A file that is no socket stands at the path. It was left as it is.
+    /// A file that is no socket is at the path. It was left as it is.
     #[error("a file that is no socket stands there")]
     NotASocket,
     /// Another day answers there.
@@ -25,7 +25,8 @@ pub enum ControlFault {
     /// Nobody answers there.
     #[error("connection refused")]
     Unanswered,
-    /// The connection ended, or brought nothing in time, before a whole answer, or the answer was longer than `ANSWER_MOST` bytes.
+    /// The connection ended, or brought nothing in time, before a whole answer, or the answer was longer than `ANSWER_MOST`
+    /// bytes.
     #[error("answer cut off")]
     CutOff,
     /// The answer can't be written.
@@ -37,7 +38,7 @@ pub enum ControlFault {
 }
 
 impl ControlFault {
-    /// The status that is answered: 3 to 5.
+    /// The fault's status: 3 to 5.
     pub fn status(self) -> u8
         ensures status { result ≡ fault_status self }
         ensures range { (3 ≤ result) × (result ≤ 5) }

@@ -1,4 +1,4 @@
-//! A control socket: an operator asks a running day for its status and ends it.
+//! A control socket, by which an operator asks a running day for its status and ends it.
 #![tactic(auto)]
 
 mod answer;

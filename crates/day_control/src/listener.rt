@@ -1,4 +1,4 @@
-//! The listener of a control socket.
+//! Opens, accepts at, closes and removes a control socket.
 ghost use Rattle.std.specs.Prelude.{◌≡◌, ◌≢◌};
 ghost use Rattle.std.specs.IoError.{error_kind};
 ghost use Rattle.day_control.specs.declared.control_fault.ControlFault.TheVariants.{InUse, Unopened};
@@ -17,10 +17,10 @@ use std::sync::atomic::{AtomicBool, Ordering};
 use std::time::Duration;
 use std::{fs, io, thread};
 
-/// How long to rest after a connection that could not be accepted, in milliseconds: what lacks may be there again then.
+/// How long to rest after a connection that could not be accepted, in milliseconds: what was lacking may be there again then.
 const REST: u64 = 50;
 
-/// A socket that connections are accepted at, of either kind.
+/// A socket that accepts connections, of either kind.
 #[derive(Drop)]
 enum Listening {
     Unix(UnixListener),
@@ -36,7 +36,7 @@ pub struct ControlListener {
     is_closed: AtomicBool,
 }
 
-/// The fault of a socket that was not opened.
+/// The fault of an error in opening a socket.
 fn fault_of_opening(error: &Error) -> ControlFault
     ensures in_use { error_kind error.now ≡ ErrorKind.AddrInUse → result ≡ InUse }
     ensures other { error_kind error.now ≢ ErrorKind.AddrInUse → result ≡ Unopened }
@@ -47,8 +47,9 @@ fn fault_of_opening(error: &Error) -> ControlFault
     }
 }
 
-/// Opens the socket of a path, or of a port on 127.0.0.1. The folder of a path must be one that only its owner can enter, and is made where it
-/// isn't there. A socket that stands at the path and that nobody answers at is removed first; any other file is left, and is a fault.
+/// Opens the socket of a path, or of a port on 127.0.0.1. The folder of a path must be one that only its owner can enter, and
+/// is made if it isn't there. A socket at the path that nobody answers at is removed first; any other file is left, and is a
+/// fault.
 pub fn open_control<R: Files + Net<Listener = TcpListener, Stream = TcpStream>>(
     rt: &R,
     place: &ControlPlace,
@@ -68,7 +69,7 @@ pub fn open_control<R: Files + Net<Listener = TcpListener, Stream = TcpStream>>(
     opened.map_err(|error| fault_of_opening(&error))
 }
 
-/// Removes the path of a control socket that was open. A port leaves nothing.
+/// Removes the path of a control socket that was open. A port leaves nothing behind.
 pub fn remove_control<R: Files>(rt: &R, place: &ControlPlace) {
     if let ControlPlace::Path(path) = place {
         let _ = fs::remove_file(rt, path);
@@ -94,19 +95,20 @@ impl ControlListener {
         })
     }
 
-    /// Ends `serve_control`: no connection is accepted and no line is read any more, and an answer that was begun is written. It may be called
-    /// from any thread, and never waits.
+    /// Ends `serve_control`: no further connection is accepted and no further line is read, and an answer that was begun is
+    /// written. It may be called from any thread, and never waits.
     pub fn close(&self) {
         self.is_closed.store(true, Ordering::SeqCst);
         let _ = self.closing.shutdown(Shutdown::Both);
     }
 
-    /// Whether it is closed.
+    /// Whether the socket is closed.
     pub(crate) fn is_closed(&self) -> bool {
         self.is_closed.load(Ordering::SeqCst)
     }
 
-    /// Accepts a connection. What reads, writes and shuts down a socket does not depend on its kind, so one type serves for both.
+    /// Accepts a connection. What reads, writes and shuts down a socket does not depend on its kind, so one type serves for
+    /// both.
     fn accept(&self) -> io::Result<UnixStream> {
         match &self.listening {
             Listening::Unix(listener) => {
@@ -120,7 +122,7 @@ impl ControlListener {
         }
     }
 
-    /// Waits for the next connection, however often one can't be accepted: `None` once it is closed.
+    /// Waits for the next connection, however often one can't be accepted. Returns `None` if the socket is closed.
     pub(crate) fn next_connection<R: Wait + Clock>(&self, rt: &R) -> Option<UnixStream> {
         for _ in rt.forever() {
             let accepted = self.accept();

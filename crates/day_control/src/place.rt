@@ -1,4 +1,4 @@
-//! Where a control socket is.
+//! The place of a control socket: a path or a port.
 ghost use Rattle.day_control.specs.Places.{IsHere};
 
 use std::fmt;

@@ -1,4 +1,4 @@
-//! How a connection ended.
+//! How a connection ended, and how many of its lines were answered.
 
 /// Why a connection ended.
 #[derive(Clone, Copy, Debug, PartialEq, Eq)]
@@ -7,7 +7,7 @@ pub enum Ended {
     Clean,
     /// The input ended within a line, which gets no answer.
     Truncated,
-    /// A line was longer than `LINE_MOST` bytes. It got the answer of an unknown command.
+    /// A line was longer than `LINE_MOST` bytes. It got the answer to an unknown command.
     TooLong,
     /// A read failed, or brought nothing in time.
     ReadFault,
@@ -15,14 +15,14 @@ pub enum Ended {
     WriteFault,
     /// Memory ran out for the answer to a status.
     OutOfMemory,
-    /// As many lines were answered as may be.
+    /// The most lines were answered.
     TooMany,
 }
 
 /// How many lines of a connection were answered, and why it ended.
 #[derive(Clone, Copy, Debug, PartialEq, Eq)]
 pub struct ServeEnd {
-    /// The lines that were answered whole, but for one that was too long.
+    /// The lines that were answered whole, except for one that was too long.
     pub served: u32,
     /// Why it ended.
     pub ended: Ended,

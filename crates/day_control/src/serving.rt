@@ -1,7 +1,7 @@
-//! Commands answered as they come.
+//! Answers commands as they come: each line makes its call, and its answer is written and flushed.
 ghost use Rattle.std.specs.Prelude.{◌≡◌, ◌≢◌, ◌<◌, ◌∷◌, [], IfErr, OnOk, Some};
 ghost use Rattle.std.specs.Io.KnownBytes.{Appends};
-ghost use Rattle.row_reads.specs.Writing.{WritesPrefix};
+ghost use Rattle.whole_io.specs.Writing.{WritesPrefix};
 ghost use Rattle.day_control.specs.Answers.{AnswersTo, AnswerFails, UNKNOWN_LINE};
 ghost use Rattle.day_control.specs.Lines.{answer_text};
 ghost use Rattle.day_control.specs.Serving.{Serves, ServesTo};
@@ -18,14 +18,15 @@ use std::io::{Read, Write};
 /// The buffers that all answers of a connection share.
 #[derive(Drop)]
 struct Room {
-    /// What was told of the day.
+    /// The status of the day.
     told: Vec<u8>,
     /// An answer.
     text: Vec<u8>,
 }
 
-/// Answers the lines that come, one after the other and no more than this: each is read whole, makes its call, and its answer is written in one
-/// write where the writer takes it whole, and flushed. A line that is no command makes no call. Memory is taken for the answer to a status alone.
+/// Answers the lines that come, one after the other and at most this many: each is read whole, makes its call, and its answer
+/// is written in one write if the writer takes it whole, and flushed. A line that is no command makes no call. Only the answer
+/// to a status allocates.
 pub fn serve_commands<O: Operator, R: Read, W: Write>(
     alloc: Global,
     most: u32,
@@ -55,7 +56,7 @@ pub fn serve_commands<O: Operator, R: Read, W: Write>(
     }
 }
 
-/// Answers the next line, or tells why there is none or no answer.
+/// Answers the next line, or returns why there is none or no answer.
 fn serve_next<O: Operator, R: Read, W: Write>(
     operator: &mut O,
     reader: &mut R,
@@ -98,7 +99,7 @@ fn answer<O: Operator, W: Write>(
     }
 }
 
-/// Tells what there is to say of what is operated.
+/// Answers with the status of what is operated.
 fn answer_status<O: Operator, W: Write>(
     operator: &mut O,
     writer: &mut W,
@@ -120,7 +121,7 @@ fn answer_status<O: Operator, W: Write>(
     Ok(())
 }
 
-/// Ends what is operated.
+/// Ends what is operated, and answers.
 fn answer_end<O: Operator, W: Write>(operator: &mut O, writer: &mut W) -> Result<(), Ended>
     ensures ok { OnOk result (AnswersTo (Some End) (O.calls operator.old) (O.calls operator.new) (W.contents writer.old) (W.contents writer.new)) }
     ensures err { IfErr result (λ ended. AnswerFails ended (Some End) (O.calls operator.old) (O.calls operator.new) (W.contents writer.old) (W.contents writer.new)) }
@@ -132,7 +133,7 @@ fn answer_end<O: Operator, W: Write>(operator: &mut O, writer: &mut W) -> Result
     Ok(())
 }
 
-/// Answers what is no command.
+/// Answers a line that is no command.
 fn answer_unknown<W: Write>(writer: &mut W) -> Result<(), Ended>
     ensures ok { OnOk result (Appends (W.contents writer.old) (W.contents writer.new) (answer_text (UNKNOWN_LINE ∷ []))) }
     ensures err { IfErr result (λ ended. (ended ≡ WriteFault) × WritesPrefix (answer_text (UNKNOWN_LINE ∷ [])) (W.contents writer.old) (W.contents writer.new)) }

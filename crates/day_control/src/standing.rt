@@ -1,4 +1,4 @@
-//! What stands at a path where a socket is to be made, and the folder that it stands in.
+//! Looks at what is at a path where a socket is to be made, and at the folder of that path.
 ghost use Rattle.std.specs.Prelude.{◌≡◌, ◌≢◌, ◌↔◌, IsTrue};
 ghost use Rattle.std.specs.IoError.{error_kind};
 ghost use Rattle.day_control.specs.Places.{IsPrivate, cleared, folder_of};
@@ -16,30 +16,30 @@ use std::path::Path;
 /// The mode of a folder that is made: its owner alone reads, writes and enters it.
 const OWNER_ALONE: u32 = 0o700;
 
-/// What a folder's mode gives its group and others.
+/// What a folder's mode may grant its group and others.
 const OTHERS: u32 = 0o077;
 
-/// What stands at a path.
+/// What is at a path.
 #[derive(Clone, Copy, Debug, PartialEq, Eq)]
 pub(crate) enum Standing {
     /// Nothing.
     Nothing,
     /// A file that is no socket.
     OtherFile,
-    /// A socket that nobody answers at: whoever made it is gone.
+    /// A socket that nobody answers at: the process that made it is gone.
     Deserted,
     /// A socket that somebody answers at, or that can't be told from one.
     Answered,
 }
 
-/// Whether a folder of this mode gives its group and others nothing.
+/// Whether a folder of this mode grants its group and others nothing.
 fn is_private(mode: u32) -> bool
     ensures { IsTrue result ↔ IsPrivate mode }
 {
     mode & OTHERS == 0
 }
 
-/// Whether what stands at a path is to be removed before a socket is made there. Only a socket that nobody answers at is.
+/// Returns whether what is at a path is to be removed before a socket is made there: only a socket that nobody answers at.
 fn clears(standing: Standing) -> Result<bool, ControlFault>
     ensures { result ≡ cleared standing }
 {
@@ -51,7 +51,8 @@ fn clears(standing: Standing) -> Result<bool, ControlFault>
     }
 }
 
-/// What a socket is that no connection could be made to: only one that refuses it, or is gone meanwhile, is nobody's.
+/// What a socket is if no connection could be made to it: only one that refuses the connection, or has meanwhile gone, is
+/// nobody's.
 fn standing_unconnected(error: &Error) -> Standing
     ensures deserted { error_kind error.now ≡ ErrorKind.ConnectionRefused → result ≡ Deserted }
     ensures gone { error_kind error.now ≡ ErrorKind.NotFound → result ≡ Nothing }
@@ -64,7 +65,7 @@ fn standing_unconnected(error: &Error) -> Standing
     }
 }
 
-/// Looks at what stands at a path.
+/// Looks at what is at a path.
 fn look<R: Files + Net>(rt: &R, path: &str) -> Result<Standing, ControlFault> {
     match fs::symlink_metadata(rt, path) {
         Ok(found) if !found.file_type().is_socket() => return Ok(Standing::OtherFile),
@@ -78,7 +79,7 @@ fn look<R: Files + Net>(rt: &R, path: &str) -> Result<Standing, ControlFault> {
     }
 }
 
-/// Removes a socket at a path that nobody answers at.
+/// Removes a socket at a path if nobody answers at it.
 pub(crate) fn clear<R: Files + Net>(rt: &R, path: &str) -> Result<(), ControlFault> {
     if clears(look(rt, path)?)? && fs::remove_file(rt, path).is_err() {
         return Err(ControlFault::Unopened);
@@ -86,7 +87,7 @@ pub(crate) fn clear<R: Files + Net>(rt: &R, path: &str) -> Result<(), ControlFau
     Ok(())
 }
 
-/// The folder that a path names a file of.
+/// The folder of the file at a path.
 fn folder_of(path: &str) -> &str
     ensures { result.now ≡ folder_of path.now }
 {
@@ -96,10 +97,10 @@ fn folder_of(path: &str) -> &str
     }
 }
 
-/// Makes the folder of a path if it isn't there, and looks whether only its owner can enter it.
+/// Makes the folder of a path if it isn't there, and checks that only its owner can enter it.
 pub(crate) fn enter_folder<R: Files>(rt: &R, path: &str) -> Result<(), ControlFault> {
     let folder = folder_of(path);
-    // Where it can't be made, it may be there.
+    // If it can't be made, it may already be there.
     let _ = DirBuilder::new().mode(OWNER_ALONE).create(rt, folder);
     match fs::metadata(rt, folder) {
         Ok(found) if !found.is_dir() => Err(ControlFault::NoFolder),

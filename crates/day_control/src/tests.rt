@@ -1,4 +1,4 @@
-//! Connections over memory, and a control socket with its clients.
+//! Tests connections over memory, and a control socket with its clients.
 
 mod connections;
 mod sockets;

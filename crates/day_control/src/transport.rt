@@ -1,12 +1,12 @@
-//! Texts given to a writer.
+//! Writes a text to a writer and flushes it.
 ghost use Rattle.std.specs.Prelude.{IsTrue};
 ghost use Rattle.std.specs.Io.KnownBytes.{Appends};
-ghost use Rattle.row_reads.specs.Writing.{WritesPrefix};
+ghost use Rattle.whole_io.specs.Writing.{WritesPrefix};
 
-use row_reads::write_text;
 use std::io::Write;
+use whole_io::write_text;
 
-/// Writes all of a text and flushes the writer: whether no write and no flush failed.
+/// Writes all of `text` and flushes the writer. Returns whether no write and no flush failed.
 pub(crate) fn send<W: Write>(writer: &mut W, text: &[u8]) -> bool
     ensures sent { IsTrue result → Appends (W.contents writer.old) (W.contents writer.new) text.now }
     ensures part { WritesPrefix text.now (W.contents writer.old) (W.contents writer.new) }

@@ -1,4 +1,4 @@
--- What ends a day without a report, by the status that is answered.
+-- The status of each fault that ends a day without a report.
 use Rattle.std.specs.Prelude.{ℕ}
 use Rattle.feed_ends.specs.declared.fault.Fault.{Fault}
 use Rattle.feed_ends.specs.declared.fault.Fault.TheVariants.{Read, Write, Memory, Worker, Disagrees}

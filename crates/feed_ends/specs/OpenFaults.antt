@@ -1,4 +1,4 @@
--- What is said of a socket that could not be opened.
+-- The text that says which socket could not be opened, and why.
 use Rattle.std.specs.Prelude.{◌++◌, ◌∷◌, ℕ, List, codes, decimal}
 use Rattle.std.specs.declared.io.ErrorKind.{ErrorKind}
 use Rattle.std.specs.declared.io.ErrorKind.TheVariants as kind
@@ -8,7 +8,7 @@ use Rattle.feed_ends.specs.declared.open_fault.OpenFault.{OpenFault}
 use Rattle.feed_ends.specs.declared.place.Place.{Place}
 use Rattle.feed_ends.specs.declared.place.Place.TheVariants as place
 
--- the cause of an error of a socket, by its kind
+-- the cause of a socket error, by its kind
 abbrev pub cause_of : ErrorKind → Cause
 cause_of kind.AddrInUse = cause.AddressInUse
 cause_of kind.AddrNotAvailable = cause.AddressNotAvailable
@@ -30,7 +30,7 @@ cause_text cause.TimedOut = codes "timed out"
 cause_text cause.NotFound = codes "not found"
 cause_text cause.Other = codes "not opened"
 
--- a place and its port; the sender's socket has whichever port is free
+-- a place and its port in words; the sender's socket takes any free port
 abbrev pub place_text : Place → ℕ → List ℕ
 place_text (place.Line participant) port = codes "port " ++ decimal port ++ codes " (" ++ (participant ∷ codes ")")
 place_text place.A port = codes "line A " ++ decimal port
@@ -39,6 +39,6 @@ place_text place.Retransmission port = codes "retransmission " ++ decimal port
 place_text place.Sender port = codes "the sender's socket"
 place_text place.Control port = codes "control " ++ decimal port
 
--- which socket could not be opened, and why
+-- which socket could not be opened, and why, in words
 abbrev pub open_fault_text : OpenFault → List ℕ
 open_fault_text fault = place_text fault.place fault.port ++ codes ": " ++ cause_text fault.cause

@@ -1,4 +1,4 @@
--- The report of a day as it is written.
+-- What is written as the report of a day: the report of a legal tape, and nothing else.
 use Rattle.std.specs.Prelude.{◌≡◌, ◌≤◌, ℕ, List, length, Option, None}
 use Rattle.std.specs.Io.KnownBytes.{Appends}
 use Rattle.tape_types.specs.Names.{Names, names_fault}
@@ -7,7 +7,7 @@ use Rattle.tape_core.specs.Tape.{TapeState, IsLegal}
 use Rattle.day_report.specs.ReportText.{report_text}
 use Rattle.day_report.specs.Rows.{report_rows}
 
--- a day's listing: it has symbols and participants, not too many, and none of them twice
+-- a day's listing has symbols and participants, not too many, and none of them twice
 abbrev pub IsListing : Names → Type 0
 IsListing listing = names_fault listing.symbols listing.participants ≡ None
 
@@ -15,7 +15,8 @@ IsListing listing = names_fault listing.symbols listing.participants ≡ None
 abbrev pub WritesOneReport : Option (List ℕ) → Option (List ℕ) → Type 0
 WritesOneReport old new = (t : TapeState) × IsListing t.listing × IsLegal t × Appends old new (report_text (report_rows t))
 
--- the whole report of some legal tape of the listing and the matrix, of no more entries than the limit, was appended, and nothing else
+-- the whole report of some legal tape of the listing and the matrix, with no more entries than the limit, was appended, and
+-- nothing else
 abbrev pub WritesItsReport : Names → Matrix → ℕ → Option (List ℕ) → Option (List ℕ) → Type 0
 WritesItsReport listing matrix limit old new =
     (t : TapeState) × IsListing t.listing × IsLegal t × (t.listing ≡ listing) × (t.matrix ≡ matrix) × (length t.entries ≤ limit)

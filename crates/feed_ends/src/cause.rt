@@ -1,4 +1,4 @@
-//! Why a socket is not opened.
+//! The causes of a socket that is not opened, each with its text.
 ghost use Rattle.std.specs.Prelude.{◌≡◌};
 ghost use Rattle.feed_ends.specs.OpenFaults.{cause_of, cause_text};
 
@@ -9,7 +9,7 @@ use std::io::ErrorKind;
 pub enum Cause {
     /// Another socket has the port.
     AddressInUse,
-    /// This machine has no such address, or no port is free.
+    /// This machine does not have the address, or no port is free.
     AddressNotAvailable,
     /// The process may not open it.
     PermissionDenied,
@@ -21,12 +21,12 @@ pub enum Cause {
     TimedOut,
     /// There is no socket of this name.
     NotFound,
-    /// Anything else, as where the process has as many files as it may.
+    /// Anything else, for example if the process has as many files as it may.
     Other,
 }
 
 impl Cause {
-    /// The cause of an error of this kind.
+    /// Returns the cause of an error of this kind.
     pub fn of(kind: ErrorKind) -> Cause
         ensures { result ≡ cause_of kind }
     {
@@ -42,7 +42,7 @@ impl Cause {
         }
     }
 
-    /// The cause in words.
+    /// Returns the cause in words.
     pub fn text(self) -> &'static [u8]
         ensures { result.now ≡ cause_text self }
     {

@@ -1,4 +1,4 @@
-//! What ends a day without a report.
+//! The faults that end a day without a report, each with its status.
 ghost use Rattle.std.specs.Prelude.{◌≡◌, ◌↔◌, ◌⊎◌, ◌≤◌, Some, None, IfSome};
 ghost use Rattle.feed_ends.specs.Faults.{fault_status};
 ghost use Rattle.feed_ends.specs.declared.fault.Fault.TheVariants.{Disagrees, Memory};
@@ -23,7 +23,7 @@ pub enum Fault {
 }
 
 impl Fault {
-    /// The status that is answered: 3 to 7.
+    /// Returns the status of the fault, 3 to 7.
     pub fn status(self) -> u8
         ensures status { result ≡ fault_status self }
         ensures range { (3 ≤ result) × (result ≤ 7) }
@@ -37,7 +37,7 @@ impl Fault {
         }
     }
 
-    /// The one of two that is answered: that of the least status, `None` where there is neither.
+    /// Returns the one of two faults that has the lower status, or `None` if there is neither.
     pub fn least(one: Option<Fault>, other: Option<Fault>) -> Option<Fault>
         ensures none { (result ≡ None) ↔ ((one ≡ None) × (other ≡ None)) }
         ensures either { IfSome result (λ fault. (one ≡ Some fault) ⊎ (other ≡ Some fault)) }
@@ -52,7 +52,7 @@ impl Fault {
     }
 }
 
-/// The day's fault for a tape that is not made.
+/// Returns the day's fault for a tape that is not made: `Disagrees` for a bad limit, `Memory` if memory ran out.
 pub fn fault_of_tape(fault: TapeFault) -> Fault
     ensures limit { fault ≡ BadLimit → result ≡ Disagrees }
     ensures memory { fault ≡ TapeOutOfMemory → result ≡ Memory }

@@ -1,5 +1,5 @@
-//! How both sides of a running day end: with the report of a tape, or with a fault and its status. And where on this machine they meet, and
-//! which of their sockets could not be opened.
+//! How both sides of a running day end: with the report of a tape, or with a fault and its status. It also has the address at
+//! which they meet, and the error of a socket that could not be opened.
 #![tactic(auto)]
 
 mod address;

@@ -1,4 +1,4 @@
-//! A socket that could not be opened.
+//! The error of a socket that could not be opened, and its text.
 ghost use Rattle.std.specs.Prelude.{◌≡◌, IfOk};
 ghost use Rattle.feed_ends.specs.OpenFaults.{cause_of, open_fault_text};
 
@@ -9,16 +9,16 @@ use std::io::ErrorKind;
 /// A socket that could not be opened. A day ends with `Fault::Read` for it.
 #[derive(Clone, Copy, Debug, PartialEq, Eq)]
 pub struct OpenFault {
-    /// Which socket.
+    /// The socket.
     pub place: Place,
-    /// Its port.
+    /// The port of the socket.
     pub port: u16,
-    /// Why.
+    /// Why the socket could not be opened.
     pub cause: Cause,
 }
 
 impl OpenFault {
-    /// The fault of a socket whose opening ended with an error of this kind.
+    /// Returns the fault of a socket whose opening failed with an error of this kind.
     pub fn new(place: Place, port: u16, kind: ErrorKind) -> OpenFault
         ensures { result ≡ record { place = place; port = port; cause = cause_of kind } }
     {
@@ -29,7 +29,7 @@ impl OpenFault {
         }
     }
 
-    /// The fault in words, without a line feed: `port 23001 (Q): address in use`.
+    /// Returns the fault in words, without a line feed: `port 23001 (Q): address in use`. It fails if memory runs out.
     pub fn text(self, alloc: Global) -> Result<Vec<u8>, AllocError>
         ensures { IfOk result (λ text. text.items ≡ open_fault_text self) }
     {

@@ -1,10 +1,10 @@
-//! Where a socket of a day is.
+//! The sockets of a day, by what they are for, and their text.
 ghost use Rattle.std.specs.Prelude.{◌≡◌, ◌++◌, OnOk, decimal};
 ghost use Rattle.feed_ends.specs.OpenFaults.{place_text};
 
-use itoa::Buffer;
 use std::alloc::AllocError;
 use tape_types::Participant;
+use whole_io::push_number;
 
 /// A socket of a day, by what it is for.
 #[derive(Clone, Copy, Debug, PartialEq, Eq)]
@@ -17,18 +17,10 @@ pub enum Place {
     B,
     /// The retransmission.
     Retransmission,
-    /// The socket that the packets of both lines are sent from. It has whichever port is free.
+    /// The socket that the packets of both lines are sent from. It takes any free port.
     Sender,
     /// The control socket.
     Control,
-}
-
-/// Adds a number in decimal.
-fn push_number(text: &mut Vec<u8>, number: u16) -> Result<(), AllocError>
-    ensures { OnOk result (text.new.items ≡ text.old.items ++ decimal number) }
-{
-    let mut digits = Buffer::new();
-    text.extend_from_slice(digits.format(number).as_bytes())
 }
 
 /// Adds what a port is for, and the port.
@@ -36,10 +28,10 @@ fn push_port(text: &mut Vec<u8>, what: &[u8], port: u16) -> Result<(), AllocErro
     ensures { OnOk result (text.new.items ≡ text.old.items ++ (what.now ++ decimal port)) }
 {
     text.extend_from_slice(what)?;
-    push_number(text, port)
+    push_number(text, u64::from(port))
 }
 
-/// Adds a participant's port, and whose it is.
+/// Adds a participant's port, and the participant.
 fn push_line(text: &mut Vec<u8>, participant: Participant, port: u16) -> Result<(), AllocError>
     ensures { OnOk result (text.new.items ≡ text.old.items ++ place_text (Place.Line participant) port) }
 {

@@ -1,4 +1,4 @@
-//! The report of a day.
+//! Writes the report of a day, whose rows several workers make.
 ghost use Rattle.std.specs.Prelude.{◌≡◌, ◌≢◌, ◌⊎◌, IfErr, IfOk, OnOk};
 ghost use Rattle.std.specs.Io.KnownBytes.{Appends};
 ghost use Rattle.day_report.specs.ReportText.{report_text};
@@ -16,10 +16,10 @@ use summaries::IndexStore;
 use tape_core::Tape;
 use tape_types::NoGate;
 
-/// How many workers make the rows of a report, where a thread can be started for them.
+/// The number of workers that make the rows of a report, if a thread can be started for them.
 const WORKERS: usize = 4;
 
-/// The day's fault for a report that is not written.
+/// Returns the day's fault for a report that is not written.
 fn fault_of_report(fault: ReportFault) -> Fault
     ensures worker { (fault ≡ BadWorkers) ⊎ (fault ≡ Unstarted) → result ≡ Worker }
     ensures memory { fault ≡ ReportOutOfMemory → result ≡ Memory }
@@ -32,8 +32,8 @@ fn fault_of_report(fault: ReportFault) -> Fault
     }
 }
 
-/// The rows of a tape, which several workers make. Where no thread can be started for them there is one, which needs none: a day
-/// that is finished isn't lost for want of a thread.
+/// Returns the rows of a tape, which several workers make. If no thread can be started for them, one worker makes the rows,
+/// which needs no thread, so a finished day is not lost for lack of a thread.
 fn rows_of<R: Threads + Sync>(
     rt: &R,
     alloc: Global,

@@ -1,4 +1,4 @@
--- What is counted of what comes.
+-- The counts of an account after one more packet.
 use Rattle.std.proofs.Common.{◌≡◌, ◌∙◌, ap}
 use Rattle.arbitration.specs.declared.line.Line.{Line}
 use Rattle.arbitration.specs.declared.line.Line.TheVariants.{A, B, R}
@@ -7,7 +7,7 @@ use Rattle.feed_follower.specs.Followers.{HasCounts}
 use Rattle.feed_follower.specs.declared.account.FollowAccount.{FollowAccount}
 use Rattle.feed_follower.specs.declared.heard.Heard.{Heard}
 
--- one more by a line, where the counts were those of another account
+-- one more packet of a line, if the counts were those of another account
 pub counts_with : (line : Line) (heard : Heard) (old between new : FollowAccount) → HasCounts old between → new ≡ account_with line heard between
     → HasCounts (account_with line heard old) new
 counts_with A heard old between new same is = (

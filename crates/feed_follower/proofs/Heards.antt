@@ -1,4 +1,4 @@
--- What a refused delivery tells.
+-- What becomes of the bytes of a refused delivery.
 use Rattle.std.proofs.Common.{◌≡◌, ℕ, List, Result, Ok, Err, IfOk, IsOk, true, false, refl, sym, ◌∙◌}
 use Rattle.std.specs.Prelude.{Bool}
 use Rattle.arbitration.specs.declared.line.Line.{Line}

@@ -6,59 +6,59 @@ use Rattle.std.proofs.KnownBytes.{Appends-kept, Appends-nil, Appends-trans}
 use Rattle.std.proofs.Math.Seq.{take-append_seam}
 use Rattle.std.proofs.lemmas.List.{length-append}
 use Rattle.std.proofs.lemmas.Option.{none-some, same_Some}
-use Rattle.row_reads.specs.Writing.{WritesPrefix}
-use Rattle.row_reads.specs.Lemmas.WriteLemmas.{WritesPrefix-whole, WritesPrefix-then, WritesUpTo-none}
+use Rattle.whole_io.specs.Writing.{WritesPrefix}
+use Rattle.whole_io.specs.Lemmas.WriteLemmas.{WritesPrefix-whole, WritesPrefix-then, WritesUpTo-none}
 use Rattle.arbitration.specs.Windows.{next_of}
 use Rattle.sale_matrix.specs.declared.matrix.Matrix.{Matrix}
 use Rattle.scratch_fold.specs.declared.summary.Summary.{Summary}
 use Rattle.tape_core.specs.declared.entry.Entry.{Entry}
-use Rattle.tape_core.specs.Tape.{TapeState, empty_tape, refusal}
+use Rattle.tape_core.specs.Tape.{TapeState, empty_tape, refusal, row_figures}
 use Rattle.tape_types.specs.Names.{Names}
 use Rattle.subscriber.specs.Drains.{DrainsAll, DrainsNext, DrainStops}
 use Rattle.subscriber.specs.declared.drain_fault.DrainFault.{DrainFault}
 use Rattle.subscriber.specs.Subscribers.{SubscriberState, own_entry, with_entry, subscriber_after, subscriber_after_entry}
 use Rattle.subscriber.specs.Lemmas.Legal.{IsLegal-empty}
 use Rattle.feed_follower.specs.Followers.{KeepsTerms}
-use Rattle.feed_follower.specs.Sinks.{GivesMore, GivesPart, GivesSome, HasAll, HasPart, RowsGrow, figures_of, rows_after, rows_of}
+use Rattle.feed_follower.specs.Sinks.{EntryText, GivesMore, GivesPart, GivesSome, HasAll, HasPart, RowsGrow, rows_after, rows_of}
 
--- an entry more is a row more, after the others
-rows_after-push : (row : Entry → Summary → List ℕ) (matrix : Matrix) (before entries : List Entry) (e : Entry)
+-- one more entry is one more row, after the others
+rows_after-push : (row : EntryText) (matrix : Matrix) (before entries : List Entry) (e : Entry)
     → rows_after row matrix before (entries ++ e ∷ [])
-    ≡ rows_after row matrix before entries ++ row e (figures_of matrix ((before ++ entries) ++ e ∷ []) e)
+    ≡ rows_after row matrix before entries ++ row e (row_figures matrix ((before ++ entries) ++ e ∷ []) e.message)
 rows_after-push row matrix before [] e =
-    append-nil (row e (figures_of matrix (before ++ e ∷ []) e))
-    ∙ ap (λ (l : List Entry). row e (figures_of matrix (l ++ e ∷ []) e)) (sym (append-nil before))
+    append-nil (row e (row_figures matrix (before ++ e ∷ []) e.message))
+    ∙ ap (λ (l : List Entry). row e (row_figures matrix (l ++ e ∷ []) e.message)) (sym (append-nil before))
 rows_after-push row matrix before (x ∷ entries) e =
-    let first = row x (figures_of matrix (before ++ x ∷ []) x) in
+    let first = row x (row_figures matrix (before ++ x ∷ []) x.message) in
     ap (λ (l : List ℕ). first ++ l) (rows_after-push row matrix (before ++ x ∷ []) entries e)
     ∙ sym (append_assoc first (rows_after row matrix (before ++ x ∷ []) entries)
-    (row e (figures_of matrix (((before ++ x ∷ []) ++ entries) ++ e ∷ []) e)))
-    ∙ ap (λ (l : List Entry). (first ++ rows_after row matrix (before ++ x ∷ []) entries) ++ row e (figures_of matrix (l ++ e ∷ []) e))
+    (row e (row_figures matrix (((before ++ x ∷ []) ++ entries) ++ e ∷ []) e.message)))
+    ∙ ap (λ (l : List Entry). (first ++ rows_after row matrix (before ++ x ∷ []) entries) ++ row e (row_figures matrix (l ++ e ∷ []) e.message))
     (append_assoc before (x ∷ []) entries)
 
 -- no row is written
 pub part_none : (row : List ℕ) (known : Option (List ℕ)) → WritesPrefix row known known
 part_none row known = (row, WritesUpTo-none row known)
 
--- so it is where the subscriber holds the next one
-pub rows_of-next : (row : Entry → Summary → List ℕ) (e : Entry) (old new : SubscriberState) → DrainsNext (Some e) old new
-    → rows_of row new.tape ≡ rows_of row old.tape ++ row e (figures_of new.tape.matrix new.tape.entries e)
+-- so a subscriber that holds the next entry has one more row
+pub rows_of-next : (row : EntryText) (e : Entry) (old new : SubscriberState) → DrainsNext (Some e) old new
+    → rows_of row new.tape ≡ rows_of row old.tape ++ row e (row_figures new.tape.matrix new.tape.entries e.message)
 rows_of-next row e old new drains =
     let own = own_entry old e.message in
-    let pushed : rows_of row (with_entry e old).tape ≡ rows_of row old.tape ++ row own (figures_of old.tape.matrix (old.tape.entries ++ own ∷ []) own) =
+    let pushed : rows_of row (with_entry e old).tape ≡ rows_of row old.tape ++ row own (row_figures old.tape.matrix (old.tape.entries ++ own ∷ []) own.message) =
     rows_after-push row old.tape.matrix [] old.tape.entries own in
-    let named : rows_of row (with_entry e old).tape ≡ rows_of row old.tape ++ row e (figures_of old.tape.matrix (old.tape.entries ++ own ∷ []) e) =
+    let named : rows_of row (with_entry e old).tape ≡ rows_of row old.tape ++ row e (row_figures old.tape.matrix (old.tape.entries ++ own ∷ []) e.message) =
     subst (λ (x : Entry). rows_of row (with_entry e old).tape
-    ≡ rows_of row old.tape ++ row x (figures_of old.tape.matrix (old.tape.entries ++ own ∷ []) x)) drains.2 pushed in
-    subst (λ (s : SubscriberState). rows_of row s.tape ≡ rows_of row old.tape ++ row e (figures_of s.tape.matrix s.tape.entries e)) (sym drains.3) named
+    ≡ rows_of row old.tape ++ row x (row_figures old.tape.matrix (old.tape.entries ++ own ∷ []) x.message)) drains.2 pushed in
+    subst (λ (s : SubscriberState). rows_of row s.tape ≡ rows_of row old.tape ++ row e (row_figures s.tape.matrix s.tape.entries e.message)) (sym drains.3) named
 
--- and it keeps the names
+-- and it keeps the terms
 pub kept_at_next : (next : Option Entry) (old new : SubscriberState) → DrainsNext next old new → KeepsTerms old.tape new.tape
 kept_at_next None old new drains = subst (λ (s : SubscriberState). KeepsTerms old.tape s.tape) (sym drains.2) (refl, refl, refl)
 kept_at_next (Some e) old new drains = subst (λ (s : SubscriberState). KeepsTerms old.tape s.tape) (sym drains.3) (refl, refl, refl)
 
 -- a step of a drain adds a row or nothing
-grown_by_entry : (row : Entry → Summary → List ℕ) (next : Option Entry) (s : SubscriberState)
+grown_by_entry : (row : EntryText) (next : Option Entry) (s : SubscriberState)
     → (more : List ℕ) × (rows_of row (subscriber_after_entry next s).tape ≡ rows_of row s.tape ++ more)
 grown_by_entry row None s = ([], sym (append-nil (rows_of row s.tape)))
 grown_by_entry row (Some e) s =
@@ -67,11 +67,11 @@ grown_by_entry row (Some e) s =
       | true ↦ ([], sym (append-nil (rows_of row s.tape)))
       | false ↦
           let own = own_entry s e.message in
-          (row own (figures_of s.tape.matrix (s.tape.entries ++ own ∷ []) own), rows_after-push row s.tape.matrix [] s.tape.entries own)
+          (row own (row_figures s.tape.matrix (s.tape.entries ++ own ∷ []) own.message), rows_after-push row s.tape.matrix [] s.tape.entries own)
     ]
 
 -- and so do several
-grown_by_all : (row : Entry → Summary → List ℕ) (n : ℕ) (s : SubscriberState)
+grown_by_all : (row : EntryText) (n : ℕ) (s : SubscriberState)
     → (more : List ℕ) × (rows_of row (subscriber_after n s).tape ≡ rows_of row s.tape ++ more)
 grown_by_all row zero s = ([], sym (append-nil (rows_of row s.tape)))
 grown_by_all row (suc n) s =
@@ -90,52 +90,52 @@ grown_at_stop stop s after stops row =
     let grown = grown_by_all row stop.drained s in (grown.0, ap (λ (t : SubscriberState). rows_of row t.tape) stops.state ∙ grown.1)
 
 -- a sink whose bytes are not known may miss any rows
-pub more_unknown : (row : Entry → Summary → List ℕ) (t after : TapeState) (had : Option (List ℕ)) → had ≡ None → RowsGrow t after
+pub more_unknown : (row : EntryText) (t after : TapeState) (had : Option (List ℕ)) → had ≡ None → RowsGrow t after
     → GivesMore row t after had had
 more_unknown row t after had unknown grow =
     let grown = grow row in
     record { more = grown.0; grown = grown.1; given = subst (λ (o : Option (List ℕ)). Appends o o grown.0) (sym unknown) tt }
 
--- a part of it is some of the rows
-pub some_of_more : (row : Entry → Summary → List ℕ) (t after : TapeState) (had has : Option (List ℕ)) → GivesMore row t after had has
+-- all rows that a tape has more are some of them
+pub some_of_more : (row : EntryText) (t after : TapeState) (had has : Option (List ℕ)) → GivesMore row t after had has
     → GivesSome row t after had has
 some_of_more row t after had has gives =
     record { more = gives.more; grown = gives.grown; given = WritesPrefix-whole gives.more had has gives.given }
 
--- where no row was given yet, none of them is
-pub some_none : (row : Entry → Summary → List ℕ) (t after : TapeState) (had : Option (List ℕ)) → RowsGrow t after → GivesSome row t after had had
+-- if no row was given yet, a sink has some of them
+pub some_none : (row : EntryText) (t after : TapeState) (had : Option (List ℕ)) → RowsGrow t after → GivesSome row t after had had
 some_none row t after had grow = let grown = grow row in record { more = grown.0; grown = grown.1; given = part_none grown.0 had }
 
 -- nothing more is given of nothing more
-pub more_none : (row : Entry → Summary → List ℕ) (t : TapeState) (had : Option (List ℕ)) → GivesMore row t t had had
+pub more_none : (row : EntryText) (t : TapeState) (had : Option (List ℕ)) → GivesMore row t t had had
 more_none row t had = record { more = []; grown = sym (append-nil (rows_of row t)); given = Appends-nil had }
 
 -- nothing was ready
-pub more_idle : (row : Entry → Summary → List ℕ) (s after : SubscriberState) (had : Option (List ℕ)) → DrainsNext None s after
+pub more_idle : (row : EntryText) (s after : SubscriberState) (had : Option (List ℕ)) → DrainsNext None s after
     → GivesMore row s.tape after.tape had had
 more_idle row s after had drains =
     subst (λ (t : SubscriberState). GivesMore row s.tape t.tape had had) (sym drains.2) (more_none row s.tape had)
 
--- the next entry is given
-pub more_next : (row : Entry → Summary → List ℕ) (e : Entry) (s after : SubscriberState) (had has : Option (List ℕ)) → DrainsNext (Some e) s after
-    → Appends had has (row e (figures_of after.tape.matrix after.tape.entries e)) → GivesMore row s.tape after.tape had has
+-- the next entry is given with its figures
+pub more_next : (row : EntryText) (e : Entry) (s after : SubscriberState) (had has : Option (List ℕ)) → DrainsNext (Some e) s after
+    → Appends had has (row e (row_figures after.tape.matrix after.tape.entries e.message)) → GivesMore row s.tape after.tape had has
 more_next row e s after had has drains given = record {
-  more = row e (figures_of after.tape.matrix after.tape.entries e);
+  more = row e (row_figures after.tape.matrix after.tape.entries e.message);
   grown = rows_of-next row e s after drains;
   given = given;
 }
 
--- a part of its row is
-pub some_next : (row : Entry → Summary → List ℕ) (e : Entry) (s after : SubscriberState) (had has : Option (List ℕ)) → DrainsNext (Some e) s after
-    → WritesPrefix (row e (figures_of after.tape.matrix after.tape.entries e)) had has → GivesSome row s.tape after.tape had has
+-- or a part of its row is
+pub some_next : (row : EntryText) (e : Entry) (s after : SubscriberState) (had has : Option (List ℕ)) → DrainsNext (Some e) s after
+    → WritesPrefix (row e (row_figures after.tape.matrix after.tape.entries e.message)) had has → GivesSome row s.tape after.tape had has
 some_next row e s after had has drains given = record {
-  more = row e (figures_of after.tape.matrix after.tape.entries e);
+  more = row e (row_figures after.tape.matrix after.tape.entries e.message);
   grown = rows_of-next row e s after drains;
   given = given;
 }
 
 -- entries are given after others
-pub more_then : (row : Entry → Summary → List ℕ) (t now after : TapeState) (had has holds : Option (List ℕ)) → GivesMore row t now had has
+pub more_then : (row : EntryText) (t now after : TapeState) (had has holds : Option (List ℕ)) → GivesMore row t now had has
     → GivesMore row now after has holds → GivesMore row t after had holds
 more_then row t now after had has holds one two = record {
   more = one.more ++ two.more;
@@ -143,8 +143,8 @@ more_then row t now after had has holds one two = record {
   given = Appends-trans had has holds one.more two.more one.given two.given;
 }
 
--- some of them are
-pub some_then : (row : Entry → Summary → List ℕ) (t now after : TapeState) (had has holds : Option (List ℕ)) → GivesMore row t now had has
+-- or some of them are
+pub some_then : (row : EntryText) (t now after : TapeState) (had has holds : Option (List ℕ)) → GivesMore row t now had has
     → GivesSome row now after has holds → GivesSome row t after had holds
 some_then row t now after had has holds one two = record {
   more = one.more ++ two.more;
@@ -152,14 +152,14 @@ some_then row t now after had has holds one two = record {
   given = WritesPrefix-then one.more two.more had has holds one.given two.given;
 }
 
--- what was given stays where known bytes do
-pub more_kept : (row : Entry → Summary → List ℕ) (t after : TapeState) (had has holds : Option (List ℕ)) → GivesMore row t after had has
+-- what was given stays as long as known bytes do
+pub more_kept : (row : EntryText) (t after : TapeState) (had has holds : Option (List ℕ)) → GivesMore row t after had has
     → Keeps has holds → GivesMore row t after had holds
 more_kept row t after had has holds gives kept =
     record { more = gives.more; grown = gives.grown; given = Appends-kept had has holds gives.more gives.given kept }
 
--- so it is some of it where the flush fails
-pub some_kept : (row : Entry → Summary → List ℕ) (t after : TapeState) (had has holds : Option (List ℕ)) → GivesMore row t after had has
+-- so it is some of it if the flush fails
+pub some_kept : (row : EntryText) (t after : TapeState) (had has holds : Option (List ℕ)) → GivesMore row t after had has
     → Keeps has holds → GivesSome row t after had holds
 some_kept row t after had has holds gives kept = some_of_more row t after had holds (more_kept row t after had has holds gives kept)
 
@@ -174,7 +174,7 @@ all_after xs rows more (Some ys) (Some zs) is given =
     ap Some (given ∙ ap (λ (l : List ℕ). l ++ more) had ∙ append_assoc xs rows more)
 
 -- it has all rows of the tape that it was given more of
-pub all_more : (row : Entry → Summary → List ℕ) (t after : TapeState) (before had has : Option (List ℕ)) → HasAll (rows_of row t) before had
+pub all_more : (row : EntryText) (t after : TapeState) (before had has : Option (List ℕ)) → HasAll (rows_of row t) before had
     → GivesMore row t after had has → HasAll (rows_of row after) before has
 all_more row t after None had has all gives = tt
 all_more row t after (Some xs) had has all gives =
@@ -201,8 +201,8 @@ part_after xs rows more prefix rest (Some ys) (Some zs) split is given =
     let had : ys ≡ xs ++ rows = same_Some ys (xs ++ rows) is in
     part_at xs rows more prefix rest zs split (given ∙ ap (λ (l : List ℕ). l ++ prefix) had ∙ append_assoc xs rows prefix)
 
--- it has a part of them where it was given some
-pub part_some : (row : Entry → Summary → List ℕ) (t after : TapeState) (before had has : Option (List ℕ)) → HasAll (rows_of row t) before had
+-- it has a part of them if it was given some
+pub part_some : (row : EntryText) (t after : TapeState) (before had has : Option (List ℕ)) → HasAll (rows_of row t) before had
     → GivesSome row t after had has → HasPart (rows_of row after) before has
 part_some row t after None had has all gives = tt
 part_some row t after (Some xs) had has all gives =
@@ -210,7 +210,7 @@ part_some row t after (Some xs) had has all gives =
     (part_after xs (rows_of row t) gives.more gives.given.1.prefix gives.given.0 had has gives.given.1.split all gives.given.1.written)
 
 -- all of them are a part
-pub part_all : (row : Entry → Summary → List ℕ) (t : TapeState) (before has : Option (List ℕ)) → HasAll (rows_of row t) before has
+pub part_all : (row : EntryText) (t : TapeState) (before has : Option (List ℕ)) → HasAll (rows_of row t) before has
     → HasPart (rows_of row t) before has
 part_all row t before has all = part_some row t t before has has all (some_of_more row t t has has (more_none row t has))
 
@@ -219,7 +219,7 @@ pub all_anew : (rows : List ℕ) (before had has : Option (List ℕ)) → had �
 all_anew rows None had has unknown all = tt
 all_anew rows (Some xs) had has unknown all = absurd (none-some (xs ++ rows) (sym unknown ∙ all))
 
--- it keeps what it has
+-- a sink keeps what it has
 kept_after : (text : List ℕ) (had has : Option (List ℕ)) → had ≡ Some text → Keeps had has → has ≡ Some text
 kept_after text None has is kept = absurd (none-some text is)
 kept_after text (Some ys) None is kept = absurd kept
@@ -235,16 +235,16 @@ all_none None has is = tt
 all_none (Some xs) has is = is ∙ ap Some (sym (append-nil xs))
 
 -- a tape of nothing has no rows
-rows_of_nothing : (row : Entry → Summary → List ℕ) (t : TapeState) → t.entries ≡ [] → rows_of row t ≡ []
+rows_of_nothing : (row : EntryText) (t : TapeState) → t.entries ≡ [] → rows_of row t ≡ []
 rows_of_nothing row t is = ap (λ (entries : List Entry). rows_after row t.matrix [] entries) is
 
 -- so none are all of them
-pub all_of_nothing : (row : Entry → Summary → List ℕ) (t : TapeState) (before has : Option (List ℕ)) → t.entries ≡ [] → HasAll [] before has
+pub all_of_nothing : (row : EntryText) (t : TapeState) (before has : Option (List ℕ)) → t.entries ≡ [] → HasAll [] before has
     → HasAll (rows_of row t) before has
 all_of_nothing row t before has is all = subst (λ (l : List ℕ). HasAll l before has) (sym (rows_of_nothing row t is)) all
 
 -- and all of them are none
-pub nothing_of_all : (row : Entry → Summary → List ℕ) (t : TapeState) (before has : Option (List ℕ)) → t.entries ≡ [] → HasAll (rows_of row t) before has
+pub nothing_of_all : (row : EntryText) (t : TapeState) (before has : Option (List ℕ)) → t.entries ≡ [] → HasAll (rows_of row t) before has
     → HasAll [] before has
 nothing_of_all row t before has is all = subst (λ (l : List ℕ). HasAll l before has) (rows_of_nothing row t is) all
 
@@ -253,8 +253,8 @@ pub appends_of_all : (text : List ℕ) (had has : Option (List ℕ)) → HasAll 
 appends_of_all text None has all = tt
 appends_of_all text (Some xs) has all = subst (λ (o : Option (List ℕ)). Appends (Some xs) o text) (sym all) refl
 
--- where no run begins, a sink has nothing of the empty tape
-pub part_of_nothing : (row : Entry → Summary → List ℕ) (listing : Names) (matrix : Matrix) (limit : ℕ) (had : Option (List ℕ))
+-- if no run begins, a sink has nothing of the empty tape
+pub part_of_nothing : (row : EntryText) (listing : Names) (matrix : Matrix) (limit : ℕ) (had : Option (List ℕ))
     → GivesPart row listing matrix limit had had
 part_of_nothing row listing matrix limit had =
     let t = empty_tape listing 1 matrix in (

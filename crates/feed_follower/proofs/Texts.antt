@@ -6,7 +6,7 @@ pub two : {T E : Type 0} (ended : Result T E) (old x y a b : List ℕ) → x ≡
 two (Ok done) old x y a b first second = second ∙ ap (λ (l : List ℕ). l ++ b) first ∙ append_assoc old a b
 two (Err fault) old x y a b first second = tt
 
--- two parts that are there, and one more
+-- two parts that were added before others
 also : (old x y a b : List ℕ) → x ≡ old ++ a → y ≡ x ++ b → y ≡ old ++ (a ++ b)
 also old x y a b first second = second ∙ ap (λ (l : List ℕ). l ++ b) first ∙ append_assoc old a b
 

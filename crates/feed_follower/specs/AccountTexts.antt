@@ -1,4 +1,4 @@
--- What is said of a follower's day.
+-- The text that accounts for a follower's day, part by part.
 use Rattle.std.specs.Prelude.{◌==◌, ◌++◌, ℕ, List, [], ◌∷◌, Option, None, Some, Result, Ok, Err, codes, decimal, if◌then◌else◌}
 use Rattle.feed_ends.specs.declared.fault.Fault.{Fault}
 use Rattle.feed_follower.specs.Accounts.{dropped}
@@ -8,15 +8,15 @@ use Rattle.feed_follower.specs.declared.follow_end.FollowEnd.{FollowEnd}
 use Rattle.feed_follower.specs.declared.follow_fault.FollowFault.{FollowFault}
 use Rattle.feed_follower.specs.declared.follow_fault.FollowFault.TheVariants.{Ended, Unreachable, OtherEntry}
 
--- so many, of what has one name for one and another for more
+-- a count and a noun, which is one for a count of 1 and more otherwise
 unfoldable pub many : ℕ → List ℕ → List ℕ → List ℕ
 many count one more = decimal count ++ (if count == 1 then one else more)
 
--- so many, after a text
+-- a text, a count and a noun
 unfoldable pub counted_text : List ℕ → ℕ → List ℕ → List ℕ → List ℕ
 counted_text before count one more = before ++ many count one more
 
--- how many packets were dropped for a reason, where any were
+-- how many packets were dropped for a reason, if any were
 unfoldable pub reason_text : ℕ → List ℕ → List ℕ
 reason_text count reason = if count == 0 then [] else (codes ", " ++ decimal count ++ reason)
 
@@ -39,7 +39,7 @@ packets_text c = many c.packets (codes " packet") (codes " packets") ++ drops_te
 unfoldable pub named : List ℕ → ℕ → List ℕ → List ℕ
 named before number after = before ++ decimal number ++ after
 
--- two numbers, and what stands around them
+-- two numbers with the texts around them
 unfoldable pub pair_text : List ℕ → ℕ → List ℕ → ℕ → List ℕ → List ℕ
 pair_text before first between second after = named before first between ++ named [] second after
 
@@ -47,53 +47,53 @@ pair_text before first between second after = named before first between ++ name
 unfoldable pub line_text : List ℕ → LineCounts → List ℕ
 line_text name c = name ++ packets_text c
 
--- what was asked for, and what came by retransmission
+-- how many requests were made, and what came by retransmission
 unfoldable pub asked_text : FollowAccount → List ℕ
 asked_text a = counted_text (codes "tapebox: retransmission: ") a.asked (codes " request, ") (codes " requests, ") ++ packets_text a.retransmission
 
--- what came by the lines
+-- what came by both lines and by retransmission
 unfoldable pub lines_text : FollowAccount → List ℕ
 lines_text a = line_text (codes "tapebox: line A: ") a.a ++ line_text (codes "tapebox: line B: ") a.b ++ asked_text a
 
--- by what the entries came first
+-- how many entries came first by each line and by retransmission
 unfoldable pub entries_text : FollowAccount → List ℕ
 entries_text a =
     named (codes "tapebox: entries: ") a.a.entries (codes " by line A, ") ++ named [] a.b.entries (codes " by line B, ")
     ++ named [] a.retransmission.entries (codes " by retransmission\n")
 
--- another session that is heard
+-- another session that is heard, if one is
 unfoldable pub session_text : ℕ → Option ℕ → List ℕ
 session_text wanted None = []
 session_text wanted (Some session) =
     pair_text (codes "tapebox: session ") session (codes " is heard, and session ") wanted (codes " was asked for\n")
 
--- two senders of one session
+-- that the session has two senders, if it has
 unfoldable pub senders_text : ℕ → Option ℕ → List ℕ
 senders_text session None = []
 senders_text session (Some number) =
     pair_text (codes "tapebox: two senders of session ") session (codes ": number ") number (codes " was told of in two ways\n")
 
--- a number of which the retransmission has something else
+-- the number under which the retransmission has another entry, if that is the fault
 unfoldable pub other_text : FollowFault → List ℕ
 other_text (Ended fault) = []
 other_text (Unreachable port kind) = []
 other_text (OtherEntry number) = named (codes "tapebox: number ") number (codes " is not what the retransmission has\n")
 
--- of how many entries the report is of a day that ended without its end
+-- of how many entries a report of a part of the day is, if one was written
 unfoldable pub part_text : Option (Result ℕ Fault) → List ℕ
 part_text None = []
 part_text (Some (Ok count)) = counted_text (codes "tapebox: the report is of the first ") count (codes " entry\n") (codes " entries\n")
 part_text (Some (Err fault)) = []
 
--- what is said of how a day ended that did not end well
+-- how a day ended that did not end well
 unfoldable pub end_text : {T : Type 0} → Result T FollowFault → Option (Result ℕ Fault) → List ℕ
 end_text (Ok done) report = []
 end_text (Err fault) report = other_text fault ++ part_text report
 
--- what is said of who sent
+-- which senders were heard besides the day's
 unfoldable pub heard_text : FollowAccount → List ℕ
 heard_text a = session_text a.session a.other_session ++ senders_text a.session a.conflict
 
--- all that is said
+-- the whole account
 unfoldable pub account_text : FollowEnd → List ℕ
 account_text end = lines_text end.account ++ entries_text end.account ++ heard_text end.account ++ end_text end.ended end.report

@@ -15,7 +15,7 @@ use Rattle.feed_follower.specs.declared.account.FollowAccount.{FollowAccount}
 abbrev pub one_more : ℕ → ℕ
 one_more n = min (n + 1) (2 ^ 64 - 1)
 
--- a line's counts once something more came by it
+-- a line's counts after one more packet
 abbrev pub counted : Heard → LineCounts → LineCounts
 counted Taken c = record c { packets = one_more c.packets }
 counted NoPacket c = record c { packets = one_more c.packets; no_packet = one_more c.no_packet }
@@ -27,17 +27,17 @@ counted PastEnd c = record c { packets = one_more c.packets; past_end = one_more
 abbrev pub dropped : LineCounts → ℕ
 dropped c = c.no_packet + c.foreign + c.conflict + c.past_end
 
--- an account once something more came by a line
+-- an account after one more packet of a line
 abbrev pub account_with : Line → Heard → FollowAccount → FollowAccount
 account_with A heard a = record a { a = counted heard a.a }
 account_with B heard a = record a { b = counted heard a.b }
 account_with R heard a = record a { retransmission = counted heard a.retransmission }
 
--- no line brought anything
+-- the counts of a line that brought nothing
 abbrev pub no_counts : LineCounts
 no_counts = record { packets = 0; no_packet = 0; foreign = 0; conflict = 0; past_end = 0; entries = 0 }
 
--- the account of a follower that heard nothing
+-- the account of a follower that has heard nothing
 abbrev pub new_account : ℕ → FollowAccount
 new_account session = record {
   session = session;
@@ -51,19 +51,20 @@ new_account session = record {
   held = 0;
 }
 
--- another session is named, unless one was
+-- an account after another session was heard, which is noted unless one is
 abbrev pub once_other : ℕ → FollowAccount → FollowAccount
 once_other session a = record a { other_session = option_or a.other_session (Some session) }
 
--- a number of which packets told differently is named, unless one was
+-- an account after packets did not agree on a number, which is noted unless one is
 abbrev pub once_differing : ℕ → FollowAccount → FollowAccount
 once_differing number a = record a { conflict = option_or a.conflict (Some number) }
 
--- one more request was answered or failed
+-- an account after one more request that was answered or failed
 abbrev pub once_asked : FollowAccount → FollowAccount
 once_asked a = record a { asked = one_more a.asked }
 
--- the account of a run: what it counted, which entries a line was the first to bring, how many are held, and how many numbers are to be asked for
+-- the account of a run: what it counted, which entries a line was the first to bring, how many are held, and how many numbers
+-- are to be asked for
 abbrev pub account_of : FollowAccount → SubscriberState → Numbers → FollowAccount
 account_of account s wanted = record account {
   a = record account.a { entries = brought_by s.window.brought A };

@@ -1,4 +1,4 @@
--- The numbers of which packets told differently.
+-- The numbers on which packets did not agree.
 use Rattle.std.specs.Prelude.{◌≡◌, ◌-◌, ◌+◌, ◌≤◌, ◌<◌, ℕ, List, min, Some, All}
 use Rattle.tape_frames.specs.declared.packet.Packet.{Packet}
 use Rattle.tape_frames.specs.declared.request.Request.{Request}
@@ -10,16 +10,17 @@ use Rattle.arbitration.specs.Gaps.{ASKED_MOST}
 use Rattle.subscriber.specs.Subscribers.{SubscriberState}
 use Rattle.feed_follower.specs.declared.conflicts.Numbers.{Numbers}
 
--- a number is one of those in a row
+-- a number is in a range
 abbrev pub IsIn : ℕ → Numbers → Type 0
 IsIn n numbers = (numbers.from ≤ n) × (n < numbers.before)
 
--- a request asks for the first of these numbers, for no others, and for as many as one request can
+-- a request asks for the first of these numbers, for no others, and for as many as one request can have
 abbrev pub AsksFor : Numbers → Request → Type 0
 AsksFor numbers request =
     (request.from ≡ numbers.from) × (numbers.from < numbers.before) × (request.count ≡ min (numbers.before - numbers.from) ASKED_MOST)
 
--- a packet of the retransmission shows these numbers as they are known: it brings each of them, and no entry of it is another than is known
+-- a packet of the retransmission shows these numbers as they are known: it brings each of them, and no entry of it is another
+-- than is known
 pub record Shows (s : SubscriberState) (bytes : List ℕ) (from before : ℕ) : Type 0 where
   pub packet : Packet
   pub spelled : Spells bytes packet

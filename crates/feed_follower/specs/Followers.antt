@@ -1,4 +1,4 @@
--- What a follower keeps of its tape.
+-- What a follower keeps while packets come, and what becomes of each of them.
 use Rattle.std.specs.Prelude.{◌≡◌, ◌≤◌, ℕ, List, length, Result, Ok, Err, IsSomeAnd}
 use Rattle.arbitration.specs.declared.line.Line.{Line}
 use Rattle.arbitration.specs.declared.deliver_fault.DeliverFault.TheVariants as refused
@@ -20,7 +20,7 @@ use Rattle.tape_core.specs.Tape.{TapeState}
 abbrev pub KeepsTerms : TapeState → TapeState → Type 0
 KeepsTerms t t' = (t'.listing ≡ t.listing) × (t'.matrix ≡ t.matrix) × (t'.limit ≡ t.limit)
 
--- what is known of the day besides its entries is what was known before
+-- what is known of the day, apart from its entries, is what was known before
 abbrev pub KeepsNews : SubscriberState → SubscriberState → Type 0
 KeepsNews s s' =
     (s'.window.session ≡ s.window.session) × (s'.window.announced ≡ s.window.announced) × (s'.window.ended ≡ s.window.ended)
@@ -30,7 +30,7 @@ KeepsNews s s' =
 abbrev pub HasAllOf : SubscriberState → Type 0
 HasAllOf s = IsSomeAnd s.window.ended (λ count. length s.tape.entries ≡ count)
 
--- what became of what came by a line that was refused for this; one that has failed disagrees
+-- what becomes of a refused delivery; a subscriber that has failed disagrees
 abbrev pub heard_of : DeliveryFault → Result Heard Fault
 heard_of delivery.Failed = Err Disagrees
 heard_of (delivery.NoPacket fault) = Ok NoPacket

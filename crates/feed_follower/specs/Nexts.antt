@@ -9,7 +9,7 @@ use Rattle.feed_follower.specs.declared.line_positions.LinePositions.{LinePositi
 use Rattle.feed_follower.specs.declared.follower.Next.{Next}
 use Rattle.feed_follower.specs.declared.follower.Next.TheVariants.{Read, Wait, Ask, Settle, Connect, End}
 
--- the first number that is to be asked for
+-- the first missing number that is to be asked for
 abbrev pub asked_of : Next → Option ℕ
 asked_of Read = None
 asked_of (Wait number) = None
@@ -22,8 +22,8 @@ asked_of End = None
 abbrev pub ahead_of : SubscriberState → ℕ
 ahead_of s = s.window.announced - length s.tape.entries
 
--- while a run goes on, what is missing first is waited for where it is to be, and asked for where it is not; where nothing is missing the
--- numbers of which packets told differently are asked for, and packets are read where there are none
+-- while a run goes on, what is missing first is waited for if it is to be, and asked for otherwise; if nothing is missing, the
+-- numbers on which packets did not agree are asked for, and if there are none, packets are read
 abbrev pub IsNext : SubscriberState → LinePositions → Conflicts → ℕ → Next → Type 0
 IsNext s p c session Read = ((n : ℕ) → ¬ (IsMissing s.window n)) × (c.wanted.before ≤ c.wanted.from)
 IsNext s p c session (Wait number) = (count : ℕ) × IsGap s.window number count × IsToWait number (ahead_of s) p

@@ -19,12 +19,13 @@ follow_fault (Ended f) = f
 follow_fault (Unreachable port kind) = fault.Read
 follow_fault (OtherEntry number) = fault.Disagrees
 
--- a fault is told by what names it, if that is of this fault, and else by itself
+-- a fault is reported by what names it, if that is of this fault, otherwise by itself
 abbrev pub IsNamed : Option FollowFault → Fault → FollowFault → Type 0
 IsNamed None fault told = told ≡ Ended fault
 IsNamed (Some why) fault told = (follow_fault why ≡ fault → told ≡ why) × (follow_fault why ≢ fault → told ≡ Ended fault)
 
--- the whole report of some legal tape of so many entries, of the listing and the matrix and within the limit, was appended, and nothing else
+-- the whole report of some legal tape of so many entries, of the listing and the matrix and within the limit, was appended, and
+-- nothing else
 abbrev pub WritesReportOf : Names → Matrix → ℕ → ℕ → Option (List ℕ) → Option (List ℕ) → Type 0
 WritesReportOf listing matrix limit count old new =
     (t : TapeState) × IsListing t.listing × IsTapeOf listing matrix limit t × (length t.entries ≡ count) × Appends old new (report_text (report_rows t))

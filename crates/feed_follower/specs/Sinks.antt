@@ -1,43 +1,41 @@
 -- What a sink is given of a tape that is followed.
 use Rattle.std.specs.Prelude.{◌≡◌, ◌≤◌, ℕ, List, [], ◌∷◌, ◌++◌, length, take, Option, Some, IfSome, IsSomeAnd}
 use Rattle.std.specs.Io.KnownBytes.{Appends}
-use Rattle.row_reads.specs.Writing.{WritesPrefix}
+use Rattle.whole_io.specs.Writing.{WritesPrefix}
 use Rattle.tape_types.specs.Names.{Names}
 use Rattle.sale_matrix.specs.declared.matrix.Matrix.{Matrix}
-use Rattle.reports.specs.Messages.{header_of}
-use Rattle.scratch_fold.specs.declared.summary.Summary.{Summary}
 use Rattle.tape_core.specs.declared.entry.Entry.{Entry}
-use Rattle.tape_core.specs.Standing.{symbol_summary}
-use Rattle.tape_core.specs.Tape.{TapeState, IsLegal, messages_of}
+use Rattle.tape_core.specs.declared.row_figures.RowFigures.{RowFigures}
+use Rattle.tape_core.specs.Tape.{TapeState, IsLegal, row_figures}
 use Rattle.day_report.specs.ReportText.{report_text}
 use Rattle.day_report.specs.Rows.{report_rows}
 
--- the consolidated summary of an entry's symbol over these entries
-abbrev pub figures_of : Matrix → List Entry → Entry → Summary
-figures_of matrix entries e = symbol_summary matrix (messages_of entries) (header_of e.message).symbol
+-- the bytes that a sink makes of an entry and the figures of its symbol right after it
+abbrev pub EntryText : Type 0
+EntryText = Entry → RowFigures → List ℕ
 
--- what is made of entries that come after others, one by one: of each with the figures right after it
-abbrev pub rows_after : (Entry → Summary → List ℕ) → Matrix → List Entry → List Entry → List ℕ
+-- the bytes that are made of entries after others, one by one: of each with the figures right after it
+abbrev pub rows_after : EntryText → Matrix → List Entry → List Entry → List ℕ
 rows_after row matrix before [] = []
 rows_after row matrix before (e ∷ entries) =
-    row e (figures_of matrix (before ++ e ∷ []) e) ++ rows_after row matrix (before ++ e ∷ []) entries
+    row e (row_figures matrix (before ++ e ∷ []) e.message) ++ rows_after row matrix (before ++ e ∷ []) entries
 
--- what is made of the entries of a tape, in order and of each once
-abbrev pub rows_of : (Entry → Summary → List ℕ) → TapeState → List ℕ
+-- the bytes that are made of the entries of a tape, in order and of each once
+abbrev pub rows_of : EntryText → TapeState → List ℕ
 rows_of row t = rows_after row t.matrix [] t.entries
 
 -- rows of more entries are more rows
 abbrev pub RowsGrow : TapeState → TapeState → Type 0
-RowsGrow t after = (row : Entry → Summary → List ℕ) → (more : List ℕ) × (rows_of row after ≡ rows_of row t ++ more)
+RowsGrow t after = (row : EntryText) → (more : List ℕ) × (rows_of row after ≡ rows_of row t ++ more)
 
 -- a sink was given each entry that a tape has more, and nothing else
-pub record GivesMore (row : Entry → Summary → List ℕ) (t after : TapeState) (had has : Option (List ℕ)) : Type 0 where
+pub record GivesMore (row : EntryText) (t after : TapeState) (had has : Option (List ℕ)) : Type 0 where
   pub more : List ℕ
   pub grown : rows_of row after ≡ rows_of row t ++ more
   pub given : Appends had has more
 
--- it has the rows of the entries that a tape has more, up to some byte of them, and nothing else
-pub record GivesSome (row : Entry → Summary → List ℕ) (t after : TapeState) (had has : Option (List ℕ)) : Type 0 where
+-- a sink has the rows of the entries that a tape has more, up to some byte of them, and nothing else
+pub record GivesSome (row : EntryText) (t after : TapeState) (had has : Option (List ℕ)) : Type 0 where
   pub more : List ℕ
   pub grown : rows_of row after ≡ rows_of row t ++ more
   pub given : WritesPrefix more had has
@@ -58,14 +56,14 @@ pub record IsTapeOf (listing : Names) (matrix : Matrix) (limit : ℕ) (t : TapeS
   pub within : length t.entries ≤ limit
 
 -- a sink was given all entries of some such tape, and nothing else
-abbrev pub GivesTape : (Entry → Summary → List ℕ) → Names → Matrix → ℕ → Option (List ℕ) → Option (List ℕ) → Type 0
+abbrev pub GivesTape : EntryText → Names → Matrix → ℕ → Option (List ℕ) → Option (List ℕ) → Type 0
 GivesTape row listing matrix limit old new = (t : TapeState) × IsTapeOf listing matrix limit t × Appends old new (rows_of row t)
 
 -- a sink has the rows of some such tape, up to some byte of them, and nothing else
-abbrev pub GivesPart : (Entry → Summary → List ℕ) → Names → Matrix → ℕ → Option (List ℕ) → Option (List ℕ) → Type 0
+abbrev pub GivesPart : EntryText → Names → Matrix → ℕ → Option (List ℕ) → Option (List ℕ) → Type 0
 GivesPart row listing matrix limit old new = (t : TapeState) × IsTapeOf listing matrix limit t × HasPart (rows_of row t) old new
 
 -- a sink was given all entries of some such tape, and the whole report of the same tape was appended
-abbrev pub GivesItsReport : (Entry → Summary → List ℕ) → Names → Matrix → ℕ → Option (List ℕ) → Option (List ℕ) → Option (List ℕ) → Option (List ℕ) → Type 0
+abbrev pub GivesItsReport : EntryText → Names → Matrix → ℕ → Option (List ℕ) → Option (List ℕ) → Option (List ℕ) → Option (List ℕ) → Type 0
 GivesItsReport row listing matrix limit given_old given_new old new =
     (t : TapeState) × IsTapeOf listing matrix limit t × Appends given_old given_new (rows_of row t) × Appends old new (report_text (report_rows t))

@@ -1,22 +1,22 @@
-//! The account of a follower's day: what it heard, and what became of it.
+//! Counts what a follower heard of a day, and what became of it.
 ghost use Rattle.std.specs.Prelude.{◌≡◌};
 ghost use Rattle.feed_follower.specs.Accounts.{account_with, counted, dropped, new_account, once_asked, once_differing, once_other};
 
 use crate::heard::Heard;
 use arbitration::Line;
 
-/// What came by a line, in packets. A count stays at the greatest number that it can hold.
+/// What came by a line, in packets. A count that has reached the greatest number of its type stays there.
 #[derive(Clone, Copy, Debug, PartialEq, Eq)]
 pub struct LineCounts {
-    /// Datagrams, or packets of answers: those that were taken, and those that were dropped.
+    /// Datagrams, or packets of answers, taken or dropped.
     pub packets: u64,
-    /// Dropped, since they are no packet.
+    /// Dropped because they are no packet.
     pub no_packet: u64,
-    /// Dropped, since they are of another session.
+    /// Dropped because they are of another session.
     pub foreign: u64,
-    /// Dropped, since another entry was known under one of their numbers.
+    /// Dropped because another entry was known under one of their numbers.
     pub conflict: u64,
-    /// Dropped, since they did not fit what was known of the day's end.
+    /// Dropped because they did not fit what was known of the day's end.
     pub past_end: u64,
     /// Entries that the line was the first to bring.
     pub entries: u32,
@@ -25,7 +25,7 @@ pub struct LineCounts {
 /// What a follower heard of a day, and what became of it.
 #[derive(Clone, Copy, Debug, PartialEq, Eq)]
 pub struct FollowAccount {
-    /// The session that it was given.
+    /// The session that it was told to follow.
     pub session: u64,
     /// What came by line A.
     pub a: LineCounts,
@@ -35,18 +35,18 @@ pub struct FollowAccount {
     pub retransmission: LineCounts,
     /// How many requests were answered or failed.
     pub asked: u64,
-    /// Another session, the first that it heard.
+    /// The first other session that it heard, or `None` if it heard none.
     pub other_session: Option<u64>,
-    /// The first number of which a packet of the session told something else than was known.
+    /// The first number under which a packet of the session had another entry than the one known, or `None` if there was none.
     pub conflict: Option<u32>,
-    /// How many numbers the retransmission was still to be asked for since packets did not agree on them.
+    /// How many numbers the retransmission was still to be asked for because packets did not agree on them.
     pub unsettled: u32,
     /// How many entries are held.
     pub held: u32,
 }
 
 impl LineCounts {
-    /// Nothing came.
+    /// The counts of a line that brought nothing.
     fn nothing() -> LineCounts
         ensures { result ≡ record { packets = 0; no_packet = 0; foreign = 0; conflict = 0; past_end = 0; entries = 0 } }
     {
@@ -60,7 +60,7 @@ impl LineCounts {
         }
     }
 
-    /// Counts what came.
+    /// Counts a packet by what became of it.
     fn count(&mut self, heard: Heard)
         ensures { self.new ≡ counted heard self.old }
     {
@@ -74,7 +74,7 @@ impl LineCounts {
         }
     }
 
-    /// How many packets were dropped.
+    /// Returns how many packets were dropped.
     pub fn dropped(&self) -> u128
         ensures { result ≡ dropped self.now }
     {
@@ -86,7 +86,7 @@ impl LineCounts {
 }
 
 impl FollowAccount {
-    /// That of a follower that heard nothing yet.
+    /// The account of a follower that has heard nothing yet.
     pub(crate) fn nothing(session: u64) -> FollowAccount
         ensures { result ≡ new_account session }
     {
@@ -103,9 +103,10 @@ impl FollowAccount {
         }
     }
 
-    /// Counts what came by a line.
+    /// Counts a packet that came by a line.
     pub(crate) fn count(&mut self, line: Line, heard: Heard)
-        ensures { self.new ≡ account_with line heard self.old }
+        ensures counts { self.new ≡ account_with line heard self.old }
+        ensures session { self.new.session ≡ self.old.session }
     {
         match line {
             Line::A => self.a.count(heard),
@@ -121,14 +122,14 @@ impl FollowAccount {
         self.asked = self.asked.saturating_add(1);
     }
 
-    /// Names another session that was heard, unless one is named.
+    /// Notes another session that was heard, unless one is noted.
     pub(crate) fn name(&mut self, session: u64)
         ensures { self.new ≡ once_other session self.old }
     {
         self.other_session = self.other_session.or(Some(session));
     }
 
-    /// Names a number of which two packets told differently, unless one is named.
+    /// Notes a number on which packets did not agree, unless one is noted.
     pub(crate) fn differ(&mut self, number: u32)
         ensures { self.new ≡ once_differing number self.old }
     {

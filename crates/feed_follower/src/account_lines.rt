@@ -1,30 +1,23 @@
-//! What is said of a follower's day.
-ghost use Rattle.std.specs.Prelude.{◌≡◌, ◌++◌, IfOk, OnOk, decimal};
+//! Writes the account of a follower's day as lines for standard error, part by part, each part as `specs/AccountTexts.antt`
+//! says.
+ghost use Rattle.std.specs.Prelude.{◌≡◌, ◌++◌, IfOk, OnOk};
 ghost use Rattle.feed_follower.specs.AccountTexts.{account_text, asked_text, counted_text, drops_text, end_text, entries_text, heard_text, line_text, lines_text, many, named, other_text, packets_text, pair_text, part_text, reason_text, reasons_text, senders_text, session_text};
 
 use crate::{FollowAccount, FollowEnd, FollowFault, LineCounts};
 use feed_ends::Fault;
-use itoa::Buffer;
 use std::alloc::{AllocError, Global};
+use whole_io::{push_number, push_wide_number};
 
-/// Adds a number in decimal.
-fn push_number(text: &mut Vec<u8>, number: u128) -> Result<(), AllocError>
-    ensures { OnOk result (text.new.items ≡ text.old.items ++ decimal number) }
-{
-    let mut digits = Buffer::new();
-    text.extend_from_slice(digits.format(number).as_bytes())
-}
-
-/// Adds so many of what has one name for one and another for more.
+/// Adds a count and a noun, which is `one` for a count of 1 and `more` otherwise.
 #[tactic(auto, unfolding(crate::specs::AccountTexts::many))]
 fn push_many(text: &mut Vec<u8>, count: u128, one: &[u8], more: &[u8]) -> Result<(), AllocError>
     ensures { OnOk result (text.new.items ≡ text.old.items ++ many count one.now more.now) }
 {
-    push_number(text, count)?;
+    push_wide_number(text, count)?;
     text.extend_from_slice(if count == 1 { one } else { more })
 }
 
-/// Adds so many, after a text.
+/// Adds a text, a count and a noun.
 #[tactic(auto, unfolding(crate::specs::AccountTexts::counted_text))]
 fn push_counted(
     text: &mut Vec<u8>,
@@ -39,7 +32,7 @@ fn push_counted(
     push_many(text, u128::from(count), one, more)
 }
 
-/// Adds how many packets were dropped for a reason, where any were.
+/// Adds how many packets were dropped for a reason, if any were.
 #[tactic(auto, unfolding(crate::specs::AccountTexts::reason_text))]
 fn push_reason(text: &mut Vec<u8>, count: u64, reason: &[u8]) -> Result<(), AllocError>
     ensures { OnOk result (text.new.items ≡ text.old.items ++ reason_text count reason.now) }
@@ -48,7 +41,7 @@ fn push_reason(text: &mut Vec<u8>, count: u64, reason: &[u8]) -> Result<(), Allo
         return Ok(());
     }
     text.extend_from_slice(b", ")?;
-    push_number(text, u128::from(count))?;
+    push_number(text, count)?;
     text.extend_from_slice(reason)
 }
 
@@ -63,7 +56,7 @@ fn push_reasons(text: &mut Vec<u8>, counts: &LineCounts) -> Result<(), AllocErro
     push_reason(text, counts.past_end, b" past the end")
 }
 
-/// The reasons for which packets were dropped.
+/// Returns the reasons for which packets were dropped, each after a comma.
 fn reasons(alloc: Global, counts: &LineCounts) -> Result<Vec<u8>, AllocError>
     ensures { IfOk result (λ text. text.items ≡ reasons_text counts.now) }
 {
@@ -72,7 +65,7 @@ fn reasons(alloc: Global, counts: &LineCounts) -> Result<Vec<u8>, AllocError>
     Ok(text)
 }
 
-/// Adds how many packets were dropped, and for which reasons, where any were.
+/// Adds how many packets were dropped, and for which reasons, if any were.
 #[tactic(auto, unfolding(crate::specs::AccountTexts::drops_text))]
 fn push_drops(text: &mut Vec<u8>, count: u128, reasons: &[u8]) -> Result<(), AllocError>
     ensures { OnOk result (text.new.items ≡ text.old.items ++ drops_text count reasons.now) }
@@ -81,7 +74,7 @@ fn push_drops(text: &mut Vec<u8>, count: u128, reasons: &[u8]) -> Result<(), All
         return Ok(());
     };
     text.extend_from_slice(b", ")?;
-    push_number(text, count)?;
+    push_wide_number(text, count)?;
     text.extend_from_slice(b" dropped:")?;
     text.extend_from_slice(reasons)
 }
@@ -108,11 +101,11 @@ fn push_named(
     ensures { OnOk result (text.new.items ≡ text.old.items ++ named before.now number after.now) }
 {
     text.extend_from_slice(before)?;
-    push_number(text, u128::from(number))?;
+    push_number(text, number)?;
     text.extend_from_slice(after)
 }
 
-/// Adds two numbers, and what stands around them.
+/// Adds two numbers with the texts around them.
 #[tactic(auto, unfolding(crate::specs::AccountTexts::pair_text))]
 fn push_pair(
     text: &mut Vec<u8>,
@@ -142,7 +135,7 @@ fn push_line(
     push_packets(alloc, text, counts)
 }
 
-/// Adds what was asked for, and what came by retransmission.
+/// Adds how many requests were made, and what came by retransmission.
 #[tactic(auto, unfolding(crate::specs::AccountTexts::asked_text))]
 fn push_asked(alloc: Global, text: &mut Vec<u8>, account: &FollowAccount) -> Result<(), AllocError>
     ensures { OnOk result (text.new.items ≡ text.old.items ++ asked_text account.now) }
@@ -152,7 +145,7 @@ fn push_asked(alloc: Global, text: &mut Vec<u8>, account: &FollowAccount) -> Res
     push_packets(alloc, text, &account.retransmission)
 }
 
-/// Adds what came by the lines.
+/// Adds what came by both lines and by retransmission.
 #[tactic(auto, unfolding(crate::specs::AccountTexts::lines_text))]
 fn push_lines(alloc: Global, text: &mut Vec<u8>, account: &FollowAccount) -> Result<(), AllocError>
     ensures { OnOk result (text.new.items ≡ text.old.items ++ lines_text account.now) }
@@ -162,7 +155,7 @@ fn push_lines(alloc: Global, text: &mut Vec<u8>, account: &FollowAccount) -> Res
     push_asked(alloc, text, account)
 }
 
-/// Adds how many entries a line brought first, between two texts.
+/// Adds how many entries a line was the first to bring, between two texts.
 fn push_brought(
     text: &mut Vec<u8>,
     before: &[u8],
@@ -174,7 +167,7 @@ fn push_brought(
     push_named(text, before, u64::from(counts.entries), after)
 }
 
-/// Adds by what the entries came first.
+/// Adds how many entries came first by each line and by retransmission.
 #[tactic(auto, unfolding(crate::specs::AccountTexts::entries_text))]
 fn push_entries(text: &mut Vec<u8>, account: &FollowAccount) -> Result<(), AllocError>
     ensures { OnOk result (text.new.items ≡ text.old.items ++ entries_text account.now) }
@@ -184,7 +177,7 @@ fn push_entries(text: &mut Vec<u8>, account: &FollowAccount) -> Result<(), Alloc
     push_brought(text, b"", account.retransmission, b" by retransmission\n")
 }
 
-/// Adds that another session is heard, where one is.
+/// Adds that another session is heard, if one is.
 #[tactic(auto, unfolding(crate::specs::AccountTexts::session_text))]
 fn push_session(text: &mut Vec<u8>, wanted: u64, heard: Option<u64>) -> Result<(), AllocError>
     ensures { OnOk result (text.new.items ≡ text.old.items ++ session_text wanted heard) }
@@ -202,7 +195,7 @@ fn push_session(text: &mut Vec<u8>, wanted: u64, heard: Option<u64>) -> Result<(
     }
 }
 
-/// Adds that the session has two senders, where it has.
+/// Adds that the session has two senders, if it has.
 #[tactic(auto, unfolding(crate::specs::AccountTexts::senders_text))]
 fn push_senders(text: &mut Vec<u8>, session: u64, conflict: Option<u32>) -> Result<(), AllocError>
     ensures { OnOk result (text.new.items ≡ text.old.items ++ senders_text session conflict) }
@@ -220,7 +213,7 @@ fn push_senders(text: &mut Vec<u8>, session: u64, conflict: Option<u32>) -> Resu
     }
 }
 
-/// Adds of which number the retransmission has something else, where that ended the day.
+/// Adds the number under which the retransmission has another entry, if that ended the day.
 #[tactic(auto, unfolding(crate::specs::AccountTexts::other_text))]
 fn push_other(text: &mut Vec<u8>, fault: FollowFault) -> Result<(), AllocError>
     ensures { OnOk result (text.new.items ≡ text.old.items ++ other_text fault) }
@@ -236,7 +229,7 @@ fn push_other(text: &mut Vec<u8>, fault: FollowFault) -> Result<(), AllocError>
     }
 }
 
-/// Adds of how many entries a report is that is not the whole day's.
+/// Adds of how many entries a report of a part of the day is, if one was written.
 #[tactic(auto, unfolding(crate::specs::AccountTexts::part_text))]
 fn push_part(text: &mut Vec<u8>, report: Option<Result<u32, Fault>>) -> Result<(), AllocError>
     ensures { OnOk result (text.new.items ≡ text.old.items ++ part_text report) }
@@ -254,7 +247,7 @@ fn push_part(text: &mut Vec<u8>, report: Option<Result<u32, Fault>>) -> Result<(
     }
 }
 
-/// Adds how a day ended that did not end well.
+/// Adds how the day ended, if it did not end well.
 #[tactic(auto, unfolding(crate::specs::AccountTexts::end_text))]
 fn push_end(text: &mut Vec<u8>, end: &FollowEnd) -> Result<(), AllocError>
     ensures { OnOk result (text.new.items ≡ text.old.items ++ end_text end.now.ended end.now.report) }
@@ -268,7 +261,7 @@ fn push_end(text: &mut Vec<u8>, end: &FollowEnd) -> Result<(), AllocError>
     }
 }
 
-/// Adds who sent besides the day's sender.
+/// Adds which senders were heard besides the day's.
 #[tactic(auto, unfolding(crate::specs::AccountTexts::heard_text))]
 fn push_heard(text: &mut Vec<u8>, account: &FollowAccount) -> Result<(), AllocError>
     ensures { OnOk result (text.new.items ≡ text.old.items ++ heard_text account.now) }
@@ -277,7 +270,7 @@ fn push_heard(text: &mut Vec<u8>, account: &FollowAccount) -> Result<(), AllocEr
     push_senders(text, account.session, account.conflict)
 }
 
-/// Adds all that is said.
+/// Adds the whole account.
 #[tactic(auto, unfolding(crate::specs::AccountTexts::account_text))]
 fn push_account(alloc: Global, text: &mut Vec<u8>, end: &FollowEnd) -> Result<(), AllocError>
     ensures { OnOk result (text.new.items ≡ text.old.items ++ account_text end.now) }
@@ -288,10 +281,11 @@ fn push_account(alloc: Global, text: &mut Vec<u8>, end: &FollowEnd) -> Result<()
     push_end(text, end)
 }
 
-/// What is said of a follower's day on standard error, in lines: how many packets came by each line, and how many were dropped for which
-/// reason; how many requests were made; by what the entries came first; another session that is heard; that two senders have
-/// the session; and where the day did not end well, of which number the retransmission has something else, and of how many entries the
-/// report is. That the retransmission could not be reached is not among them.
+/// Returns the lines that a follower's day is accounted for with on standard error: how many packets came by each line, and how
+/// many were dropped for which reason; how many requests were made; by which line the entries came first; another session that
+/// is heard; that two senders have the session; and if the day did not end well, under which number the retransmission has
+/// another entry, and of how many entries the report is. That the retransmission could not be reached is not among them.
+/// `AllocError` if memory runs out.
 pub fn account_text(alloc: Global, end: &FollowEnd) -> Result<Vec<u8>, AllocError>
     ensures { IfOk result (λ text. text.items ≡ account_text end.now) }
 {

@@ -1,7 +1,7 @@
-//! The numbers of which packets told differently, which the retransmission is asked for.
+//! Keeps the numbers on which packets did not agree, for which the retransmission is asked.
 //!
-//! What is kept is two runs of numbers, however many packets differ: those that are still to be asked for, and those of the last
-//! stretch that was found as it is known.
+//! It keeps two ranges of numbers, however many packets differ: those that are still to be asked for, and the last range of
+//! which the retransmission has what is known.
 ghost use Rattle.std.specs.Prelude.{◌≡◌, ◌↔◌, ◌+◌, ◌-◌, ◌<◌, ◌≤◌, ◌⊎◌, ℕ, false, true, IsTrue, MatchOption};
 ghost use Rattle.tape_types.specs.Ranges.{TAPE_MOST};
 ghost use Rattle.tape_frames.specs.Limits.{IsSpan};
@@ -10,25 +10,25 @@ ghost use Rattle.feed_follower.specs.Conflicts.{AsksFor, IsIn};
 use arbitration::ASKED_MOST;
 use tape_frames::{Request, Span};
 
-/// Numbers in a row: from the first one to just before another; none where that is not above the first.
+/// A range of numbers, from `from` to just before `before`; empty unless `before` is above `from`.
 #[derive(Clone, Copy)]
 pub(crate) struct Numbers {
     pub(crate) from: u32,
     pub(crate) before: u32,
 }
 
-/// The numbers of which packets told differently.
+/// The numbers on which packets did not agree.
 #[derive(Clone, Copy)]
 pub(crate) struct Conflicts {
-    /// Whether they are settled at all: else none is kept.
+    /// Whether conflicts are settled. If not, none is kept.
     are_settled: bool,
     /// The numbers that the retransmission is to be asked for.
     wanted: Numbers,
-    /// Numbers that it was asked for and that were found as they are known.
+    /// Numbers that it was asked for and of which it has what is known.
     found: Numbers,
 }
 
-/// A count of numbers, as a request asks for them.
+/// Returns a count as a request has it.
 fn span(count: u32) -> Span
     requires { IsSpan count }
     ensures { result ≡ count }
@@ -44,21 +44,21 @@ impl Numbers {
         Numbers { from: 0, before: 0 }
     }
 
-    /// How many they are.
+    /// Returns how many numbers there are.
     pub(crate) fn len(&self) -> u32
         ensures { result ≡ self.now.before - self.now.from }
     {
         self.before.saturating_sub(self.from)
     }
 
-    /// Whether a number is one of them.
+    /// Whether a number is in the range.
     fn has(&self, number: u32) -> bool
         ensures { IsTrue result ↔ IsIn number self.now }
     {
         self.from <= number && number < self.before
     }
 
-    /// These and this number, and those between.
+    /// Returns the least range with these numbers and this one.
     fn with(&self, number: u32) -> Numbers
         requires { number ≤ TAPE_MOST + 1 }
         ensures has { IsIn number result }
@@ -78,7 +78,7 @@ impl Numbers {
         }
     }
 
-    /// These and others, where no number lies between; else the others.
+    /// Returns these numbers and others if no number lies between them, otherwise the others.
     fn joined(&self, others: Numbers) -> Numbers
         ensures others { (n : ℕ) → IsIn n others → IsIn n result }
         ensures either { (n : ℕ) → IsIn n result → IsIn n self.now ⊎ IsIn n others }
@@ -95,7 +95,7 @@ impl Numbers {
 }
 
 impl Conflicts {
-    /// No packets differ.
+    /// No conflict is known.
     pub(crate) fn none(are_settled: bool) -> Conflicts
         ensures settled { result.are_settled ≡ are_settled }
         ensures wanted { result.wanted ≡ record { from = 0; before = 0 } }
@@ -108,21 +108,22 @@ impl Conflicts {
         }
     }
 
-    /// Whether they are settled at all.
+    /// Whether conflicts are settled.
     pub(crate) fn are_settled(&self) -> bool
         ensures { result ≡ self.now.are_settled }
     {
         self.are_settled
     }
 
-    /// How many numbers are to be asked for.
+    /// Returns how many numbers are to be asked for.
     pub(crate) fn len(&self) -> u32
         ensures { result ≡ self.now.wanted.before - self.now.wanted.from }
     {
         self.wanted.len()
     }
 
-    /// Notes a number of which packets told differently: it is to be asked for, unless it was found as it is known.
+    /// Notes a number on which packets did not agree: it is to be asked for, unless the retransmission was found to have what
+    /// is known.
     pub(crate) fn meet(&mut self, number: u32)
         requires { number ≤ TAPE_MOST + 1 }
         ensures met { self.old.are_settled ≡ true → IsIn number self.new.wanted ⊎ IsIn number self.new.found }
@@ -136,7 +137,7 @@ impl Conflicts {
         }
     }
 
-    /// A request for the first numbers that are to be asked for, `ASKED_MOST` at most.
+    /// Returns a request for the first numbers that are to be asked for, at most `ASKED_MOST`, or `None` if there are none.
     pub(crate) fn request(&self, session: u64) -> Option<Request>
         ensures { MatchOption result (self.now.wanted.before ≤ self.now.wanted.from)
             (λ request. (request.session ≡ session) × AsksFor self.now.wanted request) }
@@ -152,8 +153,8 @@ impl Conflicts {
         })
     }
 
-    /// Notes that these numbers were found as they are known. What lies below the last of them is not asked for any more where all of
-    /// it was found.
+    /// Notes numbers of which the retransmission has what is known. The numbers to ask for begin after the last one found if
+    /// all below it were found.
     pub(crate) fn find(&mut self, numbers: Numbers)
         ensures answered { (n : ℕ) → IsIn n self.old.wanted → IsIn n self.new.wanted ⊎ IsIn n self.new.found }
         ensures found { (n : ℕ) → IsIn n self.new.found → IsIn n self.old.found ⊎ IsIn n numbers }

@@ -1,4 +1,4 @@
-//! A follower of a day that is given by a file.
+//! Follows a day that is given by a file: it settles conflicts, does not restart, and returns an account.
 ghost use Rattle.std.specs.Prelude.{◌≡◌, ◌≢◌, Err, IfErr, IfOk, IfSome, IsOk, IsSome, IsSomeAnd, None, OnOk, false, length, true};
 ghost use Rattle.std.specs.Io.KnownBytes.{Appends};
 ghost use Rattle.day_report.specs.ReportText.{report_text};
@@ -24,7 +24,7 @@ use std::sync::Wait;
 use std::thread::Threads;
 use subscriber::Subscriber;
 
-/// Writes the report of what is held, where it is wanted, and tells of how many entries it is.
+/// Writes the report of what is held, if it is wanted and a run began, and returns of how many entries it is, or its fault.
 fn report_held<R: Threads + Sync, W: Write>(
     rt: &R,
     alloc: Global,
@@ -49,20 +49,16 @@ fn report_held<R: Threads + Sync, W: Write>(
     }
 }
 
-/// How a day ended whose run ended so, and of which no report was to be made.
+/// Returns how a day without a report ended: as its run did, with the name of the fault.
 fn named_end(ended: Result<(), Fault>, why: Option<FollowFault>) -> Result<(), FollowFault>
     ensures well { IsOk result → IsOk ended }
     ensures done { IsOk ended → IsOk result }
     ensures fault { IfErr ended (λ fault. IfErr result (λ named. (follow_fault named ≡ fault) × IsNamed why fault named)) }
 {
-    match ended {
-        Ok(()) => Ok(()),
-        Err(fault) => Err(FollowFault::naming(fault, why)),
-    }
+    ended.map_err(|fault| FollowFault::naming(fault, why))
 }
 
-/// How a day ended whose run ended so, and whose report was made so: by the fault of the run, if it has one, and else by that of the
-/// report.
+/// Returns how a day with a report ended: by the fault of its run, if it has one, otherwise by that of the report.
 fn ended_by(
     ended: Result<(), Fault>,
     why: Option<FollowFault>,
@@ -83,16 +79,17 @@ fn ended_by(
     }
 }
 
-/// Follows a day as `follow_over` does, without a restart, and tells how it ended and what was heard.
+/// Follows a day as `follow_over` does, without a restart, and returns how it ended and what was heard.
 ///
-/// For `connect_within` seconds it tries to connect to the retransmission, at the start and after a connection that has ended. A packet of the
-/// session that tells otherwise of a number than is known is dropped, and the retransmission is asked for that number once nothing is
-/// missing: if it has another entry, or none below the known end, the run ends by `OtherEntry`. So the day ends well only if what is held is
-/// what the retransmission has, at each number of which packets told differently.
+/// It tries to connect to the retransmission for `connect_within` seconds, at the start and after a connection that has ended.
+/// A packet of the session with another entry than the one known is dropped, and the retransmission is asked for the number of
+/// that entry once nothing is missing: if it has another entry, or none below the known end, the run ends by `OtherEntry`. So
+/// the day ends well only if what is held is what the retransmission has, at each number on which packets did not agree.
 ///
-/// The end is well only where the report was written whole and flushed, and the sink was given each entry of the same tape. With `is_partial` the
-/// report of what is held is written too where the day ended by a fault, unless no run began; the fault stays what it is. The faults are
-/// those whose statuses `follow_over` gives. Whatever the end, the sink has the rows of entries of a legal tape, up to some byte of them.
+/// The day ends well only if the report was written whole and flushed, and the sink was given each entry of the same tape. With
+/// `is_partial` the report of what is held is also written if the day ended by a fault, unless no run began; the fault stays
+/// what it is. The faults are those whose statuses `follow_over` returns. However it ends, the sink has the rows of entries of
+/// a legal tape, up to some byte of them.
 pub fn follow_day<
     R: Threads + Wait + Net<Listener = TcpListener, Stream = TcpStream> + Sync,
     S: EntrySink + Send,
@@ -117,25 +114,9 @@ pub fn follow_day<
     ensures partial { is_partial ≡ true → result.0.report ≡ None → result.0.account ≡ new_account terms.session }
     ensures held { IfSome result.0.report (λ made. IfOk made (λ count. count ≡ result.0.account.held)) }
     ensures settled { OnOk result.0.ended (result.0.account.unsettled ≡ 0) }
+    ensures session { result.0.account.session ≡ terms.session }
 {
-    let FollowTerms {
-        listing,
-        limit,
-        matrix,
-        session,
-        connect_within,
-    } = terms;
-    let followed = follow::<Brand, S, R>(
-        rt,
-        alloc,
-        listing,
-        limit,
-        matrix,
-        session,
-        &sockets,
-        Ways::of_day(connect_within),
-        sink,
-    );
+    let followed = follow::<Brand, S, R>(rt, alloc, terms, &sockets, Ways::of_day(), sink);
     let Followed {
         subscriber,
         ended,
@@ -164,25 +145,9 @@ pub fn follow_tape_day<
     ensures part { GivesPart S.text terms.listing terms.matrix terms.limit (S.contents sink) (S.contents result.1) }
     ensures report { result.0.report ≡ None }
     ensures settled { OnOk result.0.ended (result.0.account.unsettled ≡ 0) }
+    ensures session { result.0.account.session ≡ terms.session }
 {
-    let FollowTerms {
-        listing,
-        limit,
-        matrix,
-        session,
-        connect_within,
-    } = terms;
-    let followed = follow::<Brand, S, R>(
-        rt,
-        alloc,
-        listing,
-        limit,
-        matrix,
-        session,
-        &sockets,
-        Ways::of_day(connect_within),
-        sink,
-    );
+    let followed = follow::<Brand, S, R>(rt, alloc, terms, &sockets, Ways::of_day(), sink);
     let Followed {
         subscriber,
         ended,

@@ -1,4 +1,4 @@
-//! A follower of a day: it reads both lines, asks for what is missing, and reports the tape that it comes to hold.
+//! Follows a day: reads both lines, asks for what is missing, and writes the report of the tape that it comes to hold.
 ghost use Rattle.std.specs.Prelude.{◌≡◌, ◌≢◌, ◌⊎◌, ◌≤◌, [], Err, IfErr, IfOk, IfSome, IsSome, None, OnOk, Some, length, true};
 ghost use Rattle.std.specs.Io.KnownBytes.{Appends};
 ghost use Rattle.day_report.specs.ReportText.{report_text};
@@ -17,7 +17,7 @@ use crate::follower::{Follower, subscribe};
 use crate::held_name::HeldName;
 use crate::requester::Requester;
 use crate::run::{Ready, Run, follow_at_once};
-use crate::{EntrySink, FollowAccount, FollowFault, FollowSockets};
+use crate::{EntrySink, FollowAccount, FollowFault, FollowSockets, FollowTerms};
 use feed_ends::{Fault, write_day};
 use sale_matrix::Matrix;
 use std::alloc::Global;
@@ -29,24 +29,21 @@ use std::thread::Threads;
 use subscriber::Subscriber;
 use tape_types::Listing;
 
-/// How a run is to go.
+/// What a run does besides its terms.
 #[derive(Clone, Copy)]
 pub(crate) struct Ways {
-    /// For how many seconds it tries to connect.
-    connect_within: Option<u32>,
-    /// Whether it asks for the numbers of which packets told differently.
+    /// Whether it settles conflicts: it asks for each number of which packets did not agree.
     settles: bool,
-    /// Once it holds so many entries it begins anew.
+    /// The number of entries held at which it restarts.
     restart_after: Option<u32>,
 }
 
 impl Ways {
-    /// A day's that is given by a file: what packets tell differently is settled, and nothing begins anew.
-    pub(crate) fn of_day(connect_within: Option<u32>) -> Ways
-        ensures { result ≡ record { connect_within = connect_within; settles = true; restart_after = None } }
+    /// Those of a day that is given by a file: it settles conflicts and does not restart.
+    pub(crate) fn of_day() -> Ways
+        ensures { result ≡ record { settles = true; restart_after = None } }
     {
         Ways {
-            connect_within,
             settles: true,
             restart_after: None,
         }
@@ -61,7 +58,7 @@ struct Started<'a> {
     ready: Ready<'a>,
 }
 
-/// The lines of a run, and another handle of the requester's connection.
+/// Returns the lines of a run, with another handle of the requester's connection.
 fn ready<'a>(
     alloc: Global,
     sockets: &'a FollowSockets,
@@ -70,43 +67,37 @@ fn ready<'a>(
     Ready::new(alloc, sockets, requester.handle()?)
 }
 
-/// Connects, and makes the subscriber that holds nothing yet. It connects before it takes memory, so that a day that awaits it
-/// is not kept waiting where there is none.
+/// Connects to the retransmission and makes a subscriber that holds nothing. It connects before it allocates, so that a sender
+/// that awaits it does not wait in vain if memory runs out.
 fn start<'a, R: Net<Listener = TcpListener, Stream = TcpStream> + Wait>(
     rt: &R,
     alloc: Global,
-    listing: Listing,
-    limit: u32,
-    matrix: Matrix,
-    session: u64,
+    terms: FollowTerms,
     sockets: &'a FollowSockets,
-    connect_within: Option<u32>,
 ) -> Result<Started<'a>, FollowFault>
-    ensures listed { IfOk result (λ started. started.subscriber.tape.listing ≡ listing) }
-    ensures by_matrix { IfOk result (λ started. started.subscriber.tape.matrix ≡ matrix) }
-    ensures limited { IfOk result (λ started. started.subscriber.tape.limit ≡ limit) }
+    ensures listed { IfOk result (λ started. started.subscriber.tape.listing ≡ terms.listing) }
+    ensures by_matrix { IfOk result (λ started. started.subscriber.tape.matrix ≡ terms.matrix) }
+    ensures limited { IfOk result (λ started. started.subscriber.tape.limit ≡ terms.limit) }
     ensures nothing { IfOk result (λ started. started.subscriber.tape.entries ≡ []) }
-    ensures session { IfOk result (λ started. started.subscriber.window.session ≡ session) }
+    ensures session { IfOk result (λ started. started.subscriber.window.session ≡ terms.session) }
 {
-    let requester = Requester::new(rt, alloc, sockets.retransmission, connect_within)?;
-    let subscriber = match subscribe(alloc, listing, limit, matrix, session) {
-        Ok(subscriber) => subscriber,
-        Err(fault) => return Err(FollowFault::Ended(fault)),
-    };
-    match ready(alloc, sockets, &requester) {
-        Ok(ready) => Ok(Started {
-            requester,
-            subscriber,
-            ready,
-        }),
-        Err(fault) => {
-            drop(subscriber);
-            Err(FollowFault::Ended(fault))
-        }
-    }
+    let requester = Requester::new(rt, alloc, sockets.retransmission, terms.connect_within)?;
+    let subscriber = subscribe(
+        alloc,
+        terms.listing,
+        terms.limit,
+        terms.matrix,
+        terms.session,
+    )?;
+    let ready = ready(alloc, sockets, &requester)?;
+    Ok(Started {
+        requester,
+        subscriber,
+        ready,
+    })
 }
 
-/// What is left where no run began.
+/// Returns what is left if no run began.
 #[tactic(auto, using(crate::proofs::Rows::part_of_nothing))]
 fn not_begun<S: EntrySink>(session: u64, fault: FollowFault, sink: S) -> Followed<S>
     ensures subscriber { result.subscriber ≡ None }
@@ -124,9 +115,9 @@ fn not_begun<S: EntrySink>(session: u64, fault: FollowFault, sink: S) -> Followe
     }
 }
 
-/// Follows the day under the name of its tape: reads both lines and asks for what they lack until all is held, and gives the sink each entry
-/// that comes to be. Where it settles conflicts, it asks for each number of which packets told differently too. What is left is
-/// what it holds, how it ended, and the sink. The connection is closed then.
+/// Follows the day under the name of its tape: reads both lines, asks for what they lack until everything is held, and gives
+/// the sink each entry as soon as it is held. Returns what is held, how the run ended, and the sink. The connection is closed
+/// by then.
 #[tactic(auto, using(crate::proofs::Rows::part_of_nothing))]
 pub(crate) fn follow<
     N: HeldName + Send,
@@ -135,29 +126,29 @@ pub(crate) fn follow<
 >(
     rt: &R,
     alloc: Global,
-    listing: Listing,
-    limit: u32,
-    matrix: Matrix,
-    session: u64,
+    terms: FollowTerms,
     sockets: &FollowSockets,
     ways: Ways,
     sink: S,
 ) -> Followed<S>
-    requires listing { listing ≡ N.listing }
-    requires matrix { matrix ≡ N.matrix }
-    requires limit { limit ≡ N.limit }
+    requires listing { terms.listing ≡ N.listing }
+    requires matrix { terms.matrix ≡ N.matrix }
+    requires limit { terms.limit ≡ N.limit }
+    requires session { terms.session ≡ N.session }
     requires before { S.contents sink ≡ N.before }
-    ensures tape { IfSome result.subscriber (λ subscriber. IsTapeOf listing matrix limit subscriber.tape) }
+    ensures tape { IfSome result.subscriber (λ subscriber. IsTapeOf terms.listing terms.matrix terms.limit subscriber.tape) }
     ensures some { OnOk result.ended (IsSome result.subscriber) }
+    ensures session { IfSome result.subscriber (λ subscriber. subscriber.window.session ≡ terms.session) }
     ensures given { OnOk result.ended (IfSome result.subscriber (λ subscriber. Appends (S.contents sink) (S.contents result.sink) (rows_of S.text subscriber.tape))) }
-    ensures part { GivesPart S.text listing matrix limit (S.contents sink) (S.contents result.sink) }
+    ensures part { GivesPart S.text terms.listing terms.matrix terms.limit (S.contents sink) (S.contents result.sink) }
     ensures whole { OnOk result.ended (IfSome result.subscriber HasAllOf) }
     ensures settled { OnOk result.ended (result.account.unsettled ≡ 0) }
-    ensures unbegun { result.subscriber ≡ None → result.account ≡ new_account session }
+    ensures unbegun { result.subscriber ≡ None → result.account ≡ new_account terms.session }
+    ensures account { result.account.session ≡ terms.session }
     ensures held { IfSome result.subscriber (λ subscriber. result.account.held ≡ length subscriber.tape.entries) }
 {
-    let within = ways.connect_within;
-    let started = match start(rt, alloc, listing, limit, matrix, session, sockets, within) {
+    let session = terms.session;
+    let started = match start(rt, alloc, terms, sockets) {
         Ok(started) => started,
         Err(fault) => return not_begun(session, fault, sink),
     };
@@ -174,8 +165,8 @@ pub(crate) fn follow<
     run.into_follower().into_followed()
 }
 
-/// Follows the day as its words in a row say: it tries to connect once, and drops packets that tell otherwise. What is left is the subscriber
-/// that holds all, or the run's fault, and the sink.
+/// Follows the day as its arguments in a row say: it does not settle conflicts, so packets with another entry are dropped.
+/// Returns the subscriber that holds everything, or the run's fault, and the sink.
 fn follow_plainly<
     N: HeldName + Send,
     S: EntrySink + Send,
@@ -183,31 +174,27 @@ fn follow_plainly<
 >(
     rt: &R,
     alloc: Global,
-    listing: Listing,
-    limit: u32,
-    matrix: Matrix,
-    session: u64,
+    terms: FollowTerms,
     sockets: &FollowSockets,
     restart_after: Option<u32>,
     sink: S,
 ) -> (Result<Subscriber, Fault>, S)
-    requires listing { listing ≡ N.listing }
-    requires matrix { matrix ≡ N.matrix }
-    requires limit { limit ≡ N.limit }
+    requires listing { terms.listing ≡ N.listing }
+    requires matrix { terms.matrix ≡ N.matrix }
+    requires limit { terms.limit ≡ N.limit }
+    requires session { terms.session ≡ N.session }
     requires before { S.contents sink ≡ N.before }
-    ensures tape { IfOk result.0 (λ subscriber. IsTapeOf listing matrix limit subscriber.tape) }
+    ensures tape { IfOk result.0 (λ subscriber. IsTapeOf terms.listing terms.matrix terms.limit subscriber.tape) }
+    ensures session { IfOk result.0 (λ subscriber. subscriber.window.session ≡ terms.session) }
     ensures given { IfOk result.0 (λ subscriber. Appends (S.contents sink) (S.contents result.1) (rows_of S.text subscriber.tape)) }
-    ensures part { GivesPart S.text listing matrix limit (S.contents sink) (S.contents result.1) }
+    ensures part { GivesPart S.text terms.listing terms.matrix terms.limit (S.contents sink) (S.contents result.1) }
     ensures whole { IfOk result.0 HasAllOf }
 {
     let ways = Ways {
-        connect_within: None,
         settles: false,
         restart_after,
     };
-    let followed = follow::<N, S, R>(
-        rt, alloc, listing, limit, matrix, session, sockets, ways, sink,
-    );
+    let followed = follow::<N, S, R>(rt, alloc, terms, sockets, ways, sink);
     followed.into_held()
 }
 
@@ -228,7 +215,7 @@ pub(crate) fn report<R: Threads + Sync, W: Write>(
     write_day(rt, alloc, subscriber.tape(), writer)
 }
 
-/// The status of a run that ended so.
+/// Returns the status of a run: 0 if it ended well.
 fn status_of(ended: Result<(), Fault>) -> u8
     ensures done { OnOk ended (result ≡ 0) }
     ensures fault { IfErr ended (λ fault. result ≡ fault_status fault) }
@@ -240,10 +227,8 @@ fn status_of(ended: Result<(), Fault>) -> u8
     }
 }
 
-/// Follows a day as `follow_over` does, and tells by a type how it ended.
-///
-/// It ends well only where the report was written whole and flushed, and the sink was given each entry of the same tape. The fault is the one
-/// whose status `follow_over` gives.
+/// Follows a day as `follow_over` does, for these terms. It returns well only if the report was written whole and flushed, and
+/// the sink was given each entry of the same tape. Otherwise it returns the fault whose status `follow_over` returns.
 pub fn follow_ended<
     R: Threads + Wait + Net<Listener = TcpListener, Stream = TcpStream> + Sync,
     S: EntrySink + Send,
@@ -251,28 +236,22 @@ pub fn follow_ended<
 >(
     rt: &R,
     alloc: Global,
-    listing: Listing,
-    limit: u32,
-    matrix: Matrix,
-    session: u64,
+    terms: FollowTerms,
     sockets: FollowSockets,
     restart_after: Option<u32>,
     sink: S,
     writer: &mut W,
 ) -> (Result<(), Fault>, S)
     ensures report { OnOk result.0 (WritesOneReport (W.contents writer.old) (W.contents writer.new)) }
-    ensures listed { OnOk result.0 (WritesItsReport listing matrix limit (W.contents writer.old) (W.contents writer.new)) }
-    ensures given { OnOk result.0 (GivesItsReport S.text listing matrix limit (S.contents sink) (S.contents result.1) (W.contents writer.old) (W.contents writer.new)) }
-    ensures part { GivesPart S.text listing matrix limit (S.contents sink) (S.contents result.1) }
+    ensures listed { OnOk result.0 (WritesItsReport terms.listing terms.matrix terms.limit (W.contents writer.old) (W.contents writer.new)) }
+    ensures given { OnOk result.0 (GivesItsReport S.text terms.listing terms.matrix terms.limit (S.contents sink) (S.contents result.1) (W.contents writer.old) (W.contents writer.new)) }
+    ensures part { GivesPart S.text terms.listing terms.matrix terms.limit (S.contents sink) (S.contents result.1) }
     ensures unwritten { IfErr result.0 (λ fault. fault ≢ WriteFault → writer.new ≡ writer.old) }
 {
     let (held, sink) = follow_plainly::<Brand, S, R>(
         rt,
         alloc,
-        listing,
-        limit,
-        matrix,
-        session,
+        terms,
         &sockets,
         restart_after,
         sink,
@@ -286,21 +265,22 @@ pub fn follow_ended<
     (written, sink)
 }
 
-/// Follows a day over sockets until its end is known and all of it is held, and writes the report of what is held to `writer`. A
-/// sink is given each entry as soon as it is held, and comes back with the status.
+/// Follows a day over sockets until its end is known and all of it is held, and writes the report of what is held to `writer`.
+/// A sink is given each entry as soon as it is held. Returns the status and the sink.
 ///
-/// It connects to the retransmission, reads lines A and B, and asks beside that for what is missing, so that both lines are
-/// read on while an answer is awaited. Bytes that are no packet of the day are dropped. With `restart_after` the first
-/// subscriber is given up once it holds so many entries or more, which is looked at before the end is: its connection is
-/// closed, and a new one starts with nothing, on a connection of its own. A sink that was given entries is told so, and where it
-/// refuses, its fault ends the run. That the run ends is not claimed: it does not where both lines lose all that is left while the
-/// connection stays open.
+/// It connects to the retransmission, reads lines A and B, and asks for what is missing beside them, so that both lines are
+/// read while an answer is awaited. Bytes that are no packet of the day are dropped. With `restart_after` the first subscriber
+/// is dropped once it holds so many entries or more, which is looked at before the end is: its connection is closed, and a new
+/// subscriber starts with nothing, on a connection of its own. A sink that was given entries is told so, and if it refuses, its
+/// fault ends the run. That the run ends is not claimed: it does not if both lines lose all that is left while the connection
+/// stays open.
 ///
-/// The status is 0 only where the report was written whole and flushed, and the sink was given each entry of the same tape. Else nothing
-/// was written to `writer`, or some of the report after a write that failed: 3 where a socket cannot be opened or read, or where the
-/// connection was closed and nothing more came; 4 where a write fails, the sink's too; 5 where memory runs out, the sink's too; 6 where no
-/// thread can be started; 7 where the feed is no tape, carries other summaries, refuses or falsifies what is asked for, and for a
-/// limit outside 1 to `TAPE_MOST`. Whatever the status, the sink has the rows of entries of a legal tape, up to some byte of them.
+/// The status is 0 only if the report was written whole and flushed, and the sink was given each entry of the same tape.
+/// Otherwise nothing was written to `writer`, or part of the report before a write that failed: 3 if a socket cannot be opened
+/// or read, or if the connection was closed and nothing more came; 4 if a write fails, the sink's too; 5 if memory runs out,
+/// the sink's too; 6 if no thread can be started; 7 if the feed is no tape, carries other summaries, refuses or falsifies what
+/// is asked for, and for a limit outside 1 to `TAPE_MOST`. Whatever the status, the sink has the rows of entries of a legal
+/// tape, up to some byte of them.
 pub fn follow_over<
     R: Threads + Wait + Net<Listener = TcpListener, Stream = TcpStream> + Sync,
     S: EntrySink + Send,
@@ -324,46 +304,37 @@ pub fn follow_over<
     ensures unwritten { result.0 ≢ 0 → result.0 ≢ 4 → writer.new ≡ writer.old }
     ensures status { (result.0 ≡ 0) ⊎ ((3 ≤ result.0) × (result.0 ≤ 7)) }
 {
-    let (ended, sink) = follow_ended(
-        rt,
-        alloc,
+    let terms = FollowTerms {
         listing,
         limit,
         matrix,
         session,
-        sockets,
-        restart_after,
-        sink,
-        writer,
-    );
+        connect_within: None,
+    };
+    let (ended, sink) = follow_ended(rt, alloc, terms, sockets, restart_after, sink, writer);
     (status_of(ended), sink)
 }
 
-/// Follows a day as `follow_ended` does, without a report and without a restart: a sink is given each entry as soon as it is held, and comes
-/// back.
+/// Follows a day as `follow_ended` does, without a report and without a restart. A sink is given each entry as soon as it is
+/// held, and is returned.
 ///
-/// It ends well only where the day's end is known and the sink was given all entries. Else the fault is one of those of `follow_ended`: `Write`
-/// and `Memory` where the sink failed, or where a request to the retransmission did. However it ends, the sink has the rows of
-/// entries of a legal tape, up to some byte of them.
+/// It returns well only if the day's end is known and the sink was given all entries. Otherwise the fault is one of those of
+/// `follow_ended`: `Write` and `Memory` if the sink failed, or if a request to the retransmission did. However it ends, the
+/// sink has the rows of entries of a legal tape, up to some byte of them.
 pub fn follow_tape<
     R: Threads + Wait + Net<Listener = TcpListener, Stream = TcpStream> + Sync,
     S: EntrySink + Send,
 >(
     rt: &R,
     alloc: Global,
-    listing: Listing,
-    limit: u32,
-    matrix: Matrix,
-    session: u64,
+    terms: FollowTerms,
     sockets: FollowSockets,
     sink: S,
 ) -> (Result<(), Fault>, S)
-    ensures given { OnOk result.0 (GivesTape S.text listing matrix limit (S.contents sink) (S.contents result.1)) }
-    ensures part { GivesPart S.text listing matrix limit (S.contents sink) (S.contents result.1) }
+    ensures given { OnOk result.0 (GivesTape S.text terms.listing terms.matrix terms.limit (S.contents sink) (S.contents result.1)) }
+    ensures part { GivesPart S.text terms.listing terms.matrix terms.limit (S.contents sink) (S.contents result.1) }
 {
-    let (held, sink) = follow_plainly::<Brand, S, R>(
-        rt, alloc, listing, limit, matrix, session, &sockets, None, sink,
-    );
+    let (held, sink) = follow_plainly::<Brand, S, R>(rt, alloc, terms, &sockets, None, sink);
     match held {
         Ok(subscriber) => {
             drop(subscriber);

@@ -6,23 +6,23 @@ use crate::{EntrySink, FollowAccount, FollowFault};
 use feed_ends::Fault;
 use subscriber::Subscriber;
 
-/// What is left of a run.
+/// What is left of a run that is over.
 #[derive(Drop)]
 pub(crate) struct Followed<S: EntrySink> {
-    /// What it came to hold: `None` where it did not begin.
+    /// The subscriber with what it held, or `None` if the run did not begin.
     pub(crate) subscriber: Option<Subscriber>,
-    /// How it ended.
+    /// `Ok` if it ended well, otherwise its fault.
     pub(crate) ended: Result<(), Fault>,
-    /// What names its fault.
+    /// What names its fault, if something does.
     pub(crate) why: Option<FollowFault>,
     /// What it heard.
     pub(crate) account: FollowAccount,
-    /// The sink, with what it was given.
+    /// The sink.
     pub(crate) sink: S,
 }
 
 impl<S: EntrySink> Followed<S> {
-    /// The subscriber of a run that ended well, or the fault that ended it, and the sink.
+    /// Returns the subscriber of a run that ended well, or the fault that ended it, and the sink.
     pub(crate) fn into_held(self) -> (Result<Subscriber, Fault>, S)
         ensures well { (s : SubscriberState) → OnOk self.ended (self.subscriber ≡ Some s → result.0 ≡ Ok s) }
         ensures fault { IfErr self.ended (λ fault. result.0 ≡ Err fault) }

@@ -1,4 +1,5 @@
-//! What a follower comes to hold and gives to its sink, which its lines and its requester share.
+//! The follower that the lines and the requester share: delivers what comes to the subscriber, gives entries to the sink, and
+//! decides what is next.
 ghost use Rattle.std.specs.Prelude.{◌≡◌, ◌↔◌, ◌⊎◌, ◌+◌, ◌-◌, ◌≤◌, ◌<◌, ℕ, [], length, min, Err, Ok, None, Some, IfErr, IfOk, IfSome, IsOk, IsSome, IsSomeAnd, IsTrue, OnErr, OnOk, true, false};
 ghost use Rattle.std.specs.Io.KnownBytes.{Appends};
 ghost use Rattle.std.proofs.Props.{props};
@@ -42,25 +43,25 @@ use subscriber::Subscriber;
 use tape_frames::{Request, decode_packet, header_number, last_entry};
 use tape_types::{Listing, TAPE_MOST};
 
-/// What a run waits for, or what is to be done in it.
+/// What a run waits for, or has to do next.
 #[derive(Clone, Copy)]
 pub(crate) enum Next {
-    /// Packets have to come by the lines.
+    /// Wait for packets of the lines.
     Read,
-    /// The number is missing, and a line may still bring it.
+    /// Wait for this number, which is missing and which a line may still bring.
     Wait(u32),
-    /// This is missing.
+    /// Ask for this, which is missing.
     Ask(Request),
-    /// Packets told differently of these numbers, and nothing is missing.
+    /// Ask for these numbers, on which packets did not agree. Nothing is missing.
     Settle(Request),
-    /// The subscriber is a new one, which asks on a connection of its own.
+    /// Connect for a new subscriber, which asks on a connection of its own.
     Connect,
     /// The run is over.
     End,
 }
 
 impl Next {
-    /// The first number that is to be asked for.
+    /// Returns the first missing number that is to be asked for, if one is.
     fn asked(&self) -> Option<u32>
         ensures { result ≡ asked_of self.now }
     {
@@ -71,14 +72,14 @@ impl Next {
     }
 }
 
-/// A subscriber of the tape that is followed, the sink that is given its entries, how far its lines have come, whether it has yet to be
-/// connected, and whether the run is over.
+/// A subscriber of the tape that is followed, the sink that is given its entries, how far its lines have come, whether the
+/// subscriber still has to be connected, and whether the run is over.
 #[derive(Drop)]
 pub(crate) struct Follower<N: HeldName, S: EntrySink> {
     alloc: Global,
     subscriber: Subscriber,
     sink: S,
-    /// Why the sink lacks something of what is held.
+    /// Why the sink lacks some of what is held, if it does.
     lacks: Option<Fault>,
     positions: LinePositions,
     silence: Silence,
@@ -87,7 +88,7 @@ pub(crate) struct Follower<N: HeldName, S: EntrySink> {
     has_restarted: bool,
     conflicts: Conflicts,
     account: FollowAccount,
-    /// What names the fault of the run, where it tells more than its status.
+    /// What names the fault of the run, if it says more than its status.
     why: Option<FollowFault>,
     over: Option<Result<(), Fault>>,
     /// Whether the requester sleeps until it is rung.
@@ -96,13 +97,16 @@ pub(crate) struct Follower<N: HeldName, S: EntrySink> {
     ghost listed: { subscriber.tape.listing ≡ N.listing },
     ghost by_matrix: { subscriber.tape.matrix ≡ N.matrix },
     ghost limited: { subscriber.tape.limit ≡ N.limit },
+    ghost named: { session ≡ N.session },
+    ghost of_session: { subscriber.window.session ≡ session },
+    ghost accounted: { account.session ≡ session },
     ghost given: { lacks ≡ None → HasAll (rows_of S.text subscriber.tape) N.before (S.contents sink) } by { Prim.hlevel props },
     ghost part: { HasPart (rows_of S.text subscriber.tape) N.before (S.contents sink) } by { Prim.hlevel props },
     ghost whole: { IfSome over (λ ended. OnOk ended (HasAllOf subscriber)) } by { Prim.hlevel props },
     ghost settled: { IfSome over (λ ended. OnOk ended (conflicts.wanted.before ≤ conflicts.wanted.from)) } by { Prim.hlevel props },
 }
 
-/// A subscriber that holds nothing.
+/// A subscriber that holds nothing. `Disagrees` for a bad limit, `Memory` if memory runs out.
 pub(crate) fn subscribe(
     alloc: Global,
     listing: Listing,
@@ -120,21 +124,19 @@ pub(crate) fn subscribe(
     }
 }
 
-/// Another listing of the same names.
+/// Copies a listing. `Memory` if memory runs out.
 fn copy_of(alloc: Global, listing: &Listing) -> Result<Listing, Fault>
     ensures { IfOk result (λ copy. copy ≡ listing.now) }
 {
-    match Listing::new(
+    Listing::new(
         alloc,
         listing.symbols().as_slice(),
         listing.participants().as_slice(),
-    ) {
-        Ok(listing) => Ok(listing),
-        Err(_) => Err(Fault::Memory),
-    }
+    )
+    .map_err(|_| Fault::Memory)
 }
 
-/// The last number that a packet of the session tells of.
+/// Returns the last number in the header of a packet of the session, at most `TAPE_MOST`.
 fn last_told(session: u64, bytes: &[u8]) -> u32
     ensures told { (packet : Packet) → Spells bytes.now packet → result ≡ min (told_by session packet) TAPE_MOST }
     ensures within { result ≤ TAPE_MOST }
@@ -143,7 +145,7 @@ fn last_told(session: u64, bytes: &[u8]) -> u32
     told.min(u64::from(TAPE_MOST)) as u32
 }
 
-/// How many entries a subscriber holds.
+/// Returns how many entries a subscriber holds.
 pub(crate) fn held_count(subscriber: &Subscriber) -> u32
     ensures { result ≡ length subscriber.now.tape.entries }
 {
@@ -152,7 +154,7 @@ pub(crate) fn held_count(subscriber: &Subscriber) -> u32
     subscriber.held().len() as u32
 }
 
-/// The session of a packet.
+/// Returns the session of a packet, or `None` if the bytes are no packet.
 fn session_of(bytes: &[u8]) -> Option<u64>
     ensures { (packet : Packet) → Spells bytes.now packet → result ≡ Some (session_of packet) }
 {
@@ -162,7 +164,7 @@ fn session_of(bytes: &[u8]) -> Option<u64>
     }
 }
 
-/// The numbers from one on that a packet of the session brings: `None` where it does not bring that one.
+/// Returns the numbers from `from` on that a packet of the session brings, or `None` if it does not bring that one.
 fn numbers_from(session: u64, from: u32, bytes: &[u8]) -> Option<Numbers>
     ensures from { IfSome result (λ numbers. (numbers.from ≡ from) × (from < numbers.before)) }
     ensures brings { (packet : Packet) → Spells bytes.now packet → IfSome result (λ numbers.
@@ -180,14 +182,14 @@ fn numbers_from(session: u64, from: u32, bytes: &[u8]) -> Option<Numbers>
     }
 }
 
-/// How many numbers were announced above those that are held.
+/// Returns how many numbers were announced above those that are held.
 fn ahead_of(subscriber: &Subscriber) -> usize
     ensures { result ≡ ahead_of subscriber.now }
 {
     (subscriber.announced() as usize).saturating_sub(subscriber.held().len())
 }
 
-/// Whether a subscriber that holds so many entries is given up: `restart_after` is that many or fewer.
+/// Whether a subscriber that holds so many entries is dropped for a new one: `restart_after` is that many or fewer.
 fn is_given_up(restart_after: Option<u32>, held: usize) -> bool
     ensures given_up { (result ≡ true) ↔ IsSomeAnd restart_after (λ most. most ≤ held) }
 {
@@ -198,7 +200,7 @@ fn is_given_up(restart_after: Option<u32>, held: usize) -> bool
 }
 
 impl<N: HeldName, S: EntrySink> Follower<N, S> {
-    /// A follower by a subscriber that holds nothing, and a sink.
+    /// A follower with a subscriber that holds nothing, and a sink.
     #[tactic(auto, using(crate::proofs::Rows::all_none, crate::proofs::Rows::all_of_nothing, crate::proofs::Rows::part_all))]
     pub(crate) fn new(
         alloc: Global,
@@ -211,6 +213,8 @@ impl<N: HeldName, S: EntrySink> Follower<N, S> {
         requires listing { subscriber.tape.listing ≡ N.listing }
         requires matrix { subscriber.tape.matrix ≡ N.matrix }
         requires limit { subscriber.tape.limit ≡ N.limit }
+        requires named { session ≡ N.session }
+        requires session { subscriber.window.session ≡ session }
         requires nothing { subscriber.tape.entries ≡ [] }
         requires before { S.contents sink ≡ N.before }
     {
@@ -233,7 +237,7 @@ impl<N: HeldName, S: EntrySink> Follower<N, S> {
         }
     }
 
-    /// Takes note that a line brought a packet of the day.
+    /// Notes that a line brought a packet of the day.
     fn note(&mut self, line: Line, bytes: &[u8])
         ensures noted { (packet : Packet) → Spells bytes.now packet
             → self.new.positions ≡ once_noted line (header_number_of packet) self.old.positions }
@@ -246,7 +250,7 @@ impl<N: HeldName, S: EntrySink> Follower<N, S> {
         self.silence.broken();
     }
 
-    /// Takes note that packets told differently of a number.
+    /// Notes a number on which packets did not agree.
     fn differ(&mut self, number: u32)
         requires over { self.old.over ≡ None }
         requires number { number ≤ TAPE_MOST + 1 }
@@ -263,7 +267,7 @@ impl<N: HeldName, S: EntrySink> Follower<N, S> {
         self.conflicts.meet(number);
     }
 
-    /// Takes note of another session that was heard.
+    /// Notes another session that was heard.
     fn name_session(&mut self, bytes: &[u8])
         ensures named { (packet : Packet) → Spells bytes.now packet → self.new.account ≡ once_other (session_of packet) self.old.account }
         ensures going { self.new.over ≡ self.old.over }
@@ -277,8 +281,8 @@ impl<N: HeldName, S: EntrySink> Follower<N, S> {
         }
     }
 
-    /// The number to ask for after a packet that did not fit what is known of the end: right above the lesser of the last number that it
-    /// told of and the last one that is known.
+    /// Returns the number to ask for after a packet that did not fit what is known of the end: right above the lesser of its
+    /// last number and the last one that is known.
     fn number_past(&self, bytes: &[u8]) -> u32
         ensures told { (packet : Packet) → Spells bytes.now packet → result ≡ number_past self.now.subscriber (told_by self.now.session packet) }
         ensures within { result ≤ TAPE_MOST + 1 }
@@ -290,7 +294,7 @@ impl<N: HeldName, S: EntrySink> Follower<N, S> {
         known.min(last_told(self.session, bytes)) + 1
     }
 
-    /// Takes note of what became of what came by a line, but for the counts.
+    /// Notes what became of what came by a line, except in the counts.
     fn heed(&mut self, line: Line, bytes: &[u8], heard: Heard)
         requires over { self.old.over ≡ None }
         requires number { IsHeard heard }
@@ -313,7 +317,8 @@ impl<N: HeldName, S: EntrySink> Follower<N, S> {
         }
     }
 
-    /// Takes note of what came by a line and what became of it. An empty datagram is the follower's own, which ends a read.
+    /// Notes what came by a line and what became of it. An empty datagram is the follower's own, which ends a read, and is not
+    /// counted.
     #[tactic(auto, using(crate::proofs::Counts::counts_with))]
     fn hear(&mut self, line: Line, bytes: &[u8], heard: Heard)
         requires over { self.old.over ≡ None }
@@ -331,8 +336,8 @@ impl<N: HeldName, S: EntrySink> Follower<N, S> {
         }
     }
 
-    /// Takes what came by a line, and replays what is ready. Bytes that are no packet of the day are dropped. A packet that brings what is held
-    /// is dropped before it is decoded, unless packets that differ are settled: it may bring another entry.
+    /// Takes what came by a line, and replays what is ready. Bytes that are no packet of the day are dropped. A packet that
+    /// brings what is held is dropped before it is decoded, unless conflicts are settled, since it may bring another entry.
     fn take(&mut self, line: Line, bytes: &[u8]) -> Result<(), Fault>
         requires { self.old.over ≡ None }
         ensures going { self.new.over ≡ None }
@@ -352,7 +357,7 @@ impl<N: HeldName, S: EntrySink> Follower<N, S> {
         self.replay()
     }
 
-    /// Replays what is ready and gives it to the sink, unless that failed before.
+    /// Replays what is ready and gives it to the sink. If the sink failed before, it returns that fault.
     #[tactic(auto, using(crate::proofs::Rows::all_more, crate::proofs::Rows::part_all, crate::proofs::Rows::part_some))]
     fn replay(&mut self) -> Result<(), Fault>
         requires { self.old.over ≡ None }
@@ -372,7 +377,7 @@ impl<N: HeldName, S: EntrySink> Follower<N, S> {
         }
     }
 
-    /// A number that was asked for has to be held. If it is not, it is named.
+    /// Checks that a number that was asked for is held. If it is not, the number is named and the result is `Disagrees`.
     fn need(&mut self, number: u32) -> Result<(), Fault>
         requires { self.old.over ≡ None }
         ensures going { self.new.over ≡ None }
@@ -386,8 +391,8 @@ impl<N: HeldName, S: EntrySink> Follower<N, S> {
         Ok(())
     }
 
-    /// Takes packets that were asked for. The first number that was asked for has to be held then, by these or by what a line
-    /// brought meanwhile, so that each request makes progress.
+    /// Takes packets that were asked for. The first number that was asked for has to be held then, by these packets or by what
+    /// a line brought meanwhile, so that each request makes progress.
     fn take_all(&mut self, request: &Request, packets: &[Vec<u8>]) -> Result<(), Fault>
         requires { self.old.over ≡ None }
         ensures going { self.new.over ≡ None }
@@ -418,7 +423,7 @@ impl<N: HeldName, S: EntrySink> Follower<N, S> {
         )
     }
 
-    /// Gives the first subscriber up for a new one where it holds enough, and the sink lets it.
+    /// Drops the first subscriber for a new one if it holds enough and the sink does not refuse.
     #[tactic(auto, using(crate::proofs::Rows::all_kept, crate::proofs::Rows::all_of_nothing, crate::proofs::Rows::part_all))]
     fn restart(&mut self) -> Result<(), Fault>
         requires { self.old.over ≡ None }
@@ -455,15 +460,15 @@ impl<N: HeldName, S: EntrySink> Follower<N, S> {
         }
     }
 
-    /// Whether all is held, and no packets told differently of a number that is still to be asked for.
+    /// Whether all is held, and no number is still to be asked for because packets did not agree on it.
     fn is_done(&self) -> bool
         ensures { IsTrue result ↔ (HasAllOf self.now.subscriber × (self.now.conflicts.wanted.before ≤ self.now.conflicts.wanted.from)) }
     {
         self.has_all() && self.conflicts.len() == 0
     }
 
-    /// Ends a run that is not over where what came was a fault, or where all is held and no conflict is open. Whether to restart is looked at
-    /// before that.
+    /// Ends the run if what came was a fault, or if all is held and no conflict is open. Whether to restart is checked before
+    /// that.
     fn settle(&mut self, taken: Result<(), Fault>)
         requires { self.old.over ≡ None }
         ensures fault { IfErr taken (λ fault. self.new.over ≡ Some (Err fault)) }
@@ -481,8 +486,8 @@ impl<N: HeldName, S: EntrySink> Follower<N, S> {
         };
     }
 
-    /// Takes what came by a line, unless the run is over, and tells what is next. That a number is waited for is told once, to
-    /// whoever wakes the requester.
+    /// Takes what came by a line, unless the run is over, and returns what is next. It returns `Wait` only if the requester
+    /// sleeps, so once for each wait, to the thread that wakes it.
     pub(crate) fn deliver(&mut self, line: Line, bytes: &[u8]) -> Next
         ensures end { self.new.has_restarted ≡ false → IsSome self.new.over → result ≡ End }
         ensures connect { self.new.has_restarted ≡ true → result ≡ Connect }
@@ -504,8 +509,8 @@ impl<N: HeldName, S: EntrySink> Follower<N, S> {
         }
     }
 
-    /// Takes what a request brought, unless the run is over, or the subscriber that lacked it was given up meanwhile. The retransmission has to
-    /// have what is missing.
+    /// Takes what a request brought, unless the run is over, or the subscriber that lacked it was dropped meanwhile. The
+    /// retransmission has to have what is missing.
     pub(crate) fn answer(&mut self, request: &Request, brought: Result<Answered, Fault>)
         ensures over { IsSome self.old.over → self.new ≡ self.old }
         ensures given_up { self.old.has_restarted ≡ true → self.new ≡ self.old }
@@ -527,7 +532,7 @@ impl<N: HeldName, S: EntrySink> Follower<N, S> {
         self.settle(taken);
     }
 
-    /// The fault of a run in which another entry is held than the retransmission has.
+    /// Names a number under which the retransmission has another entry than the one held, and returns the run's fault for it.
     fn other_entry(&mut self, number: u32) -> Fault
         requires { self.old.over ≡ None }
         ensures fault { result ≡ Disagrees }
@@ -539,8 +544,8 @@ impl<N: HeldName, S: EntrySink> Follower<N, S> {
         Fault::Disagrees
     }
 
-    /// Takes a packet of the retransmission, which has to bring numbers from one on, each as it is known: the number after them. A run in which
-    /// it brings another entry ends, and the number is named.
+    /// Takes a packet of the retransmission, which has to bring numbers from `from` on, each as it is known, and returns the
+    /// number after them. If it brings another entry, the number is named and the result is `Disagrees`.
     fn find(&mut self, from: u32, bytes: &[u8]) -> Result<u32, Fault>
         requires { self.old.over ≡ None }
         ensures going { self.new.over ≡ None }
@@ -563,7 +568,7 @@ impl<N: HeldName, S: EntrySink> Follower<N, S> {
         Ok(numbers.before)
     }
 
-    /// Takes packets that were asked for since others told differently, one after another.
+    /// Takes packets that were asked for because others did not agree, one after another.
     fn find_all(&mut self, request: &Request, packets: &[Vec<u8>]) -> Result<(), Fault>
         requires { self.old.over ≡ None }
         ensures going { self.new.over ≡ None }
@@ -577,7 +582,7 @@ impl<N: HeldName, S: EntrySink> Follower<N, S> {
         self.replay()
     }
 
-    /// Takes note that the retransmission has no such number. It has to lie above the known end.
+    /// Notes that the retransmission has no such number. It has to lie above the known end.
     fn find_none(&mut self, number: u32) -> Result<(), Fault>
         requires { self.old.over ≡ None }
         ensures going { self.new.over ≡ None }
@@ -598,7 +603,7 @@ impl<N: HeldName, S: EntrySink> Follower<N, S> {
         }
     }
 
-    /// Takes what a request brought for numbers of which packets told differently, unless the run is over, or begun anew.
+    /// Takes what a request brought for numbers on which packets did not agree, unless the run is over or has restarted.
     pub(crate) fn settle_by(&mut self, request: &Request, brought: Result<Answered, Fault>)
         ensures over { IsSome self.old.over → self.new ≡ self.old }
         ensures given_up { self.old.has_restarted ≡ true → self.new ≡ self.old }
@@ -621,8 +626,8 @@ impl<N: HeldName, S: EntrySink> Follower<N, S> {
         self.settle(found);
     }
 
-    /// What is next for the requester, which then sleeps until it is rung where nothing is missing. What it asks for was waited for in
-    /// vain where a line has not come to it.
+    /// Returns what is next for the requester, which then sleeps until it is rung if nothing is missing. A line that is behind
+    /// what it asks for was waited for in vain.
     pub(crate) fn next_to_ask(&mut self) -> Next
         ensures asleep { IsTrue self.new.is_asleep ↔ (result ≡ ReadOn) }
         ensures going { self.old.has_restarted ≡ false → self.old.over ≡ None → IsNext self.old.subscriber self.old.positions self.old.conflicts self.old.session result }
@@ -637,14 +642,15 @@ impl<N: HeldName, S: EntrySink> Follower<N, S> {
         next
     }
 
-    /// Takes note that this number was waited for, for a turn.
+    /// Notes a turn of waiting for this number.
     pub(crate) fn waited(&mut self, number: u32)
         ensures { self.new.positions.awaited ≡ number }
     {
         self.positions.waited(number)
     }
 
-    /// What is next. A new subscriber gets its connection, which the retransmission awaits, even where the run is over by then.
+    /// Returns what is next. A new subscriber gets its connection, which the retransmission awaits, even if the run is over by
+    /// then.
     fn next(&self) -> Next
         ensures connect { self.now.has_restarted ≡ true → result ≡ Connect }
         ensures end { self.now.has_restarted ≡ false → IsSome self.now.over → result ≡ End }
@@ -676,7 +682,7 @@ impl<N: HeldName, S: EntrySink> Follower<N, S> {
         !self.has_restarted && self.over.is_none()
     }
 
-    /// Takes note that the new subscriber has its connection, or ends the run by the fault that kept it from it.
+    /// Notes that the new subscriber has its connection, or ends the run by the fault that kept it from one.
     pub(crate) fn connected(&mut self, connected: Result<(), Fault>)
         ensures connected { self.new.has_restarted ≡ false }
         ensures fault { IfErr connected (λ fault. self.old.over ≡ None → self.new.over ≡ Some (Err fault)) }
@@ -689,7 +695,7 @@ impl<N: HeldName, S: EntrySink> Follower<N, S> {
         }
     }
 
-    /// Takes note of a look at the connection, and ends the run where the day is gone.
+    /// Notes a look at the connection, and ends the run with `Read` if the day is gone.
     pub(crate) fn looked(&mut self, is_closed: bool)
         ensures gone { SILENT_MOST ≤ self.new.silence.looks → self.old.over ≡ None → self.new.over ≡ Some (Err Read) }
         ensures later { IsSome self.old.over → self.new.over ≡ self.old.over }
@@ -714,7 +720,7 @@ impl<N: HeldName, S: EntrySink> Follower<N, S> {
         }
     }
 
-    /// Takes note that the retransmission could not be reached, and why.
+    /// Notes why the retransmission could not be reached, unless the run is over.
     pub(crate) fn unreachable(&mut self, fault: FollowFault)
         ensures named { self.old.over ≡ None → self.new.why ≡ Some fault }
         ensures later { IsSome self.old.over → self.new.why ≡ self.old.why }
@@ -725,7 +731,7 @@ impl<N: HeldName, S: EntrySink> Follower<N, S> {
         }
     }
 
-    /// Takes note that the retransmission was reached again, unless the run is over.
+    /// Notes that the retransmission was reached again, unless the run is over.
     pub(crate) fn reached(&mut self)
         ensures unnamed { self.old.over ≡ None → self.new.why ≡ None }
         ensures later { IsSome self.old.over → self.new.why ≡ self.old.why }
@@ -736,7 +742,7 @@ impl<N: HeldName, S: EntrySink> Follower<N, S> {
         }
     }
 
-    /// The account of a run.
+    /// Returns the account of the run so far.
     fn account(&self) -> FollowAccount
         ensures { result ≡ account_of self.now.account self.now.subscriber self.now.conflicts.wanted }
     {
@@ -749,10 +755,12 @@ impl<N: HeldName, S: EntrySink> Follower<N, S> {
         account
     }
 
-    /// What is left of a run: what is held and the sink, how it ended, and its account.
+    /// Returns what is left of a run that is over: the subscriber and the sink, how it ended, and its account.
     pub(crate) fn into_followed(self) -> Followed<S>
         ensures tape { IfSome result.subscriber (λ subscriber. IsTapeOf N.listing N.matrix N.limit subscriber.tape) }
         ensures some { result.subscriber ≡ Some self.subscriber }
+        ensures session { IfSome result.subscriber (λ subscriber. subscriber.window.session ≡ N.session) }
+        ensures own { result.account.session ≡ N.session }
         ensures given { OnOk result.ended (IfSome result.subscriber (λ subscriber. Appends N.before (S.contents result.sink) (rows_of S.text subscriber.tape))) }
         ensures part { GivesPart S.text N.listing N.matrix N.limit N.before (S.contents result.sink) }
         ensures whole { OnOk result.ended (IfSome result.subscriber HasAllOf) }

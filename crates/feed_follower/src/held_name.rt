@@ -1,4 +1,4 @@
-//! The name of what a follower is to hold.
+//! The name of the tape that a follower is to hold, by which contracts know it behind a lock.
 ghost use Rattle.std.specs.Prelude.{ℕ, List, Option, None, []};
 ghost use Rattle.tape_types.specs.Names.{Names};
 ghost use Rattle.sale_matrix.specs.declared.matrix.Matrix.{Matrix};
@@ -6,8 +6,8 @@ ghost use Rattle.sale_matrix.specs.declared.matrix.Matrix.TheVariants.{One};
 
 use std::marker::Brand;
 
-/// The listing, the matrix and the limit of the tape that a follower is to hold, and the bytes of its sink before that, behind its lock
-/// too. A function over it is called with `Brand`, once for each follower.
+/// The listing, the matrix, the limit and the session of the tape that a follower is to hold, and the bytes of its sink before
+/// that, which are known behind its lock too. A function over it is called with `Brand`, once for each follower.
 pub(crate) trait HeldName {
     /// The symbols and participants.
     ghost listing: { Names };
@@ -15,6 +15,8 @@ pub(crate) trait HeldName {
     ghost matrix: { Matrix };
     /// The most entries of the tape.
     ghost limit: { ℕ };
+    /// The session under which the tape is sent.
+    ghost session: { ℕ };
     /// What the sink has before it is given anything.
     ghost before: { Option (List ℕ) };
 }
@@ -25,6 +27,8 @@ impl HeldName for Brand {
     ghost matrix = { One };
 
     ghost limit = { 0 };
+
+    ghost session = { 0 };
 
     ghost before = { None };
 }

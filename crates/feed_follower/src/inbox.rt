@@ -1,4 +1,4 @@
-//! What the lines of a follower brought while another thread had it.
+//! Keeps the datagrams that lines brought while another thread had the follower, in their order.
 ghost use Rattle.std.specs.Prelude.{◌≡◌, ◌≤◌, ◌↔◌, ◌∷◌, ◌++◌, [], IfErr, IfOk, IsTrue, OnOk};
 ghost use Rattle.std.specs.Option.{option_to_list};
 ghost use Rattle.std.specs.VecDeque.{deque_capacity, deque_len};
@@ -8,7 +8,7 @@ use arbitration::Line;
 use std::alloc::{AllocError, Global};
 use std::collections::VecDeque;
 
-/// How many datagrams are kept at most: a line that brings more waits for the follower.
+/// The most datagrams that are kept. A line that brings more waits for the follower.
 const KEPT_MOST: usize = 1_024;
 
 /// A datagram that a line brought.
@@ -19,7 +19,7 @@ pub(crate) struct Datagram {
 }
 
 impl Datagram {
-    /// These bytes, which came by a line.
+    /// Copies the bytes of a datagram that came by a line. `AllocError` if memory runs out.
     pub(crate) fn new(alloc: Global, line: Line, bytes: &[u8]) -> Result<Datagram, AllocError>
         ensures line { IfOk result (λ datagram. datagram.line ≡ line) }
         ensures bytes { IfOk result (λ datagram. datagram.bytes.items ≡ bytes.now) }
@@ -37,7 +37,7 @@ pub(crate) struct Inbox {
 }
 
 impl Inbox {
-    /// Nothing is kept. Memory for the list is taken here.
+    /// An empty inbox. All memory for the list is allocated here; `AllocError` if it runs out.
     pub(crate) fn nothing(alloc: Global) -> Result<Inbox, AllocError>
         ensures { IfOk result (λ kept. kept.datagrams.items ≡ []) }
     {
@@ -45,7 +45,7 @@ impl Inbox {
         Ok(Inbox { datagrams })
     }
 
-    /// Keeps a datagram, unless there are `KEPT_MOST` already.
+    /// Keeps a datagram, or returns it if there are `KEPT_MOST` already.
     pub(crate) fn keep(&mut self, datagram: Datagram) -> Result<(), Datagram>
         ensures ok { OnOk result (self.new.datagrams.items ≡ self.old.datagrams.items ++ datagram ∷ []) }
         ensures err { IfErr result (λ other. (other ≡ datagram) × (self.new.datagrams.items ≡ self.old.datagrams.items)) }
@@ -58,7 +58,7 @@ impl Inbox {
         Ok(())
     }
 
-    /// Gives out the datagram that was kept first.
+    /// Removes and returns the datagram that was kept first.
     pub(crate) fn next(&mut self) -> Option<Datagram>
         ensures { self.old.datagrams.items ≡ option_to_list result ++ self.new.datagrams.items }
     {

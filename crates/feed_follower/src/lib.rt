@@ -1,5 +1,5 @@
-//! A follower's side of a day over sockets: two lossy lines and a retransmission in, each entry to a sink, and the report of the tape
-//! that it comes to hold.
+//! A follower's side of a day over sockets: it reads two lossy lines and a retransmission, gives each entry to a sink, and
+//! writes the report of the tape that it comes to hold.
 #![tactic(auto)]
 
 mod account;

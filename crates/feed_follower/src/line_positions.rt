@@ -1,24 +1,25 @@
-//! How far the lines of a follower have come, so that what one of them lost is not asked for while the other still brings it.
+//! Keeps how far the lines of a follower have come, so that what one of them lost is not asked for while the other may still
+//! bring it.
 ghost use Rattle.std.specs.Prelude.{◌≡◌, ◌↔◌, ◌≤◌, ◌+◌, ◌==◌, min, if◌then◌else◌, None, IsTrue};
 ghost use Rattle.feed_follower.specs.LinePositions.{IsAwaited, IsBehind, IsToWait, once_brought, once_noted};
 ghost use Rattle.feed_follower.specs.declared.line_positions.TheConstants.{TURNS_MOST};
 
 use arbitration::{Line, REACH};
 
-/// How many turns a line is waited for that has not come as far as the other.
+/// For how many turns the follower waits for a line that is behind the other.
 const TURNS_MOST: u32 = 5;
 
-/// How many numbers have to be announced above those that are held for nothing to be waited for any more: half of what the window
-/// keeps, so that what comes while a request is answered fits too.
+/// How many numbers are announced above those held once the follower waits for no line: half of what the window keeps, so that
+/// what comes while a request is answered fits too.
 const AHEAD_MOST: usize = REACH / 2;
 
 /// How far a line has come.
 #[derive(Clone, Copy)]
 pub(crate) struct LinePosition {
-    /// The greatest number that it brought: `None` where it brought none.
+    /// The greatest number that it brought, or `None` if it brought none.
     last: Option<u32>,
-    /// The number that it has to come to before something is awaited from it: one that was asked for because the line was late. 0
-    /// before there was one.
+    /// The number that it has to reach before the follower waits for it again: one that was asked for because the line was
+    /// late. 0 before there was one.
     awaited_from: u32,
 }
 
@@ -27,9 +28,9 @@ pub(crate) struct LinePosition {
 pub(crate) struct LinePositions {
     a: LinePosition,
     b: LinePosition,
-    /// The number that is waited for, or was last; 0 before there is one.
+    /// The number that is waited for, or was the last one; 0 before there is one.
     awaited: u32,
-    /// For how many turns it was.
+    /// For how many turns it was waited for.
     turns: u32,
 }
 
@@ -52,7 +53,7 @@ impl LinePosition {
         self.last = Some(self.last.unwrap_or(0).max(number));
     }
 
-    /// Whether the line brought something, but has not come to this number.
+    /// Whether the line has brought something, but has not reached this number.
     fn is_behind(&self, number: u32) -> bool
         ensures { IsTrue result ↔ IsBehind number self.now }
     {
@@ -72,7 +73,7 @@ impl LinePosition {
         }
     }
 
-    /// Notes that this number was asked for. Where the line has not come to it, nothing is awaited from the line before it does.
+    /// Notes that this number was asked for. If the line is behind it, nothing is awaited from the line before it reaches it.
     fn ask(&mut self, number: u32)
         ensures late { IsBehind number self.old → self.new ≡ record self.old { awaited_from = number } }
         ensures other { ¬ (IsBehind number self.old) → self.new ≡ self.old }
@@ -98,7 +99,7 @@ impl LinePositions {
         }
     }
 
-    /// Notes the number that a packet of a line told. A retransmission is no line that is waited for.
+    /// Notes the number in the header of a line's packet. The retransmission is no line to wait for.
     pub(crate) fn note(&mut self, line: Line, number: u32)
         ensures { self.new ≡ once_noted line number self.old }
     {
@@ -116,8 +117,8 @@ impl LinePositions {
         self.awaited == number && TURNS_MOST <= self.turns
     }
 
-    /// Whether to wait for this number, the least that is missing, where so many are announced above those that are held: a line
-    /// may bring it yet, it was not waited for long enough, and what comes meanwhile fits into the window.
+    /// Whether to wait for this number, the least that is missing, if `ahead` numbers are announced above those held: a line
+    /// may still bring it, it was not waited for long enough, and what comes meanwhile fits into the window.
     pub(crate) fn may_bring(&self, number: u32, ahead: usize) -> bool
         ensures { IsTrue result ↔ IsToWait number ahead self.now }
     {
@@ -126,7 +127,7 @@ impl LinePositions {
             && (self.a.is_awaited(number) || self.b.is_awaited(number))
     }
 
-    /// Counts a turn for which this number was waited.
+    /// Counts a turn of waiting for this number.
     pub(crate) fn waited(&mut self, number: u32)
         ensures awaited { self.new.awaited ≡ number }
         ensures turns { self.new.turns ≡ (if self.old.awaited == number then min (self.old.turns + 1) TURNS_MOST else 1) }
@@ -141,8 +142,8 @@ impl LinePositions {
         self.turns = before.saturating_add(1).min(TURNS_MOST);
     }
 
-    /// Notes that this number was asked for: a line that has not come to it was waited for in vain, or is too late to be. So what
-    /// is missing next does not wait for that line again until it has made up for it.
+    /// Notes that this number was asked for: a line that is behind it was waited for in vain, or is too late to be waited for.
+    /// So the follower does not wait for that line again before it has caught up.
     pub(crate) fn asked(&mut self, number: u32)
         ensures late_a { IsBehind number self.old.a → self.new.a ≡ record self.old.a { awaited_from = number } }
         ensures other_a { ¬ (IsBehind number self.old.a) → self.new.a ≡ self.old.a }

@@ -1,20 +1,21 @@
-//! The entries of a subscriber that are ready: replayed, and given to a sink one by one.
+//! Has a subscriber replay the entries that are ready, and gives them to a sink one by one.
 ghost use Rattle.std.specs.Prelude.{◌≡◌, ◌≢◌, ℕ, List, Option, [], OnErr, OnOk};
 ghost use Rattle.std.specs.Io.KnownBytes.{Appends, Keeps};
-ghost use Rattle.row_reads.specs.Writing.{WritesPrefix};
+ghost use Rattle.whole_io.specs.Writing.{WritesPrefix};
 ghost use Rattle.feed_follower.specs.Followers.{KeepsNews, KeepsTerms};
-ghost use Rattle.feed_follower.specs.Sinks.{GivesMore, GivesSome, HasAll, RowsGrow, figures_of, rows_of};
+ghost use Rattle.feed_follower.specs.Sinks.{GivesMore, GivesSome, HasAll, RowsGrow, rows_of};
 ghost use Rattle.feed_ends.specs.declared.fault.Fault.TheVariants.{Disagrees, Memory};
 ghost use Rattle.subscriber.specs.declared.drain_fault.Stop.TheVariants.{Refused};
+ghost use Rattle.tape_core.specs.Tape.{row_figures};
 ghost use Rattle.tape_core.specs.declared.refusal.Refusal.TheVariants.{OutOfMemory};
 
 use crate::EntrySink;
 use arbitration::REACH;
 use feed_ends::Fault;
 use subscriber::{DrainFault, Stop, Subscriber};
-use tape_core::{Entry, Refusal};
+use tape_core::{Entry, Refusal, RowFigures};
 
-/// The run's fault for a drain that stopped.
+/// Returns the run's fault for a drain that stopped.
 fn fault_of_drain(fault: DrainFault) -> Fault
     ensures memory { fault.why ≡ Refused OutOfMemory → result ≡ Memory }
     ensures other { fault.why ≢ Refused OutOfMemory → result ≡ Disagrees }
@@ -37,24 +38,24 @@ fn replay_all(subscriber: &mut Subscriber) -> Result<(), Fault>
     }
 }
 
-/// Gives a sink the entry that the subscriber holds as its last, with the figures of the entry's symbol.
+/// Gives a sink the last entry that the subscriber holds, with the figures of its symbol.
 #[tactic(auto, using(crate::proofs::Rows::figures_found, crate::proofs::Rows::part_none))]
 fn give<S: EntrySink>(subscriber: &Subscriber, entry: &Entry, sink: &mut S) -> Result<(), Fault>
     ensures given { OnOk result (Appends (S.contents sink.old) (S.contents sink.new)
-        (S.text entry.now (figures_of subscriber.now.tape.matrix subscriber.now.tape.entries entry.now))) }
+        (S.text entry.now (row_figures subscriber.now.tape.matrix subscriber.now.tape.entries entry.now.message))) }
     ensures part { OnErr result (WritesPrefix
-        (S.text entry.now (figures_of subscriber.now.tape.matrix subscriber.now.tape.entries entry.now)) (S.contents sink.old) (S.contents sink.new)) }
+        (S.text entry.now (row_figures subscriber.now.tape.matrix subscriber.now.tape.entries entry.now.message)) (S.contents sink.old) (S.contents sink.new)) }
 {
-    let Some(after) = subscriber.summary(entry.message.header().symbol) else {
+    let Some(consolidated) = subscriber.summary(entry.message.header().symbol) else {
         return Err(Fault::Disagrees);
     };
-    match sink.take(entry, &after) {
+    match sink.take(entry, &RowFigures { consolidated }) {
         Ok(()) => Ok(()),
         Err(fault) => Err(fault.fault()),
     }
 }
 
-/// Has the subscriber replay the next entry, where one is ready, and gives it to a sink. Whether there was one.
+/// Has the subscriber replay the next entry, if one is ready, and gives it to a sink. Returns whether there was one.
 #[tactic(auto, using(crate::proofs::Kept::news_at_next, crate::proofs::Rows::kept_at_next, crate::proofs::Rows::more_idle, crate::proofs::Rows::more_next, crate::proofs::Rows::some_next, crate::proofs::Rows::some_none))]
 fn replay_next<S: EntrySink>(subscriber: &mut Subscriber, sink: &mut S) -> Result<bool, Fault>
     ensures names { KeepsTerms subscriber.old.tape subscriber.new.tape }
@@ -67,10 +68,8 @@ fn replay_next<S: EntrySink>(subscriber: &mut Subscriber, sink: &mut S) -> Resul
         Ok(None) => return Ok(false),
         Err(fault) => return Err(fault_of_drain(fault)),
     };
-    match give(subscriber, &entry, sink) {
-        Ok(()) => Ok(true),
-        Err(fault) => Err(fault),
-    }
+    give(subscriber, &entry, sink)?;
+    Ok(true)
 }
 
 /// Has the subscriber replay what is ready, and gives each entry to a sink.
@@ -91,18 +90,16 @@ fn replay_each<S: EntrySink>(subscriber: &mut Subscriber, sink: &mut S) -> Resul
     Ok(())
 }
 
-/// Tells a sink that nothing more is ready for now.
+/// Flushes a sink, since nothing more is ready for now.
 fn flush<S: EntrySink>(sink: &mut S) -> Result<(), Fault>
     ensures { Keeps (S.contents sink.old) (S.contents sink.new) }
 {
-    match sink.flush() {
-        Ok(()) => Ok(()),
-        Err(fault) => Err(fault.fault()),
-    }
+    sink.flush()?;
+    Ok(())
 }
 
-/// Has the subscriber replay what is ready, and gives a sink each entry of it, in their order and once, as soon as it is held. The sink is
-/// told then that there is nothing more for now. One that takes nothing costs nothing: all that is ready is replayed at once.
+/// Has the subscriber replay what is ready, and gives a sink each entry of it, in order and once, as soon as it is held. The
+/// sink is flushed after that. For a sink that takes nothing, all that is ready is replayed at once.
 #[tactic(auto, using(crate::proofs::Rows::more_kept, crate::proofs::Rows::more_unknown, crate::proofs::Rows::some_none, crate::proofs::Rows::some_of_more, crate::proofs::Rows::some_kept))]
 pub(crate) fn replay<S: EntrySink>(subscriber: &mut Subscriber, sink: &mut S) -> Result<(), Fault>
     ensures names { KeepsTerms subscriber.old.tape subscriber.new.tape }
@@ -113,13 +110,11 @@ pub(crate) fn replay<S: EntrySink>(subscriber: &mut Subscriber, sink: &mut S) ->
     if sink.takes_nothing() {
         return replay_all(subscriber);
     }
-    match replay_each(subscriber, sink) {
-        Ok(()) => flush(sink),
-        Err(fault) => Err(fault),
-    }
+    replay_each(subscriber, sink)?;
+    flush(sink)
 }
 
-/// Tells a sink that the tape is begun anew, where it was given entries of it.
+/// Tells a sink that the tape begins anew, if it was given entries of it. The sink's fault if it refuses.
 #[tactic(auto, using(crate::proofs::Rows::all_anew, crate::proofs::Rows::nothing_of_all))]
 pub(crate) fn begin_anew<S: EntrySink>(subscriber: &Subscriber, sink: &mut S) -> Result<(), Fault>
     ensures anew { OnOk result ((before : Option (List ℕ)) → HasAll (rows_of S.text subscriber.now.tape) before (S.contents sink.old)
@@ -129,8 +124,6 @@ pub(crate) fn begin_anew<S: EntrySink>(subscriber: &Subscriber, sink: &mut S) ->
     if subscriber.held().is_empty() {
         return Ok(());
     }
-    match sink.restarted() {
-        Ok(()) => Ok(()),
-        Err(fault) => Err(fault.fault()),
-    }
+    sink.restarted()?;
+    Ok(())
 }

@@ -1,4 +1,4 @@
-//! What asks for what a follower lacks, beside its lines.
+//! Asks the retransmission for what a follower lacks, beside its lines, and connects again after a connection was lost.
 ghost use Rattle.std.specs.Prelude.{◌≡◌, ◌≢◌, ◌↔◌, ◌⊎◌, ◌≤◌, Err, IfErr, IfOk, IsTrue, None, Ok};
 ghost use Rattle.feed_ends.specs.declared.fault.Fault.TheVariants.{Disagrees, Memory, Read, Write};
 ghost use Rattle.feed_follower.specs.Reported.{follow_fault};
@@ -21,13 +21,13 @@ use std::thread::Parker;
 use std::time::Duration;
 use tape_frames::Request;
 
-/// How long a turn is for which what a line may still bring is waited for, in milliseconds.
+/// How long a turn of waiting for a line is, in milliseconds.
 const TURN: u64 = 1;
 
-/// How long the requester sleeps at most before it looks whether its connection was closed, in milliseconds.
+/// How long the requester sleeps at most before it checks whether its connection was closed, in milliseconds.
 const LOOK: u64 = 1_000;
 
-/// What asks for what a follower lacks, and where.
+/// The thread's side that asks the retransmission for what a follower lacks.
 #[derive(Drop)]
 pub(crate) struct Requester {
     /// The connection on which it asks.
@@ -36,14 +36,14 @@ pub(crate) struct Requester {
     pub(crate) port: u16,
     /// Where memory comes from.
     pub(crate) alloc: Global,
-    /// For how many seconds it tries to connect: `None` where it tries once.
+    /// For how many seconds it tries to connect, or `None` if it tries once.
     connect_within: Option<u32>,
-    /// The tries that are left to open another connection once this one has ended. All are, once a request was answered on it, or, where it
-    /// tries for some seconds, it was seen open.
+    /// The tries that are left to open another connection once this one has ended. All are left once a request was answered on
+    /// it, or, if it tries for some seconds, once it was seen open.
     tries: Tries,
 }
 
-/// What is read of an answer.
+/// An answer of the retransmission.
 #[derive(Drop)]
 pub(crate) enum Answered {
     /// The bytes of its packets.
@@ -52,32 +52,29 @@ pub(crate) enum Answered {
     Beyond,
 }
 
-/// Connects to the retransmission at a port of this machine, or names why it can't.
+/// Connects to the retransmission at a port of this machine, once. `Unreachable` if it can't.
 fn dial<R: Net<Listener = TcpListener, Stream = TcpStream>>(
     rt: &R,
     port: u16,
 ) -> Result<TcpStream, FollowFault>
     ensures { IfErr result (λ fault. follow_fault fault ≡ Read) }
 {
-    match TcpStream::connect(rt, here(port)) {
-        Ok(stream) => {
-            // Each request is one write, which need not wait for the one before to be acknowledged.
-            let _ = stream.set_nodelay(true);
-            Ok(stream)
-        }
-        Err(error) => Err(FollowFault::Unreachable {
-            port,
-            kind: error.kind(),
-        }),
-    }
+    let connected = TcpStream::connect(rt, here(port));
+    let stream = connected.map_err(|error| FollowFault::Unreachable {
+        port,
+        kind: error.kind(),
+    })?;
+    // Each request is one write, which need not wait for the one before to be acknowledged.
+    let _ = stream.set_nodelay(true);
+    Ok(stream)
 }
 
-/// Waits before it tries to connect again.
+/// Waits before another try to connect.
 fn pause<R: Wait>(rt: &R) {
     Parker::new().park_timeout(rt, Duration::from_millis(PAUSE));
 }
 
-/// Connects to the retransmission, for as long as it may try. The fault is that of the last try.
+/// Connects to the retransmission, for as long as it may try. It returns the fault of the last try.
 fn dial_within<R: Net<Listener = TcpListener, Stream = TcpStream> + Wait>(
     rt: &R,
     port: u16,
@@ -96,7 +93,7 @@ fn dial_within<R: Net<Listener = TcpListener, Stream = TcpStream> + Wait>(
     dialed
 }
 
-/// The run's fault for a request that brought no packets.
+/// Returns the run's fault for a request that brought no packets.
 fn fault_of_ask(fault: AskFault) -> Fault
     ensures read { fault ≡ ReadFault → result ≡ Read }
     ensures write { fault ≡ WriteFault → result ≡ Write }
@@ -111,14 +108,14 @@ fn fault_of_ask(fault: AskFault) -> Fault
     }
 }
 
-/// Whether a connection has ended on which a request brought this: it could not be read or written.
+/// Whether the connection has ended, by what a request on it brought: it could not be read or written.
 fn has_ended(brought: &Result<Answered, Fault>) -> bool
     ensures { IsTrue result ↔ ((brought.now ≡ Err Read) ⊎ (brought.now ≡ Err Write)) }
 {
     matches!(brought, Err(Fault::Read | Fault::Write))
 }
 
-/// What a request brought, by what came of asking.
+/// Returns what a request brought: packets, `Beyond`, or the run's fault.
 fn read_answer(asked: Result<Vec<Vec<u8>>, AskFault>) -> Result<Answered, Fault>
     ensures packets { IfOk asked (λ packets. result ≡ Ok (Packets packets)) }
     ensures beyond { asked ≡ Err (Refused RefusedBeyond) → result ≡ Ok Beyond }
@@ -135,7 +132,7 @@ fn read_answer(asked: Result<Vec<Vec<u8>>, AskFault>) -> Result<Answered, Fault>
 }
 
 impl Requester {
-    /// One that is connected, for as long as it may try.
+    /// A requester with a connection, which it tries to open for as long as it may.
     pub(crate) fn new<R: Net<Listener = TcpListener, Stream = TcpStream> + Wait>(
         rt: &R,
         alloc: Global,
@@ -154,7 +151,7 @@ impl Requester {
         })
     }
 
-    /// What a request brings. The follower is not locked meanwhile, so its lines are read on.
+    /// Sends a request and reads what it brings. The follower is not locked meanwhile, so its lines are still read.
     fn bring(&self, request: &Request) -> Result<Answered, Fault> {
         read_answer(ask(
             self.alloc,
@@ -164,15 +161,13 @@ impl Requester {
         ))
     }
 
-    /// Another handle of the connection.
+    /// Returns another handle of the connection. `Read` if there is none.
     pub(crate) fn handle(&self) -> Result<TcpStream, Fault> {
-        match self.connection.try_clone() {
-            Ok(handle) => Ok(handle),
-            Err(_) => Err(Fault::Read),
-        }
+        self.connection.try_clone().map_err(|_| Fault::Read)
     }
 
-    /// Whether the other side closed the connection, or it was lost. One that was not accepted yet is open. It does not wait.
+    /// Whether the other side closed the connection, or it was lost. A connection that is not yet accepted is open. It does not
+    /// wait.
     fn is_closed(&self) -> bool {
         let _ = self.connection.set_nonblocking(true);
         let seen = self.connection.peek(&mut [0]);
@@ -197,7 +192,7 @@ impl Requester {
         dial(rt, self.port)
     }
 
-    /// Connects again, as long as tries are left and the run goes on. `None` where it was not tried.
+    /// Connects again, as long as tries are left and the run goes on. `None` if it was not tried.
     fn dial_again<
         N: HeldName,
         S: EntrySink,
@@ -213,7 +208,7 @@ impl Requester {
         dialed
     }
 
-    /// Connects anew for a new subscriber. The connection of the one that was given up is closed.
+    /// Connects for a new subscriber. The connection of the one that was dropped is closed.
     fn reconnect<
         N: HeldName,
         S: EntrySink,
@@ -229,7 +224,7 @@ impl Requester {
         }
     }
 
-    /// Connects anew after a connection that has ended, and tells whether that could be done. Where it was tried in vain, the run keeps what
+    /// Connects again after a connection that has ended, and returns whether it could. If it tried in vain, the run keeps what
     /// names the fault.
     fn connect_again<
         N: HeldName,
@@ -253,9 +248,10 @@ impl Requester {
         true
     }
 
-    /// Asks for numbers: what a request brings, unless the connection has ended and another was opened, after which it is looked again at what
-    /// is to be asked for. Each connection that is opened takes a try, and all tries are left once a request was answered, so there is an end
-    /// to connections that answer nothing. Where no try is left, the run ends by the fault of the connection that has ended.
+    /// Asks for numbers and returns what the request brings, or `None` if the connection has ended and another was opened: then
+    /// what to ask for is looked up again. Each connection that is opened takes a try, and all tries are left once a request
+    /// was answered, so connections that answer nothing come to an end. If no try is left, the run ends by the fault of the
+    /// connection that has ended.
     fn ask_for<
         N: HeldName,
         S: EntrySink,
@@ -287,7 +283,7 @@ impl Requester {
         }
     }
 
-    /// Asks for numbers of which packets told differently.
+    /// Asks for numbers on which packets did not agree.
     fn ask_again<
         N: HeldName,
         S: EntrySink,
@@ -298,7 +294,7 @@ impl Requester {
         }
     }
 
-    /// Connects anew after a connection that was seen closed, by one try at least.
+    /// Connects again after a connection that was seen closed, by at least one try. Returns whether it could.
     fn reopen<N: HeldName, S: EntrySink, R: Net<Listener = TcpListener, Stream = TcpStream> + Wait>(
         &mut self,
         rt: &R,
@@ -308,8 +304,8 @@ impl Requester {
         self.connect_again(rt, run)
     }
 
-    /// Looks at the connection. One that was closed is opened again where it may be tried for some seconds: by the tries that are left, or else
-    /// once at each look, of which there are more as long as packets come.
+    /// Looks at the connection. If it was closed, and connecting may be tried for some seconds, it is opened again: by the
+    /// tries that are left, or else by one try at each look, of which there are more as long as packets come.
     fn look<N: HeldName, S: EntrySink, R: Net<Listener = TcpListener, Stream = TcpStream> + Wait>(
         &mut self,
         rt: &R,
@@ -327,8 +323,8 @@ impl Requester {
     }
 
     /// Asks for what is missing until the run is over, and sleeps while nothing is missing. What one line lost is waited for
-    /// until the other has gone past it, was waited for long enough, or is too late. Each second of sleep it looks at the connection, and
-    /// ends the run where that was closed and nothing more comes. The connection is closed then.
+    /// until the other has gone past it, was waited for long enough, or is too late. After each second of sleep it looks at the
+    /// connection, and ends the run if that was closed and nothing more comes. The connection is closed at the end.
     pub(crate) fn run<
         N: HeldName,
         S: EntrySink,

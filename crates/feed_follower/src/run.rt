@@ -1,4 +1,4 @@
-//! The run of a follower: each line is read until it is over, beside the requester of what they lack.
+//! Runs a follower: two threads read the lines until the run is over, beside the requester of what the lines lack.
 ghost use Rattle.std.specs.Prelude.{◌≡◌, ◌↔◌, IsTrue};
 ghost use Rattle.feed_follower.specs.declared.follower.Next.TheVariants.{End};
 
@@ -19,7 +19,7 @@ use std::thread::{Parker, Threads};
 use std::time::Duration;
 use tape_frames::Request;
 
-/// How many datagrams that were kept are taken before a thread that sleeps for the follower may have it.
+/// How many kept datagrams are taken before a thread that sleeps for the follower may have it.
 const TAKEN_AT_ONCE: u32 = 64;
 
 /// What a run has before it has its follower.
@@ -31,8 +31,8 @@ pub(crate) struct Ready<'a> {
     b: FollowedLine<'a>,
 }
 
-/// What the lines of a follower and its requester share. What a line brings while another thread has the follower is kept,
-/// and whoever lets go of the follower has it take what was kept. So no line waits for the follower, unless too much is kept.
+/// What the lines of a follower and its requester share. What a line brings while another thread has the follower is kept, and
+/// the thread that lets go of the follower delivers what was kept. So no line waits for the follower, unless too much is kept.
 #[derive(Drop)]
 pub(crate) struct Run<'a, N: HeldName, S: EntrySink> {
     shared: SharedFollower<N, S>,
@@ -45,7 +45,8 @@ pub(crate) struct Run<'a, N: HeldName, S: EntrySink> {
 }
 
 impl<'a> Ready<'a> {
-    /// These sockets, another handle of the requester's connection, and the memory for what is kept.
+    /// The lines of these sockets, another handle of the requester's connection, and an empty inbox. `Memory` if there is none
+    /// for it.
     pub(crate) fn new(
         alloc: Global,
         sockets: &'a FollowSockets,
@@ -53,9 +54,7 @@ impl<'a> Ready<'a> {
     ) -> Result<Ready<'a>, Fault> {
         let a = FollowedLine::new(Line::A, &sockets.a)?;
         let b = FollowedLine::new(Line::B, &sockets.b)?;
-        let Ok(kept) = Inbox::nothing(alloc) else {
-            return Err(Fault::Memory);
-        };
+        let kept = Inbox::nothing(alloc).map_err(|_| Fault::Memory)?;
         Ok(Ready {
             connection,
             kept,
@@ -66,7 +65,7 @@ impl<'a> Ready<'a> {
 }
 
 impl<'a, N: HeldName, S: EntrySink> Run<'a, N, S> {
-    /// A run of a follower.
+    /// The run of a follower.
     pub(crate) fn new(alloc: Global, follower: Follower<N, S>, ready: Ready<'a>) -> Run<'a, N, S> {
         Run {
             shared: SharedFollower::new(alloc, follower, ready.kept),
@@ -77,8 +76,8 @@ impl<'a, N: HeldName, S: EntrySink> Run<'a, N, S> {
         }
     }
 
-    /// Wakes the lines and the requester, and ends the request that is open, whose answer may be long in coming: the retransmission
-    /// may serve another subscriber. Each sees then that the run is over.
+    /// Wakes the lines and the requester, and ends the open request, whose answer may take long if the retransmission serves
+    /// another subscriber. Each of them sees then that the run is over.
     fn end<R: Wait>(&self, rt: &R) {
         let _ = self.connection.lock(rt).shutdown(Shutdown::Both);
         self.a.wake();
@@ -86,7 +85,7 @@ impl<'a, N: HeldName, S: EntrySink> Run<'a, N, S> {
         self.bell.unpark();
     }
 
-    /// Wakes whom what is next concerns, and tells whether the run is over.
+    /// Wakes the threads that have something to do next. Returns whether the run is over.
     fn tell<R: Wait>(&self, rt: &R, next: &Next) -> bool
         ensures { IsTrue result ↔ (next.now ≡ End) }
     {
@@ -103,7 +102,7 @@ impl<'a, N: HeldName, S: EntrySink> Run<'a, N, S> {
         }
     }
 
-    /// Has the follower take what a line brought, or keeps it where another thread has the follower. Whether the run is over.
+    /// Delivers what a line brought, or keeps it if another thread has the follower. Returns whether the run is over.
     fn bring<R: Wait>(&self, rt: &R, line: Line, bytes: &[u8]) -> bool {
         if let Some(turn) = self.shared.turn_now() {
             return self.deliver(rt, turn, line, bytes);
@@ -114,7 +113,7 @@ impl<'a, N: HeldName, S: EntrySink> Run<'a, N, S> {
         }
     }
 
-    /// Has the follower take what a line brought, in this turn, and then what is kept. Whether the run is over.
+    /// Delivers what a line brought, in this turn, and then what is kept. Returns whether the run is over.
     fn deliver<R: Wait>(&self, rt: &R, turn: Turn<'_, N, S>, line: Line, bytes: &[u8]) -> bool {
         let mut turn = turn;
         let next = turn.follower.deliver(line, bytes);
@@ -126,8 +125,8 @@ impl<'a, N: HeldName, S: EntrySink> Run<'a, N, S> {
         self.work_off(rt, owed)
     }
 
-    /// Has the follower take what is kept until nothing is, unless another thread has it, which does so then. Whether the run is
-    /// over.
+    /// Delivers what is kept until nothing is, unless another thread has the follower, which does so then. Returns whether the
+    /// run is over.
     fn work_off<R: Wait>(&self, rt: &R, owed: Owed) -> bool {
         let mut owed = owed;
         for _ in rt.forever() {
@@ -145,7 +144,7 @@ impl<'a, N: HeldName, S: EntrySink> Run<'a, N, S> {
         unreachable!()
     }
 
-    /// Has the follower take what is kept, `TAKEN_AT_ONCE` datagrams at most, and tells what is next.
+    /// Delivers what is kept, at most `TAKEN_AT_ONCE` datagrams, and returns what is next.
     fn take_kept<R: Wait>(&self, rt: &R, follower: &mut Follower<N, S>) -> Next {
         let mut told = Next::Read;
         for _turn in 0..TAKEN_AT_ONCE {
@@ -180,7 +179,7 @@ impl<'a, N: HeldName, S: EntrySink> Run<'a, N, S> {
         self.end(rt);
     }
 
-    /// What is next for the requester.
+    /// Returns what is next for the requester.
     pub(crate) fn next_to_ask<R: Wait>(&self, rt: &R) -> Next {
         let mut turn = self.shared.turn(rt);
         let next = turn.follower.next_to_ask();
@@ -188,26 +187,26 @@ impl<'a, N: HeldName, S: EntrySink> Run<'a, N, S> {
         next
     }
 
-    /// Sleeps until the bell rings, for no longer than this.
+    /// Sleeps until the bell rings, at most this long.
     pub(crate) fn rest<R: Wait>(&self, rt: &R, longest: Duration) {
         self.bell.park_timeout(rt, longest);
     }
 
-    /// Takes note that this number was waited for, for a turn.
+    /// Notes a turn of waiting for this number.
     pub(crate) fn waited<R: Wait>(&self, rt: &R, number: u32) {
         let mut turn = self.shared.turn(rt);
         turn.follower.waited(number);
         self.work_off(rt, turn.end());
     }
 
-    /// Takes note of a look at the connection.
+    /// Notes a look at the connection.
     pub(crate) fn looked<R: Wait>(&self, rt: &R, is_closed: bool) {
         let mut turn = self.shared.turn(rt);
         turn.follower.looked(is_closed);
         self.work_off(rt, turn.end());
     }
 
-    /// Has the follower take what a request brought.
+    /// Gives the follower what a request brought.
     pub(crate) fn answer<R: Wait>(
         &self,
         rt: &R,
@@ -219,7 +218,7 @@ impl<'a, N: HeldName, S: EntrySink> Run<'a, N, S> {
         self.work_off(rt, turn.end());
     }
 
-    /// Has the follower take what a request brought for numbers of which packets told differently.
+    /// Gives the follower what a request brought for numbers on which packets did not agree.
     pub(crate) fn settle_by<R: Wait>(
         &self,
         rt: &R,
@@ -231,21 +230,21 @@ impl<'a, N: HeldName, S: EntrySink> Run<'a, N, S> {
         self.work_off(rt, turn.end());
     }
 
-    /// Takes note that the retransmission could not be reached, and why.
+    /// Notes why the retransmission could not be reached.
     pub(crate) fn unreachable<R: Wait>(&self, rt: &R, fault: FollowFault) {
         let mut turn = self.shared.turn(rt);
         turn.follower.unreachable(fault);
         self.work_off(rt, turn.end());
     }
 
-    /// Takes note that the retransmission was reached again.
+    /// Notes that the retransmission was reached again.
     pub(crate) fn reached<R: Wait>(&self, rt: &R) {
         let mut turn = self.shared.turn(rt);
         turn.follower.reached();
         self.work_off(rt, turn.end());
     }
 
-    /// Takes note that the new subscriber has its connection, by another handle of it, or of the fault that kept it from it.
+    /// Notes that the new subscriber has its connection, of which this is another handle, or the fault that kept it from one.
     pub(crate) fn connected<R: Wait>(&self, rt: &R, connected: Result<TcpStream, Fault>) {
         let connected = match connected {
             Ok(connection) => {
@@ -259,7 +258,7 @@ impl<'a, N: HeldName, S: EntrySink> Run<'a, N, S> {
         self.work_off(rt, turn.end());
     }
 
-    /// Takes another handle of the connection that replaces the requester's.
+    /// Replaces the handle of the requester's connection by one of its new connection.
     pub(crate) fn replace_connection<R: Wait>(&self, rt: &R, connection: TcpStream) {
         *self.connection.lock(rt) = connection;
     }
@@ -279,14 +278,14 @@ impl<'a, N: HeldName, S: EntrySink> Run<'a, N, S> {
         self.work_off(rt, turn.end());
     }
 
-    /// The follower of a run that is over.
+    /// Returns the follower of a run that is over.
     pub(crate) fn into_follower(self) -> Follower<N, S> {
         self.shared.into_follower()
     }
 }
 
-/// Reads both lines, each in a thread of its own, and has the requester ask beside them, until the run is over. Where a thread can't be started
-/// that ends the run.
+/// Reads both lines, each in a thread of its own, and has the requester ask beside them, until the run is over. The run ends if
+/// a thread can't be started.
 pub(crate) fn follow_at_once<
     N: HeldName + Send,
     S: EntrySink + Send,

@@ -1,7 +1,7 @@
-//! The follower that its threads share, and what its lines brought while one of them had it.
+//! Shares a follower among its threads, and keeps what its lines brought while one of them had it.
 //!
-//! Nothing may stay kept while nobody has the follower. So a thread that had it, or kept something for it, owes a look at what is
-//! kept, after that: an `Owed`, which can't be dropped.
+//! Nothing may stay kept while no thread has the follower. So a thread that had it, or kept something for it, owes a look at
+//! what is kept after that: an `Owed`, which can't be dropped.
 ghost use Rattle.std.specs.Prelude.{◌≡◌, []};
 ghost use Rattle.feed_follower.specs.declared.follower.Next.TheVariants.{End};
 
@@ -22,24 +22,25 @@ pub(crate) struct SharedFollower<N: HeldName, S: EntrySink> {
     kept: Mutex<Inbox>,
 }
 
-/// What a thread owes that had the follower, or kept something for it: a look at what is kept. Nothing outside this module makes one.
+/// The look at what is kept that a thread owes after it had the follower, or kept something for it. Nothing outside this module
+/// makes one.
 pub(crate) struct Owed {
     marker: (),
 }
 
-/// A thread's turn with the follower, which only `end` ends, since what the thread owes can't be dropped.
+/// A thread's turn with the follower. Only `end` ends it, since what the thread owes can't be dropped.
 pub(crate) struct Turn<'a, N: HeldName, S: EntrySink> {
     pub(crate) follower: MutexGuard<'a, Follower<N, S>>,
     owed: Owed,
 }
 
 impl Owed {
-    /// A thread owes a look.
+    /// The look that a thread owes.
     fn new() -> Owed {
         Owed { marker: () }
     }
 
-    /// Nothing is kept, so nothing is owed any more.
+    /// Settles the debt, since nothing is kept.
     fn see_nothing(self, kept: &Inbox)
         requires { kept.now.datagrams.items ≡ [] }
     {
@@ -48,7 +49,7 @@ impl Owed {
         let Owed { marker: _ } = self;
     }
 
-    /// The run is over, so what is kept is not taken any more.
+    /// Settles the debt, since the run is over and what is kept is not delivered any more.
     pub(crate) fn see_end(self, next: &Next)
         requires { next.now ≡ End }
     {
@@ -59,7 +60,8 @@ impl Owed {
 }
 
 impl<'a, N: HeldName, S: EntrySink> Turn<'a, N, S> {
-    /// The turn of a thread that owes a look, and has the follower now. Where another thread has it, that one owes the same.
+    /// The turn of a thread that owes a look and tried to get the follower. `None` if another thread has it, which owes the
+    /// same.
     fn begin(owed: Owed, tried: Option<MutexGuard<'a, Follower<N, S>>>) -> Option<Turn<'a, N, S>> {
         match tried {
             Some(follower) => Some(Turn { follower, owed }),
@@ -70,7 +72,7 @@ impl<'a, N: HeldName, S: EntrySink> Turn<'a, N, S> {
         }
     }
 
-    /// Lets go of the follower.
+    /// Lets go of the follower, and returns what the thread owes.
     pub(crate) fn end(self) -> Owed {
         let Turn { follower, owed } = self;
         drop(follower);
@@ -100,12 +102,12 @@ impl<N: HeldName, S: EntrySink> SharedFollower<N, S> {
         }
     }
 
-    /// A turn, unless another thread has one.
+    /// A turn, or `None` if another thread has one.
     pub(crate) fn turn_now(&self) -> Option<Turn<'_, N, S>> {
         Turn::begin(Owed::new(), self.follower.try_lock())
     }
 
-    /// A turn of a thread that owes a look, where something is kept and no other thread has one.
+    /// A turn of a thread that owes a look, or `None` if nothing is kept or another thread has a turn.
     pub(crate) fn turn_owed<R: Wait>(&self, rt: &R, owed: Owed) -> Option<Turn<'_, N, S>> {
         let kept = self.kept.lock(rt);
         if kept.is_empty() {
@@ -116,7 +118,7 @@ impl<N: HeldName, S: EntrySink> SharedFollower<N, S> {
         Turn::begin(owed, self.follower.try_lock())
     }
 
-    /// Keeps what a line brought. `None` where there is no room or no memory.
+    /// Keeps what a line brought. `None` if there is no room or no memory.
     pub(crate) fn keep<R: Wait>(&self, rt: &R, line: Line, bytes: &[u8]) -> Option<Owed> {
         let datagram = Datagram::new(self.alloc, line, bytes).ok()?;
         match self.kept.lock(rt).keep(datagram) {
@@ -125,12 +127,12 @@ impl<N: HeldName, S: EntrySink> SharedFollower<N, S> {
         }
     }
 
-    /// Gives out the datagram that was kept first.
+    /// Removes and returns the datagram that was kept first.
     pub(crate) fn next_kept<R: Wait>(&self, rt: &R) -> Option<Datagram> {
         self.kept.lock(rt).next()
     }
 
-    /// The follower, once no thread has it any more.
+    /// Returns the follower, once no thread has it any more.
     pub(crate) fn into_follower(self) -> Follower<N, S> {
         self.follower.into_inner()
     }

@@ -1,6 +1,9 @@
-//! The sockets that a follower's caller opens.
+//! The sockets of a follower, and how they are opened.
+ghost use Rattle.std.specs.Prelude.{◌≡◌, ◌⊎◌, Some, IfErr, IfOk, slice_get};
+ghost use Rattle.feed_ends.specs.declared.place.Place.TheVariants.{A, B};
 
-use std::net::UdpSocket;
+use feed_ends::{OpenFault, Place, here};
+use std::net::{Net, TcpListener, TcpStream, UdpSocket};
 
 /// The open sockets of a follower, and the port at which it asks.
 #[derive(Drop)]
@@ -11,4 +14,36 @@ pub struct FollowSockets {
     pub b: UdpSocket,
     /// The port of the retransmission, on this machine.
     pub retransmission: u16,
+}
+
+/// Opens the socket of a line on a port of this machine.
+fn bind<R: Net<Listener = TcpListener, Stream = TcpStream>>(
+    rt: &R,
+    place: Place,
+    port: u16,
+) -> Result<UdpSocket, OpenFault>
+    ensures { IfErr result (λ why. (why.place ≡ place) × (why.port ≡ port)) }
+{
+    UdpSocket::bind(rt, here(port)).map_err(|error| OpenFault::new(place, port, error.kind()))
+}
+
+impl FollowSockets {
+    /// Opens line A's socket on the first port and then line B's on the second, on this machine alone. It returns the fault of
+    /// the first one that cannot be opened; what was opened before is closed.
+    pub fn open<R: Net<Listener = TcpListener, Stream = TcpStream>>(
+        rt: &R,
+        ports: [u16; 2],
+        retransmission: u16,
+    ) -> Result<FollowSockets, OpenFault>
+        ensures retransmission { IfOk result (λ sockets. sockets.retransmission ≡ retransmission) }
+        ensures fault { IfErr result (λ why. ((why.place ≡ A) × (slice_get ports 0 ≡ Some why.port))
+            ⊎ ((why.place ≡ B) × (slice_get ports 1 ≡ Some why.port))) }
+    {
+        let [a, b] = ports;
+        Ok(FollowSockets {
+            a: bind(rt, Place::A, a)?,
+            b: bind(rt, Place::B, b)?,
+            retransmission,
+        })
+    }
 }

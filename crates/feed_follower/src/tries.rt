@@ -1,19 +1,18 @@
-//! How long it is tried to connect to a retransmission that can't be reached.
-//!
-//! A connection is tried at once, and then once after each pause, until the pauses last as long as it may be tried.
+//! Counts the tries to connect to a retransmission that can't be reached. The first try is made at once, and another one after
+//! each pause, until the pauses have lasted as long as it may try.
 ghost use Rattle.std.specs.Prelude.{◌≡◌, ◌-◌, ◌↔◌, ◌<◌, IsTrue, if◌then◌else◌, is_some, max};
 ghost use Rattle.feed_follower.specs.Tries.{tries_within};
 
-/// How long the pause before another try is, in milliseconds.
+/// The pause before another try, in milliseconds.
 pub(crate) const PAUSE: u64 = 100;
 
-/// How many pauses a second has.
+/// The number of pauses in a second.
 const PAUSES: u64 = 10;
 
-// The pauses of a second last a second.
+// So many pauses last a second.
 const _: () = prove!(PAUSES * PAUSE == 1_000);
 
-/// The tries to connect again, of which some are left since a connection served.
+/// The tries to connect again, and how many of them are left since a connection served.
 #[derive(Clone, Copy)]
 pub(crate) struct Tries {
     /// How many there are in all.
@@ -22,7 +21,7 @@ pub(crate) struct Tries {
     left: u64,
 }
 
-/// How often it is tried to connect within so many seconds: once without them.
+/// Returns how often to try to connect within so many seconds, or 1 without them.
 pub(crate) fn tries_within(seconds: Option<u32>) -> u64
     ensures { result ≡ tries_within seconds }
 {
@@ -33,7 +32,7 @@ pub(crate) fn tries_within(seconds: Option<u32>) -> u64
 }
 
 impl Tries {
-    /// Those of a connection on which nothing was asked yet: all that there are within these seconds, and none without them.
+    /// The tries of a connection on which nothing was asked yet: all within these seconds are left, and none without them.
     pub(crate) fn within(seconds: Option<u32>) -> Tries
         ensures all { result.all ≡ tries_within seconds }
         ensures left { result.left ≡ if is_some seconds then tries_within seconds else 0 }
@@ -43,21 +42,21 @@ impl Tries {
         Tries { all, left }
     }
 
-    /// How many are left.
+    /// Returns how many are left.
     pub(crate) fn left(&self) -> u64
         ensures { result ≡ self.now.left }
     {
         self.left
     }
 
-    /// Whether there is a pause before the next one: there is none before the first.
+    /// Whether there is a pause before the next try. There is none before the first.
     pub(crate) fn is_paused(&self) -> bool
         ensures { IsTrue result ↔ (self.now.left < self.now.all) }
     {
         self.left < self.all
     }
 
-    /// Takes one of those that are left.
+    /// Uses one of the tries that are left.
     pub(crate) fn take(&mut self)
         ensures left { self.new.left ≡ self.old.left - 1 }
         ensures all { self.new.all ≡ self.old.all }
@@ -65,14 +64,14 @@ impl Tries {
         self.left = self.left.saturating_sub(1);
     }
 
-    /// The connection serves, so all are left once it is lost.
+    /// Notes that the connection serves, so all tries are left once it is lost.
     pub(crate) fn renew(&mut self)
         ensures { (self.new.left ≡ self.old.all) × (self.new.all ≡ self.old.all) }
     {
         self.left = self.all;
     }
 
-    /// It may be tried once more, even if none is left.
+    /// Allows one more try if none is left.
     pub(crate) fn one_more(&mut self)
         ensures left { self.new.left ≡ max self.old.left 1 }
         ensures all { self.new.all ≡ self.old.all }

@@ -116,7 +116,7 @@ next_taken es held from most n first many =
     get_or-take n all k d short ∙ get_or-take (length es - from) left k d (omega (arith, many, short)) ∙ get_or-drop from es k d
     ∙ ap (λ f. get_or es (f + k) d) same ∙ sym (get_or-take most (drop held es) k d (omega (arith, many, short)) ∙ get_or-drop held es k d))
 
--- the same where it was gathered from a queue
+-- the same if it was gathered from a queue
 pub pending_gathered : (es queue next list : List Entry) (held own : ℕ) → own ≡ held → next ≡ queue → list ≡ es ++ next → held ≡ length es
     → held + length queue ≤ TAPE_MOST → pending own list ≡ queue
 pending_gathered es queue next list held own same gathered behind many within =

@@ -92,7 +92,7 @@ appends_then_kept (Some xs) (Some ys) (Some zs) text grows same = same ∙ grows
 
 -- ---- outcomes
 
--- what holds in any case holds where it went well
+-- what holds in any case holds if it went well
 pub on_ok : {A E : Type 0} {P : Type 0} (r : Result A E) → P → OnOk r P
 on_ok (Ok x) holds = holds
 on_ok (Err e) holds = tt
@@ -137,7 +137,7 @@ grows_one old new published none group writer text = (
   },
 )
 
--- where nothing was gathered it stays
+-- if nothing was gathered it stays
 pub stays_empty : (old new : JournalState) (published next : List Entry) → IsKept old published → new ≡ record old { queue = next }
     → length old.queue ≡ 0 → length new.queue ≡ 0 → IsKept new published × GrowsAtMostOnce old published new published
 stays_empty old new published next kept is before after =

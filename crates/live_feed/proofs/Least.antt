@@ -1,4 +1,4 @@
--- The fault that is answered of those that were met one after the other.
+-- The fault that is returned of those that were met one after the other.
 use Rattle.std.proofs.Common.{◌≡◌, ℕ, ◌+◌, ◌<◌, ◌≤◌, List, [], ◌∷◌, ◌++◌, length, map, take, get_or, Option, Some, None, inl, inr, arith, refl, sym, ap, subst, ◌∙◌}
 use Rattle.std.specs.Prelude.{All, Contains, IfSome, ◌⊎◌, ◌↔◌}
 use Rattle.std.proofs.lemmas.List.{map-append, take_all, take_more}
@@ -11,12 +11,12 @@ use Rattle.live_feed.specs.Faults.{IsLeast, NoneBefore}
 pub least_of_none : IsLeast [] None
 least_of_none = record { none = ((λ is. All-nil (λ fault. fault ≡ None)), λ all. refl); one = tt; least = tt }
 
--- where none is met before a fault, none is met before a lesser one
+-- if none is met before a fault, none is met before a lesser one
 before_lesser : (lesser fault : Fault) (met : Option Fault) → fault_status lesser ≤ fault_status fault → NoneBefore fault met → NoneBefore lesser met
 before_lesser lesser fault None le before = tt
 before_lesser lesser fault (Some other) le before = omega arith
 
--- what does not come after the answer does not come after what was met
+-- what does not come after the result does not come after what was met
 before_all : (fault : Fault) (answer : Option Fault) (met : List (Option Fault)) → IsLeast met answer → NoneBefore fault answer → All (NoneBefore fault) met
 before_all fault None met is before = λ k d lt. subst (NoneBefore fault) (sym (is.none.0 refl k d lt)) tt
 before_all fault (Some answer) met is before = λ k d lt. before_lesser fault answer (get_or met k d) before (is.least k d lt)
@@ -25,7 +25,7 @@ before_all fault (Some answer) met is before = λ k d lt. before_lesser fault an
 met_some : (fault : Fault) (met : List (Option Fault)) → Contains met (Some fault) → All (λ one. one ≡ None) met → Some fault ≡ None
 met_some fault met found all = let is = all found.0 (Some fault) found.1 in sym found.2 ∙ is
 
--- the answer is the one before or that of one more
+-- the result is the one before or that of one more
 answered : (fault : Fault) (before one : Option Fault) (met : List (Option Fault)) → IsLeast met before → (before ≡ Some fault) ⊎ (one ≡ Some fault)
     → Contains (met ++ one ∷ []) (Some fault)
 answered fault before one met is either = elim either [
@@ -33,7 +33,7 @@ answered fault before one met is either = elim either [
   | inr same ↦ subst (λ (o : Option Fault). Contains (met ++ one ∷ []) o) same (Contains-push met one)
 ]
 
--- the lesser of the answer so far and one more
+-- the lesser of the result so far and one more
 pub least_more : (met : List (Option Fault)) (before one answer : Option Fault) → IsLeast met before
     → (answer ≡ None) ↔ ((before ≡ None) × (one ≡ None))
     → IfSome answer (λ fault. (before ≡ Some fault) ⊎ (one ≡ Some fault))

@@ -14,11 +14,11 @@ pub its_report : (terms : Terms) (entries : List Entry) (old new : Option (List 
     → WritesItsReport terms.listing terms.matrix terms.limit old new
 its_report terms entries old new (t, listing, legal, listed, by_matrix, within, sent, written) = (t, listing, legal, listed, by_matrix, within, written)
 
--- where the least fault has a status above a write's, no write failed
+-- if the least fault has a status above a write's, no write failed
 pub no_write : (fault : Fault) (met : Option Fault) → 4 < fault_status fault → NoneBefore fault met → met ≢ Some Write
 no_write fault met above before is = let least : fault_status fault ≤ 4 = subst (NoneBefore fault) is before in absurd (omega (arith, above, least))
 
--- so what was written is as it was, where that holds without a failed write
+-- so what was written is as it was, if that holds without a failed write
 pub unwritten : {A : Type 0} (r : Result A Fault) (met : Option Fault) (Same : Type 0) → IfErr r (λ fault. NoneBefore fault met) → (met ≢ Some Write → Same)
     → IfErr r (λ fault. 4 < fault_status fault → Same)
 unwritten (Ok x) met Same near same = tt

@@ -9,7 +9,7 @@ use Rattle.std.proofs.lemmas.List.Sums.{sum_by_push}
 pub put : (start between new one other : List ℕ) → between ≡ start ++ one → new ≡ between ++ other → new ≡ start ++ (one ++ other)
 put start between new one other first second = second ∙ ap (λ (l : List ℕ). l ++ other) first ∙ append_assoc start one other
 
--- the same where what was put last may have failed
+-- the same if what was put last may have failed
 pub put_last : {A E : Type 0} (r : Result A E) (start between new one other : List ℕ) → between ≡ start ++ one → OnOk r (new ≡ between ++ other)
     → OnOk r (new ≡ start ++ (one ++ other))
 put_last (Ok x) start between new one other first second = put start between new one other first second

@@ -1,8 +1,8 @@
 -- Why no connection was accepted.
 use Rattle.std.specs.Prelude.{ℕ, ℤ, pos, negsuc, ◌==◌, ◌||◌, Bool, false, Option, None, Some}
 
--- the error numbers of Linux after which another connection may be accepted: an interrupted call; memory, files of the system and of the process, or room for
--- sockets that lack for now; a connection that its peer gave up
+-- the error numbers of Linux after which another connection may be accepted: an interrupted call; memory, files of the system
+-- and of the process, or room for sockets that lack for now; a connection that its peer gave up
 abbrev pub EINTR : ℕ
 EINTR = 4
 
@@ -21,7 +21,7 @@ ECONNABORTED = 103
 abbrev pub ENOBUFS : ℕ
 ENOBUFS = 105
 
--- a connection may be accepted later where none was for this error number; an error that is not the system's has none
+-- another connection may be accepted after an error of this number; an error that is not the system's has none
 abbrev pub is_transient : Option ℤ → Bool
 is_transient None = false
 is_transient (Some (negsuc code)) = false

@@ -32,7 +32,7 @@ refused_text count code name = decimal count ++ codes " refused by " ++ decimal 
 abbrev pub reason_text : Reason → Refused → List ℕ
 reason_text reason refused = refused_text refused.count (reason_code reason) (reason_name reason)
 
--- the number of the first message that was refused for a reason, where the frame spells a message
+-- the number of the first message that was refused for a reason, if the frame spells a message
 unfoldable pub first_text : Reason → Refused → List ℕ
 first_text (Unspelled fault) refused = []
 first_text (ByTape refusal) refused = codes ", the first with number " ++ decimal refused.first
@@ -41,7 +41,7 @@ first_text (ByTape refusal) refused = codes ", the first with number " ++ decima
 abbrev pub refused_line : List ℕ → ℕ → Reason → Refused → List ℕ
 refused_line word who reason refused = head_text word who ++ reason_text reason refused ++ first_text reason refused ++ codes "\n"
 
--- the line of a reason, or nothing where no message was refused for it
+-- the line of a reason, or nothing if no message was refused for it
 abbrev pub reason_line : List ℕ → ℕ → Tally → Reason → List ℕ
 reason_line word who tally reason = option_map_or (refused_line word who reason) (refused_for tally reason) []
 
@@ -49,7 +49,7 @@ reason_line word who tally reason = option_map_or (refused_line word who reason)
 abbrev pub refused_lines : List ℕ → ℕ → Tally → List ℕ
 refused_lines word who tally = flat_map (reason_line word who tally) all_reasons
 
--- a line of these words about a participant, or nothing where there are none
+-- a line of these words about a participant, or nothing if there are none
 unfoldable pub words_line : List ℕ → ℕ → List ℕ → List ℕ
 words_line word who [] = []
 words_line word who (w ∷ words) = head_text word who ++ (w ∷ words) ++ codes "\n"
@@ -62,7 +62,7 @@ has_connected Unawaited = false
 has_connected (Open since) = true
 has_connected (Closed since) = true
 
--- how far the line of a participant came whose connection did not come: within so many seconds, or before the day was ended
+-- the stage of a line whose connection did not come: within so many seconds, or before the day was ended
 abbrev pub absent_stage : Bool → Option ℕ → LineStage
 absent_stage is_ended None = Unawaited
 absent_stage true (Some seconds) = Unawaited
@@ -106,11 +106,11 @@ end_words Behind was_cut = codes "the line ended at a tape that disagrees"
 abbrev pub counted_lines : List ℕ → LineAccount → List ℕ
 counted_lines word a = head_text word a.who ++ counts_text a.counts ++ codes "\n" ++ refused_lines word a.who a.counts.tally
 
--- the same, or nothing where it is not said
+-- the same, or nothing if it is not said
 unfoldable pub messages_lines : List ℕ → LineAccount → List ℕ
 messages_lines word a = if is_counted a.stage a.counts then counted_lines word a else []
 
--- how a participant's line came out, or nothing where it ended cleanly
+-- how a participant's line came out, or nothing if it ended cleanly
 abbrev pub outcome_line : List ℕ → LineAccount → List ℕ
 outcome_line word a =
     if has_connected a.stage then words_line word a.who (end_words a.ended a.was_cut) else absent_line word a.who a.stage
@@ -135,8 +135,8 @@ given_up_line given_up = if given_up == 0 then [] else given_up_text program_wor
 abbrev pub account_text : List LineAccount → ℕ → List ℕ
 account_text accounts given_up = flat_map account_lines accounts ++ given_up_line given_up
 
--- what an account tells of a line's end: whose it is, how many messages were admitted, the last one's number, what was refused, and why
--- no more were done
+-- what an account tells of a line's end: whose it is, how many messages were admitted, the last one's number, what was refused,
+-- and why no more were done
 abbrev pub told_account : LineAccount → ℕ × LineCounts × Ended
 told_account a = (a.who, a.counts, a.ended)
 

@@ -20,7 +20,7 @@ EndsEarly fault is_whole met = (is_whole ≡ false) × ((other : Fault) × (met 
 abbrev pub FailsEarly : Bool → Result Unit Fault → Type 0
 FailsEarly is_whole result = (is_whole ≡ false) × MatchResult result (λ _. ⊥) (λ fault. fault_status fault ≤ 4)
 
--- the fault that is answered of all that were met: none exactly where none was, else one of them, of the least status
+-- the fault that is returned of all that were met: none exactly if none was, else one of them, of the least status
 pub record IsLeast (met : List (Option Fault)) (answer : Option Fault) : Type 0 where
   pub none : (answer ≡ None) ↔ All (λ fault. fault ≡ None) met
   pub one : IfSome answer (λ fault. Contains met (Some fault))
@@ -36,7 +36,7 @@ line_fault ended.TooMany = None
 line_fault ended.OutOfMemory = Some Memory
 line_fault ended.Behind = Some Disagrees
 
--- the day's fault where memory or a worker is lacking
+-- the day's fault if memory or a worker is lacking
 abbrev pub lack_fault : Lack → Fault
 lack_fault lack.Memory = Memory
 lack_fault lack.Worker = Worker

@@ -8,8 +8,8 @@ use Rattle.tape_core.specs.declared.entry.Entry.{Entry}
 use Rattle.tape_frames.specs.EntryRows.{Carries, HasNoLaterPlaces, IsNumberedFrom}
 use Rattle.tape_types.specs.Ranges.{TAPE_MOST}
 
--- a journal: the writer of its groups, the bytes that its file has and those that are kept, where they are known, the entries that it has
--- and that are to be published next, and whether a write of it or keeping it failed
+-- a journal: the writer of its groups, the bytes that its file has and those that are kept, if they are known, the entries that
+-- it has and that are to be published next, and whether a write of it or keeping it failed
 pub record JournalState : Type 0 where
   pub writer : WriterState
   pub contents : Option (List ℕ)
@@ -43,8 +43,8 @@ abbrev pub AllKept : Option JournalState → List Entry → Type 0
 AllKept None published = Unit {0}
 AllKept (Some j) published = IsKept j published
 
--- the journal grew by these groups: they stand in what is kept, right behind what the file had, and what is published now is, with what is to
--- be published next, what it was before, and the groups' entries
+-- the journal grew by these groups: they stand in what is kept, right behind what the file had, and what is published now is,
+-- with what is to be published next, what it was before, and the groups' entries
 pub record GrowsBy (groups : List (List Entry)) (old : JournalState) (before : List Entry) (new : JournalState) (after : List Entry) : Type 0 where
   pub are : AreGroups old.writer.session old.writer.held groups
   pub writer : new.writer ≡ with_groups old.writer groups
@@ -69,7 +69,8 @@ Grows None before (Some new) after = ⊥
 Grows (Some old) before None after = ⊥
 Grows (Some old) before (Some new) after = (groups : List (List Entry)) × GrowsBy groups old before new after
 
--- a day begins where its journal ends, which stays as it is: nothing waits, and it has as many entries as are published; without one nothing is
+-- a day begins where its journal ends, which stays as it is: nothing waits, and it has as many entries as are published;
+-- without one nothing is
 abbrev pub Begins : Option JournalState → Option JournalState → List Entry → Type 0
 Begins None None before = before ≡ []
 Begins None (Some new) before = ⊥
@@ -77,8 +78,8 @@ Begins (Some old) None before = ⊥
 Begins (Some old) (Some new) before =
     (new.writer ≡ old.writer) × (new.queue ≡ []) × Keeps old.contents new.contents × (old.writer.held ≡ length before)
 
--- what is published of a whole day, beside its journal, if there is one: first entries as many as it had, and after them those of groups which
--- stand in what is kept, right behind what its file had
+-- what is published of a whole day, beside its journal, if there is one: first entries as many as it had, and after them those
+-- of groups which stand in what is kept, right behind what its file had
 abbrev pub Runs : Option JournalState → Option JournalState → List Entry → Type 0
 Runs None None after = Unit {0}
 Runs None (Some new) after = ⊥

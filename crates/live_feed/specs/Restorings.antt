@@ -33,7 +33,8 @@ pub record IsRestored (old : ReaderState) (seats : List SeatState) (before : Lis
   pub told : TellsEntries seats (entries_of groups) seats'
   pub published : after ≡ before ++ entries_of groups
 
--- the first cells hold the entries of all groups that a journal has behind its header, as many as were told, and the seats were told these
+-- the first cells hold the entries of all groups that a journal has behind its header, as many as were told, and the seats were
+-- told these
 pub record Restores (session : ℕ) (digest : List ℕ) (start : ℕ) (journal : List ℕ) (held : ℕ) (cells : List ℕ) (seats seats' : List SeatState) : Type 0 where
   pub end : ReaderState
   pub tokens : List TokenState

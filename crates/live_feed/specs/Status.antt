@@ -63,3 +63,9 @@ day_text seconds is_ended figures lines followers =
 abbrev pub status_text : ℕ → Bool → DayFigures → List SeenLine → SeenFollowers → List ℕ
 status_text seconds is_ended figures lines followers =
     day_text seconds is_ended figures lines followers ++ flat_map seen_lines lines ++ follower_lines [] followers.counts.items
+
+-- the status of some lines and followers, by the lines' figures, was added to a text, and nothing else
+abbrev pub AddsStatus : List ℕ → List ℕ → Type 0
+AddsStatus old new =
+    (seconds : ℕ) × (is_ended : Bool) × (figures : DayFigures) × (lines : List SeenLine) × (followers : SeenFollowers)
+    × AreFigures lines figures × (new ≡ old ++ status_text seconds is_ended figures lines followers)

@@ -1,4 +1,4 @@
-//! How subscribers' connections are accepted.
+//! Accepts subscribers' connections, and decides which failures to accept one are only for now.
 ghost use Rattle.std.specs.Prelude.{◌≡◌, Ok, Err, IfErr, true, false};
 ghost use Rattle.std.specs.IoError.{raw_os_error};
 ghost use Rattle.live_feed.specs.Accepting.{is_transient};
@@ -32,10 +32,11 @@ const ECONNABORTED: i32 = 103;
 /// There is no room for another socket's buffers.
 const ENOBUFS: i32 = 105;
 
-/// How long to rest after a connection that could not be accepted for now, in milliseconds: what lacks may be there again then.
+/// How long to rest after a connection that could not be accepted for now, in milliseconds: what is short may be there again
+/// then.
 const REST: u64 = 50;
 
-/// Whether a connection may be accepted later, although this is why one was not.
+/// Whether another connection may be accepted after this error.
 pub(crate) fn is_transient(error: &Error) -> bool
     ensures { result ≡ is_transient (raw_os_error error.now) }
 {
@@ -45,8 +46,8 @@ pub(crate) fn is_transient(error: &Error) -> bool
     )
 }
 
-/// Whether to try again after a connection that was not accepted: not where the sender gave the day up, which ends the listener. A
-/// listener that is gone without that is a fault.
+/// Returns whether to try again after a connection that was not accepted: not if the sender gave the day up, which ends the
+/// listener. A listener that is gone without that is a fault.
 fn tries_again(error: &Error, is_given_up: bool) -> Result<bool, Fault>
     ensures given_up { is_given_up ≡ true → result ≡ Ok false }
     ensures transient { is_given_up ≡ false → is_transient (raw_os_error error.now) ≡ true → result ≡ Ok true }
@@ -61,7 +62,7 @@ fn tries_again(error: &Error, is_given_up: bool) -> Result<bool, Fault>
     }
 }
 
-/// Waits for the next connection, however often one can't be accepted for now: `None` where the sender gave the day up.
+/// Waits for the next connection, however often one can't be accepted for now. Returns `None` if the sender gave the day up.
 pub(crate) fn next_connection<R: Wait + Clock, L>(
     rt: &R,
     feed: &Feed<'_, L>,

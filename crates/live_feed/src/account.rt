@@ -1,9 +1,8 @@
-//! The account of a day's lines, for whoever runs the day.
+//! Writes the account of a day's lines: what became of each participant's messages.
 ghost use Rattle.std.specs.Prelude.{◌≡◌, ◌++◌, IfOk, OnOk};
 ghost use Rattle.std.specs.List.{flat_map};
 ghost use Rattle.live_feed.specs.Accounts.{account_lines, account_text, counted_lines, end_words, followers_words, given_up_line, given_up_text, messages_lines, outcome_line, program_word};
 
-use crate::follower_counts::push_number;
 use crate::line_counts::{
     LineCounts, LineStage, push_absent, push_all_refused, push_counts, push_head, push_text,
     push_words,
@@ -11,6 +10,7 @@ use crate::line_counts::{
 use participant_lines::Ended;
 use std::alloc::{AllocError, Global};
 use tape_types::Participant;
+use whole_io::push_number;
 
 /// How a participant's line came out.
 #[derive(Clone, Copy, Debug, PartialEq, Eq)]
@@ -63,7 +63,7 @@ fn push_counted(text: &mut Vec<u8>, word: &[u8], account: &LineAccount) -> Resul
     push_all_refused(text, word, account.who, &account.counts.tally)
 }
 
-/// Adds what became of a participant's messages, or nothing where it is not said.
+/// Adds what became of a participant's messages, or nothing if it is not said.
 #[tactic(auto, unfolding(crate::specs::Accounts::messages_lines))]
 fn push_messages(text: &mut Vec<u8>, word: &[u8], account: &LineAccount) -> Result<(), AllocError>
     ensures { OnOk result (text.new.items ≡ text.old.items ++ messages_lines word.now account.now) }
@@ -74,7 +74,7 @@ fn push_messages(text: &mut Vec<u8>, word: &[u8], account: &LineAccount) -> Resu
     Ok(())
 }
 
-/// Adds how a participant's line came out, or nothing where it ended cleanly.
+/// Adds how a participant's line came out, or nothing if it ended cleanly.
 fn push_outcome(text: &mut Vec<u8>, word: &[u8], account: &LineAccount) -> Result<(), AllocError>
     ensures { OnOk result (text.new.items ≡ text.old.items ++ outcome_line word.now account.now) }
 {

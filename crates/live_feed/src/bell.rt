@@ -1,4 +1,4 @@
-//! What wakes the sender.
+//! The bell by which the lines wake the sender.
 
 use std::sync::Wait;
 use std::sync::atomic::{AtomicBool, Ordering};
@@ -6,7 +6,7 @@ use std::thread::Parker;
 use std::time::Duration;
 use tape_types::Gate;
 
-/// Where the lines and the sender meet: the lines ring after each message, and once they ended. The sender alone waits for it.
+/// The lines ring it after each message, and once when they have ended. Only the sender waits for it.
 /// No ring is lost: one that comes while nobody waits ends the next wait at once.
 #[derive(Drop)]
 pub(crate) struct Bell {
@@ -39,7 +39,7 @@ impl Bell {
         self.parker.park(rt)
     }
 
-    /// Waits for a ring, but no longer than for so many nanoseconds. It may return early.
+    /// Waits for a ring, but no longer than this many nanoseconds. It may return early.
     pub(crate) fn wait_within<R: Wait>(&self, rt: &R, most: u64) {
         self.parker.park_timeout(rt, Duration::from_nanos(most))
     }

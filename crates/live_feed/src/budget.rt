@@ -1,19 +1,21 @@
-//! How many packets are left of a turn of the clock.
-ghost use Rattle.std.specs.Prelude.{◌≡◌, ◌<◌, ◌+◌, false};
+//! The send budget: how many packets may still be sent in the current millisecond, and for how long to rest after them.
+ghost use Rattle.std.specs.Prelude.{◌≡◌, ◌<◌, ◌+◌, ◌⊎◌, false};
 ghost use Rattle.live_feed.specs.Budgets.{BudgetState, budget_after, budget_at, is_over, rest_after};
+ghost use Rattle.live_feed.specs.declared.budget.TheConstants.{MILLISECOND};
+ghost use Rattle.live_feed.specs.declared.pace.TheConstants.{PACE_FIRST, PACE_MOST};
 
 use crate::pace::Pace;
 use std::marker::Model;
 
-/// How long a turn is, in nanoseconds of the clock: a millisecond.
-const TURN: u64 = 1_000_000;
+/// A millisecond, in nanoseconds of the clock.
+const MILLISECOND: u64 = 1_000_000;
 
-/// A turn of the clock, in which no more packets are sent than its pace says.
+/// A millisecond of the clock, in which no more packets are sent than its pace says.
 #[derive(Clone, Copy)]
 pub(crate) struct Budget {
-    /// How many packets are sent in a turn.
+    /// How many packets are sent in a millisecond.
     pace: Pace,
-    /// When the turn began, in nanoseconds of the clock.
+    /// When the millisecond began, in nanoseconds of the clock.
     began: u64,
     /// How many packets were sent in it.
     packets: u32,
@@ -32,9 +34,14 @@ impl Model for Budget {
 }
 
 impl Budget {
-    /// That of a turn which begins with the clock, by the first pace.
+    /// The budget of a millisecond that begins with the clock, at the first pace.
     pub(crate) fn first() -> Budget
-        ensures packets { result.packets ≡ 0 }
+        ensures { result ≡ record {
+          pace = record { packets = PACE_FIRST; ceiling = PACE_MOST; calm = 0 };
+          began = 0;
+          packets = 0;
+          was_asked = false;
+        } }
     {
         Budget {
             pace: Pace::first(),
@@ -44,15 +51,15 @@ impl Budget {
         }
     }
 
-    /// Whether the turn is over at this time, as it is where the clock went back.
+    /// Whether the millisecond is over at this time, as it also is if the clock went back.
     fn is_over(self, now: u64) -> bool
         ensures { result ≡ is_over self.began now }
     {
-        now < self.began || TURN <= now - self.began
+        now < self.began || MILLISECOND <= now - self.began
     }
 
-    /// The budget at this time: that of the same turn, or of one that begins now, whose pace is lower where something was
-    /// asked for meanwhile. A budget that was not spent is no sign that more would be taken, so the pace never rises here.
+    /// The budget at this time: of the same millisecond, or of one that begins at this time, whose pace is lower if something
+    /// was asked for meanwhile. A budget that was not spent is no sign that more would be taken, so the pace never rises here.
     pub(crate) fn at(self, now: u64, was_asked: bool) -> Budget
         ensures at { result ≡ budget_at now was_asked self }
         ensures current { is_over result.began now ≡ false }
@@ -78,12 +85,15 @@ impl Budget {
         }
     }
 
-    /// The budget after a packet that was sent at this time, within the turn, and for how long to rest first: for what is left
-    /// of a turn whose budget is spent, and else not at all.
+    /// The budget after a packet that was sent at this time, within the millisecond, and for how many nanoseconds to rest
+    /// before the next one: for what is left of the millisecond if its budget is spent, and else 0.
     pub(crate) fn after_packet(self, now: u64) -> (Budget, u64)
         requires { is_over self.began now ≡ false }
         ensures budget { result.0 ≡ budget_after self }
         ensures rest { result.1 ≡ rest_after now self }
+        // The packet is counted and there is no rest, or the budget is spent and the rest lasts to the end of its millisecond.
+        ensures spent { ((result.0.packets ≡ self.packets + 1) × (result.1 ≡ 0))
+            ⊎ ((result.0.packets ≡ 0) × (now + result.1 ≡ self.began + MILLISECOND)) }
     {
         if self.packets + 1 < self.pace.packets() {
             let budget = Budget {
@@ -96,10 +106,10 @@ impl Budget {
         }
         let budget = Budget {
             pace: self.pace.after(self.was_asked),
-            began: self.began.saturating_add(TURN),
+            began: self.began.saturating_add(MILLISECOND),
             packets: 0,
             was_asked: false,
         };
-        (budget, TURN - (now - self.began))
+        (budget, MILLISECOND - (now - self.began))
     }
 }

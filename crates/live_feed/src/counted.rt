@@ -6,14 +6,14 @@ use std::io;
 use std::io::{Read, Write};
 use std::net::TcpStream;
 
-/// What requests are read from. What is read is counted where the connection is counted.
+/// What requests are read from. What is read is counted if the connection is counted.
 #[derive(Drop)]
 pub(crate) struct CountedRequests<'a> {
     pub(crate) requests: Requests<'a>,
     pub(crate) follower: Option<&'a Follower>,
 }
 
-/// What answers are written to. What is written is counted where the connection is counted, and a flush ends an answer.
+/// What answers are written to. What is written is counted if the connection is counted, and a flush ends an answer.
 #[derive(Drop)]
 pub(crate) struct CountedAnswers<'a> {
     pub(crate) connection: &'a TcpStream,

@@ -1,4 +1,4 @@
-//! How a day that can be ended waits for its participants.
+//! Waits for the participants of a day that can be ended, at all their listeners at once.
 ghost use Rattle.std.specs.Prelude.{◌≡◌, IfOk, length, vec_len};
 ghost use Rattle.live_feed.specs.Accounts.{absent_stage};
 
@@ -58,7 +58,7 @@ fn doors_of(alloc: Global, listeners: Vec<TcpListener>) -> Result<Vec<Door>, Fau
     Ok(doors)
 }
 
-/// A connection that came, if one did. Its reads end by themselves after a while where nothing comes.
+/// Returns a connection that came, if one did. Its reads end by themselves after a while if nothing comes.
 fn connection_at(listener: &TcpListener) -> Result<Option<TcpStream>, Fault> {
     match listener.accept() {
         Ok((stream, _)) => match stream.set_read_timeout(Some(Duration::from_millis(READ_WAIT))) {
@@ -70,8 +70,8 @@ fn connection_at(listener: &TcpListener) -> Result<Option<TcpStream>, Fault> {
     }
 }
 
-/// Looks whether a connection has come to a door that is open: then its listener is closed, so that a second one is refused, and note is taken
-/// of the time.
+/// Looks whether a connection has come to an open door. If so, its listener is closed, so that a second one is refused, and the
+/// time is noted.
 fn look<R: Wait + Clock>(
     rt: &R,
     operation: &Operation,
@@ -92,7 +92,7 @@ fn look<R: Wait + Clock>(
     Ok(())
 }
 
-/// Looks at all doors: whether one is open still.
+/// Looks at all doors, and returns whether one is still open.
 fn look_at_all<R: Wait + Clock>(
     rt: &R,
     operation: &Operation,
@@ -111,7 +111,7 @@ fn look_at_all<R: Wait + Clock>(
     Ok(is_open)
 }
 
-/// Waits until all connections have come, so many seconds have passed, or the day was ended.
+/// Waits until all connections have come, this many seconds have passed, or the day was ended.
 fn wait_at<R: Wait + Clock>(
     rt: &R,
     operation: &Operation,
@@ -131,7 +131,7 @@ fn wait_at<R: Wait + Clock>(
     unreachable!()
 }
 
-/// How far the lines came whose connections did not come.
+/// The stage of a line whose connection did not come.
 fn stage_of_absent(is_ended: bool, connect_within: Option<u32>) -> LineStage
     ensures { result ≡ absent_stage is_ended connect_within }
 {
@@ -141,7 +141,7 @@ fn stage_of_absent(is_ended: bool, connect_within: Option<u32>) -> LineStage
     }
 }
 
-/// What the line is read from whose connection was waited for. Where none came, its listener is closed and note is taken of that.
+/// Returns what a line is read from. If no connection came, its listener is closed and the line's stage is set.
 fn reader_at<R: Wait>(
     rt: &R,
     alloc: Global,
@@ -163,7 +163,7 @@ fn reader_at<R: Wait>(
     }
 }
 
-/// What all lines are read from, in their order.
+/// Returns what all lines are read from, in their order.
 fn readers_at<R: Wait>(
     rt: &R,
     alloc: Global,
@@ -186,9 +186,9 @@ fn readers_at<R: Wait>(
     Ok(readers)
 }
 
-/// Waits for one connection at each listener, at all at once, until so many seconds have passed, or the day was ended: what each line is
-/// read from, in listing order. The line of a participant that did not connect has nothing to read. `Read` where a connection can't be
-/// accepted, or the operation is of another listing.
+/// Waits for one connection at each listener, at all of them at once, until this many seconds have passed or the day was ended.
+/// Returns what each line is read from, in listing order. The line of a participant that did not connect has nothing to read.
+/// Errors: `Read` if a connection can't be accepted or the operation is of another listing, and `Memory`.
 pub(crate) fn wait_for_lines<R: Wait + Clock>(
     rt: &R,
     alloc: Global,

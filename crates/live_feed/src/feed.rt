@@ -1,4 +1,4 @@
-//! What a day is sent by.
+//! The sockets, the session and the loss that a day is sent with.
 
 use std::alloc::Global;
 use std::net::{TcpListener, TcpStream, UdpSocket};

@@ -1,10 +1,10 @@
-//! What is said of the retransmission's connections.
-ghost use Rattle.std.specs.Prelude.{◌≡◌, ◌++◌, [], OnOk, decimal};
+//! Writes what is said of the retransmission's connections.
+ghost use Rattle.std.specs.Prelude.{◌≡◌, ◌++◌, [], OnOk};
 ghost use Rattle.live_feed.specs.Followers.{asked_text, follower_line, follower_lines, followers_line, is_served, left_in, left_text, missing_in, missing_text, place_text, served_in, state_text};
 
 use crate::line_counts::push_text;
-use itoa::Buffer;
 use std::alloc::AllocError;
+use whole_io::push_number;
 
 /// Whether a connection is served.
 #[derive(Clone, Copy)]
@@ -80,14 +80,6 @@ impl SeenFollowers {
     }
 }
 
-/// Adds a number in decimal.
-pub(crate) fn push_number(text: &mut Vec<u8>, number: u64) -> Result<(), AllocError>
-    ensures { OnOk result (text.new.items ≡ text.old.items ++ decimal number) }
-{
-    let mut digits = Buffer::new();
-    text.extend_from_slice(digits.format(number).as_bytes())
-}
-
 /// How a connection stands, at the end of its line.
 #[tactic(auto, unfolding(crate::specs::Followers::state_text))]
 fn state_text(state: FollowerState) -> &'static [u8]
@@ -132,7 +124,7 @@ fn push_line(front: &[u8], counts: &FollowerCounts, text: &mut Vec<u8>) -> Resul
     text.extend_from_slice(state_text(counts.state))
 }
 
-/// Adds a line for each connection, in their order, with this in front of each. Where memory runs out, some of them may have been added.
+/// Adds a line for each connection, in their order, with this in front of each. If memory runs out, some may have been added.
 fn push_lines(front: &[u8], all: &[FollowerCounts], text: &mut Vec<u8>) -> Result<(), AllocError>
     ensures { OnOk result (text.new.items ≡ text.old.items ++ follower_lines front.now all.now) }
 {
@@ -142,7 +134,7 @@ fn push_lines(front: &[u8], all: &[FollowerCounts], text: &mut Vec<u8>) -> Resul
     Ok(())
 }
 
-/// Adds a line for each connection that came, in their order. Where memory runs out, some of them may have been added.
+/// Adds a line for each connection that came, in their order. If memory runs out, some may have been added.
 pub(crate) fn push_all_followers(
     text: &mut Vec<u8>,
     followers: &SeenFollowers,
@@ -173,7 +165,7 @@ fn push_missing(text: &mut Vec<u8>, followers: &SeenFollowers) -> Result<(), All
     push_text(text, b" served\n")
 }
 
-/// Adds what the day's end waits for of the followers. Where memory runs out, some of it may have been added.
+/// Adds what the day's end waits for of the followers. If memory runs out, some of it may have been added.
 #[tactic(auto, unfolding(crate::specs::Followers::followers_line))]
 pub(crate) fn push_followers(
     text: &mut Vec<u8>,

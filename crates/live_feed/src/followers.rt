@@ -1,4 +1,4 @@
-//! What each connection of the retransmission asked for, for whoever looks on.
+//! Counts what each connection of the retransmission asked for and was given, for an operator.
 
 use crate::clock::nanos_of;
 use crate::follower_counts::{FollowerCounts, FollowerState, SeenFollowers};
@@ -11,7 +11,7 @@ use tape_frames::REQUEST_LENGTH;
 /// How many nanoseconds a second has.
 const SECOND: u64 = 1_000_000_000;
 
-/// One connection that is counted. Its thread counts without a lock, and whoever looks on reads what was counted so far.
+/// One connection that is counted. Its thread counts without a lock, and an operator reads what was counted so far.
 #[derive(Drop)]
 pub(crate) struct Follower {
     /// In whole seconds after the day's start.
@@ -27,7 +27,7 @@ pub(crate) struct Follower {
 }
 
 impl Follower {
-    /// A connection that is served since so many seconds after the day's start, and asked for nothing yet.
+    /// A connection that is served since this many seconds after the day's start, and asked for nothing yet.
     fn new(since: u64) -> Follower {
         Follower {
             since,
@@ -39,34 +39,34 @@ impl Follower {
         }
     }
 
-    /// So many bytes of requests were read.
+    /// Counts bytes of requests that were read.
     pub(crate) fn count_asked(&self, bytes: usize) {
         self.asked.fetch_add(bytes as u64, Ordering::SeqCst);
     }
 
-    /// So many bytes of an answer were written.
+    /// Counts bytes of an answer that were written.
     pub(crate) fn count_bytes(&self, bytes: usize) {
         self.bytes.fetch_add(bytes as u64, Ordering::SeqCst);
     }
 
-    /// An answer was written whole.
+    /// Counts an answer that was written whole.
     pub(crate) fn count_answer(&self) {
         self.answered.fetch_add(1, Ordering::SeqCst);
     }
 
-    /// It has ended.
+    /// Marks the connection as ended.
     pub(crate) fn end(&self) {
         self.is_ended.store(true, Ordering::SeqCst)
     }
 
-    /// Where it is served still, it is given up.
+    /// Marks the connection as given up if it is still served.
     fn give_up(&self) {
         if !self.is_ended.load(Ordering::SeqCst) {
             self.is_given_up.store(true, Ordering::SeqCst)
         }
     }
 
-    /// What was counted so far of the connection that came at this place, from 1.
+    /// Returns what was counted so far of the connection that came at this place, from 1.
     fn counts(&self, place: u64) -> FollowerCounts {
         let state = if self.is_given_up.load(Ordering::SeqCst) {
             FollowerState::GivenUp
@@ -86,19 +86,19 @@ impl Follower {
     }
 }
 
-/// Those that came.
+/// The connections that came.
 #[derive(Drop)]
 struct Came {
     /// How many connections came, those that are not counted included.
     many: u32,
-    /// Whether nobody is waited for any longer.
+    /// Whether no connection is waited for any longer.
     is_given_up: bool,
     /// The connections that are counted, in the order in which they came.
     followers: Vec<Arc<Follower>>,
 }
 
 impl Came {
-    /// What was counted of each connection so far.
+    /// Returns what was counted of each connection so far.
     fn counts(&self, alloc: Global) -> Result<Vec<FollowerCounts>, AllocError> {
         let mut counts = Vec::with_capacity(alloc, self.followers.len())?;
         for (at, follower) in self.followers.iter().enumerate() {
@@ -120,7 +120,7 @@ pub(crate) struct Followers {
 }
 
 impl Followers {
-    /// No connection came yet of so many that are served, and the day begins now. It takes no memory.
+    /// No connection of this many that are served has come yet, and the day begins at this time. It allocates nothing.
     pub(crate) fn new<R: Clock>(rt: &R, alloc: Global, serves: u16) -> Followers {
         Followers {
             alloc,
@@ -134,8 +134,8 @@ impl Followers {
         }
     }
 
-    /// A connection came, which is counted from now on. Where memory runs out it is known to have come, and served all the same, but what it
-    /// asks for is not counted.
+    /// Adds a connection that came, which is counted from then on. If memory runs out it counts as having come and is served
+    /// all the same, but what it asks for is not counted.
     pub(crate) fn enter<R: Wait + Clock>(&self, rt: &R) -> Option<Arc<Follower>> {
         let since = nanos_of(rt).saturating_sub(self.began) / SECOND;
         let follower = Arc::new(self.alloc, Follower::new(since));
@@ -147,7 +147,7 @@ impl Followers {
         Some(follower)
     }
 
-    /// Those that are served still are given up, and those that did not come are waited for no longer.
+    /// Gives up the connections that are still served, and waits no longer for those that did not come.
     pub(crate) fn give_up<R: Wait>(&self, rt: &R) {
         let mut came = self.came.lock(rt);
         came.is_given_up = true;
@@ -156,7 +156,7 @@ impl Followers {
         }
     }
 
-    /// How the day's followers stand. Nobody enters meanwhile, and what is served goes on.
+    /// Returns what is known of the day's followers. No connection enters meanwhile, and serving goes on.
     pub(crate) fn seen<R: Wait>(&self, rt: &R) -> Result<SeenFollowers, AllocError> {
         let came = self.came.lock(rt);
         Ok(SeenFollowers {

@@ -1,4 +1,4 @@
-//! What is published, and behind it what was gathered to be published next.
+//! A source of packets: what is published, and after it what was gathered to be published next.
 ghost use Rattle.std.specs.Prelude.{◌≡◌, ◌++◌, OnErr, OnOk, slice_get};
 ghost use Rattle.line_ledger.specs.Cells.{shown};
 ghost use Rattle.tape_frames.specs.Sources.{BeginsWith, IsPublished};
@@ -9,7 +9,7 @@ use std::marker::Model;
 use tape_core::Entry;
 use tape_frames::Source;
 
-/// A source of what is published, and behind it of what was gathered to be published next: a journal's group is cut from it.
+/// A source of what is published, and after it of what was gathered to be published next: a journal's group is cut from it.
 #[derive(Drop)]
 pub(crate) struct Gathered<'a, 'b, D: DayName> {
     published: &'a Published<'b, D>,
@@ -49,7 +49,7 @@ fn entry_at(entries: &[Entry], at: usize) -> Option<Entry>
 impl<D: DayName> Source for Gathered<'_, '_, D> {
     ghost list = { λ g. g };
 
-    /// Changes nothing, and takes no memory.
+    /// Changes nothing, and allocates nothing.
     fn refresh(&mut self) -> Result<(), AllocError>
         ensures ok { OnOk result (BeginsWith self.old self.new) }
         ensures err { OnErr result (self.new ≡ self.old) }

@@ -5,7 +5,7 @@ use day_journal::GroupWriter;
 /// A day's journal, opened: what the day publishes is appended to it and kept first.
 #[derive(Drop)]
 pub struct DayJournal<J> {
-    /// The groups' writer, which goes on behind the header, or behind the groups that were read. Its session is the day's.
+    /// The groups' writer, which goes on after the header, or after the groups that were read. Its session is the day's.
     pub groups: GroupWriter,
     /// What the journal is kept in. It ends where the writer goes on.
     pub file: J,

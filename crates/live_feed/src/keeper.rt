@@ -1,4 +1,4 @@
-//! Keeps what is to be published in the day's journal first.
+//! Keeps in the day's journal what is to be published, before it is published.
 ghost use Rattle.std.specs.Prelude.{◌≡◌, ◌≢◌, ◌≤◌, ◌-◌, ◌++◌, [], Err, IfErr, OnErr, OnOk, drop, false, length, take, true};
 ghost use Rattle.std.specs.Io.KnownBytes.{Appends, Keeps};
 ghost use Rattle.day_journal.specs.Groups.{IsGroup};
@@ -44,7 +44,7 @@ impl<J: JournalFile> Model for Keeper<J> {
     ghost view = { λ k. record { writer = k.groups; contents = J.contents k.file; kept = J.kept k.file; queue = k.queue; failed = k.failed } };
 }
 
-/// The entries that follow so many, no more than are gathered at once.
+/// Returns the entries after the first `held`, no more than are gathered at once.
 fn next_of(entries: &[Entry], held: u32) -> &[Entry]
     ensures { result.now ≡ take GATHERED_AT_ONCE (drop held entries.now) }
 {
@@ -54,7 +54,7 @@ fn next_of(entries: &[Entry], held: u32) -> &[Entry]
 }
 
 impl<J: JournalFile> Keeper<J> {
-    /// That of a journal which is kept in this file and goes on behind these groups. It takes no memory.
+    /// The keeper of a journal that is kept in this file and goes on after these groups. It allocates nothing.
     pub(crate) fn new(alloc: Global, groups: GroupWriter, file: J) -> Keeper<J>
         ensures { result ≡ record { writer = groups; contents = J.contents file; kept = J.kept file; queue = []; failed = false } }
     {
@@ -88,7 +88,7 @@ impl<J: JournalFile> Keeper<J> {
         self.queue.len()
     }
 
-    /// Takes note that a write, or keeping what was written, failed: the day's fault for it.
+    /// Notes that a write, or keeping what was written, failed, and returns the day's fault for it.
     fn fail(&mut self) -> Fault
         ensures fault { result ≡ WriteFault }
         ensures failed { self.new ≡ record self.old { failed = true } }
@@ -110,7 +110,7 @@ impl<J: JournalFile> Keeper<J> {
         }
     }
 
-    /// Gathers the tape's next entries that the journal does not have.
+    /// Gathers the tape's next entries that the journal doesn't have. If memory runs out, none are gathered.
     pub(crate) fn gather(&mut self, tape: &Tape<IndexStore>) -> Result<(), Fault>
         ensures ok { OnOk result (self.new ≡ record self.old { queue = take GATHERED_AT_ONCE (drop self.old.writer.held tape.now.entries) }) }
         ensures follow { OnOk result (CanFollow self.new.writer.held self.new.queue) }
@@ -125,7 +125,7 @@ impl<J: JournalFile> Keeper<J> {
         Ok(())
     }
 
-    /// Appends the entries that were gathered as one group, behind those that are published, and keeps it.
+    /// Appends the entries that were gathered as one group, after those that are published, and keeps it.
     pub(crate) fn append<D: DayName>(&mut self, published: &Published<'_, D>) -> Result<(), Fault>
         requires some { 1 ≤ length self.old.queue }
         requires counted { self.old.writer.held ≡ length (shown published.now.tokens) }
@@ -148,8 +148,8 @@ impl<J: JournalFile> Keeper<J> {
         }
     }
 
-    /// Takes the entries off the queue that were found published after the first so many. They are those at its front, or the tape
-    /// disagrees with the journal.
+    /// Takes off the queue the entries that were published after the first `before`. `Disagrees` if they are not those at its
+    /// front; then nothing changes.
     pub(crate) fn take_off<D: DayName>(
         &mut self,
         published: &Published<'_, D>,

@@ -1,4 +1,5 @@
-//! The sender's side of a day over sockets: participants' lines in, two lossy lines and a retransmission out, and the day's report.
+//! The sender's side of a day over sockets: participants' lines in, two lossy lines and a retransmission out, and the day's
+//! report.
 #![tactic(auto)]
 
 mod accepting;
@@ -43,7 +44,7 @@ mod status;
 
 pub use journal::{DayJournal, Restored};
 pub use journal_file::{JournalFile, KeepFault, MemoryJournal};
-pub use live::{live_over, run_live};
+pub use live::{FeedTerms, live_over, run_live};
 pub use loss::{Loss, NoLoss};
 pub use operated_day::{LiveEnd, LiveTerms, live_day};
 pub use operation::Operation;

@@ -1,14 +1,14 @@
-//! What is known of a participant's line at one moment, and how it is said.
+//! What is known of a participant's line at one moment, and the text that says it.
 ghost use Rattle.std.specs.Prelude.{◌≡◌, ◌+◌, ◌-◌, ◌^◌, ◌++◌, [], OnOk, min};
 ghost use Rattle.std.specs.List.{flat_map};
 ghost use Rattle.live_feed.specs.Accounts.{absent_line, absent_words, counts_text, first_text, has_connected, head_text, is_awaited, is_counted, open_lines, reason_line, reason_text, refused_lines, refused_text, seen_lines, since_text, span_text, words_line};
 ghost use Rattle.live_feed.specs.declared.line_counts.LineStage.TheVariants.{Awaited};
 ghost use Rattle.participant_lines.specs.Tallies.{AreCounted};
 
-use crate::follower_counts::push_number;
 use participant_lines::{ALL_REASONS, Reason, Refused, Tally};
 use std::alloc::AllocError;
 use tape_types::Participant;
+use whole_io::push_number;
 
 /// What became of a line's messages.
 #[derive(Clone, Copy, Debug, PartialEq, Eq)]
@@ -26,11 +26,11 @@ pub(crate) struct LineCounts {
 pub(crate) enum LineStage {
     /// Its connection is waited for.
     Awaited,
-    /// Its connection did not come within so many seconds.
+    /// Its connection did not come within this many seconds.
     Absent(u32),
     /// The day was ended before its connection came.
     Unawaited,
-    /// It is open since so many whole seconds after the day's start.
+    /// It is open since this many whole seconds after the day's start.
     Open(u64),
     /// It has ended, and was open since then.
     Closed(u64),
@@ -61,7 +61,7 @@ impl LineCounts {
         }
     }
 
-    /// So many were admitted before a day goes on, of which the last had this number.
+    /// The counts of a line of which this many messages were admitted before the day goes on, the last with this number.
     pub(crate) fn before(admitted: u32, last: u32) -> LineCounts
         ensures numbers { (result.admitted ≡ admitted) × (result.last ≡ last) }
         ensures tally { AreCounted [] result.tally }
@@ -73,7 +73,7 @@ impl LineCounts {
         }
     }
 
-    /// What became of a line's messages once so many were done, of which these were refused, behind so many of a day that goes on.
+    /// What became of a line's messages once this many were done and these of them refused, after those of a day that goes on.
     pub(crate) fn so_far(before: u32, done: u32, last: u32, tally: &Tally) -> LineCounts
         ensures admitted { result.admitted ≡ min (before + (done - tally.now.refused)) (2 ^ 32 - 1) }
         ensures others { (result.last ≡ last) × (result.tally ≡ tally.now) }
@@ -123,7 +123,7 @@ impl SeenLine {
         }
     }
 
-    /// The line once it is known to go on after so many messages of the day's journal, of which the last had this number.
+    /// The line once it is known to go on after this many messages of the day's journal, the last with this number.
     pub(crate) fn going_on(self, admitted: u32, last: u32) -> SeenLine
         ensures line { (result.who ≡ self.who) × (result.stage ≡ self.stage) × (result.before ≡ admitted) }
         ensures counts { (result.counts.admitted ≡ admitted) × (result.counts.last ≡ last) × AreCounted [] result.counts.tally }
@@ -135,7 +135,7 @@ impl SeenLine {
         }
     }
 
-    /// The line once so many messages were done behind those that it goes on after, of which these were refused.
+    /// The line once this many messages were done after those that it goes on after, and these of them refused.
     pub(crate) fn after(self, done: u32, last: u32, tally: &Tally) -> SeenLine
         ensures line { (result.who ≡ self.who) × (result.stage ≡ self.stage) × (result.before ≡ self.before) }
         ensures admitted { result.counts.admitted ≡ min (self.before + (done - tally.now.refused)) (2 ^ 32 - 1) }
@@ -164,7 +164,7 @@ pub(crate) fn push_head(text: &mut Vec<u8>, word: &[u8], who: Participant) -> Re
     push_text(text, b": ")
 }
 
-/// Adds a line of these words about a participant, or nothing where there are none.
+/// Adds a line of these words about a participant, or nothing if there are none.
 #[tactic(auto, unfolding(crate::specs::Accounts::words_line))]
 pub(crate) fn push_words(
     text: &mut Vec<u8>,
@@ -213,7 +213,7 @@ fn push_reason(text: &mut Vec<u8>, reason: Reason, refused: Refused) -> Result<(
     push_refusals(text, count, code, reason.name().as_bytes())
 }
 
-/// Adds the number of the first message that was refused for a reason, where the frame spells a message.
+/// Adds the number of the first message that was refused for a reason, if the frame spells a message.
 #[tactic(auto, unfolding(crate::specs::Accounts::first_text))]
 fn push_first(text: &mut Vec<u8>, reason: Reason, refused: Refused) -> Result<(), AllocError>
     ensures { OnOk result (text.new.items ≡ text.old.items ++ first_text reason refused) }
@@ -227,7 +227,7 @@ fn push_first(text: &mut Vec<u8>, reason: Reason, refused: Refused) -> Result<()
     }
 }
 
-/// Adds the line of a reason, or nothing where no message was refused for it.
+/// Adds the line of a reason, or nothing if no message was refused for it.
 fn push_refused(
     text: &mut Vec<u8>,
     word: &[u8],
@@ -305,7 +305,7 @@ pub(crate) fn push_absent(
     push_text(text, b"\n")
 }
 
-/// Adds these words and so many seconds.
+/// Adds these words and this many seconds.
 fn push_span(text: &mut Vec<u8>, words: &[u8], since: u64) -> Result<(), AllocError>
     ensures { OnOk result (text.new.items ≡ text.old.items ++ span_text words.now since) }
 {

@@ -6,11 +6,12 @@ use std::io::{BufReader, Error, ErrorKind, Read};
 use std::net::TcpStream;
 use std::sync::Arc;
 
-/// A participant's connection. Where the day can be ended, each read looks whether it was: then the input is at its end, whatever the
-/// connection still has. A participant that did not connect has an input that is at its end.
+/// A participant's connection. If the day can be ended, each read looks whether it was: then the input is at its end, whatever
+/// the connection still has. A participant that did not connect has an input that is at its end.
 pub(crate) struct LineInput {
     stream: Option<TcpStream>,
-    /// Where the day can be ended: then reads of the connection end by themselves after a while, so that they can look.
+    /// The line's slot, if the day can be ended: then reads of the connection end by themselves after a while, so that they can
+    /// look.
     slot: Option<Arc<LineSlot>>,
 }
 
@@ -26,7 +27,7 @@ impl LineInput {
         }
     }
 
-    /// The input of a line with a slot, and of no connection where none came.
+    /// The input of a line with a slot, without a connection if none came.
     pub(crate) fn with_slot(stream: Option<TcpStream>, slot: Arc<LineSlot>) -> LineInput {
         LineInput {
             stream,
@@ -47,7 +48,7 @@ impl Read for LineInput {
             return Ok(0);
         }
         match stream.read(buf) {
-            // Nothing came for a while. Whoever reads tries again.
+            // Nothing came for a while. The reader tries again.
             Err(error) if error.kind() == ErrorKind::WouldBlock => {
                 Err(Error::from(ErrorKind::Interrupted))
             }

@@ -7,14 +7,14 @@ use std::sync::atomic::{AtomicBool, Ordering};
 use std::sync::{Arc, Mutex, Wait};
 use tape_types::{Gate, Participant};
 
-/// Where a line, whoever looks on, and whoever ends the day meet.
+/// A line, as its thread shares it with an operator who looks on and may end the day.
 #[derive(Drop)]
 pub(crate) struct LineSlot {
-    /// Raised where the day was ended: nothing more is read.
+    /// Raised when the day is ended: nothing more is read.
     is_over: AtomicBool,
-    /// Raised where a read met that.
+    /// Raised when a read finds the day ended.
     was_cut: AtomicBool,
-    /// Raised where the line has let its reader go.
+    /// Raised when the line has dropped its reader.
     is_closed: AtomicBool,
     /// What is known of the line: one text of counters, which this lock guards.
     seen: Mutex<SeenLine>,
@@ -36,12 +36,12 @@ impl LineSlot {
         self.seen.lock(rt).who == who
     }
 
-    /// Ends the line's reading: what was read is all.
+    /// Ends the line's reading: nothing more is read.
     pub(crate) fn stop(&self) {
         self.is_over.store(true, Ordering::SeqCst)
     }
 
-    /// Whether the line's reading was ended, of which note is taken: the line is open still.
+    /// Whether the line's reading was ended, which is noted if so: the line is still open.
     pub(crate) fn meets_stop(&self) -> bool {
         let is_over = self.is_over.load(Ordering::SeqCst);
         if is_over {
@@ -55,24 +55,24 @@ impl LineSlot {
         self.was_cut.load(Ordering::SeqCst)
     }
 
-    /// Takes note that the line has let its reader go.
+    /// Notes that the line has dropped its reader.
     pub(crate) fn close(&self) {
         self.is_closed.store(true, Ordering::SeqCst)
     }
 
-    /// Takes note of how far the line has come.
+    /// Notes how far the line has come.
     pub(crate) fn set_stage<R: Wait>(&self, rt: &R, stage: LineStage) {
         self.seen.lock(rt).stage = stage
     }
 
-    /// Takes note that the line goes on after so many messages of a journal, of which the last had this number. The day does not run yet.
+    /// Notes that the line goes on after this many messages of a journal, the last with this number. The day doesn't run yet.
     pub(crate) fn go_on<R: Wait>(&self, rt: &R, admitted: u32, last: u32) {
         let mut seen = self.seen.lock(rt);
         *seen = seen.going_on(admitted, last);
     }
 
-    /// Takes note of what became of the line's messages so far, unless someone looks on at this moment: the next message makes up
-    /// for it. It never waits.
+    /// Notes what became of the line's messages so far, unless someone looks on at this moment: the next message makes up for
+    /// it. It never waits.
     fn count(&self, done: u32, last: u32, tally: &Tally) {
         if let Some(mut seen) = self.seen.try_lock() {
             *seen = seen.after(done, last, tally);
@@ -92,7 +92,7 @@ impl LineSlot {
     }
 }
 
-/// Rings the bell after each message of a line, and counts it where the day has slots for its lines.
+/// Rings the bell after each message of a line, and counts the message if the day has slots for its lines.
 #[derive(Drop)]
 pub(crate) struct CountingBell<'a> {
     pub(crate) bell: &'a Bell,

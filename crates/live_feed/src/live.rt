@@ -1,4 +1,4 @@
-//! A live day: it accepts the participants' lines, sends the tape that they make, and reports it.
+//! Runs a live day: accepts the participants' lines, sends the tape that they make, and writes its report.
 ghost use Rattle.std.specs.Prelude.{◌≡◌, ◌≢◌, ◌⊎◌, ◌≤◌, IfErr, IfOk, None, OnOk, Some, length, true, vec_len};
 ghost use Rattle.std.specs.Io.KnownBytes.{Appends};
 ghost use Rattle.tape_core.specs.Tape.{IsLegal};
@@ -33,6 +33,21 @@ use std::sync::Wait;
 use std::thread::Threads;
 use tape_types::{Listing, can_start};
 
+/// The terms of a day.
+#[derive(Drop)]
+pub struct FeedTerms {
+    /// The names of the day.
+    pub listing: Listing,
+    /// How many entries the tape takes, from 1 to `TAPE_MOST`.
+    pub limit: u32,
+    /// The sale condition matrix.
+    pub matrix: Matrix,
+    /// The session that its packets name.
+    pub session: u64,
+    /// How many connections of the retransmission are served; with 0 none is awaited.
+    pub serves: u16,
+}
+
 /// Ends the day with a seat of each participant.
 pub(crate) fn end_day<D: DayName>(
     shared: SharedTape<D>,
@@ -56,7 +71,7 @@ pub(crate) fn end_day<D: DayName>(
     }
 }
 
-/// Whether the day has what was seen in each of the first so many cells.
+/// Whether the day has what was seen in each of the first `many` cells.
 fn confirms_all(day: &Day, tokens: &Vec<Sighting>, many: u32) -> bool
     requires cells { FirstTokens day.now.names tokens.now.items }
     requires many { length tokens.now.items ≡ many }
@@ -70,8 +85,8 @@ fn confirms_all(day: &Day, tokens: &Vec<Sighting>, many: u32) -> bool
     true
 }
 
-/// Whether the day is what was sent of it: the number that the end told is how many entries it has and the sender had tokens
-/// of, and each of these stands on its tape. A cell is set once, so its token stands for whatever was sent or served of it.
+/// Whether the day is what was sent of it: it has as many entries as the end told, the sender had a token of each, and each of
+/// these is on its tape. A cell is set once, so its token stands for whatever was sent or served of it.
 fn is_as_sent(day: &Day, tokens: &Vec<Sighting>, number: u32) -> bool
     requires { FirstTokens day.now.names tokens.now.items }
     ensures number { result ≡ true → (length tokens.now.items ≡ number) × (length day.now.tape.entries ≡ number) }
@@ -82,7 +97,7 @@ fn is_as_sent(day: &Day, tokens: &Vec<Sighting>, number: u32) -> bool
         && confirms_all(day, tokens, number)
 }
 
-/// A day that has ended, with what was seen of each entry that the sender found published, all of which it sent. These are the entries of
+/// A day that has ended, with what was seen of each entry that the sender found published and sent. These are the entries of
 /// the day, in order.
 #[derive(Drop)]
 pub(crate) struct SentDay {
@@ -91,14 +106,15 @@ pub(crate) struct SentDay {
     ghost sent: { shown seen.items ≡ day.tape.entries },
 }
 
-/// Ends the day that was joined: the day, whose entries are those that were sent, or the fault of the least status that was met.
+/// Ends the day that was joined. Returns the day, whose entries are those that were sent, or the fault of the least status that
+/// was met.
 pub(crate) fn finish_day<D: DayName>(
     shared: SharedTape<D>,
     joined: Joined<D>,
 ) -> Result<SentDay, Fault>
     requires seats { IsOneEach D.terms.listing.participants joined.ran.seats.items }
     requires tokens { FirstTokens shared joined.sent.tokens.items }
-    // With `least` and `met`, a fault that was met is answered by the least of all.
+    // With `least` and `met`, the fault that is returned is the least of all that were met.
     ensures none { IfOk result (λ _. (joined.served.fault ≡ None) × (joined.sent.fault ≡ None) × (joined.ran.fault ≡ None)) }
     ensures least { IfErr result (λ fault. NoneBefore fault joined.served.fault × NoneBefore fault joined.sent.fault
         × NoneBefore fault joined.ran.fault) }
@@ -138,7 +154,7 @@ pub(crate) fn finish_day<D: DayName>(
     })
 }
 
-/// Runs the day of what was prepared, under its name, and ends it. Packets are written in the text.
+/// Runs the day of what was prepared, under its name, and ends it. Packets are written to `text`.
 fn run_named<D: DayName + Send + Sync, R: Threads + Wait + Clock + Sync, L: Loss + Sync>(
     rt: &R,
     feed: &Feed<'_, L>,
@@ -156,18 +172,13 @@ fn run_named<D: DayName + Send + Sync, R: Threads + Wait + Clock + Sync, L: Loss
     ensures within { IfOk result (λ ended. length ended.day.tape.entries ≤ D.terms.limit) }
 {
     let slots = Vec::new(feed.alloc);
-    let (shared, waiting) = match open_lines::<D, R>(
-        rt, feed.alloc, prepared, readers, slots, None,
-    ) {
-        Ok(opened) => opened,
-        Err(fault) => return Err(fault),
-    };
+    let (shared, waiting) = open_lines::<D, R>(rt, feed.alloc, prepared, readers, slots, None)?;
     let bell = Bell::new();
     let joined = run_together(rt, feed, &shared, waiting, &bell, text);
     finish_day(shared, joined)
 }
 
-/// Runs the day of what was prepared. Packets are written in the text.
+/// Runs the day of what was prepared. Packets are written to `text`.
 fn run_day<R: Threads + Wait + Clock + Sync, L: Loss + Sync>(
     rt: &R,
     feed: &Feed<'_, L>,
@@ -184,7 +195,7 @@ fn run_day<R: Threads + Wait + Clock + Sync, L: Loss + Sync>(
     run_named::<Brand, R, L>(rt, feed, prepared, readers, text)
 }
 
-/// Waits for the lines, and looks whether a thread can be started for them then.
+/// Waits for the lines. Returns `Worker` if no thread can be started for them then.
 fn readers_of<R: Threads>(
     rt: &R,
     alloc: Global,
@@ -199,25 +210,23 @@ fn readers_of<R: Threads>(
     Ok(readers)
 }
 
-/// Prepares the day, waits for its lines and runs it.
+/// Prepares a day of these terms, waits for its lines and runs it.
 fn hold_day<R: Threads + Wait + Clock + Sync, L: Loss + Sync>(
     rt: &R,
     feed: &Feed<'_, L>,
-    listing: Listing,
-    limit: u32,
-    matrix: Matrix,
+    terms: FeedTerms,
     lines: Vec<TcpListener>,
 ) -> Result<SentDay, Fault>
     ensures legal { IfOk result (λ ended. IsLegal ended.day.tape) }
-    ensures listed { IfOk result (λ ended. ended.day.tape.listing ≡ listing) }
-    ensures by_matrix { IfOk result (λ ended. ended.day.tape.matrix ≡ matrix) }
-    ensures within { IfOk result (λ ended. length ended.day.tape.entries ≤ limit) }
+    ensures listed { IfOk result (λ ended. ended.day.tape.listing ≡ terms.listing) }
+    ensures by_matrix { IfOk result (λ ended. ended.day.tape.matrix ≡ terms.matrix) }
+    ensures within { IfOk result (λ ended. length ended.day.tape.entries ≤ terms.limit) }
 {
-    if lines.len() != listing.participants().as_slice().len() {
+    if lines.len() != terms.listing.participants().as_slice().len() {
         return Err(Fault::Read);
     }
     let mut text = room_for_a_packet(feed.alloc)?;
-    let prepared = prepare_day(feed.alloc, listing, limit, matrix)?;
+    let prepared = prepare_day(feed.alloc, terms.listing, terms.limit, terms.matrix)?;
     let readers = match readers_of(rt, feed.alloc, lines) {
         Ok(readers) => readers,
         Err(fault) => {
@@ -228,22 +237,20 @@ fn hold_day<R: Threads + Wait + Clock + Sync, L: Loss + Sync>(
     run_day(rt, feed, prepared, readers, &mut text)
 }
 
-/// Runs the day and writes its report: that of the day that is returned, whose entries were sent.
+/// Runs the day and writes its report, which is that of the day that is returned and whose entries were sent.
 fn live<R: Threads + Wait + Clock + Sync, L: Loss + Sync, W: Write>(
     rt: &R,
     feed: &Feed<'_, L>,
-    listing: Listing,
-    limit: u32,
-    matrix: Matrix,
+    terms: FeedTerms,
     lines: Vec<TcpListener>,
     writer: &mut W,
 ) -> Result<SentDay, Fault>
     ensures report { OnOk result (WritesOneReport (W.contents writer.old) (W.contents writer.new)) }
-    ensures listed { OnOk result (WritesItsReport listing matrix limit (W.contents writer.old) (W.contents writer.new)) }
+    ensures listed { OnOk result (WritesItsReport terms.listing terms.matrix terms.limit (W.contents writer.old) (W.contents writer.new)) }
     ensures sent { IfOk result (λ ended. Appends (W.contents writer.old) (W.contents writer.new) (report_text (report_rows ended.day.tape))) }
     ensures unwritten { IfErr result (λ fault. fault ≢ WriteFault → writer.new ≡ writer.old) }
 {
-    let ended = hold_day(rt, feed, listing, limit, matrix, lines)?;
+    let ended = hold_day(rt, feed, terms, lines)?;
     match write_day(rt, feed.alloc, ended.day.tape(), writer) {
         Ok(()) => Ok(ended),
         Err(fault) => {
@@ -253,7 +260,7 @@ fn live<R: Threads + Wait + Clock + Sync, L: Loss + Sync, W: Write>(
     }
 }
 
-/// A handle of a listener by which it can be shut down, which its own type can't.
+/// Returns a handle by which a listener can be shut down, which its own type can't do.
 pub(crate) fn closing_of(listener: &TcpListener) -> Result<TcpStream, Fault> {
     match listener.try_clone() {
         Ok(handle) => Ok(TcpStream::from(OwnedFd::from(handle))),
@@ -261,21 +268,17 @@ pub(crate) fn closing_of(listener: &TcpListener) -> Result<TcpStream, Fault> {
     }
 }
 
-/// Runs a day as `live_over` does: `Ok` for its status 0, and else the fault whose status that returns.
+/// Runs a day as `live_over` does. Returns `Ok` for its status 0, and else the fault of its status.
 pub fn run_live<R: Threads + Wait + Clock + Sync, L: Loss + Sync, W: Write>(
     rt: &R,
     alloc: Global,
-    listing: Listing,
-    limit: u32,
-    matrix: Matrix,
-    session: u64,
-    serves: u16,
+    terms: FeedTerms,
     sockets: LiveSockets,
     loss: &L,
     writer: &mut W,
 ) -> Result<(), Fault>
     ensures report { OnOk result (WritesOneReport (W.contents writer.old) (W.contents writer.new)) }
-    ensures listed { OnOk result (WritesItsReport listing matrix limit (W.contents writer.old) (W.contents writer.new)) }
+    ensures listed { OnOk result (WritesItsReport terms.listing terms.matrix terms.limit (W.contents writer.old) (W.contents writer.new)) }
     ensures unwritten { IfErr result (λ fault. fault ≢ WriteFault → writer.new ≡ writer.old) }
 {
     let LiveSockets {
@@ -293,11 +296,11 @@ pub fn run_live<R: Threads + Wait + Clock + Sync, L: Loss + Sync, W: Write>(
         a: &a,
         b: &b,
         loss,
-        session,
-        serves,
+        session: terms.session,
+        serves: terms.serves,
         alloc,
     };
-    let ended = live(rt, &feed, listing, limit, matrix, lines, writer)?;
+    let ended = live(rt, &feed, terms, lines, writer)?;
     drop(ended);
     Ok(())
 }
@@ -305,19 +308,19 @@ pub fn run_live<R: Threads + Wait + Clock + Sync, L: Loss + Sync, W: Write>(
 /// Runs a day over sockets, and writes its report to `writer`.
 ///
 /// It waits for one connection of each participant, in listing order, closes the listener at which it came, and runs the lines
-/// at once. What they admit is published up to `PUBLISHED_AT_ONCE` entries at a time, and each publication is sent as one packet
-/// to each port of lines A and B, unless `loss` drops it on a line. The sender rests at a pace that rises while nothing is asked for again. Once the
-/// lines have ended, the end is sent three times on each, and then each second while a connection is served or awaited, unless a
-/// line or the sender met a fault. Beside that `serves` retransmission connections are served, all at once; with 0 of them none is
-/// awaited. After all are joined the day is ended, each entry that was sent is confirmed, and the number that the end told is
-/// compared with the day's length.
+/// at once. What they admit is published up to `PUBLISHED_AT_ONCE` entries at a time, and each publication is sent as one
+/// packet to each port of lines A and B, unless `loss` drops it on a line. The sender rests at a pace that rises while nothing
+/// is asked for again. Once the lines have ended, the end is sent three times on each of A and B, and then each second while a
+/// connection is served or awaited, unless a participant's line or the sender met a fault. Meanwhile `serves` retransmission
+/// connections are served, all at once; with 0 of them none is awaited. After all are joined the day is ended, each entry that
+/// was sent is confirmed, and the number that the end told is compared with the day's length.
 ///
-/// The status is 0 only where the report was written whole and flushed. A connection whose peer misbehaves ends
-/// alone, and a packet that cannot be sent is lost. What else goes wrong is answered by the least status of all, and then
-/// there is no report, or some of it after a write that failed: 3 where a participant's connection is not accepted, the listener
-/// of the retransmission is gone, or there is not one listener for each participant; 4 for a failed write of the report; 5 where
-/// memory runs out; 6 where no thread can be started for the lines; 7 where the tape disagrees with what was told, sent or served
-/// of it, and for a limit outside 1 to `TAPE_MOST`.
+/// The status is 0 only if the report was written whole and flushed. A connection whose peer misbehaves ends alone, and a
+/// packet that can't be sent is lost. If something else goes wrong, the least status of all is returned, and there is no
+/// report, or part of it after a failed write: 3 if a participant's connection is not accepted, the listener of the
+/// retransmission is gone, or there is not one listener for each participant; 4 for a failed write of the report; 5 if memory
+/// runs out; 6 if no thread can be started for the lines; 7 if the tape disagrees with what was told, sent or served of it, and
+/// for a limit outside 1 to `TAPE_MOST`.
 pub fn live_over<R: Threads + Wait + Clock + Sync, L: Loss + Sync, W: Write>(
     rt: &R,
     alloc: Global,
@@ -335,9 +338,14 @@ pub fn live_over<R: Threads + Wait + Clock + Sync, L: Loss + Sync, W: Write>(
     ensures unwritten { result ≢ 0 → result ≢ 4 → writer.new ≡ writer.old }
     ensures status { (result ≡ 0) ⊎ ((3 ≤ result) × (result ≤ 7)) }
 {
-    match run_live(
-        rt, alloc, listing, limit, matrix, session, serves, sockets, loss, writer,
-    ) {
+    let terms = FeedTerms {
+        listing,
+        limit,
+        matrix,
+        session,
+        serves,
+    };
+    match run_live(rt, alloc, terms, sockets, loss, writer) {
         Ok(()) => 0,
         Err(fault) => fault.status(),
     }

@@ -1,4 +1,5 @@
-//! Which data packets are lost.
+//! Decides which data packets are lost before they are sent.
+ghost use Rattle.std.specs.Prelude.{◌≡◌, false};
 
 use arbitration::Line;
 
@@ -13,7 +14,9 @@ pub trait Loss {
 pub struct NoLoss;
 
 impl Loss for NoLoss {
-    fn drops(&self, _line: Line, _first: u32) -> bool {
+    fn drops(&self, _line: Line, _first: u32) -> bool
+        ensures { result ≡ false }
+    {
         false
     }
 }

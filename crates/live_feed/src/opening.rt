@@ -1,4 +1,4 @@
-//! A day's lines with their seats, and the shared tape, before they run.
+//! Opens a day's shared tape, restores what its journal had, and gives each line its seat.
 ghost use Rattle.std.specs.Prelude.{◌≡◌, ◌≤◌, [], IfOk, IfSome, List, None, length, map, vec_len};
 ghost use Rattle.std.specs.Vec.{vec_capacity};
 ghost use Rattle.line_ledger.specs.Days.{terms_of};
@@ -45,7 +45,7 @@ fn seat_lines<D: DayName>(
     }
 }
 
-/// Restores the day from what its journal had, if it goes on. After a fault shared tape and seats are spent.
+/// Restores the day from what its journal had, if it goes on. After a fault the shared tape and the seats are spent.
 fn restore_seats<D: DayName, R: Wait>(
     rt: &R,
     alloc: Global,
@@ -73,7 +73,8 @@ fn restore_seats<D: DayName, R: Wait>(
     }
 }
 
-/// Opens the shared tape of what was prepared, with a seat for each participant, and restores what the day's journal had, if it goes on.
+/// Opens the shared tape of what was prepared, with a seat for each participant, and restores what the day's journal had, if it
+/// goes on.
 fn open_seats<D: DayName, R: Wait>(
     rt: &R,
     alloc: Global,
@@ -94,8 +95,8 @@ fn open_seats<D: DayName, R: Wait>(
     }
 }
 
-/// Opens the shared tape of what was prepared, restores what its journal had, if the day goes on, and gives each line its seat. The slots
-/// are for the lines in their order, or there are none.
+/// Opens the shared tape of what was prepared, restores what its journal had, if the day goes on, and gives each line its seat.
+/// The slots are for the lines in their order, or there are none.
 pub(crate) fn open_lines<D: DayName, R: Wait>(
     rt: &R,
     alloc: Global,

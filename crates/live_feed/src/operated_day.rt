@@ -1,4 +1,4 @@
-//! A day that is operated: someone looks on, and may end it.
+//! Runs a day that is operated: someone looks on, and may end it.
 ghost use Rattle.std.specs.Prelude.{◌≡◌, ◌<◌, ◌↔◌, Err, None, IfErr, IfOk, OnOk, length, vec_len, true, false};
 ghost use Rattle.line_ledger.specs.Cells.{FirstTokens};
 ghost use Rattle.line_ledger.specs.Days.{terms_of};
@@ -52,24 +52,24 @@ pub struct LiveTerms {
     pub session: u64,
     /// How many connections of the retransmission are served; with 0 none is awaited.
     pub serves: u16,
-    /// After how many seconds a participant that did not connect is given up; without such a number never.
+    /// After how many seconds a participant that did not connect is given up; never if `None`.
     pub connect_within: Option<u32>,
-    /// For how many seconds after the end followers may still ask; without such a number until the last connection has ended.
+    /// For how many seconds after the end followers may still ask; until the last connection has ended if `None`.
     pub followers_wait: Option<u32>,
 }
 
 /// How an operated day ended.
 #[derive(Drop)]
 pub struct LiveEnd {
-    /// `Ok` where nothing was met; else the fault of the least status that was.
+    /// `Ok` if no fault was met; else the fault of the least status that was.
     pub result: Result<(), Fault>,
-    /// Whether the report was written whole and flushed, which it may be beside a fault that was met after it.
+    /// Whether the report was written whole and flushed, which it may be although a fault was met after it.
     pub is_whole: bool,
-    /// What is said of the day, for standard error: lines of `tapebox: `, for each participant what became of its messages. Empty where
-    /// the lines were not run, or memory ran out for it.
+    /// What is said of the day, for standard error: lines that begin with `tapebox: `, for each participant what became of its
+    /// messages. Empty if the lines were not run, or memory ran out for it.
     pub account: Vec<u8>,
-    /// Whether a write of the journal failed, or keeping what was written. The result is then `Write` or a fault of a lesser status, and no
-    /// end was sent and no report written.
+    /// Whether a write of the journal failed, or keeping what was written. The result is then `Write` or a fault of a lesser
+    /// status, no end was sent and no report was written.
     pub journal_failed: bool,
 }
 
@@ -83,7 +83,7 @@ struct Held {
     journal_failed: bool,
 }
 
-/// A day that was not run, for this fault.
+/// The end of a day that was not run, with this fault.
 fn not_held(alloc: Global, fault: Fault) -> Held
     ensures result { result.result ≡ Err fault }
     ensures unwritten { result.is_whole ≡ false }
@@ -98,7 +98,7 @@ fn not_held(alloc: Global, fault: Fault) -> Held
     }
 }
 
-/// The same day without its accounts, and these.
+/// Splits off the day's accounts: the same day without them, and the accounts.
 fn take_accounts<D: DayName>(alloc: Global, joined: Joined<D>) -> (Joined<D>, Vec<LineAccount>)
     ensures sent { result.0.sent ≡ joined.sent }
     ensures served { result.0.served ≡ joined.served }
@@ -120,7 +120,7 @@ fn take_accounts<D: DayName>(alloc: Global, joined: Joined<D>) -> (Joined<D>, Ve
     (Joined { ran, sent, served }, accounts)
 }
 
-/// Other owners of the slots of a day's lines.
+/// Returns further owners of the slots of a day's lines.
 fn slots_of(alloc: Global, operation: &Operation) -> Result<Vec<Arc<LineSlot>>, Fault> {
     let mut slots = Vec::new(alloc);
     for slot in operation.lines.as_slice() {
@@ -134,7 +134,7 @@ fn slots_of(alloc: Global, operation: &Operation) -> Result<Vec<Arc<LineSlot>>, 
     Ok(slots)
 }
 
-/// How the run of a day ended that was joined, whose report was written whole or not.
+/// Ends a day that was joined, whose report was written whole or not.
 fn held_of<D: DayName>(
     alloc: Global,
     shared: SharedTape<D>,
@@ -182,8 +182,17 @@ fn journal_failed<J: JournalFile>(keeper: &Option<Keeper<J>>) -> bool
     }
 }
 
-/// Runs the day of what was prepared under a name, and writes its report. It goes on with what its journal had, if that is given. Packets
-/// are written in the text.
+/// What a day has before it runs.
+#[derive(Drop)]
+struct Ready {
+    prepared: Prepared,
+    text: Vec<u8>,
+    slots: Vec<Arc<LineSlot>>,
+    readers: Vec<Reader>,
+}
+
+/// Runs the day of what is ready under a name, and writes its report. It goes on with what its journal had, if that is given.
+/// Packets are written to its text.
 fn run_named<
     D: DayName + Send + Sync,
     R: Threads + Wait + Clock + Sync,
@@ -193,19 +202,16 @@ fn run_named<
 >(
     rt: &R,
     feed: &Feed<'_, L>,
-    prepared: Prepared,
-    readers: Vec<Reader>,
-    slots: Vec<Arc<LineSlot>>,
+    ready: Ready,
     past: Option<Past>,
     keeper: &mut Option<Keeper<J>>,
     watch: &Watch<'_>,
-    text: &mut Vec<u8>,
     writer: &mut W,
 ) -> Held
-    requires name { prepared.blank.name ≡ D.name }
-    requires parts { prepared.blank.parts ≡ D.parts }
-    requires terms { terms_of prepared.tape ≡ D.terms }
-    requires many { vec_len readers ≡ length D.terms.listing.participants }
+    requires name { ready.prepared.blank.name ≡ D.name }
+    requires parts { ready.prepared.blank.parts ≡ D.parts }
+    requires terms { terms_of ready.prepared.tape ≡ D.terms }
+    requires many { vec_len ready.readers ≡ length D.terms.listing.participants }
     requires kept { ¬ HasFailed keeper.old }
     ensures report { result.is_whole ≡ true
         → WritesItsReport D.terms.listing D.terms.matrix D.terms.limit (W.contents writer.old) (W.contents writer.new) }
@@ -214,6 +220,12 @@ fn run_named<
     ensures journal { result.journal_failed ≡ true → FailsEarly result.is_whole result.result }
     ensures failed { HasFailed keeper.new → result.journal_failed ≡ true }
 {
+    let Ready {
+        prepared,
+        mut text,
+        slots,
+        readers,
+    } = ready;
     let opened = open_lines::<D, R>(rt, feed.alloc, prepared, readers, slots, past.as_ref());
     drop(past);
     let (shared, waiting) = match opened {
@@ -226,40 +238,35 @@ fn run_named<
         is_whole,
         given_up,
     } = run_and_report(
-        rt, feed, &shared, keeper, waiting, &bell, watch, text, writer,
+        rt, feed, &shared, keeper, waiting, &bell, watch, &mut text, writer,
     );
     let failed = journal_failed(keeper);
     held_of(feed.alloc, shared, joined, is_whole, given_up, failed)
 }
 
-/// Runs the day of what was prepared. It goes on with what its journal had, if that is given.
+/// Runs the day of what is ready, and writes its report. It goes on with what its journal had, if that is given.
 fn run_prepared<R: Threads + Wait + Clock + Sync, L: Loss + Sync, J: JournalFile + Send, W: Write>(
     rt: &R,
     feed: &Feed<'_, L>,
-    prepared: Prepared,
-    readers: Vec<Reader>,
-    slots: Vec<Arc<LineSlot>>,
+    ready: Ready,
     past: Option<Past>,
     keeper: &mut Option<Keeper<J>>,
     watch: &Watch<'_>,
-    text: &mut Vec<u8>,
     writer: &mut W,
 ) -> Held
-    requires many { vec_len readers ≡ length prepared.tape.listing.participants }
+    requires many { vec_len ready.readers ≡ length ready.prepared.tape.listing.participants }
     requires kept { ¬ HasFailed keeper.old }
-    ensures report { result.is_whole ≡ true → WritesItsReport prepared.tape.listing prepared.tape.matrix prepared.tape.limit
+    ensures report { result.is_whole ≡ true → WritesItsReport ready.prepared.tape.listing ready.prepared.tape.matrix ready.prepared.tape.limit
         (W.contents writer.old) (W.contents writer.new) }
     ensures whole { OnOk result.result (result.is_whole ≡ true) }
     ensures unwritten { result.is_whole ≡ false → IfErr result.result (λ fault. 4 < fault_status fault → writer.new ≡ writer.old) }
     ensures journal { result.journal_failed ≡ true → FailsEarly result.is_whole result.result }
     ensures failed { HasFailed keeper.new → result.journal_failed ≡ true }
 {
-    run_named::<Brand, R, L, J, W>(
-        rt, feed, prepared, readers, slots, past, keeper, watch, text, writer,
-    )
+    run_named::<Brand, R, L, J, W>(rt, feed, ready, past, keeper, watch, writer)
 }
 
-/// The keeper of a day's journal, if it has one, and what the journal had, if the day goes on.
+/// Returns the keeper of a day's journal, if it has one, and what the journal had, if the day goes on.
 fn keeper_of<J: JournalFile>(
     alloc: Global,
     session: u64,
@@ -289,7 +296,8 @@ fn keeper_of<J: JournalFile>(
     (Some(keeper), past)
 }
 
-/// What the day's lines are read from, once their participants have connected or were given up, where a thread can be started for them then.
+/// Waits until the participants have connected or were given up, and returns what the day's lines are read from. Returns
+/// `Worker` if no thread can be started for them then.
 fn readers_of<R: Threads + Wait + Clock>(
     rt: &R,
     alloc: Global,
@@ -306,37 +314,26 @@ fn readers_of<R: Threads + Wait + Clock>(
     Ok(readers)
 }
 
-/// What a day has before it runs.
-#[derive(Drop)]
-struct Ready {
-    prepared: Prepared,
-    text: Vec<u8>,
-    slots: Vec<Arc<LineSlot>>,
-    readers: Vec<Reader>,
-}
-
-/// Prepares the day and waits for its lines.
+/// Prepares a day of these terms and waits for its lines.
 fn ready_day<R: Threads + Wait + Clock>(
     rt: &R,
     alloc: Global,
-    listing: Listing,
-    limit: u32,
-    matrix: Matrix,
-    connect_within: Option<u32>,
+    terms: LiveTerms,
     lines: Vec<TcpListener>,
     operation: &Operation,
 ) -> Result<Ready, Fault>
-    ensures many { IfOk result (λ ready. vec_len ready.readers ≡ length listing.participants) }
-    ensures listed { IfOk result (λ ready. ready.prepared.tape.listing ≡ listing) }
-    ensures by_matrix { IfOk result (λ ready. ready.prepared.tape.matrix ≡ matrix) }
-    ensures limited { IfOk result (λ ready. ready.prepared.tape.limit ≡ limit) }
+    ensures many { IfOk result (λ ready. vec_len ready.readers ≡ length terms.listing.participants) }
+    ensures listed { IfOk result (λ ready. ready.prepared.tape.listing ≡ terms.listing) }
+    ensures by_matrix { IfOk result (λ ready. ready.prepared.tape.matrix ≡ terms.matrix) }
+    ensures limited { IfOk result (λ ready. ready.prepared.tape.limit ≡ terms.limit) }
 {
-    if lines.len() != listing.participants().as_slice().len() {
+    if lines.len() != terms.listing.participants().as_slice().len() {
         return Err(Fault::Read);
     }
     let text = room_for_a_packet(alloc)?;
     let slots = slots_of(alloc, operation)?;
-    let prepared = prepare_day(alloc, listing, limit, matrix)?;
+    let connect_within = terms.connect_within;
+    let prepared = prepare_day(alloc, terms.listing, terms.limit, terms.matrix)?;
     match readers_of(rt, alloc, operation, connect_within, lines) {
         Ok(readers) => Ok(Ready {
             prepared,
@@ -351,7 +348,7 @@ fn ready_day<R: Threads + Wait + Clock>(
     }
 }
 
-/// The end of a day of this listing that was run so, with its account.
+/// The end of a day that was run, with its account.
 fn end_of(alloc: Global, held: Held) -> LiveEnd
     ensures result { result.result ≡ held.result }
     ensures is_whole { result.is_whole ≡ held.is_whole }
@@ -379,23 +376,24 @@ fn end_of(alloc: Global, held: Held) -> LiveEnd
 
 /// Runs a day that is operated, and writes its report to `writer` once its lines have ended and the end was sent.
 ///
-/// It waits for one connection of each participant, at all listeners at once, for `connect_within` seconds, and closes the listener at which
-/// one came. A participant that did not connect in time is given up: the day runs without it. Then it runs as `live_over`'s does, but
-/// that its report is written after the first ends, while followers still ask, for `followers_wait` seconds or until the last has
-/// ended. `operation` was made of the same listing; by it others see meanwhile how the day stands, and may end it: then all that was read of
-/// the lines is admitted, and nothing else.
+/// It waits for one connection of each participant, at all listeners at once, for `connect_within` seconds, and closes the
+/// listener at which one came. A participant that did not connect in time is given up: the day runs without it. Then it runs as
+/// `live_over` does, but its report is written after the first ends, while followers may still ask, for `followers_wait`
+/// seconds or until the last has ended. `operation` was made of the same listing; by it others see meanwhile how the day
+/// stands, and may end it: then all that was read of the lines is admitted, and nothing else.
 ///
-/// A connection whose peer misbehaves ends alone, and a packet that cannot be sent is lost. What else goes wrong is answered by the fault
-/// of the least status: `Read` where a participant's connection can't be accepted, the listener of the retransmission is gone, or
-/// there is not one listener and one line of the operation for each participant; `Write` for a failed write of the report; `Memory`;
-/// `Worker` where no thread can be started for the lines; `Disagrees` where the tape disagrees with what was told or sent of it, and for a
-/// limit outside 1 to `TAPE_MOST`. Without `Read` and `Write` there is the whole report or none of it.
+/// A connection whose peer misbehaves ends alone, and a packet that can't be sent is lost. If something else goes wrong, the
+/// result is the fault of the least status: `Read` if a participant's connection can't be accepted, the listener of the
+/// retransmission is gone, or there is not one listener and one line of the operation for each participant; `Write` for a
+/// failed write of the report; `Memory`; `Worker` if no thread can be started for the lines; `Disagrees` if the tape disagrees
+/// with what was told or sent of it, and for a limit outside 1 to `TAPE_MOST`. Without `Read` and `Write` there is the whole
+/// report or none of it.
 ///
-/// With a `journal` what the lines admit is appended to it as one group, up to 4,096 entries at once, and kept, before any of it is
-/// published or sent; while one group is kept the next gathers. Where that fails nothing more is published, and the day ends as after
-/// another fault of the sender, with `Write` and `journal_failed`. If the journal had entries when it was opened, the day goes on behind
-/// them under the same numbers: they are admitted, each by the seat of its participant, and published, but not sent again; `Disagrees`
-/// where they are not what this day makes of their messages.
+/// With a `journal` what the lines admit is appended to it as one group, up to 4,096 entries at once, and kept, before any of
+/// it is published or sent; while one group is kept the next gathers. If that fails nothing more is published, and the day ends
+/// as after another fault of the sender, with `Write` and `journal_failed`. If the journal had entries when it was opened, the
+/// day goes on after them under the same numbers: they are admitted, each by the seat of its participant, and published, but
+/// not sent again; `Disagrees` if they are not what this day makes of their messages.
 pub fn live_day<R: Threads + Wait + Clock + Sync, L: Loss + Sync, J: JournalFile + Send, W: Write>(
     rt: &R,
     alloc: Global,
@@ -413,15 +411,7 @@ pub fn live_day<R: Threads + Wait + Clock + Sync, L: Loss + Sync, J: JournalFile
     ensures account { HasAccount result.account.items }
     ensures journal { result.journal_failed ≡ true → FailsEarly result.is_whole result.result }
 {
-    let LiveTerms {
-        listing,
-        limit,
-        matrix,
-        session,
-        serves,
-        connect_within,
-        followers_wait,
-    } = terms;
+    let (session, serves, followers_wait) = (terms.session, terms.serves, terms.followers_wait);
     let LiveSockets {
         lines,
         retransmission,
@@ -433,22 +423,7 @@ pub fn live_day<R: Threads + Wait + Clock + Sync, L: Loss + Sync, J: JournalFile
         Ok(closing) => closing,
         Err(fault) => return end_of(alloc, not_held(alloc, fault)),
     };
-    let ready = ready_day(
-        rt,
-        alloc,
-        listing,
-        limit,
-        matrix,
-        connect_within,
-        lines,
-        operation,
-    );
-    let Ready {
-        prepared,
-        mut text,
-        slots,
-        readers,
-    } = match ready {
+    let ready = match ready_day(rt, alloc, terms, lines, operation) {
         Ok(ready) => ready,
         Err(fault) => return end_of(alloc, not_held(alloc, fault)),
     };
@@ -470,17 +445,6 @@ pub fn live_day<R: Threads + Wait + Clock + Sync, L: Loss + Sync, J: JournalFile
         lines: operation.lines.as_slice(),
     };
     let (mut keeper, past) = keeper_of(alloc, session, journal);
-    let held = run_prepared(
-        rt,
-        &feed,
-        prepared,
-        readers,
-        slots,
-        past,
-        &mut keeper,
-        &watch,
-        &mut text,
-        writer,
-    );
+    let held = run_prepared(rt, &feed, ready, past, &mut keeper, &watch, writer);
     end_of(alloc, held)
 }

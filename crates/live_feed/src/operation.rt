@@ -1,5 +1,7 @@
-//! What an operator sees of a day, and can do to it.
-ghost use Rattle.std.specs.Prelude.{◌≡◌, IfOk, length};
+//! The operation of a day: its status, and its end before its lines close.
+ghost use Rattle.std.specs.Prelude.{◌≡◌, IfOk, OnOk, length};
+ghost use Rattle.std.specs.Io.{StartsWith};
+ghost use Rattle.live_feed.specs.Status.{AddsStatus};
 
 use crate::clock::nanos_of;
 use crate::followers::Followers;
@@ -23,16 +25,17 @@ pub struct Operation {
     began: u64,
     /// The participants' lines, in listing order.
     pub(crate) lines: Vec<Arc<LineSlot>>,
-    /// Raised where the day was ended.
+    /// Raised when the day is ended.
     is_ended: AtomicBool,
-    /// Raised where followers are to be waited for no longer.
+    /// Raised when followers are to be waited for no longer.
     pub(crate) hurried: AtomicBool,
     /// The connections of the retransmission.
     pub(crate) followers: Followers,
 }
 
 impl Operation {
-    /// That of a day of this listing that serves so many connections of the retransmission, which begins now. Nobody has connected.
+    /// The operation of a day of this listing that begins at this time and serves this many connections of the retransmission.
+    /// Nobody has connected.
     pub fn new<R: Clock>(
         rt: &R,
         alloc: Global,
@@ -56,9 +59,9 @@ impl Operation {
         })
     }
 
-    /// Ends the day as if every line had closed now: what was read of the lines is admitted, connections that did not come are waited for no
-    /// longer, and the day goes on to its end and its report. It returns at once, and tells whether it was the first call. From the
-    /// second call on followers are waited for no longer either.
+    /// Ends the day as if every line closed at this moment: what was read of the lines is admitted, connections that did not
+    /// come are waited for no longer, and the day goes on to its end and its report. It doesn't wait for that, and returns
+    /// whether it was the first call. From the second call on followers are waited for no longer either.
     pub fn end(&self) -> bool {
         if self.is_ended.swap(true, Ordering::SeqCst) {
             self.hurried.store(true, Ordering::SeqCst);
@@ -70,8 +73,8 @@ impl Operation {
         true
     }
 
-    /// Takes note, before the day runs, that this participant's line goes on after so many messages of the day's journal, of which the last
-    /// had this number. Where the participant is not one of the day's, nothing changes.
+    /// Notes, before the day runs, that this participant's line goes on after `admitted` messages of the day's journal, the
+    /// last of which had the number `last`. If the participant is not one of the day's, nothing changes.
     pub fn go_on<R: Wait>(&self, rt: &R, who: Participant, admitted: u32, last: u32) {
         for line in self.lines.as_slice() {
             if line.is_of(rt, who) {
@@ -90,7 +93,7 @@ impl Operation {
         nanos_of(rt).saturating_sub(self.began) / SECOND
     }
 
-    /// What is known of each line, in listing order, each as it is at one moment.
+    /// Returns what is known of each line, in listing order, each as it is at one moment.
     pub(crate) fn seen<R: Wait>(&self, rt: &R) -> Result<Vec<SeenLine>, AllocError> {
         let mut seen = Vec::with_capacity(self.alloc, self.lines.len())?;
         for line in self.lines.as_slice() {
@@ -99,14 +102,13 @@ impl Operation {
         Ok(seen)
     }
 
-    /// Adds what there is to say of the day to a text, as lines: for how long it runs, its tape number and messages a second, each participant
-    /// with what became of its messages, each connection of the retransmission, and what the day's end waits for. Where memory runs out,
-    /// some of the lines may have been added.
-    pub fn put_status<R: Wait + Clock>(
-        &self,
-        rt: &R,
-        text: &mut Vec<u8>,
-    ) -> Result<(), AllocError> {
+    /// Appends the day's status to `text`, as lines: for how long it runs, its tape number and messages a second, each
+    /// participant with what became of its messages, each connection of the retransmission, and what the day's end waits for.
+    /// If memory runs out, some of the lines may have been added.
+    pub fn put_status<R: Wait + Clock>(&self, rt: &R, text: &mut Vec<u8>) -> Result<(), AllocError>
+        ensures kept { OnOk result (StartsWith text.new.items text.old.items) }
+        ensures told { OnOk result (AddsStatus text.old.items text.new.items) }
+    {
         let seen = self.seen(rt)?;
         let followers = self.followers.seen(rt)?;
         push_status(

@@ -11,27 +11,29 @@ const PACE_LEAST: u32 = 16;
 /// The pace at which a sender starts.
 const PACE_FIRST: u32 = 64;
 
-/// The greatest pace: the buffer that a socket has where nobody asks for another takes more packets at once, however long they are.
+/// The greatest pace: a socket's default buffer takes more packets at once, however long they are.
 const PACE_MOST: u32 = 64;
 
-/// How many packets more are sent in the next turn where nothing was asked for.
+/// How many packets more are sent in the next millisecond if nothing was asked for.
 const PACE_STEP: u32 = 2;
 
-/// The least that the pace may rise to: a pace below it is not what packets are lost by.
+/// The least value of the ceiling: a pace below it is not why packets are lost.
 const CEILING_LEAST: u32 = 32;
 
-/// How many rests in a row at which nothing was asked for are a calm: requests that are nearer to each other are of one overrun.
+/// How many rests in a row at which nothing was asked for make a calm: requests that are nearer to each other are of one
+/// overrun.
 const CALM_LEAST: u32 = 16;
 
-/// After each so many such rests the pace may rise by a packet more.
+/// After how many such rests the ceiling rises by a packet.
 const CALM_RESTS: u32 = 64;
 
-/// How many packets are sent in a turn of the clock, and as far as that rises.
+/// How many packets are sent in a millisecond, and how far that may rise.
 #[derive(Clone, Copy)]
 pub(crate) struct Pace {
-    /// How many packets are sent in a turn.
+    /// How many packets are sent in a millisecond.
     packets: u32,
-    /// As far as the pace rises, `CEILING_LEAST` at least: three quarters of the last one that was too fast, and some packets more.
+    /// How far the pace may rise, `CEILING_LEAST` at least: three quarters of the last pace that was too fast, and some packets
+    /// more.
     ceiling: u32,
     /// For how many rests nothing was asked for.
     calm: u32,
@@ -59,7 +61,7 @@ impl Pace {
         }
     }
 
-    /// As far as the pace rises next. A pace at which something was asked for after a calm was too fast.
+    /// The next ceiling. A pace at which something was asked for after a calm was too fast.
     fn ceiling_after(self, was_asked: bool) -> u32
         ensures { result ≡ ceiling_after was_asked self }
     {
@@ -72,7 +74,7 @@ impl Pace {
         }
     }
 
-    /// The next pace: half of it where something was asked for, else a step more, up to the ceiling.
+    /// The next pace: half of it if something was asked for, else a step more, up to the ceiling.
     pub(crate) fn after(self, was_asked: bool) -> Pace
         ensures after { result ≡ pace_after was_asked self }
         ensures some { PACE_LEAST ≤ result.packets }
@@ -94,7 +96,7 @@ impl Pace {
         }
     }
 
-    /// How many packets are sent in a turn.
+    /// How many packets are sent in a millisecond.
     pub(crate) fn packets(self) -> u32
         ensures { result ≡ self.packets }
     {

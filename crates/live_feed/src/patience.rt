@@ -10,12 +10,12 @@ use std::sync::atomic::{AtomicBool, Ordering};
 /// How many nanoseconds a second has.
 const SECOND: u64 = 1_000_000_000;
 
-/// How whoever runs a day looks on at its followers and its lines, and for how long it waits for followers after the end.
+/// How an operated day's followers and lines are looked at, and for how long followers are waited for after the end.
 #[derive(Clone, Copy)]
 pub(crate) struct Watch<'a> {
-    /// For how many seconds after the end followers may still ask: without such a number until the last connection has ended.
+    /// For how many seconds after the end followers may still ask; until the last connection has ended if `None`.
     pub(crate) followers_wait: Option<u32>,
-    /// Raised where they are to be waited for no longer.
+    /// Raised when they are to be waited for no longer.
     pub(crate) hurried: &'a AtomicBool,
     /// What they asked for.
     pub(crate) followers: &'a Followers,
@@ -30,8 +30,8 @@ impl Watch<'_> {
     }
 }
 
-/// Whether so many seconds have passed at this time, of a wait that began then, in nanoseconds of the clock. Without such a number they
-/// never have.
+/// Whether this many seconds have passed at this time, of a wait that began then, in nanoseconds of the clock. Without a number
+/// of seconds they never have.
 fn has_passed(seconds: Option<u32>, began: u64, now: u64) -> bool
     ensures { result ≡ has_passed seconds began now }
 {

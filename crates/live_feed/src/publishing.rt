@@ -1,4 +1,4 @@
-//! What the sender publishes, once it is kept in the day's journal, if there is one.
+//! Publishes the tape's next entries, once they are kept in the day's journal, if there is one.
 ghost use Rattle.std.specs.Prelude.{◌≡◌, ◌≢◌, ◌≤◌, ◌⊎◌, [], Err, IfOk, OnOk, length, true, ℕ};
 ghost use Rattle.line_ledger.specs.Cells.{shown};
 ghost use Rattle.line_ledger.specs.Publishing.{GoesOn};
@@ -28,7 +28,7 @@ fn fault_of_publication(fault: PublishFault) -> Fault
     }
 }
 
-/// Publishes the tape's next entries, so many at most, and looks at what is published then: how many cells were set.
+/// Publishes the tape's next entries, `most` at most, and looks at what is published then. Returns how many cells were set.
 pub(crate) fn publish<D: DayName, R: Wait>(
     rt: &R,
     shared: &SharedTape<D>,
@@ -50,7 +50,7 @@ pub(crate) fn publish<D: DayName, R: Wait>(
     }
 }
 
-/// Publishes no more than the journal keeps and was not published yet, so many at most: how many cells were set.
+/// Publishes entries that the journal keeps and that were not published yet, `most` at most. Returns how many cells were set.
 fn publish_waiting<D: DayName, R: Wait, J: JournalFile>(
     rt: &R,
     shared: &SharedTape<D>,
@@ -70,8 +70,8 @@ fn publish_waiting<D: DayName, R: Wait, J: JournalFile>(
     publish(rt, shared, published, most)
 }
 
-/// Keeps the tape's next entries as a group of the journal, unless some wait that were kept before. The lines go on meanwhile: the lock is
-/// taken to gather the entries, and not while they are written.
+/// Keeps the tape's next entries as a group of the journal, unless some that were kept before are waiting. The lines go on
+/// meanwhile: the lock is held while the entries are gathered, and not while they are written.
 fn keep_next<D: DayName, R: Wait, J: JournalFile>(
     rt: &R,
     shared: &SharedTape<D>,
@@ -93,8 +93,8 @@ fn keep_next<D: DayName, R: Wait, J: JournalFile>(
     keeper.append(published)
 }
 
-/// Publishes what the journal keeps, and first keeps the tape's next entries where nothing waits: how many cells were set. What is found
-/// published then is what was to be published next, or the tape disagrees with the journal.
+/// Publishes what the journal keeps, and first keeps the tape's next entries if nothing waits. Returns how many cells were set.
+/// What is found published then is what was to be published next; `Disagrees` if it isn't.
 fn publish_kept<D: DayName, R: Wait, J: JournalFile>(
     rt: &R,
     shared: &SharedTape<D>,
@@ -117,7 +117,8 @@ fn publish_kept<D: DayName, R: Wait, J: JournalFile>(
     Ok(set)
 }
 
-/// Publishes the tape's next entries, so many at most, once they are kept in the journal, if there is one: how many cells were set.
+/// Publishes the tape's next entries, `PUBLISHED_AT_ONCE` at most, after they are kept in the journal, if there is one. Returns
+/// how many cells were set.
 pub(crate) fn publish_next<D: DayName, R: Wait, J: JournalFile>(
     rt: &R,
     shared: &SharedTape<D>,
@@ -139,8 +140,8 @@ pub(crate) fn publish_next<D: DayName, R: Wait, J: JournalFile>(
     }
 }
 
-/// Finds what was restored of the journal, if there is one, and keeps what its file has: the entries that are published are as many as
-/// it has then, and it stays as it is.
+/// Looks at what was restored of the journal, if there is one, and keeps what its file has. As many entries are published then
+/// as the journal has, and it stays as it is.
 pub(crate) fn begin<D: DayName, J: JournalFile>(
     keeper: &mut Option<Keeper<J>>,
     published: &mut Published<'_, D>,

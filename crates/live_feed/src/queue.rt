@@ -1,4 +1,4 @@
-//! The entries that a journal has and that are to be published next.
+//! A queue of the entries that a journal has and that are to be published next.
 ghost use Rattle.std.specs.Prelude.{◌≡◌, ◌≤◌, ◌↔◌, [], IsTrue, OnErr, OnOk, drop, length};
 
 use std::alloc::{AllocError, Global};
@@ -26,7 +26,7 @@ impl Model for Queue {
 }
 
 impl Queue {
-    /// An empty one. It takes no memory.
+    /// An empty queue. It allocates nothing.
     pub(crate) fn new(alloc: Global) -> Queue
         ensures { result ≡ [] }
     {
@@ -50,7 +50,7 @@ impl Queue {
         self.entries.len() - self.taken
     }
 
-    /// Puts these entries in place of those that are there. Where memory runs out it is empty.
+    /// Replaces the entries with these. If memory runs out the queue is empty.
     pub(crate) fn fill(&mut self, entries: &[Entry]) -> Result<(), AllocError>
         ensures ok { OnOk result (self.new ≡ entries.now) }
         ensures err { OnErr result (self.new ≡ []) }
@@ -60,7 +60,7 @@ impl Queue {
         self.entries.extend_from_slice(entries)
     }
 
-    /// Takes the first so many off.
+    /// Removes the first `count` entries.
     pub(crate) fn take_off(&mut self, count: usize)
         requires { count ≤ length self.old }
         ensures { self.new ≡ drop count self.old }

@@ -1,4 +1,4 @@
-//! How long nothing was sent.
+//! Decides when a beat is due, by how long nothing was sent.
 ghost use Rattle.std.specs.Prelude.{◌≡◌, ◌+◌, ◌-◌, ◌^◌, min};
 ghost use Rattle.live_feed.specs.Quiets.{pause_before};
 
@@ -11,7 +11,7 @@ const SECOND_PAUSE: u64 = 200_000_000;
 /// How long nothing was sent since the beat before when a later one is sent.
 const LATER_PAUSE: u64 = 1_000_000_000;
 
-/// Since when nothing was sent, and how many beats in a row were the last of what was.
+/// Since when nothing was sent, and how many beats in a row were sent last.
 #[derive(Clone, Copy)]
 pub(crate) struct Quiet {
     since: u64,
@@ -50,7 +50,7 @@ impl Quiet {
         }
     }
 
-    /// How long it is at this time until a beat is due, in nanoseconds: 0 where one is.
+    /// For how many nanoseconds after this time no beat is due; 0 if one is due.
     pub(crate) fn left(self, now: u64) -> u64
         ensures { result ≡ pause_before self.beats - (now - self.since) }
     {

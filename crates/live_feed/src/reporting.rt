@@ -1,4 +1,4 @@
-//! The end of a day whose report is written before its followers have gone.
+//! Ends a day whose report is written before its followers have gone: sends the end, writes the report, and repeats the end.
 ghost use Rattle.std.specs.Prelude.{◌≡◌, ◌≢◌, ◌⊎◌, [], ◌∷◌, IfErr, IfOk, IfSome, IsSome, None, OnErr, Some, length, false, true};
 ghost use Rattle.line_ledger.specs.Cells.{FirstTokens, shown};
 ghost use Rattle.feed_ends.specs.declared.fault.Fault.TheVariants.{Write as WriteFault};
@@ -33,8 +33,8 @@ pub(crate) struct Ending {
     pub(crate) given_up: u32,
 }
 
-/// Whether a tape of the day is what was sent of it: it has as many entries as the end is to tell and the sender saw, and has what was seen
-/// of each.
+/// Whether a tape of the day is what was sent of it: it has as many entries as the end is to tell and the sender saw, and has
+/// what was seen of each.
 fn is_as_sent<D: DayName>(
     shared: &SharedTape<D>,
     tape: &Tape<IndexStore>,
@@ -50,9 +50,10 @@ fn is_as_sent<D: DayName>(
         && shared.have_all_seen(tape.entries(), tokens, number)
 }
 
-/// Sends the first ends of a day that was sent whole, and then writes its report: `Ok` where the end was sent, with why there is no
-/// report, if there is none. `Disagrees` where the tape is not what was sent of it, or not what the lines were told: then no end was sent
-/// and nothing was written. Nobody admits meanwhile. The text is only room, and holds the end then.
+/// Sends the first ends of a day that was sent whole, and then writes its report. Returns `Ok` if the end was sent, with the
+/// fault for which there is no report, if there is none. `Disagrees` if the tape is not what was sent of it, or not what the
+/// lines were told: then no end was sent and nothing was written. Nothing is admitted meanwhile. `text` is only room, and holds
+/// the end afterwards.
 fn end_and_write<D: DayName, R: Threads + Wait + Clock + Sync, L, W: Write>(
     rt: &R,
     feed: &Feed<'_, L>,
@@ -80,7 +81,7 @@ fn end_and_write<D: DayName, R: Threads + Wait + Clock + Sync, L, W: Write>(
     Ok(write_day(rt, feed.alloc, tape, writer).err())
 }
 
-/// Gives up the followers that are waited for no longer: how many were still served.
+/// Gives up the followers, which are waited for no longer. Returns how many were still served.
 fn give_up_rest<R: Wait, L>(
     rt: &R,
     feed: &Feed<'_, L>,
@@ -97,8 +98,8 @@ fn give_up_rest<R: Wait, L>(
     serving.give_up(rt, feed.closing)
 }
 
-/// Sends the end of a day that was sent whole again and again while a connection is served or awaited and is to be waited for. How many
-/// were still served when they were given up, without a fault.
+/// Sends the end of a day that was sent whole again and again while a connection is served or awaited and is to be waited for.
+/// Returns how many were still served when they were given up, which is no fault.
 fn repeat_end_within<R: Wait + Clock, L>(
     rt: &R,
     feed: &Feed<'_, L>,
@@ -128,9 +129,9 @@ fn repeat_end_within<R: Wait + Clock, L>(
     unreachable!()
 }
 
-/// Ends a day whose lines and sender have ended: the end is sent, the report written, and the end repeated while followers may ask, where
-/// neither the lines nor the sender met a fault and the tape is what was sent of it. Else there is no end, since a follower would take it
-/// for that of a day which is reported, whole: the connections are ended instead, and the text is empty. The text is only room.
+/// Ends a day whose lines and sender have ended. If neither met a fault and the tape is what was sent of it, the end is sent,
+/// the report written, and the end repeated while followers may ask. Else no end is sent, since a follower would take the day
+/// for whole and reported: the connections are ended instead, and `text` is empty. `text` is only room.
 pub(crate) fn end_and_report<D: DayName, R: Threads + Wait + Clock + Sync, L, W: Write>(
     rt: &R,
     feed: &Feed<'_, L>,

@@ -1,11 +1,11 @@
-//! The flag that tells the sender of requests.
+//! A flag by which the sender learns that something was asked for.
 
 use std::io;
 use std::io::Read;
 use std::net::TcpStream;
 use std::sync::atomic::{AtomicBool, Ordering};
 
-/// That a subscriber sent something: the retransmission raises it, and the sender looks at it.
+/// Whether a subscriber sent something: the retransmission raises it, and the sender looks at it.
 #[derive(Drop)]
 pub(crate) struct RequestFlag {
     is_raised: AtomicBool,
@@ -19,12 +19,12 @@ impl RequestFlag {
         }
     }
 
-    /// Something was asked for.
+    /// Raises the flag.
     fn raise(&self) {
         self.is_raised.store(true, Ordering::SeqCst)
     }
 
-    /// Whether something was asked for since this was last called, which lowers it.
+    /// Lowers the flag, and returns whether something was asked for since the last call.
     pub(crate) fn take(&self) -> bool {
         self.is_raised.swap(false, Ordering::SeqCst)
     }

@@ -1,4 +1,4 @@
-//! A day that goes on: what its journal has is admitted and published again, before its lines run.
+//! Restores a day that goes on: admits and publishes again what its journal has, before its lines run.
 ghost use Rattle.std.specs.Prelude.{◌≡◌, ◌≢◌, ◌++◌, ◌<◌, [], All, Err, IfErr, IfSome, None, OnOk, Some, length, slice_get};
 ghost use Rattle.line_ledger.specs.Cells.{shown};
 ghost use Rattle.line_ledger.specs.Ends.{whos};
@@ -28,7 +28,7 @@ pub(crate) struct Past {
     pub(crate) held: u32,
 }
 
-/// Where the participant's seat is.
+/// Returns the place of the participant's seat.
 fn seat_of<D: DayName>(seats: &[LineSeat<D>], who: Participant) -> Option<usize>
     ensures some { IfSome result (λ at. (at < length seats.now) × (slice_get (whos seats.now) at ≡ Some who)) }
     ensures none { result ≡ None → All (λ s. s.who ≢ who) seats.now }
@@ -110,7 +110,7 @@ fn restore_group<D: DayName, R: Wait>(
     Ok(())
 }
 
-/// Restores all groups that the reader gives, to the journal's end. The vector is only room.
+/// Restores all groups that the reader reads, to the journal's end. The vector is only room.
 fn restore_groups<D: DayName, R: Wait>(
     rt: &R,
     shared: &SharedTape<D>,
@@ -135,9 +135,10 @@ fn restore_groups<D: DayName, R: Wait>(
     unreachable!()
 }
 
-/// Restores a day from what its journal had: each entry's message is admitted by its participant's own seat, and what the tape makes of
-/// it is published, which is the journal's entry. Nothing is sent. `Disagrees` where the bytes are not the groups of this session to
-/// their end, or hold other entries than this day makes of their messages, or not as many as were told; `Memory`.
+/// Restores a day from what its journal had: each entry's message is admitted by its participant's own seat, and what the tape
+/// makes of it is published, which is the journal's entry. Nothing is sent. Errors: `Disagrees` if the bytes are not the groups
+/// of this session to their end, or hold other entries than this day makes of their messages, or not as many as were told;
+/// `Memory`.
 pub(crate) fn restore<D: DayName, R: Wait>(
     rt: &R,
     alloc: Global,

@@ -1,4 +1,4 @@
-//! The retransmission: subscribers are served at once, each in a thread of its own.
+//! Serves the retransmission: all subscribers at once, each in a thread of its own.
 ghost use Rattle.std.specs.Prelude.{◌≡◌, ◌≢◌, ◌⊎◌, IfErr, IfSome, None, Some};
 ghost use Rattle.feed_ends.specs.declared.fault.Fault.TheVariants.{Memory, Read};
 ghost use Rattle.retransmit.specs.declared.serve_end.Ended.TheVariants.{OutOfMemory};
@@ -31,8 +31,8 @@ fn fault_of_serving(ended: Ended) -> Option<Fault>
     }
 }
 
-/// Answers what a connection asks for until it ends, however many requests come: as many as `serve` answers at most, and again. What it
-/// asks for is counted where it is counted.
+/// Answers what a connection asks for until it ends, however many requests come: `serve` is called again after the most that it
+/// answers. What is asked for and answered is counted for `follower`, if there is one.
 fn answer_all<D: DayName, R: Wait, L>(
     rt: &R,
     feed: &Feed<'_, L>,
@@ -46,7 +46,7 @@ fn answer_all<D: DayName, R: Wait, L>(
     // Each answer is one write, which need not wait for the one before to be acknowledged.
     let _ = connection.set_nodelay(true);
     let mut published = Published::new(shared);
-    // What is published by now is looked at before the first request comes. Where that fails, the request finds it so.
+    // What is published is looked at before the first request comes. If that fails, the request will find out.
     let _ = published.refresh();
     let mut requests = CountedRequests {
         requests: Requests {
@@ -75,7 +75,7 @@ fn answer_all<D: DayName, R: Wait, L>(
     unreachable!()
 }
 
-/// The same, and counts what the connection asks for where someone looks on.
+/// Does the same, and counts what the connection asks for if someone looks on.
 fn answer_counted<D: DayName, R: Wait + Clock, L>(
     rt: &R,
     feed: &Feed<'_, L>,
@@ -122,7 +122,7 @@ fn serve_connection<D: DayName, R: Wait + Clock, L>(
     met
 }
 
-/// The same, and takes note of the fault.
+/// Does the same, and notes the fault.
 fn serve_and_note<D: DayName, R: Wait + Clock, L>(
     rt: &R,
     feed: &Feed<'_, L>,
@@ -133,8 +133,9 @@ fn serve_and_note<D: DayName, R: Wait + Clock, L>(
     serving.note(serve_connection(rt, feed, shared, serving, stream));
 }
 
-/// Waits for as many connections as are awaited, and serves each in a thread of its own as soon as it comes: the fault of the least status
-/// that a wait met. Where no thread can be started, the connection is served before the next one is waited for.
+/// Waits for as many connections as are awaited, and serves each in a thread of its own as soon as it comes. Returns the fault
+/// of the least status that a wait met. If no thread can be started, the connection is served before the next one is waited
+/// for.
 fn serve_each<D: DayName + Send + Sync, R: Threads + Wait + Clock + Sync, L: Sync>(
     rt: &R,
     feed: &Feed<'_, L>,
@@ -143,7 +144,7 @@ fn serve_each<D: DayName + Send + Sync, R: Threads + Wait + Clock + Sync, L: Syn
 ) -> Option<Fault>
     ensures few { IfSome result (λ fault. fault ≡ Read) }
 {
-    // What the scope's closure ensures is not stated at it: it tells no more than whether the listener is gone.
+    // The scope's closure states no clause, so it returns only whether the listener is gone.
     let is_gone = thread::scope(thread::scope_env(), rt, move |scope| {
         let mut is_gone = false;
         for _ in 0..feed.serves {
@@ -167,7 +168,7 @@ fn serve_each<D: DayName + Send + Sync, R: Threads + Wait + Clock + Sync, L: Syn
     if is_gone { Some(Fault::Read) } else { None }
 }
 
-/// What serving met. Only this module makes one, and it can't be dropped, so whoever joins the day hands it on to the day's end.
+/// What serving met. Only this module makes one, and it can't be dropped, so it gets to the day's end.
 pub(crate) struct Served {
     fault: Option<Fault>,
 }
@@ -182,8 +183,8 @@ impl Served {
     }
 }
 
-/// Serves as many connections as are awaited, all at once, and tells of the fault of the least status once the last one has ended. After a
-/// fault the others are served all the same; none is once the sender gave the day up.
+/// Serves as many connections as are awaited, all at once, and returns the fault of the least status after the last one has
+/// ended. After a fault the others are served all the same, but none after the sender gave the day up.
 pub(crate) fn serve_all<D: DayName + Send + Sync, R: Threads + Wait + Clock + Sync, L: Sync>(
     rt: &R,
     feed: &Feed<'_, L>,

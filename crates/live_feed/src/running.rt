@@ -1,4 +1,4 @@
-//! A day's lines, its sender and its retransmission, all at once.
+//! Runs a day's lines, its sender and its retransmission at once, and joins them.
 ghost use Rattle.std.specs.Prelude.{◌≡◌, ◌≢◌, ◌⊎◌, None, IsSome, IfSome, Some, [], length, map, false, true};
 ghost use Rattle.std.specs.Thread.{IsSync};
 ghost use Rattle.feed_ends.specs.declared.fault.Fault.TheVariants.{Write as WriteFault};
@@ -119,8 +119,8 @@ fn run_beside_sender<
     }
 }
 
-/// Runs the lines that wait, which are taken out, next to the sender, joins both, and sends the end then. Where a line met a fault
-/// there is none, and the text is empty.
+/// Runs the lines that wait, which are taken out, next to the sender, joins both, and then sends the end. If a line met a fault
+/// no end is sent, and the text is empty.
 fn run_and_send<D: DayName + Send + Sync, R: Threads + Wait + Clock + Sync, L: Loss + Sync>(
     rt: &R,
     feed: &Feed<'_, L>,
@@ -153,8 +153,8 @@ fn run_and_send<D: DayName + Send + Sync, R: Threads + Wait + Clock + Sync, L: L
     Some(RanAndSent { ran, sent })
 }
 
-/// Runs the lines that wait, which are taken out, next to the sender, joins both, and ends the day then with its report. Where a line met
-/// a fault there is no end, and the text is empty.
+/// Runs the lines that wait, which are taken out, next to the sender, joins both, and then ends the day with its report. If a
+/// line met a fault no end is sent, and the text is empty.
 fn run_and_end<
     D: DayName + Send + Sync,
     R: Threads + Wait + Clock + Sync,
@@ -196,9 +196,8 @@ fn run_and_end<
     Some(RanAndEnded { ran, ending })
 }
 
-/// Runs the lines, the sender and the retransmission at once, and joins all; packets are written in the text. Where no thread
-/// can be started the lines run first, then the sender, and the retransmission last, so that none waits for one that has yet
-/// to start.
+/// Runs the lines, the sender and the retransmission at once, and joins all; packets are written to `text`. If no thread can be
+/// started the lines run first, then the sender, and the retransmission last, so that none waits for one that has yet to start.
 pub(crate) fn run_together<
     D: DayName + Send + Sync,
     R: Threads + Wait + Clock + Sync,
@@ -232,9 +231,9 @@ pub(crate) fn run_together<
     }
 }
 
-/// The same for a day that looks on at its followers: its report is written once its lines have ended and the first ends were sent, and
-/// the end is repeated while followers may ask. What is met after the report, as by a connection out of memory, is a fault though the report
-/// stands.
+/// The same for a day that looks on at its followers: its report is written once its lines have ended and the first ends were
+/// sent, and the end is repeated while followers may ask. What is met after the report, as by a connection out of memory, is a
+/// fault though the report stands.
 pub(crate) fn run_and_report<
     D: DayName + Send + Sync,
     R: Threads + Wait + Clock + Sync,

@@ -1,4 +1,4 @@
-//! Whether a source goes on with given entries.
+//! Compares the last entries of a source with given ones.
 ghost use Rattle.std.specs.Prelude.{◌≡◌, ◌+◌, ◌↔◌, IsTrue, Some, drop, length, true};
 ghost use Rattle.tape_frames.specs.Sources.{entry_of};
 
@@ -22,12 +22,12 @@ fn has_entry<S: Source>(source: &S, number: u32, entry: &Entry) -> bool
     }
 }
 
-/// Whether what a source has after its first so many entries are these.
+/// Whether the entries that a source has after its first `before` are these.
 pub(crate) fn ends_with<S: Source>(source: &S, before: u32, entries: &[Entry]) -> bool
     requires many { before + length entries.now ≡ length (S.list source.now) }
     ensures { result ≡ true → drop before (S.list source.now) ≡ entries.now }
 {
-    // For the proof alone: by the clauses of this call the source has no more entries than a number tells.
+    // For the proof alone: by the clauses of this call the source has no more entries than a number can say.
     let _ = source.published();
     for at in 0..entries.len() {
         if !has_entry(source, before + 1 + at as u32, &entries[at]) {

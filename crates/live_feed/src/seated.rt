@@ -1,4 +1,4 @@
-//! The lines with their seats, before they run and after.
+//! Runs the lines with their seats, and says how each came out.
 ghost use Rattle.std.specs.Prelude.{◌≡◌, ◌≤◌, [], Some, length, map, vec_len};
 ghost use Rattle.std.specs.Vec.{vec_capacity};
 ghost use Rattle.line_ledger.specs.Ends.{whos};
@@ -31,7 +31,7 @@ pub(crate) struct Waiting<D: DayName> {
     pub(crate) room: Vec<LineSeat<D>>,
     /// Where their accounts are put.
     pub(crate) accounts: Vec<LineAccount>,
-    /// Where those who operate the day look on, for each line in its order; none in a day that nobody operates.
+    /// The slots by which an operator looks on, one for each line in its order; none in a day that nobody operates.
     pub(crate) slots: Vec<Arc<LineSlot>>,
     pub(crate) ghost roomy: { vec_len lines ≤ vec_capacity room },
     pub(crate) ghost unused: { room.items ≡ [] },
@@ -88,7 +88,7 @@ fn fault_of_end(ended: Ended) -> Option<Fault>
     }
 }
 
-/// The day's fault where memory or a worker is lacking.
+/// The day's fault if memory or a worker is lacking.
 fn fault_of_lack(lack: Lack) -> Fault
     ensures { result ≡ lack_fault lack }
 {
@@ -109,7 +109,7 @@ fn fault_of_ends<D: DayName>(ends: &[TalliedEnd<D>]) -> Option<Fault>
     fault
 }
 
-/// The account of a line that ended, which a slot may know more of.
+/// The account of a line that ended, of which a slot may know more.
 fn account_of<D: DayName, R: Wait>(
     rt: &R,
     end: &TalliedEnd<D>,
@@ -155,7 +155,8 @@ fn accounts_of<D: DayName, R: Wait>(
     accounts
 }
 
-/// Lines that have run: the seats, the fault of the least status that one of them met, and their accounts. The rooms are for these.
+/// Lines that have run: the seats, the fault of the least status that one of them met, and their accounts. The rooms are for
+/// these.
 fn after_running<D: DayName, R: Wait>(
     rt: &R,
     ends: Vec<TalliedEnd<D>>,
@@ -182,8 +183,8 @@ fn after_running<D: DayName, R: Wait>(
     }
 }
 
-/// Lines that were not started: their seats, and the fault of what was lacking. The rooms are for the seats and the accounts, of which
-/// there is none.
+/// Lines that were not started: their seats, and the fault of what was lacking. The rooms are for the seats and the accounts,
+/// of which there is none.
 fn not_started<D: DayName>(
     unstarted: Unstarted<D, Reader>,
     room: Vec<LineSeat<D>>,
@@ -207,7 +208,7 @@ fn not_started<D: DayName>(
     }
 }
 
-/// Runs the lines at once, each in a worker that rings the bell after each message, and counts it for whoever looks on.
+/// Runs the lines at once, each in a worker that rings the bell after each message, and counts it for an operator.
 pub(crate) fn run_all<D: DayName + Send + Sync, R: Threads + Wait + Sync>(
     rt: &R,
     alloc: Global,

@@ -1,4 +1,5 @@
-//! The sender: what the lines admit is published and sent on both lines, then beats while nothing is, and the end at last.
+//! The sender: publishes what the lines admit and sends it on both lines, sends beats while there is nothing, and at last the
+//! end.
 ghost use Rattle.std.specs.Prelude.{◌≡◌, ◌<◌, ◌≤◌, ◌+◌, ◌⊎◌, [], ◌∷◌, Err, IfErr, IfOk, IsSome, OnOk, None, Some, length};
 ghost use Rattle.line_ledger.specs.Cells.{FirstTokens, shown};
 ghost use Rattle.line_ledger.specs.Publishing.{GoesOn};
@@ -30,8 +31,8 @@ use std::thread;
 use std::time::Duration;
 use tape_frames::{EntryCount, LONGEST_PACKET, Packet, Source, Version, cut, write_packet};
 
-/// How long the sender waits before each of the first ends, in milliseconds: a reader whose buffer is full empties it meanwhile, and one that
-/// was held up for half a second still gets an end.
+/// How long the sender waits before each of the first ends, in milliseconds: a reader whose buffer is full empties it
+/// meanwhile, and one that was held up for half a second still gets an end.
 const PAUSES_BEFORE_ENDS: [u64; 3] = [0, 250, 750];
 
 /// How long the sender waits before each later end, in milliseconds.
@@ -42,7 +43,7 @@ pub(crate) const PAUSE_BEFORE_LATER_END: u64 = 1_000;
 pub(crate) struct Sent {
     /// What was seen of each entry that it found published, in order. What it sent was cut from these entries.
     pub(crate) tokens: Vec<Sighting>,
-    /// The number of the last entry that was sent, which the end tells.
+    /// The number of the last entry that was sent, which the end says.
     pub(crate) number: u32,
     /// Why it did not go on to the last entry, or sent no end: its own fault, or one that the lines met.
     pub(crate) fault: Option<Fault>,
@@ -57,8 +58,8 @@ impl Sent {
     }
 }
 
-/// Memory for the text of one packet, which is taken before a day starts: a sender without it could send no end, and
-/// subscribers would wait for one.
+/// Allocates the text of one packet, before a day starts: a sender without it could send no end, and subscribers would wait for
+/// one.
 pub(crate) fn room_for_a_packet(alloc: Global) -> Result<Vec<u8>, Fault> {
     match Vec::with_capacity(alloc, LONGEST_PACKET) {
         Ok(room) => Ok(room),
@@ -73,13 +74,13 @@ fn send<L>(feed: &Feed<'_, L>, ports: &[u16], bytes: &[u8]) {
     }
 }
 
-/// Sends bytes to the ports of both lines. No line loses them before.
+/// Sends bytes to the ports of both lines, without loss.
 pub(crate) fn send_to_both<L>(feed: &Feed<'_, L>, bytes: &[u8]) {
     send(feed, feed.a, bytes);
     send(feed, feed.b, bytes);
 }
 
-/// Makes the text that of a packet, whatever it was before.
+/// Replaces `text` with a packet's bytes.
 fn spell(packet: &Packet, text: &mut Vec<u8>) -> Result<(), Fault>
     ensures spelled { OnOk result (text.new.items ≡ packet_text packet.now) }
     ensures fault { IfErr result (λ fault. fault ≡ Memory) }
@@ -91,7 +92,7 @@ fn spell(packet: &Packet, text: &mut Vec<u8>) -> Result<(), Fault>
     }
 }
 
-/// A number of entries as a packet tells it.
+/// A number of entries as a packet says it.
 fn count_of(number: u32) -> Result<EntryCount, Fault>
     ensures { IfOk result (λ count. count ≡ record { version = Two; count = number }) }
 {
@@ -101,7 +102,7 @@ fn count_of(number: u32) -> Result<EntryCount, Fault>
     }
 }
 
-/// Sends the data packet of what is published from this number on to both lines, but for those that lose it.
+/// Sends the data packet of what is published from this number on to both lines, except those that lose it.
 fn send_data<D: DayName, L: Loss>(
     feed: &Feed<'_, L>,
     published: &Published<'_, D>,
@@ -119,8 +120,8 @@ fn send_data<D: DayName, L: Loss>(
     }
 }
 
-/// Cuts the packet of what is published from this number on, and sends it: the number of its last entry. The text is only
-/// room, and holds what was sent then.
+/// Cuts the packet of what is published from this number on, and sends it. Returns the number of its last entry. `text` is only
+/// room, and holds what was sent afterwards.
 fn send_from<D: DayName, L: Loss>(
     feed: &Feed<'_, L>,
     published: &Published<'_, D>,
@@ -140,8 +141,9 @@ fn send_from<D: DayName, L: Loss>(
     Ok(packet.last())
 }
 
-/// Publishes what the lines admitted, so many entries at most, once it is kept in the journal, if there is one, and sends a packet of
-/// what is published after this number: the last number that was sent then. The text is only room, and holds what was sent last.
+/// Publishes what the lines admitted, `PUBLISHED_AT_ONCE` entries at most, after it is kept in the journal, if there is one,
+/// and sends a packet of what is published after this number. Returns the last number that was sent. `text` is only room, and
+/// holds what was sent last.
 fn send_next<D: DayName, R: Wait, L: Loss, J: JournalFile>(
     rt: &R,
     feed: &Feed<'_, L>,
@@ -169,14 +171,14 @@ fn send_next<D: DayName, R: Wait, L: Loss, J: JournalFile>(
         return send_from(feed, published, sent + 1, text);
     }
     if set > 0 {
-        // What was set is not seen.
+        // Cells were set, but nothing more is seen in them.
         return Err(Fault::Disagrees);
     }
     Ok(sent)
 }
 
-/// Sends a beat to both lines, which tells how many entries are published: all of them were sent. No line loses it. The text is
-/// only room, and holds the beat then.
+/// Sends a beat to both lines, which says how many entries are published: all of them were sent. No line loses it. `text` is
+/// only room, and holds the beat afterwards.
 fn send_beat<D: DayName, L>(
     feed: &Feed<'_, L>,
     published: &Published<'_, D>,
@@ -197,7 +199,8 @@ fn send_beat<D: DayName, L>(
     Ok(())
 }
 
-/// Takes note of a packet that was sent at this time, and rests where the budget of its turn is spent: the budget after that.
+/// Counts a packet that was sent at this time, and rests if the budget of its millisecond is spent. Returns the budget after
+/// that.
 fn keep_pace<R: Clock>(rt: &R, requested: &RequestFlag, now: u64, budget: Budget) -> Budget {
     let (budget, rest) = budget.at(now, requested.take()).after_packet(now);
     if rest > 0 {
@@ -206,8 +209,8 @@ fn keep_pace<R: Clock>(rt: &R, requested: &RequestFlag, now: u64, budget: Budget
     budget
 }
 
-/// Sleeps while there is nothing to send, until the bell rings or a beat is due, or sends the beat that is due: how long it has
-/// been quiet then. There is no beat before the first entry, which is all that a beat could tell of.
+/// Sleeps while there is nothing to send, until the bell rings or a beat is due, or sends the beat that is due. Returns since
+/// when it has been quiet. No beat is sent before the first entry, since there is nothing that it could say.
 fn keep_quiet<D: DayName, R: Wait + Clock, L>(
     rt: &R,
     feed: &Feed<'_, L>,
@@ -233,10 +236,10 @@ fn keep_quiet<D: DayName, R: Wait + Clock, L>(
     Ok(quiet.after_beat(now))
 }
 
-/// Publishes and sends until the lines have ended and all is sent: the number of the last entry that was sent, and why it did
-/// not go on to the last one. What a journal had was sent before, and is not sent again. In a turn of the clock it sends as many packets
-/// as its followers take, and rests for what is left of it. While there is nothing to send it sleeps, until the bell rings, and sends a
-/// beat now and then.
+/// Publishes and sends until the lines have ended and all is sent. Returns the number of the last entry that was sent, and why
+/// it did not go on to the last one. What a journal had was sent before, and is not sent again. In a millisecond of the clock
+/// it sends as many packets as its followers take, and rests for what is left of it. While there is nothing to send it sleeps
+/// until the bell rings, and sends a beat from time to time.
 fn send_to_end<D: DayName, R: Wait + Clock, L: Loss, J: JournalFile>(
     rt: &R,
     feed: &Feed<'_, L>,
@@ -281,7 +284,7 @@ fn send_to_end<D: DayName, R: Wait + Clock, L: Loss, J: JournalFile>(
     unreachable!()
 }
 
-/// Begins where the journal ends, if there is one, and then publishes and sends as `send_to_end` does, with its answer.
+/// Begins where the journal ends, if there is one, and then publishes and sends as `send_to_end` does, with its result.
 fn send_all<D: DayName, R: Wait + Clock, L: Loss, J: JournalFile>(
     rt: &R,
     feed: &Feed<'_, L>,
@@ -305,7 +308,8 @@ fn send_all<D: DayName, R: Wait + Clock, L: Loss, J: JournalFile>(
 }
 
 /// Sends the entries of the day while the lines admit them, and until they have ended and all is sent. After a fault the
-/// connections are ended, and the reading of the lines where someone looks on. The text is only room, and a packet that fits in it takes no memory.
+/// connections are ended, and the reading of the lines if someone looks on. `text` is only room, and a packet that fits in it
+/// allocates nothing.
 pub(crate) fn send_entries<D: DayName, R: Wait + Clock, L: Loss, J: JournalFile>(
     rt: &R,
     feed: &Feed<'_, L>,
@@ -343,7 +347,7 @@ pub(crate) fn send_entries<D: DayName, R: Wait + Clock, L: Loss, J: JournalFile>
     }
 }
 
-/// Makes the text the end of a day that was sent whole.
+/// Replaces `text` with the end of a day that was sent whole.
 pub(crate) fn spell_end<L>(feed: &Feed<'_, L>, sent: &Sent, text: &mut Vec<u8>) -> Result<(), Fault>
     requires whole { sent.now.fault ≡ None }
     requires many { length sent.now.tokens.items ≡ sent.now.number }
@@ -356,7 +360,7 @@ pub(crate) fn spell_end<L>(feed: &Feed<'_, L>, sent: &Sent, text: &mut Vec<u8>) 
     spell(&end, text)
 }
 
-/// Sends the end of a day that was sent whole three times on each line, with a pause before each. No line loses it.
+/// Sends the end of a day that was sent whole three times on each line, with a pause before each time. No line loses it.
 pub(crate) fn send_first_ends<R: Clock, L>(rt: &R, feed: &Feed<'_, L>, sent: &Sent, end: &[u8])
     requires whole { sent.now.fault ≡ None }
     requires many { length sent.now.tokens.items ≡ sent.now.number }
@@ -370,8 +374,8 @@ pub(crate) fn send_first_ends<R: Clock, L>(rt: &R, feed: &Feed<'_, L>, sent: &Se
     }
 }
 
-/// Sends the end of a day that was sent whole again and again while a connection is served or awaited, since its peer may have missed those
-/// before. No line loses it.
+/// Sends the end of a day that was sent whole again and again while a connection is served or awaited, since its peer may have
+/// missed those before. No line loses it.
 fn repeat_end<R: Wait + Clock, L>(
     rt: &R,
     feed: &Feed<'_, L>,
@@ -393,7 +397,7 @@ fn repeat_end<R: Wait + Clock, L>(
     }
 }
 
-/// Sends the end of a day that was sent whole. The text is only room, and holds the end then.
+/// Sends the end of a day that was sent whole. `text` is only room, and holds the end afterwards.
 fn send_ends<R: Wait + Clock, L>(
     rt: &R,
     feed: &Feed<'_, L>,
@@ -411,9 +415,9 @@ fn send_ends<R: Wait + Clock, L>(
     Ok(())
 }
 
-/// Sends the end of a day, where neither its lines nor the sender met a fault. Else there is none, since a follower would take it
-/// for that of a day which is reported, whole: the connections are ended instead, and the text is empty. The text is only room, and
-/// a packet that fits in it takes no memory.
+/// Sends the end of a day if neither its lines nor the sender met a fault. Else no end is sent, since a follower would take the
+/// day for whole and reported: the connections are ended instead, and `text` is empty. `text` is only room, and a packet that
+/// fits in it allocates nothing.
 pub(crate) fn send_end<R: Wait + Clock, L>(
     rt: &R,
     feed: &Feed<'_, L>,

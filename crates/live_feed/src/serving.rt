@@ -1,4 +1,4 @@
-//! The connections that are served, as the sender sees them.
+//! Where the retransmission and the sender meet: the connections that are served, and what they asked for.
 ghost use Rattle.std.specs.Prelude.{◌≡◌, IfErr, IfSome};
 ghost use Rattle.feed_ends.specs.declared.fault.Fault.TheVariants.{Memory};
 
@@ -13,22 +13,22 @@ use std::sync::{Arc, Mutex, Wait};
 use std::thread::Parker;
 use std::time::Duration;
 
-/// Who is served.
+/// The connections that are served.
 #[derive(Drop)]
 struct Served {
-    /// Whether the sender gave the day up: nobody is served any more.
+    /// Whether the sender gave the day up: none is served any more.
     is_given_up: bool,
     /// The connections in the order in which they came, each until it ends.
     connections: Vec<Option<Arc<TcpStream>>>,
 }
 
-/// Where the retransmission and the sender meet: the sender learns of what was asked for and of the last connection's end, and
-/// ends all connections where it gives the day up.
+/// What the retransmission and the sender share: the sender learns whether something was asked for and when the last connection
+/// has ended, and ends all connections if it gives the day up.
 #[derive(Drop)]
 pub(crate) struct Serving<'a> {
-    /// What the connections ask for, where someone looks on.
+    /// What the connections ask for, if someone looks on.
     pub(crate) followers: Option<&'a Followers>,
-    /// The participants' lines, where someone looks on; else none.
+    /// The participants' lines if someone looks on; else none.
     lines: &'a [Arc<LineSlot>],
     /// Whether something was asked for.
     pub(crate) requested: RequestFlag,
@@ -42,7 +42,7 @@ pub(crate) struct Serving<'a> {
 }
 
 impl<'a> Serving<'a> {
-    /// Nobody is served or awaited yet. It takes no memory.
+    /// No connection is served or awaited yet. It allocates nothing.
     pub(crate) fn new(
         alloc: Global,
         followers: Option<&'a Followers>,
@@ -62,18 +62,18 @@ impl<'a> Serving<'a> {
         }
     }
 
-    /// Connections are awaited from now on.
+    /// Notes that connections are awaited.
     pub(crate) fn begin(&self) {
         self.is_on.store(true, Ordering::SeqCst)
     }
 
-    /// The last connection has ended.
+    /// Notes that the last connection has ended.
     pub(crate) fn end(&self) {
         self.is_on.store(false, Ordering::SeqCst);
         self.parker.unpark()
     }
 
-    /// Waits until the last connection has ended, but no longer than this, and tells whether one is still served or awaited.
+    /// Waits until the last connection has ended, but no longer than this. Returns whether one is still served or awaited.
     pub(crate) fn is_left_after<R: Wait>(&self, rt: &R, most: Duration) -> bool {
         if self.is_on.load(Ordering::SeqCst) {
             self.parker.park_timeout(rt, most);
@@ -81,7 +81,7 @@ impl<'a> Serving<'a> {
         self.is_on.load(Ordering::SeqCst)
     }
 
-    /// Takes note of a connection that is to be served: its place among those that came, or `None` where it may not be.
+    /// Enters a connection that is to be served. Returns its place among those that came, or `None` if the day was given up.
     pub(crate) fn enter<R: Wait>(
         &self,
         rt: &R,
@@ -100,7 +100,7 @@ impl<'a> Serving<'a> {
         }
     }
 
-    /// Takes note that the connection at this place has ended.
+    /// Removes the connection at this place, which has ended.
     pub(crate) fn leave<R: Wait>(&self, rt: &R, place: usize) {
         let mut served = self.served.lock(rt);
         if let Some(connection) = served.connections.get_mut(place) {
@@ -113,15 +113,15 @@ impl<'a> Serving<'a> {
         self.served.lock(rt).is_given_up
     }
 
-    /// Ends the reading of the participants' lines, where someone looks on: what they would admit would not be sent.
+    /// Ends the reading of the participants' lines, if someone looks on: what they would admit would not be sent.
     pub(crate) fn stop_lines(&self) {
         for line in self.lines {
             line.stop();
         }
     }
 
-    /// Ends all connections that are served, and lets none come any more: what was read, written or accepted returns. The
-    /// listener is given by a handle that a socket can be shut down by. Returns how many were served.
+    /// Ends all connections that are served, and lets none come any more: reads, writes and accepts that wait return.
+    /// `listener` is a handle by which the listener can be shut down. Returns how many were served.
     pub(crate) fn give_up<R: Wait>(&self, rt: &R, listener: &TcpStream) -> u32 {
         if let Some(followers) = self.followers {
             followers.give_up(rt);
@@ -140,7 +140,7 @@ impl<'a> Serving<'a> {
         many
     }
 
-    /// Takes note of how serving a connection ended: with this fault, if with one. Memory alone can run out there.
+    /// Notes the fault with which serving a connection ended, if there was one. It can only be `Memory`.
     pub(crate) fn note(&self, met: Option<Fault>)
         requires { IfSome met (λ fault. fault ≡ Memory) }
     {
@@ -149,7 +149,7 @@ impl<'a> Serving<'a> {
         }
     }
 
-    /// The fault that was taken note of, if one was.
+    /// Returns the fault that was noted, if one was.
     pub(crate) fn fault(&self) -> Option<Fault>
         ensures { IfSome result (λ fault. fault ≡ Memory) }
     {

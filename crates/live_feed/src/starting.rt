@@ -1,4 +1,4 @@
-//! What a day needs before it starts.
+//! Prepares a day before it starts: its empty tape, its memory, and a connection of each participant.
 ghost use Rattle.std.specs.Prelude.{◌≡◌, IfOk, vec_len};
 
 use crate::line_input::{LineInput, Reader};
@@ -12,7 +12,7 @@ use summaries::IndexStore;
 use tape_core::Tape;
 use tape_types::Listing;
 
-/// An empty tape of the listing and the matrix, and the memory that its day takes.
+/// Makes an empty tape of the listing and the matrix, and allocates the memory of its day.
 pub(crate) fn prepare_day(
     alloc: Global,
     listing: Listing,
@@ -33,7 +33,7 @@ pub(crate) fn prepare_day(
     }
 }
 
-/// Waits for one connection at a listener, to be read in large pieces. The listener is closed then.
+/// Waits for one connection at a listener, to be read in large pieces, and closes the listener.
 fn accept(alloc: Global, listener: TcpListener) -> Result<Reader, Fault> {
     let Ok((stream, _)) = listener.accept() else {
         return Err(Fault::Read);

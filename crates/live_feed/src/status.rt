@@ -1,12 +1,13 @@
-//! What is said of a day that runs.
+//! Writes the status of a day that runs.
 ghost use Rattle.std.specs.Prelude.{◌≡◌, ◌<◌, ◌^◌, ◌++◌, OnOk};
 ghost use Rattle.std.specs.List.{flat_map, list_any};
 ghost use Rattle.live_feed.specs.Accounts.{is_awaited, seen_lines};
 ghost use Rattle.live_feed.specs.Status.{AreFigures, admitted_in_all, awaited_name, day_text, ended_line, messages_of, names_line, number_text, rate_text, refused_in_all, restored_in_all, status_text, waits_line};
 
-use crate::follower_counts::{SeenFollowers, push_all_followers, push_followers, push_number};
+use crate::follower_counts::{SeenFollowers, push_all_followers, push_followers};
 use crate::line_counts::{SeenLine, push_seen, push_text};
 use std::alloc::AllocError;
+use whole_io::push_number;
 
 /// The figures of a day's lines.
 #[derive(Clone, Copy, Debug, PartialEq, Eq)]
@@ -53,7 +54,7 @@ fn restored_in_all(lines: &[SeenLine]) -> u64
 }
 
 impl DayFigures {
-    /// Those of these lines.
+    /// The figures of these lines.
     pub(crate) fn of(lines: &[SeenLine]) -> DayFigures
         ensures { AreFigures lines.now result }
     {
@@ -187,8 +188,8 @@ fn push_state(
     push_followers(text, followers)
 }
 
-/// Adds what is said of a day's lines and followers, which run for so many seconds, by its figures. Where memory runs out, some of it may have
-/// been added.
+/// Adds what is said of a day's lines and followers, which run for this many seconds, by its figures. If memory runs out, some
+/// of it may have been added.
 pub(crate) fn push_status(
     text: &mut Vec<u8>,
     seconds: u64,

@@ -1,10 +1,10 @@
-//! Lines that are answered over memory.
+//! Answers lines over memory.
 ghost use Rattle.std.specs.Prelude.{None};
 
 use crate::{Command, ControlFault, Ended, Operator, ask_over, serve_commands};
 use std::alloc::AllocError;
 
-/// Tells two lines with an empty one between them, and counts its calls.
+/// Puts two lines with an empty one between them, and counts its calls.
 #[derive(Drop)]
 struct Counted {
     told: u32,
@@ -29,7 +29,7 @@ const STATUS: &str = "since 9:30\ntape 12\n\n";
 
 const UNKNOWN: &str = "unknown command; status or end\n\n";
 
-/// What a connection sends, what it gets, how many calls told and ended, how many lines were served, and how it ended.
+/// What a connection sends, what it gets, how many calls asked and ended, how many lines were served, and how it ended.
 const ROWS: [(&str, &[&str], (u32, u32), (u32, Ended)); 8] = [
     ("", &[], (0, 0), (0, Ended::Clean)),
     ("status\n", &[STATUS], (1, 0), (1, Ended::Clean)),
@@ -96,7 +96,7 @@ fn lines_are_answered(rt: HostRuntime) {
     }
 }
 
-/// An answer, what is written of it, and what is left behind it.
+/// An answer, what is written of it, and what is left after it.
 const ANSWERS: [(&str, Result<&str, ControlFault>, &str); 5] = [
     ("ending\n\nmore", Ok("ending\n"), "more"),
     ("a\nb\n\n", Ok("a\nb\n"), ""),

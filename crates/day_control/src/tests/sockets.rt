@@ -1,4 +1,4 @@
-//! A control socket that is served, with its clients, and what stands where one is opened.
+//! Serves a control socket with its clients, and opens one where something is already there.
 
 use crate::{
     Command, ControlFault, ControlPlace, Operated, ask_control, open_control, remove_control,
@@ -34,7 +34,7 @@ impl Operated for Day {
     }
 }
 
-/// What a client is told.
+/// The answer that a client gets.
 fn told<R: Net<Listener = TcpListener, Stream = TcpStream>>(
     rt: &R,
     alloc: Global,
@@ -46,7 +46,7 @@ fn told<R: Net<Listener = TcpListener, Stream = TcpStream>>(
     Ok(written)
 }
 
-/// Asserts what a client is told.
+/// Asserts the answer that a client gets.
 fn assert_told<R: Abort + Net<Listener = TcpListener, Stream = TcpStream>>(
     rt: &R,
     alloc: Global,
@@ -60,7 +60,7 @@ fn assert_told<R: Abort + Net<Listener = TcpListener, Stream = TcpStream>>(
     }
 }
 
-/// Clients of a place that is served: a status, two ends, and a status.
+/// The clients of a served place: a status, two ends, and a status.
 fn operate<R: Abort + Net<Listener = TcpListener, Stream = TcpStream>>(
     rt: &R,
     alloc: Global,
@@ -119,7 +119,7 @@ fn fresh<R: Files>(rt: &R, folder: &str, path: &str) {
     let _ = fs::remove_dir(rt, folder);
 }
 
-/// A path that is operated, flooded with half lines and operated again, and closed while these are open. Then nothing is left of it.
+/// A path is operated, flooded with half lines and operated again, and closed while these are open. Then nothing is left of it.
 #[test]
 fn a_path_is_operated_through_half_lines(rt: HostRuntime) -> Result<(), Fail> {
     let path = "control_flooded/day.sock";
@@ -161,7 +161,7 @@ fn a_path_is_operated_through_half_lines(rt: HostRuntime) -> Result<(), Fail> {
     Ok(())
 }
 
-/// A connection stays open through more than may be open at once, where each ends before the next.
+/// A connection stays open while more than the most connections come, each of which ends before the next.
 #[test]
 fn connections_that_ended_shut_none_down(rt: HostRuntime) -> Result<(), Fail> {
     let path = "control_long/day.sock";
@@ -192,7 +192,7 @@ fn connections_that_ended_shut_none_down(rt: HostRuntime) -> Result<(), Fail> {
     Ok(())
 }
 
-/// What stands at a path is removed only where it is a socket that nobody answers at, and a folder that others enter is none for a socket.
+/// What is at a path is removed only if it is a socket that nobody answers at, and a folder that others can enter is refused.
 #[test]
 fn what_stands_at_a_path(rt: HostRuntime) -> Result<(), Fail> {
     let path = "control_standing/day.sock";
@@ -223,7 +223,7 @@ fn what_stands_at_a_path(rt: HostRuntime) -> Result<(), Fail> {
     Ok(())
 }
 
-/// A port is operated too, and is free again once it was closed.
+/// A port is operated too, and is free again once it is closed.
 #[test]
 fn a_port_is_operated(rt: HostRuntime) -> Result<(), Fail> {
     let free = TcpListener::bind(&rt, "127.0.0.1:0")?;

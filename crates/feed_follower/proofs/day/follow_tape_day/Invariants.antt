@@ -1,4 +1,5 @@
 use Rattle.feed_follower.proofs.day.follow_tape_day.Given as goal
 
 abbrev pub ghosts-follow : goal.ghosts-follow
-ghosts-follow g a = record { listing = a.listing; matrix = a.matrix; limit = a.limit; before = g.S.EntrySink.contents a.sink }
+ghosts-follow g a =
+    record { listing = a.terms.listing; matrix = a.terms.matrix; limit = a.terms.limit; session = a.terms.session; before = g.S.EntrySink.contents a.sink }

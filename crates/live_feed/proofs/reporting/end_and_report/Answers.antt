@@ -6,7 +6,7 @@ use Rattle.live_feed.proofs.Least.{least_of_two}
 use Rattle.live_feed.proofs.reporting.end_and_report.Goals as goal
 use Rattle.live_feed.proofs.reporting.end_and_report.Goals.{in-None, in-Some}
 
--- the least of both faults is kept where there is one
+-- the least of both faults is kept if there is one
 pub returns-in-Err-clause-met : goal.returns-in-Err-clause-met
 returns-in-Err-clause-met g c =
     let least : IsLeast (c.args.sent.fault ∷ c.args.lines ∷ []) c.least-met.result =

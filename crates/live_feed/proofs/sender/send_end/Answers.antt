@@ -6,7 +6,7 @@ use Rattle.live_feed.proofs.Least.{least_of_two}
 use Rattle.live_feed.proofs.sender.send_end.Goals as goal
 use Rattle.live_feed.proofs.sender.send_end.Goals.{in-None, in_default}
 
--- the least of both faults is kept where there is one
+-- the least of both faults is kept if there is one
 pub returns-clause-met : goal.returns-clause-met
 returns-clause-met g c =
     let least : IsLeast (c.args.sent.fault ∷ c.args.lines ∷ []) c.least-met.result =
