@@ -1,4 +1,4 @@
-//! A day's input, read into a tape. A call is `None` where the two lines of names make no listing, or memory runs out.
+//! Reads a day's input into a tape. A call returns `None` if the two lines of names make no listing, or memory runs out.
 
 use bstr::ByteSlice;
 use reports::{LONGEST_MESSAGE, Message, decode, encode_into};
@@ -12,10 +12,10 @@ use tape_types::{Listing, Participant, Symbol, TAPE_MOST};
 /// The limit of a tape that lines fill at once, in entries: it is prepared with a cell for each.
 const LINES_TAPE_MOST: u32 = 1_048_576;
 
-/// The session under which the tape is sent.
+/// The session of the tape that is sent.
 pub const SESSION: u64 = 1;
 
-/// What is said where a day cannot be read.
+/// The message for a day that can't be read.
 pub const NO_DAY: &str = "the first two lines make no listing, or memory ran out";
 
 /// The participant of a name.
@@ -26,7 +26,7 @@ fn participant_named(name: &[u8]) -> Option<Participant> {
     }
 }
 
-/// The symbols of a line of names.
+/// Returns the symbols of a line of names.
 fn read_symbols(alloc: Global, line: &[u8]) -> Option<Vec<Symbol>> {
     let mut symbols = Vec::new(alloc);
     for name in line.fields() {
@@ -35,7 +35,7 @@ fn read_symbols(alloc: Global, line: &[u8]) -> Option<Vec<Symbol>> {
     Some(symbols)
 }
 
-/// The participants of a line of letters.
+/// Returns the participants of a line of letters.
 fn read_participants(alloc: Global, line: &[u8]) -> Option<Vec<Participant>> {
     let mut participants = Vec::new(alloc);
     for name in line.fields() {
@@ -44,7 +44,7 @@ fn read_participants(alloc: Global, line: &[u8]) -> Option<Vec<Participant>> {
     Some(participants)
 }
 
-/// The listing of a day's first two lines: symbols, and the letters of participants.
+/// Returns the listing of a day's first two lines: symbols, and the letters of participants.
 fn read_listing(alloc: Global, input: &[u8]) -> Option<Listing> {
     let mut lines = input.lines();
     let symbols = read_symbols(alloc, lines.next()?)?;
@@ -52,7 +52,7 @@ fn read_listing(alloc: Global, input: &[u8]) -> Option<Listing> {
     Listing::new(alloc, &symbols, &participants).ok()
 }
 
-/// The message of a line: its participant's letter, a space, and the message's bytes in hexadecimal digits.
+/// Returns the message of a line: its participant's letter, a space, and the message's bytes in hexadecimal digits.
 fn read_message(line: &[u8]) -> Option<Message> {
     let [letter, b' ', digits @ ..] = line else {
         return None;
@@ -67,8 +67,8 @@ fn read_message(line: &[u8]) -> Option<Message> {
     Some(message)
 }
 
-/// The tape of a day, as long as a tape may be. A line that is no message, as the two of names are, and a message that is refused
-/// are passed over.
+/// Returns the tape of a day, as long as a tape may be. Lines that are no message, such as the two of names, and messages that
+/// are refused are passed over.
 pub fn read_tape(alloc: Global, input: &[u8]) -> Option<Tape<IndexStore>> {
     let mut tape = empty_tape(alloc, input, TAPE_MOST)?;
     for line in input.lines() {
@@ -79,8 +79,8 @@ pub fn read_tape(alloc: Global, input: &[u8]) -> Option<Tape<IndexStore>> {
     Some(tape)
 }
 
-/// The messages of a day's listed participants, in order, and of each participant in listing order the bytes of its messages. The
-/// listing is lent and then dropped explicitly, since each exit that dropped it implicitly would need a long proof.
+/// Returns the messages of a day's listed participants, in order, and the bytes of each participant's messages in listing
+/// order. The listing is lent and then dropped explicitly, since each exit that dropped it implicitly would need a long proof.
 pub fn read_lines(alloc: Global, input: &[u8]) -> Option<(Vec<Message>, Vec<Vec<u8>>)> {
     let listing = read_listing(alloc, input)?;
     let read = read_lines_of(alloc, &listing, input);
@@ -88,7 +88,7 @@ pub fn read_lines(alloc: Global, input: &[u8]) -> Option<(Vec<Message>, Vec<Vec<
     read
 }
 
-/// The same of the participants of a listing.
+/// The same for the participants of a listing.
 fn read_lines_of(
     alloc: Global,
     listing: &Listing,
@@ -139,17 +139,17 @@ fn input_of(alloc: Global, who: Participant, messages: &[Message]) -> Option<Vec
     Some(bytes)
 }
 
-/// The tape of a day before its first message, for so many entries.
+/// The tape of a day before its first message, for this many entries.
 fn empty_tape(alloc: Global, input: &[u8], limit: u32) -> Option<Tape<IndexStore>> {
     Tape::new(alloc, read_listing(alloc, input)?, limit, Matrix::One).ok()
 }
 
-/// The tape of a day before its first message that lines are to fill at once, or that is compared with such a one.
+/// Returns the tape of a day before its first message, for lines that fill it at once or for comparison with such a tape.
 pub fn empty_tape_of_lines(alloc: Global, input: &[u8]) -> Option<Tape<IndexStore>> {
     empty_tape(alloc, input, LINES_TAPE_MOST)
 }
 
-/// A subscriber to the tape of a day, for as many entries as that may have.
+/// Returns a subscriber to the tape of a day, for as many entries as that may have.
 pub fn new_subscriber(alloc: Global, input: &[u8]) -> Option<Subscriber> {
     let listing = read_listing(alloc, input)?;
     Subscriber::new(alloc, listing, TAPE_MOST, SESSION, Matrix::One).ok()

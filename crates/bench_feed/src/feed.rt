@@ -1,4 +1,4 @@
-//! A tape sent on two lossy lines, and what both of them lose asked for.
+//! Sends a tape on two lossy lines, and asks for what both of them lose.
 use crate::day::SESSION;
 use anyhow::Context;
 use arbitration::{DeliverFault, Line};
@@ -24,8 +24,8 @@ const LOST_BY_B: u32 = 5;
 /// The number of the packet of the tape's end, which neither line loses.
 const UNLOST: u32 = 1;
 
-/// Sends a tape whole and then its end, and answers how many packets of entries it took. Whenever the subscriber tells
-/// a gap, what is missing is asked for before the next packet.
+/// Sends a whole tape and then its end, and returns how many packets of entries it took. Whenever the subscriber reports a gap,
+/// what is missing is asked for before the next packet.
 pub fn send_all(
     alloc: Global,
     tape: &Tape<IndexStore>,
@@ -44,7 +44,7 @@ pub fn send_all(
     Ok(packets)
 }
 
-/// Sends a packet under this number. The text is only room.
+/// Sends a packet under this number. `text` is only room.
 fn send_packet(
     alloc: Global,
     tape: &Tape<IndexStore>,
@@ -70,7 +70,7 @@ fn end_after(published: u32) -> anyhow::Result<Packet> {
     })
 }
 
-/// Delivers a packet by both lines, where they do not lose it.
+/// Delivers a packet on each line that does not lose it.
 fn deliver(subscriber: &mut Subscriber, packet: u32, bytes: &[u8]) -> anyhow::Result<()> {
     if packet % LOST_BY_A != 0 {
         deliver_by(subscriber, Line::A, bytes)?;
@@ -81,7 +81,7 @@ fn deliver(subscriber: &mut Subscriber, packet: u32, bytes: &[u8]) -> anyhow::Re
     Ok(())
 }
 
-/// Delivers bytes by a line. No packet of the tape is refused, so a fault ends the measurement.
+/// Delivers bytes on a line. No packet of the tape is refused, so a fault ends the measurement.
 fn deliver_by(subscriber: &mut Subscriber, line: Line, bytes: &[u8]) -> anyhow::Result<()> {
     match subscriber.deliver(line, bytes) {
         Ok(_) => Ok(()),
@@ -90,12 +90,12 @@ fn deliver_by(subscriber: &mut Subscriber, line: Line, bytes: &[u8]) -> anyhow::
     }
 }
 
-/// A fault of the window as an error.
+/// Turns a fault of the window into an error.
 fn error_of(fault: DeliverFault) -> anyhow::Error {
     fault.into()
 }
 
-/// Drains the subscriber, and closes the gap that it tells then.
+/// Drains the subscriber, and closes the gap that it then reports.
 fn catch_up(
     alloc: Global,
     tape: &Tape<IndexStore>,

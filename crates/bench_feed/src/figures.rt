@@ -1,4 +1,4 @@
-//! Figures, and how they are printed.
+//! Computes figures, and prints them.
 ghost use Rattle.std.specs.Prelude.{◌≡◌, ◌*◌, ◌/◌, min, max};
 ghost use Rattle.std.specs.Duration.{as_nanos};
 
@@ -37,14 +37,14 @@ pub fn print(rt: &impl Print, figures: &[(&str, Figure)]) -> io::Result<()> {
     Ok(())
 }
 
-/// The rate of so many things in this time, in things a second, rounded down. A time of zero counts as a nanosecond.
+/// The rate of this many things in this time, in things a second, rounded down. A time of zero counts as a nanosecond.
 pub fn per_second(count: u64, time: Duration) -> u128
     ensures rate { result ≡ count * 1_000_000_000 / max 1 (as_nanos time) }
 {
     count as u128 * 1_000_000_000 / time.as_nanos().max(1)
 }
 
-/// The ratio of a time to a whole one in thousandths, rounded down. A whole of no time counts as a nanosecond.
+/// The ratio of a part of a time to the whole, in thousandths, rounded down. A whole of zero counts as a nanosecond.
 pub fn ratio(part: Duration, whole: Duration) -> u128
     ensures ratio { result ≡ as_nanos part * 1_000 / max 1 (as_nanos whole) }
 {

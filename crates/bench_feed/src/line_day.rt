@@ -1,4 +1,4 @@
-//! A day whose lines run at once, each over its bytes in memory, while threads may publish and look at what is published.
+//! Runs the lines of a day at once, each over its bytes in memory, while threads may publish and look at what is published.
 ghost use Rattle.std.specs.Prelude.{◌≡◌, ◌≤◌, [], map, vec_len};
 ghost use Rattle.std.specs.Thread.{IsSync};
 ghost use Rattle.std.specs.Vec.{vec_capacity};
@@ -21,7 +21,7 @@ use tape_types::NoGate;
 /// A seat and the bytes of its line.
 type Line<'a, D> = (LineSeat<D>, &'a [u8]);
 
-/// What a day's lines made, and how often and how long it was looked at.
+/// What a day's lines made, and how many looks at it showed an entry and how long they took.
 #[derive(Clone, Copy)]
 pub struct DayRun {
     /// The entries of the day's tape.
@@ -30,13 +30,13 @@ pub struct DayRun {
     pub time: Duration,
     /// The looks that showed an entry while the lines ran.
     pub looks: u64,
-    /// The time of the looks after it.
+    /// The time of the looks after the lines.
     pub time_after: Duration,
-    /// The looks that showed one then.
+    /// The looks that showed an entry after the lines.
     pub looks_after: u64,
 }
 
-/// The bytes of a line, none where it has no input.
+/// The bytes of a line, or none if it has no input.
 fn input_of(inputs: &[Vec<u8>], line: usize) -> &[u8] {
     match inputs.get(line) {
         Some(bytes) => bytes.as_slice(),
@@ -44,7 +44,7 @@ fn input_of(inputs: &[Vec<u8>], line: usize) -> &[u8] {
     }
 }
 
-/// The seats with the bytes of their lines, put into a vector with room for them.
+/// Puts the seats with the bytes of their lines into a vector with room for them.
 fn seated_lines<'a, D: DayName>(
     seats: Vec<LineSeat<D>>,
     lines: Vec<Line<'a, D>>,
@@ -65,7 +65,7 @@ fn seated_lines<'a, D: DayName>(
     lines
 }
 
-/// Runs the lines at once: the seats after it, and whether the lines were started.
+/// Runs the lines at once, and returns the seats after it and whether the lines were started.
 fn run_all<D: DayName + Send + Sync, R: Threads + Wait + Sync>(
     rt: &R,
     alloc: Global,
@@ -92,8 +92,8 @@ fn run_all<D: DayName + Send + Sync, R: Threads + Wait + Sync>(
     }
 }
 
-/// Runs a line for each seat, all at once, in their order and over these bytes: the seats after it, and whether the lines were
-/// started. Where memory runs out they are not.
+/// Runs a line for each seat, all at once, in their order and over these bytes, and returns the seats after it and whether the
+/// lines were started. They are not if memory runs out.
 fn run_seats<D: DayName + Send + Sync, R: Threads + Wait + Sync>(
     rt: &R,
     alloc: Global,
@@ -114,7 +114,7 @@ fn run_seats<D: DayName + Send + Sync, R: Threads + Wait + Sync>(
     run_all(rt, alloc, shared, lines, room)
 }
 
-/// How many entries the day has that ends with these seats, `None` where a seat was not told what the tape has.
+/// Returns how many entries the day has that ends with these seats, or `None` if a seat was not told what the tape has.
 fn entries_at_end<D: DayName>(shared: SharedTape<D>, seats: Vec<LineSeat<D>>) -> Option<usize>
     requires { IsOneEach D.terms.listing.participants seats.items }
 {
@@ -132,12 +132,12 @@ fn entries_at_end<D: DayName>(shared: SharedTape<D>, seats: Vec<LineSeat<D>>) ->
     }
 }
 
-/// The time since `began`, if the clock told both.
+/// The time since `began`, if the clock could be read both times.
 fn elapsed<R: Clock>(rt: &R, began: io::Result<Instant>) -> Option<Duration> {
     began.ok()?.elapsed(rt).ok()
 }
 
-/// Runs the lines, and says when they are over: whether they were started.
+/// Runs the lines, sets `over` when they are over, and returns whether they were started.
 fn run_until_over<D: DayName + Send + Sync, R: Threads + Wait + Sync>(
     rt: &R,
     alloc: Global,
@@ -155,7 +155,7 @@ fn run_until_over<D: DayName + Send + Sync, R: Threads + Wait + Sync>(
     is_run
 }
 
-/// Runs the lines while others watch: the seats after it, and how many looks showed an entry.
+/// Runs the lines while others watch, and returns the seats after it and how many looks showed an entry.
 fn run_beside<D: DayName + Send + Sync, R: Clock + Threads + Wait + Sync>(
     rt: &R,
     alloc: Global,
@@ -179,7 +179,7 @@ fn run_beside<D: DayName + Send + Sync, R: Clock + Threads + Wait + Sync>(
     (seats, if is_run { looks } else { None })
 }
 
-/// The looks at what is published while nothing else runs, and how long they took.
+/// Looks at what is published while nothing else runs, and returns how many looks showed an entry and how long they took.
 fn look_after<D: DayName + Send + Sync, R: Clock + Threads + Wait + Sync>(
     rt: &R,
     alloc: Global,
@@ -192,7 +192,7 @@ fn look_after<D: DayName + Send + Sync, R: Clock + Threads + Wait + Sync>(
     Some((looks, elapsed(rt, began)?))
 }
 
-/// Runs a day as `run_day` does, under a name of it.
+/// Runs a day as `run_day` does, under a name of its own.
 fn run_named_day<D: DayName + Send + Sync, R: Clock + Threads + Wait + Sync>(
     rt: &R,
     alloc: Global,
@@ -223,9 +223,9 @@ fn run_named_day<D: DayName + Send + Sync, R: Clock + Threads + Wait + Sync>(
     })
 }
 
-/// Runs the lines of a day, one for each participant, in listing order and over these bytes, while it is watched, and watches it once
-/// more after it. `None` where memory runs out, no thread can be started, the clock does not tell the time, or a seat was not told
-/// what the tape has of its participant.
+/// Runs the lines of a day, one for each participant, in listing order and over these bytes, while it is watched, and watches
+/// it once more afterwards. Returns `None` if memory runs out, no thread can be started, the clock can't be read, or a seat was
+/// not told what the tape has of its participant.
 pub fn run_day<R: Clock + Threads + Wait + Sync>(
     rt: &R,
     alloc: Global,

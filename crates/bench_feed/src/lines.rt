@@ -1,5 +1,5 @@
-//! How long lines that run at once take over a day's messages, beside a tape that admits them alone; or how many published entries
-//! four threads look at in a second beside them, without the lock.
+//! Measures how long lines that run at once take over a day's messages, beside a tape that admits them alone; or how many
+//! published entries four threads look at in a second beside them, without the lock.
 
 use crate::day;
 use crate::figures::{Figure, lesser, per_second, print, ratio};
@@ -39,7 +39,7 @@ pub fn measure<R: AllocGlobal + Clock + Print + Threads + Wait + Sync>(
     measure_lines(rt, input, &messages, &inputs)
 }
 
-/// The same of the messages and the lines' bytes.
+/// The same for the messages and the lines' bytes.
 fn measure_lines<R: AllocGlobal + Clock + Print + Threads + Wait + Sync>(
     rt: &R,
     input: &[u8],
@@ -92,7 +92,7 @@ fn least_of_runs<R: AllocGlobal + Clock + Threads + Wait + Sync>(
     Ok(least)
 }
 
-/// The tape alone and the lines, one after the other. Where they make tapes of other lengths it is an error.
+/// Runs the tape alone and the lines, one after the other. It is an error if they make tapes of different lengths.
 fn run_both<R: AllocGlobal + Clock + Threads + Wait + Sync>(
     rt: &R,
     input: &[u8],
@@ -112,8 +112,8 @@ fn run_both<R: AllocGlobal + Clock + Threads + Wait + Sync>(
     })
 }
 
-/// How long a new tape takes to admit the messages alone, and its entries. The tape is lent and then dropped explicitly, since each
-/// exit that dropped it implicitly would need a long proof.
+/// Returns how long a new tape takes to admit the messages alone, and its entries. The tape is lent and then dropped
+/// explicitly, since each exit that dropped it implicitly would need a long proof.
 fn time_alone<R: AllocGlobal + Clock>(
     rt: &R,
     input: &[u8],
@@ -126,7 +126,7 @@ fn time_alone<R: AllocGlobal + Clock>(
     Ok((time?, entries))
 }
 
-/// How long a tape takes to admit the messages.
+/// Returns how long a tape takes to admit the messages.
 fn admission_time<R: Clock>(
     rt: &R,
     tape: &mut Tape<IndexStore>,

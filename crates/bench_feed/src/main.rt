@@ -1,6 +1,6 @@
-//! `bench_feed`: how long a tape takes through two lossy lines to a subscriber, how long the rows of its report take, how long
-//! lines that run at once take over its messages, and how many published entries are looked at beside them. It measures; no
-//! other crate calls it.
+//! `bench_feed` measures how long a tape takes through two lossy lines to a subscriber, how long the rows of its report take,
+//! how long lines that run at once take over its messages, and how many published entries are looked at beside them. No other
+//! crate calls it.
 #![tactic(auto)]
 
 mod day;
@@ -23,8 +23,8 @@ use std::thread::Threads;
 /// The status of bad arguments.
 const BAD_ARGUMENTS: u8 = 2;
 
-/// Measures what is asked for of a day, and prints the figures, one a line. Without an input there is nothing to measure, and the
-/// first figure stands alone.
+/// Measures what is asked for of a day, and prints the figures, one a line. Without an input there is nothing to measure, and
+/// only the number of entries is printed, 0.
 fn print_figures<R: AllocGlobal + Clock + Print + Threads + Wait + Sync>(
     rt: &R,
     mode: Mode,
@@ -42,7 +42,7 @@ fn print_figures<R: AllocGlobal + Clock + Print + Threads + Wait + Sync>(
     }
 }
 
-/// Reads a day from standard input, and measures what the arguments ask for. Where they ask for nothing, nothing is read.
+/// Reads a day from standard input, and measures what the arguments ask for. If they ask for nothing, nothing is read.
 fn main(rt: HostRuntime) -> anyhow::Result<ExitCode> {
     let Some(mode) = given_mode(&rt)? else {
         let _ = eprintln!(rt; "bench_feed: bad arguments");

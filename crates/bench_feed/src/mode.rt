@@ -1,4 +1,4 @@
-//! What the program's arguments ask for.
+//! Reads the program's arguments: what they ask to measure.
 
 use std::alloc::AllocError;
 use std::env::{self, Env};
@@ -30,8 +30,8 @@ fn mode_of_word(word: &str) -> Option<Mode> {
     }
 }
 
-/// What the arguments, of which the first is the program's own name, ask for: none for the feed, `rows` alone for the rows, `lines`
-/// alone for the lines, `looks` alone for the looks, and any others for nothing.
+/// What the arguments, the first of which is the program's own name, ask for: none for the feed, only `rows` for the rows, only
+/// `lines` for the lines, only `looks` for the looks, and any others for nothing.
 fn mode_of(words: &[String]) -> Option<Mode> {
     match words {
         [] | [_] => Some(Mode::Feed),
@@ -40,7 +40,7 @@ fn mode_of(words: &[String]) -> Option<Mode> {
     }
 }
 
-/// What the program is asked for. Arguments that are not valid text ask for nothing; where memory runs out, it is an error.
+/// Returns what the program is asked for. Arguments that are not valid text ask for nothing; it is an error if memory runs out.
 pub fn given_mode<R: Env + AllocGlobal>(rt: &R) -> Result<Option<Mode>, AllocError> {
     match env::args(rt) {
         Ok(words) => {

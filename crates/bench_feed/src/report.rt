@@ -1,4 +1,4 @@
-//! How long the rows of a tape's report take, by one worker, two and four.
+//! Measures how long the rows of a tape's report take, by one worker, two and four.
 
 use crate::day;
 use crate::figures::{Figure, lesser, print, ratio};
@@ -23,7 +23,7 @@ pub fn measure<R: AllocGlobal + Clock + Print + Threads + Sync>(
     measure_rows(rt, &tape)
 }
 
-/// Measures the rows of a tape. Making the rows that are counted warms the caches, and its time is not taken.
+/// Measures the rows of a tape. The rows that are counted are made first, which warms the caches and is not timed.
 fn measure_rows<R: AllocGlobal + Clock + Print + Threads + Sync>(
     rt: &R,
     tape: &Tape<IndexStore>,
@@ -44,8 +44,8 @@ fn measure_rows<R: AllocGlobal + Clock + Print + Threads + Sync>(
     Ok(())
 }
 
-/// The least times of all runs, by one worker, two and four. In each run every number of workers has its turn, so that other work
-/// on the machine slows all of them down alike.
+/// Returns the least times of all runs, by one worker, two and four. In each run every number of workers has its turn, so that
+/// other work on the machine slows all of them down alike.
 fn least_times<R: AllocGlobal + Clock + Threads + Sync>(
     rt: &R,
     tape: &Tape<IndexStore>,
@@ -61,7 +61,7 @@ fn least_times<R: AllocGlobal + Clock + Threads + Sync>(
     Ok(least)
 }
 
-/// How long so many workers take to make the rows, which are dropped after the clock has been read.
+/// Returns how long this many workers take to make the rows, which are dropped after the clock has been read.
 fn time_by<R: AllocGlobal + Clock + Threads + Sync>(
     rt: &R,
     tape: &Tape<IndexStore>,

@@ -1,4 +1,4 @@
-//! How long a tape takes to a subscriber through two lossy lines.
+//! Measures how long a tape takes to a subscriber through two lossy lines.
 
 use crate::figures::{Figure, per_second, print};
 use crate::{day, feed};
@@ -10,14 +10,15 @@ use subscriber::Subscriber;
 use summaries::IndexStore;
 use tape_core::Tape;
 
-/// Prints the figures of a day, unless the subscriber ended up with less than its tape. The input has been read before.
+/// Prints the figures of a day, unless the subscriber ends up with less than its tape. The input has been read before.
 pub fn measure<R: AllocGlobal + Clock + Print>(rt: &R, input: &[u8]) -> anyhow::Result<()> {
     let began = Instant::now(rt)?;
     let tape = day::read_tape(rt.alloc(), input).context(day::NO_DAY)?;
     measure_tape(rt, input, &tape, began)
 }
 
-/// The same of a tape that was read. A function that owns a tape or a subscriber ends in one call, so that its proof stays short.
+/// The same for a tape that was read. A function that owns a tape or a subscriber ends in one call, so that its proof stays
+/// short.
 fn measure_tape<R: AllocGlobal + Clock + Print>(
     rt: &R,
     input: &[u8],
@@ -28,8 +29,8 @@ fn measure_tape<R: AllocGlobal + Clock + Print>(
     measure_sending(rt, tape, &mut subscriber, began)
 }
 
-/// The same of a tape that is to be sent. What the subscriber holds is a prefix of the tape that it was sent, so its length tells
-/// whether it holds the whole.
+/// The same for a tape that is to be sent. What the subscriber holds is a prefix of the tape that it was sent, so its length
+/// shows whether it holds the whole.
 fn measure_sending<R: AllocGlobal + Clock + Print>(
     rt: &R,
     tape: &Tape<IndexStore>,

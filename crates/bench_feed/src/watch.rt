@@ -1,4 +1,4 @@
-//! Threads that publish what lines admit, and that look at what is published, without the lock.
+//! Publishes what lines admit, and looks at what is published without the lock, in threads.
 
 use line_ledger::{DayName, SharedTape};
 use std::alloc::Global;
@@ -12,10 +12,10 @@ use std::time::Duration;
 /// How many entries are published at once, at most.
 const PUBLISHED_MOST: u32 = 64;
 
-/// How many milliseconds the publisher waits where it found fewer.
+/// How many milliseconds the publisher waits if it found fewer.
 const PAUSE_MILLIS: u64 = 1;
 
-/// Who watches a day, each in a thread.
+/// The threads that watch a day.
 #[derive(Clone, Copy)]
 pub struct Watch {
     /// How many threads publish.
@@ -26,21 +26,21 @@ pub struct Watch {
     looks: u64,
 }
 
-/// Nobody.
+/// No thread.
 pub const NOBODY: Watch = Watch {
     publishers: 0,
     readers: 0,
     looks: 0,
 };
 
-/// One that publishes and four that look, while lines run.
+/// One thread that publishes and four that look, while lines run.
 pub const BESIDE: Watch = Watch {
     publishers: 1,
     readers: 4,
     looks: u64::MAX,
 };
 
-/// Four that look where no lines run.
+/// Four threads that look while no lines run.
 pub const ALONE: Watch = Watch {
     publishers: 0,
     readers: 4,
@@ -55,8 +55,8 @@ fn is_shown<D: DayName>(shared: &SharedTape<D>, number: u32) -> bool {
     }
 }
 
-/// Looks at most so often, until the lines are over, and answers how many looks showed an entry. It looks at one number after
-/// the other, and at the first that shows none it goes back to 1.
+/// Looks at most `most` times, until the lines are over, and returns how many looks showed an entry. It looks at one number
+/// after the other, and goes back to 1 at the first that shows none.
 fn look_on<D: DayName>(shared: &SharedTape<D>, over: &AtomicBool, most: u64) -> u64 {
     let mut count: u64 = 0;
     let mut number: u32 = 1;
@@ -86,7 +86,7 @@ fn publish_on<D: DayName, R: Clock + Wait>(rt: &R, shared: &SharedTape<D>, over:
     }
 }
 
-/// Watches until the lines are over: how many looks of all readers showed an entry. `None` where memory runs out.
+/// Watches until the lines are over, and returns how many looks of all readers showed an entry, or `None` if memory runs out.
 pub fn watch_on<D: DayName + Send + Sync, R: Clock + Threads + Wait + Sync>(
     rt: &R,
     alloc: Global,

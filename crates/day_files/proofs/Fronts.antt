@@ -1,4 +1,4 @@
--- What is read so far, and what is read behind it.
+-- A list read step by step: what is read so far, in front of what is read behind it.
 use Rattle.std.proofs.Common.{◌≡◌, ◌+◌, ℕ, suc, List, [], ◌∷◌, ◌++◌, length, Option, Some, None, IfSome, Result, Ok, Err, refl, ap, append_assoc, arith}
 use Rattle.std.proofs.lemmas.List.{append-nil, length-append}
 use Rattle.tape_types.specs.Names.{symbol_named}
@@ -11,16 +11,16 @@ use Rattle.day_files.specs.declared.day_key.DayKey.{DayKey}
 use Rattle.day_files.specs.declared.place.Place.{Place}
 use Rattle.day_files.specs.declared.place.Place.TheVariants.{Entry, Line}
 
--- what is read so far before what is read behind it
+-- what is read so far, in front of what is read behind it
 abbrev pub with_front : {A : Type 0} → List A → Result (List A) Fault → Result (List A) Fault
 with_front front read = read >>= λ more. Ok (front ++ more)
 
--- with nothing before, it is what is read
+-- with nothing in front, it is what is read
 pub with_front-nil : {A : Type 0} (read : Result (List A) Fault) → with_front [] read ≡ read
 with_front-nil (Ok more) = refl
 with_front-nil (Err fault) = refl
 
--- one more
+-- one more element in front
 pub with_front-more : {A : Type 0} (front : List A) (one : A) (read : Result (List A) Fault)
     → with_front (front ++ one ∷ []) read ≡ with_front front (read >>= λ more. Ok (one ∷ more))
 with_front-more front one (Ok more) = ap Ok (append_assoc front (one ∷ []) more)
@@ -34,26 +34,26 @@ fails_through {A} {B} fault found next failed = through (fault_of fault) failed
     through None failed = tt
     through (Some told) failed = rw failed refl
 
--- what follows one more
+-- the place after one more element
 next_place : {A : Type 0} (front new : List A) (one : A) → new ≡ front ++ one ∷ [] → length new + 1 ≡ suc (length front + 1)
 next_place front new one pushed = rw (pushed, length-append front (one ∷ [])) (omega arith)
 
--- a line more that is a symbol
+-- one more line, which is a symbol
 pub line_read : (front new : List (List ℕ)) (line symbol : List ℕ) (lines : List (List ℕ)) → Some symbol ≡ symbol_named line → new ≡ front ++ symbol ∷ []
     → with_front new (each_line (length new + 1) lines) ≡ with_front front (each_line (length front + 1) (line ∷ lines))
 line_read front new line symbol lines named pushed =
     rw (next_place front new symbol pushed, ← named, pushed) (with_front-more front symbol (each_line (suc (length front + 1)) lines))
 
--- a line that is none
+-- a line that is no symbol
 pub line_refused : (front : List (List ℕ)) (line : List ℕ) (lines : List (List ℕ)) → None ≡ symbol_named line
     → with_front front (each_line (length front + 1) (line ∷ lines)) ≡ Err (out_of_range (Line (length front + 1)))
 line_refused front line lines none = rw (← none) refl
 
--- no line more
+-- nothing is left to read
 pub all_read : {A : Type 0} (front : List A) → with_front front (Ok []) ≡ Ok front
 all_read front = ap Ok (append-nil front)
 
--- an entry more that is read
+-- one more entry, which is read
 pub entry_read : {A : Type 0} (entry : Place → Data → Result A Fault) (key : DayKey) (front new : List A) (value : Data) (one : A) (items : Items)
     → entry (Entry key (length front + 1)) value ≡ Ok one → new ≡ front ++ one ∷ []
     → with_front new (each_entry entry key (length new + 1) items) ≡ with_front front (each_entry entry key (length front + 1) (item value items))

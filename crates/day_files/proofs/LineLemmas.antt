@@ -1,4 +1,4 @@
--- The lines of a file, one after another.
+-- The lines of a file, split at its first line feed.
 use Rattle.std.proofs.Common.{◌≡◌, ◌<◌, ◌≤◌, ◌+◌, ◌-◌, ◌==◌, ◌∷◌, [], ℕ, List, false, true, Some, None, refl, arith, length, take, drop, nat_lt, All, inl, inr}
 use Rattle.std.proofs.lemmas.Bool.{cases_Bool, eqb-true}
 use Rattle.std.proofs.lemmas.List.{nil_from_length}
@@ -10,12 +10,12 @@ use Rattle.std.specs.Prelude.{position}
 use Rattle.std.specs.List.{position_or_len, slice_split}
 use Rattle.day_files.specs.Lines.{file_lines, is_line_feed, lines_of_parts}
 
--- the parts behind a first one, of which there are some
+-- a first part that others follow is a line
 parts-more : (part : List ℕ) (parts : List (List ℕ)) → 0 < length parts → lines_of_parts (part ∷ parts) ≡ part ∷ lines_of_parts parts
 parts-more part [] some = absurd (omega (arith, some))
 parts-more part (next ∷ parts) some = refl
 
--- the first line feed stands within the text
+-- the first line feed is within the text
 pub line_within : (text : List ℕ) (end : ℕ) → Some end ≡ position is_line_feed text → end < length text
 line_within text end found = elim (cases_Bool (nat_lt (position_or_len is_line_feed text) (length text))) [
   | inl is ↦
@@ -40,12 +40,12 @@ lines-more text end found = elim (cases_Bool (nat_lt (position_or_len is_line_fe
   | inr isnt ↦ let none = rw isnt at found in absurd (cc none)
 ]
 
--- no text, no line
+-- an empty text has no line
 pub lines-none : (text : List ℕ) → (length text == 0) ≡ true → file_lines text ≡ []
 unfolding file_lines
 lines-none text none = rw (nil_from_length text (eqb-true _ _ none)) refl
 
--- what stands behind a line is a slice up to the last byte
+-- the text behind a line is a slice up to the last byte
 pub rest-slice : (text : List ℕ) (end : ℕ) → take (length text - (end + 1)) (drop (end + 1) text) ≡ drop (end + 1) text
 rest-slice text end = grind (arith, common_steps)
 

@@ -1,4 +1,4 @@
--- The table of a day's file.
+-- The keys and the values of a table as a day's file reads them.
 use Rattle.std.proofs.Common.{◌≡◌, ◌==◌, false, ℕ, List, [], ◌∷◌, length, String, Global, Some, None, Result, Ok, Err, refl, ap, inl, inr}
 use Rattle.std.proofs.lemmas.Bool.{cases_Bool}
 use Rattle.std.proofs.lemmas.Str.{IsUtf8-from_is_utf8, is_utf8-from_IsUtf8}
@@ -16,17 +16,17 @@ use Rattle.day_files.specs.Tables.{known_keys, table_of}
 use Rattle.day_files.specs.declared.day_key.DayKey.{DayKey}
 use Rattle.day_files.specs.declared.place.Place.{Place}
 
--- all names are keys, or the first that is none
+-- all names are keys, or the fault of the first that is not
 abbrev pub known_names : List (String Global) → Result (Unit {0}) Fault
 known_names [] = Ok tt
 known_names (name ∷ names) = if is_key (string_bytes name) then known_names names else Err (unknown (string_bytes name))
 
--- those of a table's entries
+-- the names of a table's entries
 pub known_names_all : (entries : List (String Global × Value)) → known_names (keys_of entries) ≡ known_keys (members_view entries)
 known_names_all [] = refl
 known_names_all (entry ∷ entries) = ap (λ (others : Result (Unit {0}) Fault). if is_key (string_bytes entry.0) then others else Err (unknown (string_bytes entry.0))) (known_names_all entries)
 
--- the entries of a value that is a list of some
+-- the entries of a value that is a list with one or more
 pub entries_at_list : {A : Type 0} (entry : Place → Data → Result A Fault) (key : DayKey) (value : Data) (items : List Value)
     → Some (items_view items) ≡ as_array value → (length items == 0) ≡ false → each_entry entry key 1 (items_view items) ≡ entries_at entry key value
 entries_at_list entry key (array list) [] is some = absurd (cc some)
@@ -38,12 +38,12 @@ entries_at_list entry key (boolean _) items is some = absurd (cc is)
 entries_at_list entry key (datetime _) items is some = absurd (cc is)
 entries_at_list entry key (table _) items is some = absurd (cc is)
 
--- the table of a text that is one
+-- a text that is a table is read as it
 pub table_read : (text : List ℕ) (read : Members) → IsUtf8 text → parse_document text ≡ Some read → table_of text ≡ Ok read
 unfolding table_of
 table_read text read utf8 parsed = rw (is_utf8-from_IsUtf8 text utf8, parsed) refl
 
--- a text that is none
+-- a text that is no table is a fault of syntax
 pub table_refused : (text : List ℕ) → (IsUtf8 text → parse_document text ≡ None) → table_of text ≡ Err syntax
 unfolding table_of
 table_refused text none = elim (cases_Bool (is_utf8 text)) [

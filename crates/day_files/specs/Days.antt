@@ -1,4 +1,4 @@
--- What a day's file says.
+-- What a day's file says, key by key, or the first fault.
 use Rattle.std.specs.Prelude.{◌+◌, ◌==◌, ℕ, suc, zero, Bool, true, List, [], ◌∷◌, length, Option, Some, None, Result, Ok, Err, nat_le, if◌then◌else◌, string_bytes}
 use Rattle.std.specs.Option.{option_map}
 use Rattle.sale_matrix.specs.declared.matrix.Matrix.{Matrix}
@@ -24,12 +24,12 @@ pub data NamedSymbols : Type 0 where
   listed : List (List ℕ) → NamedSymbols
   in_file : List ℕ → NamedSymbols
 
--- where a control socket is: at a port, or at a path
+-- where a control socket is: at a port or at a path
 pub data ControlPlace : Type 0 where
   at_port : ℕ → ControlPlace
   at_path : List ℕ → ControlPlace
 
--- a day, as its file gives it
+-- a day as its file describes it
 pub record Day : Type 0 where
   pub symbols : NamedSymbols
   pub participants : List ℕ
@@ -47,17 +47,17 @@ pub record Day : Type 0 where
   pub journal : Option (List ℕ)
   pub journal_sync : Bool
 
--- the symbols of what was read
+-- the symbols that were read
 abbrev pub symbols_view : DaySymbols → NamedSymbols
 symbols_view (read.Listed symbols) = listed symbols.items
 symbols_view (read.InFile name) = in_file (string_bytes name)
 
--- the control socket of what was read
+-- the control socket that was read
 abbrev pub control_view : DayControl → ControlPlace
 control_view (control.Port port) = at_port port
 control_view (control.Path path) = at_path (string_bytes path)
 
--- the day of what was read
+-- the day that was read
 abbrev pub day_view : DayFile → Day
 day_view day = record {
   symbols = symbols_view day.symbols;
@@ -77,7 +77,7 @@ day_view day = record {
   journal_sync = day.journal_sync;
 }
 
--- a string is a file's name
+-- the symbols of a value; a string is a file's name
 unfoldable pub symbols_at : Data → Result NamedSymbols Fault
 symbols_at (string name) = Ok (in_file name)
 symbols_at value = do
@@ -112,11 +112,11 @@ matrix_in table = do
   number ← number_or 1 keys.Matrix (get_member (key_text keys.Matrix) table)
   Ok (matrix_numbered number)
 
--- the limit, which is that of a day's words if it is left out
+-- the limit, which is that of a day's arguments if it is left out
 unfoldable pub limit_in : Members → Result ℕ Fault
 limit_in table = number_or LIMIT_LEFT_OUT keys.Limit (get_member (key_text keys.Limit) table)
 
--- what stands at a key that may be left out
+-- what a key that may be left out has
 abbrev pub if_there : {A : Type 0} → (Data → Result A Fault) → Option Data → Result (Option A) Fault
 if_there read None = Ok None
 if_there read (Some value) = do
@@ -127,7 +127,7 @@ if_there read (Some value) = do
 unfoldable pub seconds_in : DayKey → Members → Result (Option ℕ) Fault
 seconds_in key table = if_there (number_at key (At key)) (get_member (key_text key) table)
 
--- where a control socket is: a string is a path, which is not empty
+-- where a control socket is; a string is a path, which is not empty
 unfoldable pub control_at : Data → Result ControlPlace Fault
 control_at (string []) = Err (out_of_range (At keys.Control))
 control_at (string (byte ∷ path)) = Ok (at_path (byte ∷ path))
@@ -148,7 +148,7 @@ journal_at value = text_at (At keys.Journal) value
 unfoldable pub journal_in : Members → Result (Option (List ℕ)) Fault
 journal_in table = if_there journal_at (get_member (key_text keys.Journal) table)
 
--- whether a journal is synced, which it is if that is left out
+-- whether a journal is synced, which is true if it is left out
 abbrev pub sync_or : Option Data → Result Bool Fault
 sync_or None = Ok true
 sync_or (Some value) = boolean_at (At keys.JournalSync) value
@@ -157,14 +157,14 @@ sync_or (Some value) = boolean_at (At keys.JournalSync) value
 unfoldable pub sync_in : Members → Result Bool Fault
 sync_in table = sync_or (get_member (key_text keys.JournalSync) table)
 
--- what two keys say together: as many ports for line B as for A, and a port for each participant
+-- the day, if line B has as many ports as line A and each participant has a port
 abbrev pub agreed : Day → Result Day Fault
 agreed day =
     if length day.b == length day.a
     then (if nat_le (day.port + length day.participants) 65536 then Ok day else Err port_past_last)
     else Err uneven
 
--- the day of a table of known keys: the keys are read in this order
+-- the day of a table of known keys, which are read in this order
 unfoldable pub day_in : Members → Result Day Fault
 day_in table = do
   of_symbols ← required keys.Symbols table
@@ -202,7 +202,7 @@ day_in table = do
     journal_sync = journal_sync;
   })
 
--- the day that a text says, or the first thing wrong with it
+-- the day that a text describes, or its first fault
 unfoldable pub day_of : List ℕ → Result Day Fault
 day_of text = do
   table ← table_of text

@@ -1,4 +1,4 @@
--- The lists of a day's file.
+-- The lists of a day's file, read entry by entry.
 use Rattle.std.specs.Prelude.{ℕ, suc, Bool, List, [], ◌∷◌, Option, Some, None, Result, Ok, Err}
 use Rattle.toml.specs.Data.{Data, string, boolean, array, Items, no_items, item}
 use Rattle.tape_types.specs.Names.{symbol_named}
@@ -21,7 +21,7 @@ abbrev pub boolean_at : Place → Data → Result Bool Fault
 boolean_at place (boolean is) = Ok is
 boolean_at place value = Err (other_kind place (kind_of value))
 
--- what a text names, or it is out of range
+-- what a text names, or the fault that it is out of range
 abbrev pub or_out_of_range : {A : Type 0} → Place → Option A → Result A Fault
 or_out_of_range place (Some value) = Ok value
 or_out_of_range place None = Err (out_of_range place)

@@ -1,4 +1,4 @@
--- What can be wrong with a day's file, and how a result stands to what the file says.
+-- What can be wrong with a day's file, and how a result relates to what the file says.
 use Rattle.std.specs.Prelude.{◌≡◌, ℕ, List, IfSome, Option, Some, None, Result, Ok, Err, string_bytes}
 use Rattle.tape_types.specs.declared.listing_fault.ListingFault.{ListingFault}
 use Rattle.day_files.specs.declared.day_fault.DayFault.{DayFault}
@@ -25,7 +25,7 @@ abbrev pub ◌>>=◌ : {A B : Type 0} → Result A Fault → (A → Result B Fau
 (Ok value) >>= next = next value
 (Err fault) >>= next = Err fault
 
--- the fault that is told, which is none where memory ran out
+-- the fault that is returned, or none if memory ran out
 abbrev pub fault_of : DayFault → Option Fault
 fault_of (told.Syntax fault) = Some syntax
 fault_of (told.Unknown name) = Some (unknown (string_bytes name))
@@ -39,7 +39,7 @@ fault_of (told.Names fault) = Some (names fault)
 fault_of (told.NoFollower follower places) = Some (no_follower follower places)
 fault_of told.OutOfMemory = None
 
--- the fault that is told is the one that was found; memory can run out at any time
+-- the fault that is returned is the one that was found; memory can run out at any time
 abbrev pub Fails : {A : Type 0} → DayFault → Result A Fault → Type 0
 Fails fault found = IfSome (fault_of fault) (λ told. found ≡ Err told)
 

@@ -7,7 +7,7 @@ use Rattle.std.specs.Prelude.{◌∷◌, []}
 use Rattle.day_files.specs.declared.day_key.DayKey.{DayKey}
 use Rattle.day_files.specs.declared.day_key.DayKey.TheVariants.{Symbols, Participants, Port, A, B, Retransmission, Followers, Session, Matrix, Limit, ConnectWithin, FollowersWait, Control, Journal, JournalSync}
 
--- its name, as it stands in the file
+-- the name of a key, as the file spells it
 abbrev pub key_text : DayKey → List ℕ
 key_text Symbols = codes "symbols"
 key_text Participants = codes "participants"
@@ -33,18 +33,18 @@ all_keys = Symbols ∷ Participants ∷ Port ∷ A ∷ B ∷ Retransmission ∷ 
 unfoldable pub is_key : List ℕ → Bool
 is_key name = list_any (λ key. bytes_eq (key_text key) name) all_keys
 
--- how many seconds may be said at most: those of one day
+-- the greatest number of seconds: those of one day
 abbrev pub SECONDS_MOST : ℕ
 SECONDS_MOST = 86400
 
--- the least number that may stand at a key or in its list
+-- the least number that a key or its list may have
 abbrev pub key_least : DayKey → ℕ
 key_least Followers = 0
 key_least Session = 0
 key_least FollowersWait = 0
 key_least _ = 1
 
--- the greatest one
+-- the greatest number that a key or its list may have
 abbrev pub key_most : DayKey → ℕ
 key_most Session = 9223372036854775807
 key_most Matrix = 2

@@ -1,4 +1,4 @@
--- The kinds of a value.
+-- The kind of a TOML value, and its name.
 use Rattle.std.specs.Prelude.{ℕ, List, codes}
 use Rattle.toml.specs.Data.{Data, string, integer, float, boolean, datetime, array, table}
 use Rattle.day_files.specs.declared.kind.Kind.{Kind}
@@ -14,7 +14,7 @@ kind_of (datetime _) = kinds.Date
 kind_of (array _) = kinds.List
 kind_of (table _) = kinds.Table
 
--- its name with an article
+-- the name of a kind, with an article
 abbrev pub kind_text : Kind → List ℕ
 kind_text kinds.Text = codes "a string"
 kind_text kinds.Number = codes "a number"

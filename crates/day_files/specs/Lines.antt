@@ -1,13 +1,13 @@
--- The lines of a file.
+-- The lines of a file, each ended by a line feed, which the last may lack.
 use Rattle.std.specs.Prelude.{◌==◌, ℕ, Bool, List, [], ◌∷◌, length, if◌then◌else◌}
 use Rattle.std.specs.List.{slice_split}
 use Rattle.day_files.specs.declared.lines.Lines.{Lines}
 
--- what ends a line
+-- whether a byte ends a line
 abbrev pub is_line_feed : ℕ → Bool
 is_line_feed byte = byte == 10
 
--- the lines in the parts between line feeds: nothing behind the last line feed is no line
+-- the lines among the parts between line feeds; an empty part behind the last line feed is no line
 abbrev pub lines_of_parts : List (List ℕ) → List (List ℕ)
 lines_of_parts [] = []
 lines_of_parts (part ∷ []) = if length part == 0 then [] else part ∷ []

@@ -1,4 +1,4 @@
--- The listing of a day's file.
+-- The listing that a day's symbols and participants make, or its fault.
 use Rattle.std.specs.Prelude.{ℕ, suc, List, [], ◌∷◌, Option, Some, None, Result, Ok, Err}
 use Rattle.tape_types.specs.Names.{Names, names_fault, symbol_named}
 use Rattle.tape_types.specs.declared.listing_fault.ListingFault.{ListingFault}
@@ -20,7 +20,7 @@ each_line n (line ∷ lines) = do
 abbrev pub file_symbols : List ℕ → Result (List (List ℕ)) Fault
 file_symbols text = each_line 1 (file_lines text)
 
--- a listing, if it has no fault
+-- the listing of these names, or its fault
 abbrev pub listing_by : Option ListingFault → Names → Result Names Fault
 listing_by None listing = Ok listing
 listing_by (Some fault) listing = Err (names fault)
@@ -29,7 +29,7 @@ listing_by (Some fault) listing = Err (names fault)
 unfoldable pub listing_of : List (List ℕ) → List ℕ → Result Names Fault
 listing_of symbols participants = listing_by (names_fault symbols participants) (record { symbols = symbols; participants = participants })
 
--- the listing of a day, whose symbols may stand in a file of this text
+-- the listing of a day, whose symbols may be in a file of this text
 abbrev pub listing_in : NamedSymbols → List ℕ → List ℕ → Result Names Fault
 listing_in (listed symbols) participants text = listing_of symbols participants
 listing_in (in_file name) participants text = do

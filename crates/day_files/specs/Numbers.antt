@@ -1,4 +1,4 @@
--- The numbers of a day's file.
+-- The numbers of a day's file, each within the range of its key.
 use Rattle.std.specs.Prelude.{ℕ, ℤ, pos, negsuc, Result, Ok, Err, nat_le, ◌&&◌, if◌then◌else◌}
 use Rattle.toml.specs.Data.{Data, integer}
 use Rattle.day_files.specs.Faults.{Fault, other_kind, out_of_range}
@@ -13,7 +13,7 @@ in_range key place (pos number) =
     if nat_le (key_least key) number && nat_le number (key_most key) then Ok number else Err (out_of_range place)
 in_range key place (negsuc number) = Err (out_of_range place)
 
--- the number that a value is
+-- the number of a value, within the range of a key
 abbrev pub number_at : DayKey → Place → Data → Result ℕ Fault
 number_at key place (integer number) = in_range key place number
 number_at key place value = Err (other_kind place (kind_of value))

@@ -1,4 +1,4 @@
--- The table that a day's file is.
+-- The table of a day's file: its text, its keys and the value at a key.
 use Rattle.std.specs.Prelude.{ℕ, List, Option, Some, None, Result, Ok, Err, if◌then◌else◌}
 use Rattle.std.specs.Str.{is_utf8}
 use Rattle.toml.specs.Data.{Data, Members, no_members, member, get_member}
@@ -7,7 +7,7 @@ use Rattle.day_files.specs.Faults.{Fault, missing, syntax, unknown}
 use Rattle.day_files.specs.Keys.{is_key, key_text}
 use Rattle.day_files.specs.declared.day_key.DayKey.{DayKey}
 
--- a value, or a fault in its place
+-- a value, or this fault if there is none
 abbrev pub or_fault : {A : Type 0} → Fault → Option A → Result A Fault
 or_fault fault (Some value) = Ok value
 or_fault fault None = Err fault
@@ -16,7 +16,7 @@ or_fault fault None = Err fault
 unfoldable pub table_of : List ℕ → Result Members Fault
 table_of text = if is_utf8 text then or_fault syntax (parse_document text) else Err syntax
 
--- all keys are known, or the first that is not
+-- all keys are known, or the fault of the first that is not
 abbrev pub known_keys : Members → Result (Unit {0}) Fault
 known_keys no_members = Ok tt
 known_keys (member name value others) = if is_key name then known_keys others else Err (unknown name)

@@ -1,4 +1,4 @@
--- What a day's file gives a program.
+-- The words of `live` and of `follow` that a day's file makes.
 use Rattle.std.specs.Prelude.{ℕ, zero, suc, List, [], ◌∷◌, length, Option, Some, None, Result, Ok, Err, slice_get}
 use Rattle.std.specs.Borrow.{Bor}
 use Rattle.feed_words.specs.Days.{LiveDay}
@@ -7,7 +7,7 @@ use Rattle.day_files.specs.Days.{Day}
 use Rattle.day_files.specs.Faults.{Fault, ◌>>=◌, no_follower}
 use Rattle.day_files.specs.Listings.{listing_in}
 
--- the text of the symbols' file; none is an empty one
+-- the text of the symbols' file, which is empty if there is none
 abbrev pub text_or_none : Option (Bor (List ℕ)) → List ℕ
 text_or_none (Some text) = text.now
 text_or_none None = []

@@ -1,4 +1,4 @@
-//! The booleans of a day's file.
+//! Reads the booleans of a day's file.
 ghost use Rattle.toml.specs.View.{view};
 ghost use Rattle.day_files.specs.Entries.{boolean_at};
 ghost use Rattle.day_files.specs.Faults.{Gives};
@@ -6,7 +6,7 @@ ghost use Rattle.day_files.specs.Faults.{Gives};
 use crate::{DayFault, Kind, Place};
 use toml::Value;
 
-/// The boolean that a value is.
+/// Returns the boolean that a value is.
 pub(crate) fn boolean_of(place: Place, value: &Value) -> Result<bool, DayFault>
     ensures { Gives (λ is. is) result (boolean_at place (view value.now)) }
 {

@@ -1,4 +1,4 @@
-//! Why a text is no day's file.
+//! The errors of a day's file, each with the text that it prints.
 ghost use Rattle.std.specs.Prelude.{◌≡◌};
 ghost use Rattle.day_files.specs.declared.day_fault.DayFault.TheVariants.{OutOfMemory};
 
@@ -7,28 +7,28 @@ use std::alloc::{AllocError, AllocFailed};
 use tape_types::ListingFault;
 use thiserror::Error;
 
-/// Why a text is no day's file, or names no day: the first fault. Keys that no day has come first, in the order of their bytes, then the
-/// keys of a day in the order in which `DayKey` has them, then what two keys say together.
+/// Why a text is not a day's file, or names no day: the first fault. Unknown keys come first, in the order of their bytes, then
+/// the keys of a day in the order of `DayKey`, then what two keys say together.
 #[derive(Debug, Drop, Error)]
 pub enum DayFault {
-    /// It is no TOML.
+    /// The text is not TOML.
     #[error("{0}")]
     Syntax(SyntaxFault),
-    /// It has a key that no day has.
+    /// The file has an unknown key.
     #[error("unknown key {0:?}")]
     Unknown(String),
-    /// It lacks a key.
+    /// The file lacks a key.
     #[error("{0}: missing")]
     Missing(DayKey),
     /// A value is of another kind.
     #[error("{place}: {found}, not {wanted}", wanted = .place.kind_text())]
     OtherKind {
-        /// Where it stands.
+        /// Where the value stands.
         place: Place,
-        /// Its kind.
+        /// The kind of the value.
         found: Kind,
     },
-    /// A value is out of its range, or a text is no such name.
+    /// A value is out of its range, or a text is not a name of its kind.
     #[error("{0}: not {range}", range = .0.range_text())]
     OutOfRange(Place),
     /// A list has no entry.
@@ -43,12 +43,12 @@ pub enum DayFault {
     /// The symbols and the participants make no listing.
     #[error("{text}", text = names_text(*.0))]
     Names(ListingFault),
-    /// There is no such follower's place.
+    /// The follower's place does not exist.
     #[error("follower {follower}: not 1 to {places}")]
     NoFollower {
-        /// The follower that was asked for.
+        /// The place that was asked for.
         follower: u16,
-        /// How many places there are.
+        /// The number of places.
         places: usize,
     },
     /// Memory ran out.
@@ -56,7 +56,7 @@ pub enum DayFault {
     OutOfMemory,
 }
 
-/// Why names make no listing, in words.
+/// Returns the text that says why names make no listing.
 fn names_text(fault: ListingFault) -> &'static str {
     match fault {
         ListingFault::Empty => "no symbol or no participant",

@@ -1,4 +1,4 @@
-//! The keys of a day's file.
+//! The keys of a day's file, each with its name and the range of its values.
 ghost use Rattle.std.specs.Prelude.{◌≡◌, Some};
 ghost use Rattle.day_files.specs.Keys.{is_key, key_least, key_most, key_text};
 
@@ -8,19 +8,19 @@ use tape_types::TAPE_MOST;
 /// A key of a day's file.
 #[derive(Clone, Copy, Debug, PartialEq, Eq)]
 pub enum DayKey {
-    /// `symbols`: a list of the day's symbols, or the name of a file that has one a line.
+    /// `symbols`: a list of the day's symbols, or the name of a file that has one per line.
     Symbols,
     /// `participants`: a list of the day's participants, each by its letter.
     Participants,
-    /// `port`: the first participant's port, 1 to 65,535. Each further participant's is the next.
+    /// `port`: the first participant's port, 1 to 65,535. Each further participant has the next port.
     Port,
     /// `a`: line A's ports, 1 to 65,535, one for each follower's place.
     A,
-    /// `b`: line B's ports, as many.
+    /// `b`: line B's ports, as many as for line A.
     B,
     /// `retransmission`: the port of the retransmission, 1 to 65,535.
     Retransmission,
-    /// `followers`: how many connections are served on it, 0 to 65,535.
+    /// `followers`: how many retransmission connections are served, 0 to 65,535.
     Followers,
     /// `session`: the session of the tape's packets, 0 to 9,223,372,036,854,775,807.
     Session,
@@ -28,9 +28,9 @@ pub enum DayKey {
     Matrix,
     /// `limit`: the limit of the tape in entries, 1 to 16,777,216.
     Limit,
-    /// `connect_within`: for how many seconds a peer that is not there yet is waited for, 1 to 86,400.
+    /// `connect_within`: how many seconds to wait for a peer that is not there yet, 1 to 86,400.
     ConnectWithin,
-    /// `followers_wait`: for how many seconds after the end followers may still ask, 0 to 86,400.
+    /// `followers_wait`: how many seconds after the end followers may still ask, 0 to 86,400.
     FollowersWait,
     /// `control`: where the control socket is: a port of this machine, 1 to 65,535, or the path of a UNIX socket.
     Control,
@@ -40,7 +40,7 @@ pub enum DayKey {
     JournalSync,
 }
 
-/// How many seconds a day's file may say at most: those of one day.
+/// The greatest number of seconds in a day's file: those of one day.
 const SECONDS_MOST: u64 = 86_400;
 
 /// All keys.
@@ -63,7 +63,7 @@ const KEYS: [DayKey; 15] = [
 ];
 
 impl DayKey {
-    /// Its name, as it stands in the file.
+    /// Returns the name of the key, as the file spells it.
     pub fn name(self) -> &'static str
         ensures text { result.now ≡ key_text self }
     {
@@ -86,7 +86,7 @@ impl DayKey {
         }
     }
 
-    /// The least and the greatest number that may stand at it or in its list.
+    /// Returns the least and the greatest number that the key or its list may have.
     pub(crate) fn range(self) -> (u64, u64)
         ensures least { result.0 ≡ key_least self }
         ensures most { result.1 ≡ key_most self }
@@ -102,7 +102,7 @@ impl DayKey {
         }
     }
 
-    /// What may stand at it or in its list, in words.
+    /// Returns what the key or its list may have, in words.
     pub(crate) fn range_text(self) -> &'static str {
         match self {
             DayKey::Symbols => "1 to 8 of A to Z, 0 to 9 and .",
@@ -129,7 +129,7 @@ impl fmt::Display for DayKey {
     }
 }
 
-/// Whether a day's file may have a key of this name.
+/// Returns whether a day's file may have a key of this name.
 #[tactic(auto, unfolding(crate::specs::Keys::is_key))]
 pub(crate) fn is_key(name: &str) -> bool
     ensures { result ≡ is_key name.now }

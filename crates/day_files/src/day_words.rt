@@ -1,4 +1,4 @@
-//! What a day's file gives a program: the words that `live` and `follow` take by themselves.
+//! Makes the words of `live` and of `follow` from what a day's file says.
 ghost use Rattle.std.specs.Prelude.{◌≡◌};
 ghost use Rattle.day_files.specs.Words.{port_of_place};
 
@@ -7,7 +7,7 @@ use crate::{DayFault, DayFile};
 use feed_words::{FollowWords, LiveWords};
 use std::alloc::Global;
 
-/// The port of a follower's place, from 1.
+/// Returns the port of a follower's place, from 1, or `None` if there is no such place.
 fn port_of_place(ports: &[u16], follower: u16) -> Option<u16>
     ensures { result ≡ port_of_place ports.now follower }
 {
@@ -22,8 +22,8 @@ impl DayFile {
     ghost use Rattle.day_files.specs.Faults.{Gives};
     ghost use Rattle.day_files.specs.Words.{follow_of, live_of, text_or_none};
 
-    /// The words of `live`. Where the symbols stand in a file, this is its text: one symbol a line, the last line feed optional. Any other
-    /// line is a fault, an empty one too. No text is an empty one.
+    /// Returns the words of `live`. `symbols_text` is the text of the symbols' file, if they stand in one: one symbol per line,
+    /// the last line feed optional. `None` is an empty text. Any other line is a fault, also an empty one.
     #[tactic(auto, unfolding(crate::specs::Words::live_of))]
     pub fn live_words(
         self,
@@ -53,7 +53,8 @@ impl DayFile {
         })
     }
 
-    /// The words of `follow` for a follower's place, from 1. The symbols' text is as in `live_words`.
+    /// Returns the words of `follow` for a follower's place, from 1, or `NoFollower` if there is no such place. `symbols_text`
+    /// is as in `live_words`.
     #[tactic(auto, unfolding(crate::specs::Words::follow_of))]
     pub fn follow_words(
         self,

@@ -1,4 +1,4 @@
-//! The entries of the lists in a day's file.
+//! Reads the lists of a day's file, entry by entry: symbols, participants and ports.
 ghost use Rattle.std.specs.Prelude.{◌≡◌, Result};
 ghost use Rattle.toml.specs.Data.{Data};
 ghost use Rattle.toml.specs.View.{view};
@@ -14,10 +14,10 @@ use toml::Value;
 
 /// What can stand in a list of a day's file.
 pub(crate) trait Entry: Copy {
-    /// What a value is at a place, or its fault.
+    /// The entry that a value is at a place, or its fault.
     ghost entry: { Place → Data → Result Self Fault };
 
-    /// The entry that a value is.
+    /// Returns the entry that a value is, or its fault at the place.
     fn of_value(place: Place, value: &Value) -> Result<Self, DayFault>
         ensures { Gives (λ entry. entry) result (entry place (view value.now)) };
 }
@@ -56,7 +56,7 @@ impl Entry for u16 {
     }
 }
 
-/// A text.
+/// Returns the text that a value is.
 pub(crate) fn text_of(place: Place, value: &Value) -> Result<&str, DayFault>
     ensures { Gives (λ text. text.now) result (text_at place (view value.now)) }
 {
@@ -69,7 +69,7 @@ pub(crate) fn text_of(place: Place, value: &Value) -> Result<&str, DayFault>
     }
 }
 
-/// The list at a key, each entry by its kind.
+/// Returns the entries of the list at a key, of which there is one or more.
 pub(crate) fn entries_of<E: Entry>(
     alloc: Global,
     key: DayKey,

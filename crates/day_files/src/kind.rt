@@ -1,4 +1,4 @@
-//! The kinds of a value in a day's file.
+//! The kinds of a TOML value, each with its name.
 ghost use Rattle.std.specs.Prelude.{◌≡◌, Some};
 ghost use Rattle.toml.specs.View.{view};
 ghost use Rattle.day_files.specs.Kinds.{kind_of, kind_text};
@@ -6,7 +6,7 @@ ghost use Rattle.day_files.specs.Kinds.{kind_of, kind_text};
 use std::fmt;
 use toml::Value;
 
-/// The kind of a value.
+/// The kind of a TOML value.
 #[derive(Clone, Copy, Debug, PartialEq, Eq)]
 pub enum Kind {
     /// Text between quotes.
@@ -26,7 +26,7 @@ pub enum Kind {
 }
 
 impl Kind {
-    /// The kind of this value.
+    /// Returns the kind of this value.
     pub(crate) fn of(value: &Value) -> Kind
         ensures { result ≡ kind_of (view value.now) }
     {
@@ -41,7 +41,7 @@ impl Kind {
         }
     }
 
-    /// Its name with an article.
+    /// Returns the name of the kind, with an article.
     fn name(self) -> &'static str
         ensures { result.now ≡ kind_text self }
     {

@@ -1,4 +1,4 @@
-//! One file that says all of a running day, in TOML, which all of its peers read.
+//! Reads a day's file: one TOML file that describes a running day and that all of its peers read.
 #![tactic(auto)]
 
 mod boolean;

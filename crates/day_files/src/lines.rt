@@ -1,4 +1,4 @@
-//! The lines of a file.
+//! Splits the text of a file into its lines.
 ghost use Rattle.std.specs.Prelude.{◌≡◌, position};
 ghost use Rattle.std.specs.Iterator.{YieldsFirstRef, item_count};
 ghost use Rattle.day_files.specs.Lines.{is_line_feed, lines_left};
@@ -9,7 +9,7 @@ pub struct Lines<'a> {
     pub rest: &'a [u8],
 }
 
-/// Where the first line feed stands.
+/// Returns the index of the first line feed, or `None` if there is none.
 fn end_of_line(text: &[u8]) -> Option<usize>
     ensures { result ≡ position is_line_feed text.now }
 {

@@ -1,4 +1,4 @@
-//! The listing of a day's file.
+//! Makes the listing of a day, whose symbols stand in its file or in a file of their own.
 ghost use Rattle.std.specs.Prelude.{◌≡◌, IfOk};
 ghost use Rattle.day_files.specs.Days.{symbols_view};
 ghost use Rattle.day_files.specs.Faults.{Gives};
@@ -9,7 +9,7 @@ use crate::{DayFault, DaySymbols, Place};
 use std::alloc::Global;
 use tape_types::{Listing, ListingFault, Participant, Symbol};
 
-/// The symbols of a file, one a line. The last line may lack its line feed.
+/// Returns the symbols of a file, one per line. The last line may lack its line feed.
 fn symbols_in_file(alloc: Global, text: &[u8]) -> Result<Vec<Symbol>, DayFault>
     ensures { Gives (λ symbols. symbols.items) result (file_symbols text.now) }
 {
@@ -23,7 +23,7 @@ fn symbols_in_file(alloc: Global, text: &[u8]) -> Result<Vec<Symbol>, DayFault>
     Ok(symbols)
 }
 
-/// The listing of these symbols and participants.
+/// Returns the listing of these symbols and participants.
 #[tactic(auto, unfolding(crate::specs::Listings::listing_of))]
 fn listing_of(
     alloc: Global,
@@ -40,7 +40,7 @@ fn listing_of(
     }
 }
 
-/// The listing of a day, whose symbols may stand in a file of this text.
+/// Returns the listing of a day, whose symbols may stand in a file of this text.
 pub(crate) fn listing_in(
     alloc: Global,
     symbols: &DaySymbols,

@@ -1,4 +1,4 @@
-//! The numbers of a day's file.
+//! Reads the numbers of a day's file, each within the range of its key.
 ghost use Rattle.std.specs.Prelude.{◌≤◌, IfOk};
 ghost use Rattle.toml.specs.View.{view};
 ghost use Rattle.day_files.specs.Faults.{Gives};
@@ -8,7 +8,7 @@ ghost use Rattle.day_files.specs.Numbers.{number_at};
 use crate::{DayFault, DayKey, Kind, Place};
 use toml::Value;
 
-/// The number that a value is, within the range of a key.
+/// Returns the number that a value is, within the range of a key.
 pub(crate) fn number_of(key: DayKey, place: Place, value: &Value) -> Result<u64, DayFault>
     ensures number { Gives (λ number. number) result (number_at key place (view value.now)) }
     ensures least { IfOk result (λ number. key_least key ≤ number) }
@@ -27,7 +27,7 @@ pub(crate) fn number_of(key: DayKey, place: Place, value: &Value) -> Result<u64,
     }
 }
 
-/// A number that has 16 bits, as those of most keys do.
+/// Returns the number that a value is, for a key whose range has 16 bits.
 pub(crate) fn short_of(key: DayKey, place: Place, value: &Value) -> Result<u16, DayFault>
     requires short { key_most key ≤ 65535 }
     ensures number { Gives (λ number. number) result (number_at key place (view value.now)) }

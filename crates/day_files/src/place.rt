@@ -1,4 +1,4 @@
-//! A place in a day's file.
+//! The place of a value in a day's file, as a fault names it.
 
 use crate::DayKey;
 use std::fmt;
@@ -15,7 +15,7 @@ pub enum Place {
 }
 
 impl Place {
-    /// The key that it belongs to.
+    /// Returns the key that the place belongs to.
     fn key(self) -> DayKey {
         match self {
             Place::At(key) | Place::Entry(key, _) => key,
@@ -23,7 +23,7 @@ impl Place {
         }
     }
 
-    /// What kind of value stands there, in words.
+    /// Returns the kind of value that has to stand there, in words.
     pub(crate) fn kind_text(self) -> &'static str {
         match self {
             Place::At(DayKey::Symbols) => "a list or a file's name",
@@ -36,7 +36,7 @@ impl Place {
         }
     }
 
-    /// Which values may stand there, in words.
+    /// Returns the values that may stand there, in words.
     pub(crate) fn range_text(self) -> &'static str {
         self.key().range_text()
     }

@@ -1,4 +1,4 @@
-//! A day's file, read key by key.
+//! Reads a day's file key by key, and returns the day or the first fault.
 ghost use Rattle.std.specs.Prelude.{◌≡◌, ◌<◌, ◌≤◌, ◌^◌, Err, IfErr, option_map, string_bytes};
 ghost use Rattle.toml.specs.View.{table_view, view};
 ghost use Rattle.day_files.specs.Days.{control_at, control_in, control_view, day_in, day_of, day_view, journal_at, journal_in, limit_in, matrix_in, number_in, ports_in, seconds_in, symbols_at, symbols_view, sync_in};
@@ -17,13 +17,13 @@ use std::alloc::Global;
 use tape_types::TapeNumber;
 use toml::{Table, Value};
 
-/// The limit of a day's tape if its file has none, in entries.
+/// The limit of a day's tape, in entries, if its file leaves it out.
 const LIMIT_LEFT_OUT: u32 = 1_048_576;
 
-/// How many ports there are, with port 0.
+/// The number of ports, including port 0.
 const PORTS: usize = 65_536;
 
-/// The symbols at their key.
+/// Returns the symbols at their key.
 #[tactic(auto, unfolding(crate::specs::Days::symbols_at))]
 fn symbols_of(alloc: Global, value: &Value) -> Result<DaySymbols, DayFault>
     ensures { Gives symbols_view result (symbols_at (view value.now)) }
@@ -34,7 +34,7 @@ fn symbols_of(alloc: Global, value: &Value) -> Result<DaySymbols, DayFault>
     }
 }
 
-/// The ports at a key.
+/// Returns the ports at a key.
 #[tactic(auto, unfolding(crate::specs::Days::ports_in))]
 fn ports_of(alloc: Global, table: &Table, key: DayKey) -> Result<Vec<u16>, DayFault>
     requires short { key_most key ≤ 65535 }
@@ -43,7 +43,7 @@ fn ports_of(alloc: Global, table: &Table, key: DayKey) -> Result<Vec<u16>, DayFa
     entries_of(alloc, key, required_of(table, key)?)
 }
 
-/// The number of 16 bits at a key.
+/// Returns the number of 16 bits at a key.
 #[tactic(auto, unfolding(crate::specs::Days::number_in))]
 fn short_in(table: &Table, key: DayKey) -> Result<u16, DayFault>
     requires short { key_most key ≤ 65535 }
@@ -52,7 +52,7 @@ fn short_in(table: &Table, key: DayKey) -> Result<u16, DayFault>
     short_of(key, Place::At(key), required_of(table, key)?)
 }
 
-/// The session.
+/// Returns the session.
 #[tactic(auto, unfolding(crate::specs::Days::number_in))]
 fn session_in(table: &Table) -> Result<u64, DayFault>
     ensures { Gives (λ number. number) result (number_in DayKey.Session (table_view table.now)) }
@@ -64,7 +64,7 @@ fn session_in(table: &Table) -> Result<u64, DayFault>
     )
 }
 
-/// The matrix, One if it is left out.
+/// Returns the matrix, One if it is left out.
 #[tactic(auto, unfolding(crate::specs::Days::matrix_in))]
 fn matrix_in(table: &Table) -> Result<Matrix, DayFault>
     ensures { Gives (λ matrix. matrix) result (matrix_in (table_view table.now)) }
@@ -78,7 +78,7 @@ fn matrix_in(table: &Table) -> Result<Matrix, DayFault>
     }
 }
 
-/// The limit, `LIMIT_LEFT_OUT` if it is left out.
+/// Returns the limit, `LIMIT_LEFT_OUT` if it is left out.
 #[tactic(auto, unfolding(crate::specs::Days::limit_in))]
 fn limit_in(table: &Table) -> Result<TapeNumber, DayFault>
     ensures { Gives (λ limit. limit) result (limit_in (table_view table.now)) }
@@ -90,7 +90,7 @@ fn limit_in(table: &Table) -> Result<TapeNumber, DayFault>
     TapeNumber::try_new(limit).ok_or(DayFault::OutOfRange(Place::At(DayKey::Limit)))
 }
 
-/// A number of seconds, if the table has its key.
+/// Returns a number of seconds, if the table has its key.
 #[tactic(auto, unfolding(crate::specs::Days::seconds_in))]
 fn seconds_in(table: &Table, key: DayKey) -> Result<Option<u32>, DayFault>
     requires short { key_most key < 2 ^ 32 }
@@ -102,7 +102,7 @@ fn seconds_in(table: &Table, key: DayKey) -> Result<Option<u32>, DayFault>
     }
 }
 
-/// Where the control socket is, at its key.
+/// Returns where the control socket is, from the value at its key.
 #[tactic(auto, unfolding(crate::specs::Days::control_at))]
 fn control_at(alloc: Global, value: &Value) -> Result<DayControl, DayFault>
     ensures { Gives control_view result (control_at (view value.now)) }
@@ -115,7 +115,7 @@ fn control_at(alloc: Global, value: &Value) -> Result<DayControl, DayFault>
     }
 }
 
-/// Where the control socket is, if the table has its key.
+/// Returns where the control socket is, if the table has its key.
 #[tactic(auto, unfolding(crate::specs::Days::control_in))]
 fn control_in(alloc: Global, table: &Table) -> Result<Option<DayControl>, DayFault>
     ensures { Gives (λ control. option_map control_view control) result (control_in (table_view table.now)) }
@@ -126,7 +126,7 @@ fn control_in(alloc: Global, table: &Table) -> Result<Option<DayControl>, DayFau
     }
 }
 
-/// The path of the journal, at its key.
+/// Returns the path of the journal, from the value at its key.
 #[tactic(auto, unfolding(crate::specs::Days::journal_at))]
 fn journal_at(alloc: Global, value: &Value) -> Result<String, DayFault>
     ensures { Gives string_bytes result (journal_at (view value.now)) }
@@ -138,7 +138,7 @@ fn journal_at(alloc: Global, value: &Value) -> Result<String, DayFault>
     }
 }
 
-/// The path of the journal, if the table has its key.
+/// Returns the path of the journal, if the table has its key.
 #[tactic(auto, unfolding(crate::specs::Days::journal_in))]
 fn journal_in(alloc: Global, table: &Table) -> Result<Option<String>, DayFault>
     ensures { Gives (λ path. option_map string_bytes path) result (journal_in (table_view table.now)) }
@@ -149,7 +149,7 @@ fn journal_in(alloc: Global, table: &Table) -> Result<Option<String>, DayFault>
     }
 }
 
-/// Whether the journal is synced, which it is if nothing is said.
+/// Returns whether the journal is synced, which it is if the key is left out.
 #[tactic(auto, unfolding(crate::specs::Days::sync_in))]
 fn sync_in(table: &Table) -> Result<bool, DayFault>
     ensures { Gives (λ is_synced. is_synced) result (sync_in (table_view table.now)) }
@@ -160,7 +160,7 @@ fn sync_in(table: &Table) -> Result<bool, DayFault>
     }
 }
 
-/// The day of a table of known keys.
+/// Returns the day of a table of known keys.
 #[tactic(auto, unfolding(crate::specs::Days::day_in))]
 fn day_in(alloc: Global, table: &Table) -> Result<DayFile, DayFault>
     ensures { Gives day_view result (day_in (table_view table.now)) }
@@ -209,7 +209,7 @@ fn day_in(alloc: Global, table: &Table) -> Result<DayFile, DayFault>
     })
 }
 
-/// What the text of a day's file says, or its first fault. A text that is no TOML is told by a place in it.
+/// Returns what the text of a day's file says, or its first fault. The fault of a text that is not TOML names a place in it.
 #[tactic(auto, unfolding(crate::specs::Days::day_of))]
 pub fn read_day(alloc: Global, text: &[u8]) -> Result<DayFile, DayFault>
     ensures day { Gives day_view result (day_of text.now) }

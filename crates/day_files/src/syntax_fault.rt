@@ -1,4 +1,4 @@
-//! Where a text stops being TOML.
+//! The error of a text that is not TOML, with the line and the column at which it stops being so.
 ghost use Rattle.std.specs.Prelude.{◌≡◌, ◌≤◌, length};
 ghost use Rattle.std.specs.List.{count_by};
 ghost use Rattle.day_files.specs.Lines.{is_line_feed};
@@ -7,19 +7,19 @@ ghost use Rattle.day_files.specs.Places.{begins_character, column_behind, last_l
 use std::fmt;
 use toml::de::Error;
 
-/// The first place at which a text is no TOML, and why.
+/// The first place at which a text is not TOML, and why.
 #[derive(Clone, Copy, Debug, PartialEq, Eq)]
 pub struct SyntaxFault {
     /// The line, from 1.
     pub line: usize,
     /// The column in the line, from 1, in characters.
     pub column: usize,
-    /// What the reader of TOML says.
+    /// The error of the TOML reader.
     pub error: Error,
 }
 
 impl SyntaxFault {
-    /// The fault behind these bytes.
+    /// Returns the fault at the place behind these bytes.
     pub(crate) fn after(before: &[u8], error: Error) -> SyntaxFault
         ensures line { result.line ≡ line_behind before.now }
         ensures column { result.column ≡ column_behind before.now }
@@ -32,7 +32,7 @@ impl SyntaxFault {
     }
 }
 
-/// How many line feeds a text has.
+/// Returns the number of line feeds in a text.
 fn line_feeds(text: &[u8]) -> usize
     ensures count { result ≡ count_by is_line_feed text.now }
     ensures within { result ≤ length text.now }
@@ -40,7 +40,7 @@ fn line_feeds(text: &[u8]) -> usize
     text.iter().filter(|byte| **byte == b'\n').count()
 }
 
-/// How many characters a text has.
+/// Returns the number of characters in a text.
 fn characters(text: &[u8]) -> usize
     ensures count { result ≡ count_by begins_character text.now }
     ensures within { result ≤ length text.now }
@@ -48,7 +48,7 @@ fn characters(text: &[u8]) -> usize
     text.iter().filter(|byte| **byte & 0xC0 != 0x80).count()
 }
 
-/// How many bytes stand behind the last line feed.
+/// Returns the number of bytes behind the last line feed.
 fn last_length(text: &[u8]) -> usize
     ensures length { result ≡ last_length text.now }
     ensures within { result ≤ length text.now }

@@ -1,4 +1,4 @@
-//! The table that a day's file is.
+//! Reads the table of a day's file, checks its keys and finds the value at a key.
 ghost use Rattle.std.specs.Prelude.{◌≡◌, IfErr, option_map};
 ghost use Rattle.toml.specs.Data.{get_member};
 ghost use Rattle.toml.specs.View.{table_view, view};
@@ -12,7 +12,7 @@ use crate::{DayFault, DayKey, SyntaxFault};
 use std::alloc::Global;
 use toml::{Table, Value};
 
-/// The table of a text.
+/// Returns the table of a text.
 #[tactic(auto, unfolding(crate::specs::Tables::table_of))]
 pub(crate) fn table_of(alloc: Global, text: &[u8]) -> Result<Table, DayFault>
     ensures table { Gives table_view result (table_of text.now) }
@@ -27,7 +27,7 @@ pub(crate) fn table_of(alloc: Global, text: &[u8]) -> Result<Table, DayFault>
     }
 }
 
-/// Judges that each key of a table is one of a day.
+/// Checks that each key of a table is one of a day's file.
 pub(crate) fn judge_keys(alloc: Global, table: &Table) -> Result<(), DayFault>
     ensures { Gives (λ all. all) result (known_keys (table_view table.now)) }
 {
@@ -39,14 +39,14 @@ pub(crate) fn judge_keys(alloc: Global, table: &Table) -> Result<(), DayFault>
     Ok(())
 }
 
-/// The value at a key, if the table has it.
+/// Returns the value at a key, if the table has it.
 pub(crate) fn value_of(table: &Table, key: DayKey) -> Option<&Value>
     ensures { option_map (λ value. view value.now) result ≡ get_member (key_text key) (table_view table.now) }
 {
     table.get(key.name())
 }
 
-/// The value at a key that a day has to have.
+/// Returns the value at a required key, or `Missing`.
 #[tactic(auto, unfolding(crate::specs::Tables::required))]
 pub(crate) fn required_of(table: &Table, key: DayKey) -> Result<&Value, DayFault>
     ensures { Gives (λ value. view value.now) result (required key (table_view table.now)) }

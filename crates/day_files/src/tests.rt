@@ -1,4 +1,4 @@
-//! What no clause sees: the texts of faults, and that each good file is read.
+//! Tests what no clause states: the texts of faults, and that each good file is read.
 
 use crate::{DayControl, DayFault, read_day};
 use feed_words::{FollowWords, LiveWords};
@@ -7,23 +7,23 @@ use std::alloc::Global;
 use std::process::Abort;
 use tape_types::Listing;
 
-/// A day of two followers with all its keys.
+/// A day with two followers and all keys.
 const DAY: &str =
     "# a day\nsymbols = [\"AB\", \"CD\"]\nparticipants = [\"N\", \"Q\"]\nport = 9000\na = [9101, 9111]\nb = [9102, 9112]\n\
     retransmission = 9200\nfollowers = 2\nsession = 7\nmatrix = 2\nlimit = 16777216\nconnect_within = 86400\nfollowers_wait = 0\ncontrol = \"day.control\"\n\
     journal = \"day.journal\"\njournal_sync = false\n";
 
-/// A day of one follower without the keys that may be left out, whose symbols stand in a file.
+/// A day with one follower and no optional key, whose symbols stand in a file.
 const SHORT_DAY: &[u8] =
     b"session = 9223372036854775807\nfollowers = 0\nretransmission = 1\nb = [3]\na = [2]\nport = 65534\n\
     participants = [\"N\", \"Q\"]\nsymbols = \"symbols.txt\"\n";
 
-/// The words of `live` that a day's file gives, whose symbols may stand in a file of this text.
+/// Returns the words of `live` of a day's file, whose symbols may stand in a file of this text.
 fn live(alloc: Global, text: &[u8], symbols: Option<&[u8]>) -> Result<LiveWords, DayFault> {
     read_day(alloc, text)?.live_words(alloc, symbols)
 }
 
-/// Those of `follow` for a follower's place, from 1.
+/// Returns the words of `follow` for a follower's place, from 1.
 fn follow(
     alloc: Global,
     text: &[u8],
@@ -33,7 +33,7 @@ fn follow(
     read_day(alloc, text)?.follow_words(alloc, symbols, follower)
 }
 
-/// A text in a day's file, another that stands in its place, and the fault of the file then.
+/// A text in a day's file, the text that replaces it, and the fault of the file then.
 const FAULTS: [(&str, &str, &str); 38] = [
     (
         "port = 9000",
@@ -206,7 +206,7 @@ fn each_fault_has_its_text(rt: HostRuntime) {
     }
 }
 
-/// Whether a listing is of AB and CD, and of N and Q, in this order.
+/// Returns whether a listing has AB and CD, and N and Q, in this order.
 fn is_listed(listing: &Listing) -> bool {
     let [ab, cd] = listing.symbols().as_slice() else {
         return false;
@@ -235,7 +235,7 @@ fn each_key_is_its_word(rt: HostRuntime) {
     assert!(rt; words.matrix == Matrix::Two && words.limit == 16_777_216);
 }
 
-/// Whether a control socket is the one at this path.
+/// Returns whether a control socket is the one at this path.
 fn is_at(control: Option<&DayControl>, path: &str) -> bool {
     matches!(control, Some(DayControl::Path(name)) if name.as_str() == path)
 }

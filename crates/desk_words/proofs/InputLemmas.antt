@@ -1,4 +1,4 @@
--- An input of which the first bytes were read before the others.
+-- Lemmas about an input whose first bytes are read before the others: they tell a journal, and a word runs on all of it.
 use Rattle.std.proofs.Common.{◌≡◌, ◌⊎◌, ◌++◌, ◌∙◌, ◌<◌, ◌≤◌, ℕ, [], List, Bool, true, false, Option, Some, None, IfSome, ap, append-nil, arith, inl, inr, length, length-take-le, refl, subst, sym, take}
 use Rattle.std.proofs.lemmas.Bool.{cases_lt}
 use Rattle.std.proofs.lemmas.List.{take-append-le}
@@ -10,15 +10,15 @@ use Rattle.day_journal.specs.Headers.{MAGIC}
 use Rattle.journal_days.specs.Days.{begins_journal}
 use Rattle.std.specs.Str.{bytes_eq}
 use Rattle.program_words.specs.declared.command.Command.{Command}
-use Rattle.program_words.specs.declared.command.Command.TheVariants.{Report, Tape, Explain, Check, Verify, Encode, Decode, Line}
+use Rattle.program_words.specs.declared.command.Command.TheVariants.{Report, Tape, Explain, Check, Verify, Convert}
 use Rattle.desk_words.specs.JournalRuns.{AnswersJournal, Reads}
 use Rattle.desk_words.specs.Program.{AnswersBy, AnswersCommand, AnswersTable, RunsCheck, RunsTable}
-use Rattle.desk_words.specs.TextRuns.{Ends, RunsText}
+use Rattle.desk_words.specs.TextRuns.{RunsText, TextKind, kind_of}
 use Rattle.desk_words.specs.VerifyRuns.{RunsVerify}
 
 -- ## The first bytes
 
--- all bytes are known of an input that is known: the first ones and those behind them
+-- if an input is known, so are all of its bytes: the first ones and those behind them
 chained : (had left known : Option (List ℕ)) (front : List ℕ) → known ≡ option_append (Some front) left → Consumes had left front
     → IfSome had (λ bytes. known ≡ Some bytes)
 chained None left known front is consumed = tt
@@ -49,7 +49,7 @@ row_tells journal had left front row len same full within read ends told =
     let short : length front < 8 → IsAtEnd left = λ below. ends (omega (arith, below, ap length same, length-take-le len row within, full)) in
     tells_journal journal had left front told consumed short
 
--- ## What is said of an input that is known holds of one that is not
+-- ## What holds of a known input holds of an unknown one
 
 table_none : {W E : Type 0} (strict : Bool) (text : Matrix → List Message → List ℕ) (matrix : Matrix) (known old new : Option (List ℕ)) (status : ℕ)
     (writer_old writer_new : W) (errors_old errors_new : E) (said_old said_new : Option (List ℕ))
@@ -87,11 +87,10 @@ verify_none : {W E : Type 0} (matrix : Matrix) (known old new : Option (List ℕ
 verify_none matrix known old new status writer_old writer_new errors_old errors_new said_old said_new runs =
     record { run = runs.run; finds = tt; tells = runs.tells }
 
-text_none : {W E End : Type 0} (ends : Ends End) (Are : List ℕ → List Message → Type 0) (text_of : List Message → List ℕ) (IsEnd : List ℕ → End → Type 0)
-    (known old new : Option (List ℕ)) (status : ℕ) (writer_old writer_new : W) (errors_old errors_new : E) (said_old said_new : Option (List ℕ))
-    → RunsText ends Are text_of IsEnd known old new status writer_old writer_new errors_old errors_new said_old said_new
-    → RunsText ends Are text_of IsEnd None old new status writer_old writer_new errors_old errors_new said_old said_new
-text_none ends Are text_of IsEnd known old new status writer_old writer_new errors_old errors_new said_old said_new runs = record {
+text_none : {W E : Type 0} (kind : TextKind) (known old new : Option (List ℕ)) (status : ℕ) (writer_old writer_new : W) (errors_old errors_new : E)
+    (said_old said_new : Option (List ℕ)) → RunsText kind known old new status writer_old writer_new errors_old errors_new said_old said_new
+    → RunsText kind None old new status writer_old writer_new errors_old errors_new said_old said_new
+text_none kind known old new status writer_old writer_new errors_old errors_new said_old said_new runs = record {
   run = runs.run;
   status_is = runs.status_is;
   written = tt;
@@ -111,9 +110,7 @@ module _ {W E : Type 0} (status : ℕ) (known : Option (List ℕ)) (writer_old w
   rows_none (Explain asked strict) runs = table_none strict _ _ known old new status writer_old writer_new errors_old errors_new said_old said_new runs
   rows_none Check runs = check_none known old new status writer_old writer_new errors_old errors_new said_old said_new runs
   rows_none (Verify asked) runs = verify_none _ known old new status writer_old writer_new errors_old errors_new said_old said_new runs
-  rows_none Encode runs = text_none _ _ _ _ known old new status writer_old writer_new errors_old errors_new said_old said_new runs
-  rows_none Decode runs = text_none _ _ _ _ known old new status writer_old writer_new errors_old errors_new said_old said_new runs
-  rows_none (Line participant) runs = text_none _ _ _ _ known old new status writer_old writer_new errors_old errors_new said_old said_new runs
+  rows_none (Convert conversion) runs = text_none (kind_of conversion) known old new status writer_old writer_new errors_old errors_new said_old said_new runs
 
   read_none : (Runs : List ℕ → Type 0) → Reads Runs known status writer_old writer_new said_old said_new → Reads Runs None status writer_old writer_new said_old said_new
   read_none Runs (inl unread) = inl unread
@@ -126,16 +123,14 @@ module _ {W E : Type 0} (status : ℕ) (known : Option (List ℕ)) (writer_old w
   journal_none (Explain asked strict) runs = read_none _ runs
   journal_none Check runs = runs
   journal_none (Verify asked) runs = read_none _ runs
-  journal_none Encode runs = runs
-  journal_none Decode runs = runs
-  journal_none (Line participant) runs = runs
+  journal_none (Convert conversion) runs = runs
 
   by_none : (journal : Bool) (command : Command) → AnswersBy journal command status known writer_old writer_new old new errors_old errors_new said_old said_new
       → AnswersBy journal command status None writer_old writer_new old new errors_old errors_new said_old said_new
   by_none true command runs = journal_none command runs
   by_none false command runs = rows_none command runs
 
-  -- what is said of a known input holds of one that is known so, if at all
+  -- what holds of a known input holds of the input itself, if that is known
   by_known : (journal : Bool) (command : Command) (had : Option (List ℕ)) → IfSome had (λ bytes. known ≡ Some bytes)
       → IfSome had (λ bytes. journal ≡ begins_journal bytes)
       → AnswersBy journal command status known writer_old writer_new old new errors_old errors_new said_old said_new
@@ -147,7 +142,7 @@ module _ {W E : Type 0} (status : ℕ) (known : Option (List ℕ)) (writer_old w
     subst (λ (input : Option (List ℕ)). AnswersBy journal command status input writer_old writer_new old new errors_old errors_new said_old said_new) is runs,
   )
 
-  -- an input was answered whose first bytes were read into a row, and which was then read by these and those behind them
+  -- a word ran on an input whose first bytes were read into a row first, and then from these and those behind them
   pub answered : (journal : Bool) (command : Command) (had left : Option (List ℕ)) (front row : List ℕ) (len : ℕ) → known ≡ option_append (Some front) left
       → front ≡ take len row → length row ≡ 8 → len ≤ length row → Consumes had left (take len row) → (len < length row → IsAtEnd left)
       → journal ≡ begins_journal front → AnswersBy journal command status known writer_old writer_new old new errors_old errors_new said_old said_new

@@ -1,6 +1,6 @@
--- What a journal came to.
+-- Lemmas about a journal that is not read to its end.
 use Rattle.std.proofs.Common.{◌≡◌, ◌⊎◌, ℕ, List, Option, inl, inr, refl, ap}
-use Rattle.row_reads.specs.Writing.{WritesPrefix}
+use Rattle.whole_io.specs.Writing.{WritesPrefix}
 use Rattle.program_words.specs.Statuses.{status_code, status_text}
 use Rattle.program_words.specs.declared.status.Status.{Status}
 use Rattle.program_words.specs.declared.status.Status.TheVariants.{OutOfMemory, ReadFault}

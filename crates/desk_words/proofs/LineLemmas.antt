@@ -1,15 +1,15 @@
--- The lines of refused rows, reason by reason.
+-- Lemmas about the lines of refused rows, added reason by reason, and about saying nothing.
 use Rattle.std.proofs.Common.{◌≡◌, ◌+◌, ◌<◌, ◌++◌, ◌∷◌, ◌∙◌, [], ℕ, List, Option, ap, append-nil, append_assoc, get_or, length, sym, take}
 use Rattle.std.specs.List.{flat_map}
 use Rattle.std.proofs.lemmas.Grind.{flat_map-append}
 use Rattle.std.proofs.lemmas.List.{take_more}
-use Rattle.row_reads.specs.Lemmas.WriteLemmas.{WritesUpTo-none}
-use Rattle.row_reads.specs.Writing.{WritesPrefix}
+use Rattle.whole_io.specs.Lemmas.WriteLemmas.{WritesUpTo-none}
+use Rattle.whole_io.specs.Writing.{WritesPrefix}
 use Rattle.tape_core.specs.declared.refusal.Refusal.{Refusal}
-use Rattle.table_days.specs.declared.refusals.Refusals.{Refusals}
+use Rattle.csv_days.specs.declared.refusals.Refusals.{Refusals}
 use Rattle.desk_words.specs.RefusalLines.{reason_line}
 
--- the line of one reason more
+-- the lines with one more reason
 pub lines_more : (refusals : Refusals) (reasons : List Refusal) (i : ℕ) (d : Refusal) (start old new : List ℕ) → i < length reasons
     → old ≡ start ++ flat_map (reason_line refusals) (take i reasons) → new ≡ old ++ reason_line refusals (get_or reasons i d)
     → new ≡ start ++ flat_map (reason_line refusals) (take (i + 1) reasons)

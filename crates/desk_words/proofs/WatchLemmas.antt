@@ -1,4 +1,4 @@
--- The rows of a followed tape, the line of the columns' names before them, and the statuses of a run.
+-- Lemmas about the rows of a followed tape, the line of the columns' names before them, and the statuses of a run.
 use Rattle.std.proofs.Common.{◌≡◌, ◌++◌, ◌∙◌, ◌∷◌, ◌+◌, ◌-◌, ◌≤◌, ◌⊎◌, IfErr, IfSome, IsSome, OnOk, Result, Ok, Err, inl, inr, arith, [], List, ℕ, Option, Some, None, ap, append-nil, drop, length, refl, subst, sym, take}
 use Rattle.std.proofs.KnownBytes.{Appends-kept, Keeps-refl}
 use Rattle.std.proofs.Math.Seq.{take-append-add}
@@ -6,18 +6,18 @@ use Rattle.std.proofs.lemmas.List.{take-append-drop}
 use Rattle.std.proofs.lemmas.Bool.{false≢true}
 use Rattle.std.specs.Io.KnownBytes.{Appends, Keeps, append_known}
 use Rattle.std.specs.Prelude.{IsOk}
-use Rattle.row_reads.specs.Lemmas.WriteLemmas.{WritesPrefix-kept, WritesPrefix-longer, WritesPrefix-then, WritesUpTo-all, WritesUpTo-gathered, WritesUpTo-whole}
-use Rattle.row_reads.specs.Writing.{WritesPrefix}
+use Rattle.whole_io.specs.Lemmas.WriteLemmas.{WritesPrefix-kept, WritesPrefix-longer, WritesPrefix-then, WritesUpTo-all, WritesUpTo-gathered, WritesUpTo-whole}
+use Rattle.whole_io.specs.Writing.{WritesPrefix}
 use Rattle.sale_matrix.specs.declared.matrix.Matrix.{Matrix}
 use Rattle.tape_types.specs.Names.{Names}
-use Rattle.tape_core.specs.Tape.{IsLegal, empty_tape}
+use Rattle.tape_core.specs.Tape.{IsLegal, empty_tape, row_figures}
 use Rattle.tape_core.specs.declared.entry.Entry.{Entry}
 use Rattle.feed_ends.specs.declared.fault.Fault.{Fault}
 use Rattle.feed_ends.specs.declared.fault.Fault.TheVariants.{Read, Write, Memory, Worker, Disagrees as DisagreesFault}
 use Rattle.feed_follower.specs.Reported.{follow_fault}
 use Rattle.feed_follower.specs.declared.follow_fault.FollowFault.{FollowFault}
-use Rattle.feed_follower.specs.Sinks.{GivesPart, GivesTape, HasPart, figures_of, rows_after}
-use Rattle.table_days.specs.TapeRows.{entry_rows, head_line, rows_text}
+use Rattle.feed_follower.specs.Sinks.{GivesPart, GivesTape, HasPart, rows_after}
+use Rattle.csv_days.specs.TapeRows.{entry_rows, head_line, rows_text}
 use Rattle.program_words.specs.Statuses.{status_code, status_text}
 use Rattle.program_words.specs.declared.status.Status.{Status}
 use Rattle.program_words.specs.declared.status.Status.TheVariants as status
@@ -27,12 +27,12 @@ use Rattle.desk_words.specs.Watches.{IsRunStatus, WritesPartOf, WritesSome, Writ
 
 -- ## Rows
 
--- the rows of entries are what a sink that makes a row of each is given
+-- the rows of entries are what a sink makes that writes a row of each
 rows_same : (matrix : Matrix) (before entries : List Entry) → rows_text (entry_rows matrix before entries) ≡ rows_after entry_line matrix before entries
 unfolding rows_text entry_rows
 rows_same matrix before [] = refl
 rows_same matrix before (e ∷ entries) =
-    ap (λ (l : List ℕ). entry_line e (figures_of matrix (before ++ e ∷ []) e) ++ l) (rows_same matrix (before ++ e ∷ []) entries)
+    ap (λ (l : List ℕ). entry_line e (row_figures matrix (before ++ e ∷ []) e.message) ++ l) (rows_same matrix (before ++ e ∷ []) entries)
 
 -- a tape that holds nothing is legal
 nothing_legal : (listing : Names) (matrix : Matrix) → IsLegal (empty_tape listing 1 matrix)
@@ -106,7 +106,7 @@ whole_back contents listing matrix limit writer (Some inner) first mid same whol
       (subst (λ (known : Option (List ℕ)). Appends known mid (followed_text whole.0)) same whole.2) kept,
 )
 
--- a part of it went through a buffer
+-- a part of the tape went through a buffer
 pub some_back : {W B : Type 0} (contents : W → Option (List ℕ)) (held : B → Option (List ℕ)) (listing : Names) (matrix : Matrix) (limit : ℕ) (writer : W)
     (first last : B) (back : Option W) → held first ≡ contents writer → (last ≡ first) ⊎ WritesPartOf listing matrix limit (held first) (held last)
     → IfSome back (λ inner. Keeps (held last) (contents inner)) → WritesSome contents listing matrix limit writer back
@@ -135,7 +135,7 @@ run_status (Err Memory) = inr (omega (arith), omega (arith))
 run_status (Err Worker) = inr (omega (arith), omega (arith))
 run_status (Err DisagreesFault) = inr (omega (arith), omega (arith))
 
--- one that is done has ended well
+-- a run whose status is `Done` has ended well
 pub done_well : (ended : Result (Unit {0}) Fault) (P : Type 0) → ended_status ended ≡ Done → OnOk ended P → P
 done_well (Ok done) P is holds = holds
 done_well (Err Read) P is holds = absurd (cc is)
@@ -144,7 +144,7 @@ done_well (Err Memory) P is holds = absurd (cc is)
 done_well (Err Worker) P is holds = absurd (cc is)
 done_well (Err DisagreesFault) P is holds = absurd (cc is)
 
--- no run has the status of bad arguments
+-- no run ends with the status of bad arguments
 pub not_bad : (status : ℕ) → IsRunStatus status → status ≡ 2 → ⊥
 not_bad status (inl done) bad = omega (arith, done, bad)
 not_bad status (inr fault) bad = omega (arith, fault.0, bad)
@@ -162,17 +162,17 @@ watch_said Disagrees run = refl
 
 -- ## Ends
 
--- what is so of a run that ended well
+-- what follows from a run ending well holds on `Ok`
 pub on_well : {T E : Type 0} (ended : Result T E) (P : Type 0) → (IsOk ended → P) → OnOk ended P
 on_well (Ok done) P holds = holds refl
 on_well (Err fault) P holds = tt
 
--- and that it is so
+-- what holds on `Ok` holds if the run ended well
 pub of_well : {T E : Type 0} (ended : Result T E) (P : Type 0) → IsOk ended → OnOk ended P → P
 of_well (Ok done) P well holds = holds
 of_well (Err fault) P well holds = absurd (false≢true well)
 
--- a follower's day whose outcome is good has ended well
+-- what holds on `Ok` of a follower's day holds if its outcome is good
 pub ended_well : (ended : Result (Unit {0}) FollowFault) (outcome : Result (Unit {0}) Fault) (P : Type 0)
     → IfErr ended (λ fault. outcome ≡ Err (follow_fault fault)) → IsOk outcome → OnOk ended P → P
 ended_well (Ok done) outcome P fault well holds = holds

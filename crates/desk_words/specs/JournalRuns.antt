@@ -1,4 +1,4 @@
--- What the program does where a journal is read.
+-- What each word does with a journal: what it writes, what it says, and its status.
 use Rattle.std.specs.Prelude.{◌≡◌, ◌⊎◌, ℕ, List, [], Option, IfSome, OnErr, OnOk, Result, Ok, Err}
 use Rattle.std.specs.Io.KnownBytes.{Appends}
 use Rattle.day_report.specs.ReportText.{report_text}
@@ -13,30 +13,31 @@ use Rattle.program_words.specs.Statuses.{status_code, status_text}
 use Rattle.program_words.specs.declared.command.Command.{Command}
 use Rattle.program_words.specs.declared.command.Command.TheVariants as command
 use Rattle.program_words.specs.declared.status.Status.TheVariants as status
-use Rattle.row_reads.specs.Writing.{WritesPrefix}
+use Rattle.whole_io.specs.Writing.{WritesPrefix}
 use Rattle.sale_matrix.specs.declared.matrix.Matrix.{Matrix}
-use Rattle.table_days.specs.Explained.{explain_text}
-use Rattle.table_days.specs.TapeRows.{tape_text}
-use Rattle.table_days.specs.declared.writing.WritingFault.{WritingFault}
-use Rattle.table_days.specs.declared.writing.WritingFault.TheVariants as writing
+use Rattle.csv_days.specs.Explained.{explain_text}
+use Rattle.csv_days.specs.TapeRows.{tape_text}
+use Rattle.csv_days.specs.declared.writing.WritingFault.{WritingFault}
+use Rattle.csv_days.specs.declared.writing.WritingFault.TheVariants as writing
 use Rattle.desk_words.specs.JournalLines.{no_day_line, no_day_status, no_table_line, verdict_line, verdict_status, written_line, written_status}
-use Rattle.desk_words.specs.declared.journal_words.DayText.{DayText}
-use Rattle.desk_words.specs.declared.journal_words.DayText.TheVariants.{Report, Tape, Explained}
+use Rattle.desk_words.specs.declared.day_texts.DayText.{DayText}
+use Rattle.desk_words.specs.declared.day_texts.DayText.TheVariants.{Report, Tape, Explain}
 
 -- a text of a journal's day, by the journal's own matrix
 abbrev pub day_text : DayText → JournalDay → List ℕ
 day_text Report day = report_text (report_rows day.tape)
 day_text Tape day = tape_text day.tape.matrix (messages_in day.tape.entries)
-day_text Explained day = explain_text day.tape.matrix (messages_in day.tape.entries)
+day_text Explain day = explain_text day.tape.matrix (messages_in day.tape.entries)
 
--- an input was not read to its end: nothing was written, and no more was said than why
+-- an input was not read to its end: nothing was written, and only the reason was said
 abbrev pub Unread : {W : Type 0} → ℕ → W → W → Option (List ℕ) → Option (List ℕ) → Type 0
 Unread code writer_old writer_new said_old said_new =
     (writer_new ≡ writer_old)
     × (((code ≡ status_code status.ReadFault) × WritesPrefix (status_text status.ReadFault) said_old said_new)
     ⊎ ((code ≡ status_code status.OutOfMemory) × WritesPrefix (status_text status.OutOfMemory) said_old said_new))
 
--- a day's text was asked for: the status and what is said are those of how it was written; of a report nothing was written where memory ran out
+-- a day's text was asked for: the status and what is said are those of how it was written; of a report nothing was written if
+-- memory ran out
 pub record TellsDay {W E : Type 0} (text : DayText) (day : JournalDay) (code : ℕ) (writer_old writer_new : W) (old new : Option (List ℕ))
     (errors_old errors_new : E) (said_old said_new : Option (List ℕ)) : Type 0 where
   pub run : Result (Unit {0}) WritingFault
@@ -59,7 +60,7 @@ RunsDay text asked bytes code writer_old writer_new old new errors_old errors_ne
     ((day : JournalDay) × IsDay asked bytes day × TellsDay text day code writer_old writer_new old new errors_old errors_new said_old said_new)
     ⊎ ((f : JournalFault) × IsFault asked bytes f × TellsNoDay f code writer_old writer_new said_old said_new)
 
--- the line of what a journal is found to be was written; or a write failed, or memory ran out
+-- the line of a journal's verdict was written; or a write failed, or memory ran out
 abbrev pub TellsFound : {W E : Type 0} → JournalVerdict → ℕ → W → W → Option (List ℕ) → Option (List ℕ) → E → E
     → Option (List ℕ) → Option (List ℕ) → Type 0
 TellsFound found code writer_old writer_new old new errors_old errors_new said_old said_new =
@@ -74,7 +75,7 @@ RunsFound asked bytes code writer_old writer_new old new errors_old errors_new s
     ((found : JournalVerdict) × IsVerdict asked bytes found × TellsFound found code writer_old writer_new old new errors_old errors_new said_old said_new)
     ⊎ ((f : JournalFault) × IsVerifyFault asked bytes f × TellsNoDay f code writer_old writer_new said_old said_new)
 
--- what was done with the bytes of an input, which are all of it; or it was not read to its end
+-- an input was read whole and its bytes were run; or it was not read to its end
 abbrev pub Reads : {W : Type 0} → (List ℕ → Type 0) → Option (List ℕ) → ℕ → W → W → Option (List ℕ) → Option (List ℕ) → Type 0
 Reads Runs input code writer_old writer_new said_old said_new =
     Unread code writer_old writer_new said_old said_new ⊎ ((bytes : List ℕ) × IfSome input (λ all. bytes ≡ all) × Runs bytes)
@@ -84,7 +85,7 @@ abbrev pub TellsNoTable : {W : Type 0} → ℕ → W → W → Option (List ℕ)
 TellsNoTable code writer_old writer_new said_old said_new =
     (code ≡ status_code status.Bad) × (writer_new ≡ writer_old) × WritesPrefix no_table_line said_old said_new
 
--- what a word did with a journal, which goes by the matrix that is asked for, if one is
+-- what a word did with a journal, whose matrix has to be the one that is asked for, if any
 abbrev pub AnswersJournal : {W E : Type 0} → Command → ℕ → Option (List ℕ) → W → W → Option (List ℕ) → Option (List ℕ) → E → E
     → Option (List ℕ) → Option (List ℕ) → Type 0
 AnswersJournal (command.Report asked strict) code input writer_old writer_new old new errors_old errors_new said_old said_new =
@@ -92,14 +93,10 @@ AnswersJournal (command.Report asked strict) code input writer_old writer_new ol
 AnswersJournal (command.Tape asked strict) code input writer_old writer_new old new errors_old errors_new said_old said_new =
     Reads (λ bytes. RunsDay Tape asked bytes code writer_old writer_new old new errors_old errors_new said_old said_new) input code writer_old writer_new said_old said_new
 AnswersJournal (command.Explain asked strict) code input writer_old writer_new old new errors_old errors_new said_old said_new =
-    Reads (λ bytes. RunsDay Explained asked bytes code writer_old writer_new old new errors_old errors_new said_old said_new) input code writer_old writer_new said_old said_new
+    Reads (λ bytes. RunsDay Explain asked bytes code writer_old writer_new old new errors_old errors_new said_old said_new) input code writer_old writer_new said_old said_new
 AnswersJournal (command.Verify asked) code input writer_old writer_new old new errors_old errors_new said_old said_new =
     Reads (λ bytes. RunsFound asked bytes code writer_old writer_new old new errors_old errors_new said_old said_new) input code writer_old writer_new said_old said_new
 AnswersJournal command.Check code input writer_old writer_new old new errors_old errors_new said_old said_new =
     TellsNoTable code writer_old writer_new said_old said_new
-AnswersJournal command.Encode code input writer_old writer_new old new errors_old errors_new said_old said_new =
-    TellsNoTable code writer_old writer_new said_old said_new
-AnswersJournal command.Decode code input writer_old writer_new old new errors_old errors_new said_old said_new =
-    TellsNoTable code writer_old writer_new said_old said_new
-AnswersJournal (command.Line participant) code input writer_old writer_new old new errors_old errors_new said_old said_new =
+AnswersJournal (command.Convert conversion) code input writer_old writer_new old new errors_old errors_new said_old said_new =
     TellsNoTable code writer_old writer_new said_old said_new

@@ -1,3 +1,4 @@
+pub mod DayTexts
 pub mod JournalLines
 pub mod JournalRuns
 pub mod Outputs

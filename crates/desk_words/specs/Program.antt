@@ -1,36 +1,30 @@
--- What the program does for its arguments.
+-- What each word does with a table or a journal: what it writes, what it says, and its status.
 use Rattle.std.specs.Prelude.{◌≡◌, ◌≢◌, ◌⊎◌, ◌&&◌, ℕ, Bool, true, false, List, [], Option, Some, None, IfOk, IfSome, Result, Ok, Err, IsOk, OnOk, if◌then◌else◌}
 use Rattle.std.specs.List.{list_any}
 use Rattle.std.specs.Option.{is_some}
-use Rattle.day_tables.specs.TableTexts.{table_text}
-use Rattle.day_tables.specs.Tables.{IsTable}
 use Rattle.sale_matrix.specs.declared.matrix.Matrix.{Matrix}
 use Rattle.sale_matrix.specs.declared.matrix.Matrix.TheVariants.{One}
 use Rattle.reports.specs.declared.message.Message.{Message}
-use Rattle.row_reads.specs.Writing.{WritesPrefix}
-use Rattle.table_days.specs.Checks.{IsCheckEnd, WritesCheck, WritesCheckPart}
-use Rattle.table_days.specs.Days.{day_text}
-use Rattle.table_days.specs.EndTexts.{end_status}
-use Rattle.table_days.specs.Refusals.{RefusesNone, refused_for}
+use Rattle.whole_io.specs.Writing.{WritesPrefix}
+use Rattle.csv_days.specs.Checks.{IsCheckEnd, WritesCheck, WritesCheckPart}
+use Rattle.csv_days.specs.Days.{day_text}
+use Rattle.csv_days.specs.EndTexts.{end_status}
+use Rattle.csv_days.specs.Refusals.{RefusesNone, refused_for}
 use Rattle.tape_core.specs.Refusals.{all_refusals}
-use Rattle.table_days.specs.Strict.{IsListed, strictly}
-use Rattle.table_days.specs.Explained.{explain_text}
-use Rattle.table_days.specs.TableEnds.{IsTableEnd, WritesTable, WritesTablePart}
-use Rattle.table_days.specs.TapeRows.{tape_text}
-use Rattle.table_days.specs.declared.refusals.Refusals.{Refusals}
-use Rattle.table_days.specs.declared.table_end.TableEnd.{TableEnd}
-use Rattle.table_days.specs.declared.table_end.TableEnd.TheVariants.{OutOfMemory, WriteFault}
-use Rattle.table_texts.specs.DecodedTexts.{IsText, IsTextEnd}
-use Rattle.table_texts.specs.EncodedTexts.{encoded_text}
-use Rattle.table_texts.specs.Ends.{IsReadingEnd}
-use Rattle.table_texts.specs.OwnBytes.{line_bytes}
+use Rattle.csv_days.specs.Strict.{IsListed, strictly}
+use Rattle.csv_days.specs.Explained.{explain_text}
+use Rattle.csv_days.specs.TableEnds.{IsTableEnd, WritesTable, WritesTablePart}
+use Rattle.csv_days.specs.TapeRows.{tape_text}
+use Rattle.csv_days.specs.declared.refusals.Refusals.{Refusals}
+use Rattle.csv_days.specs.declared.table_end.TableEnd.{TableEnd}
+use Rattle.csv_days.specs.declared.table_end.TableEnd.TheVariants.{OutOfMemory, WriteFault}
 use Rattle.journal_days.specs.Days.{begins_journal}
 use Rattle.desk_words.specs.JournalRuns.{AnswersJournal, Unread}
 use Rattle.desk_words.specs.RefusalLines.{refusal_lines}
-use Rattle.desk_words.specs.TextRuns.{RunsText, end_line, table_ends, text_ends}
+use Rattle.desk_words.specs.TextRuns.{RunsText, end_line, kind_of}
 use Rattle.desk_words.specs.VerifyRuns.{RunsVerify}
 use Rattle.program_words.specs.declared.command.Command.{Command}
-use Rattle.program_words.specs.declared.command.Command.TheVariants.{Report, Tape, Explain, Check, Verify, Encode, Decode, Line}
+use Rattle.program_words.specs.declared.command.Command.TheVariants.{Report, Tape, Explain, Check, Verify, Convert}
 
 -- ## What is said
 
@@ -38,12 +32,12 @@ use Rattle.program_words.specs.declared.command.Command.TheVariants.{Report, Tap
 abbrev pub refuses_any : Refusals → Bool
 refuses_any refusals = list_any (λ reason. is_some (refused_for refusals reason)) all_refusals
 
--- the status of a run, in which refused rows may be faults
+-- the status of a run, in which refused rows may be faults (2)
 abbrev pub run_status : Bool → Result Refusals TableEnd → ℕ
 run_status strict (Ok refusals) = if strict && refuses_any refusals then 2 else 0
 run_status strict (Err end) = end_status end
 
--- the text of a table, and none where a row is refused and that is a fault
+-- the text of a table, but no text if a row is refused and refused rows are faults
 abbrev pub text_by : Bool → (Matrix → List Message → List ℕ) → Matrix → List Message → List ℕ
 text_by true text = strictly text
 text_by false text = text
@@ -53,7 +47,7 @@ abbrev pub run_text : Result Refusals TableEnd → List ℕ
 run_text (Ok refusals) = refusal_lines refusals
 run_text (Err end) = end_line end
 
--- the status of a table that was checked: 0 where it has no fault
+-- the status of a table that was checked: 0 if it has no fault, else 2
 abbrev pub checked_status : Bool → ℕ
 checked_status true = 0
 checked_status false = 2
@@ -63,7 +57,7 @@ abbrev pub check_status : Result Bool TableEnd → ℕ
 check_status (Ok faultless) = checked_status faultless
 check_status (Err end) = end_status end
 
--- what is said of a check: nothing, or why its faults are not all told
+-- what is said of a check: nothing, or why its faults are not all written
 abbrev pub check_line : Result Bool TableEnd → List ℕ
 check_line (Ok faultless) = []
 check_line (Err end) = end_line end
@@ -75,8 +69,9 @@ abbrev pub Comes : (Matrix → List Message → List ℕ) → Matrix → List �
 Comes text matrix input (Ok refusals) old new = WritesTable text matrix input refusals old new
 Comes text matrix input (Err end) old new = IsTableEnd input end
 
--- a text of a table was asked for, in which refused rows may be faults: the status and what is said are those of what it came to, and nothing else was
--- written; nothing at all where rows were refused and that is a fault, whatever is known of the reader and the writer
+-- a text of a table was asked for, in which refused rows may be faults: the status and what is said are those of how it ended,
+-- and nothing else was written; nothing at all if rows were refused and refused rows are faults, whatever is known of the
+-- reader and the writer
 pub record RunsTable {W E : Type 0} (strict : Bool) (text : Matrix → List Message → List ℕ) (matrix : Matrix) (input old new : Option (List ℕ)) (status : ℕ)
     (writer_old writer_new : W) (errors_old errors_new : E) (said_old said_new : Option (List ℕ)) : Type 0 where
   pub run : Result Refusals TableEnd
@@ -90,12 +85,13 @@ pub record RunsTable {W E : Type 0} (strict : Bool) (text : Matrix → List Mess
   pub quiet : run_text run ≡ [] → errors_new ≡ errors_old
   pub said : WritesPrefix (run_text run) said_old said_new
 
--- what a check did for a table: what is told of it was written, or it ended for a reason
+-- what a check did for a table: the lines of its faults were written, or it ended for a reason
 abbrev pub ComesToCheck : List ℕ → Result Bool TableEnd → Option (List ℕ) → Option (List ℕ) → Type 0
 ComesToCheck input (Ok faultless) old new = WritesCheck input faultless old new
 ComesToCheck input (Err end) old new = IsCheckEnd end
 
--- the faults of a table were asked for: the status and what is said are those of what the check came to, and nothing else was written
+-- the faults of a table were asked for: the status and what is said are those of how the check ended, and nothing else was
+-- written
 pub record RunsCheck {W E : Type 0} (input old new : Option (List ℕ)) (status : ℕ)
     (writer_old writer_new : W) (errors_old errors_new : E) (said_old said_new : Option (List ℕ)) : Type 0 where
   pub run : Result Bool TableEnd
@@ -108,12 +104,12 @@ pub record RunsCheck {W E : Type 0} (input old new : Option (List ℕ)) (status 
 
 -- ## Words
 
--- the matrix that a table goes by
+-- the matrix of a table: the one that is asked for, else Matrix One
 abbrev pub table_matrix : Option Matrix → Matrix
 table_matrix None = One
 table_matrix (Some matrix) = matrix
 
--- what a text of a table did; a status is that of what it came to
+-- what a word did with a table or a batch's text; of a report nothing was written if memory ran out (status 5)
 abbrev pub AnswersTable : {W E : Type 0} → Command → ℕ → Option (List ℕ) → W → W → Option (List ℕ) → Option (List ℕ) → E → E
     → Option (List ℕ) → Option (List ℕ) → Type 0
 AnswersTable (Report asked strict) status input writer_old writer_new old new errors_old errors_new said_old said_new =
@@ -126,20 +122,17 @@ AnswersTable Check status input writer_old writer_new old new errors_old errors_
     RunsCheck input old new status writer_old writer_new errors_old errors_new said_old said_new
 AnswersTable (Verify asked) status input writer_old writer_new old new errors_old errors_new said_old said_new =
     RunsVerify (table_matrix asked) input old new status writer_old writer_new errors_old errors_new said_old said_new
-AnswersTable Encode status input writer_old writer_new old new errors_old errors_new said_old said_new =
-    RunsText table_ends IsTable encoded_text IsTableEnd input old new status writer_old writer_new errors_old errors_new said_old said_new
-AnswersTable Decode status input writer_old writer_new old new errors_old errors_new said_old said_new =
-    RunsText text_ends IsText table_text IsTextEnd input old new status writer_old writer_new errors_old errors_new said_old said_new
-AnswersTable (Line participant) status input writer_old writer_new old new errors_old errors_new said_old said_new =
-    RunsText table_ends IsTable (line_bytes participant) IsReadingEnd input old new status writer_old writer_new errors_old errors_new said_old said_new
+AnswersTable (Convert conversion) status input writer_old writer_new old new errors_old errors_new said_old said_new =
+    RunsText (kind_of conversion) input old new status writer_old writer_new errors_old errors_new said_old said_new
 
--- a text of a journal, or else of a table
+-- what a word did with a journal if the input is one, else with a table
 abbrev pub AnswersBy : {W E : Type 0} → Bool → Command → ℕ → Option (List ℕ) → W → W → Option (List ℕ) → Option (List ℕ) → E → E
     → Option (List ℕ) → Option (List ℕ) → Type 0
 AnswersBy true = AnswersJournal
 AnswersBy false = AnswersTable
 
--- what a word did with an input: the text of a journal where the input begins as one, and else that of a table; or no byte that tells could be read
+-- what a word did with an input: with a journal if the input begins as one, else with a table; or the first bytes could not be
+-- read
 abbrev pub AnswersCommand : {W E : Type 0} → Command → ℕ → Option (List ℕ) → W → W → Option (List ℕ) → Option (List ℕ) → E → E
     → Option (List ℕ) → Option (List ℕ) → Type 0
 AnswersCommand command status input writer_old writer_new old new errors_old errors_new said_old said_new =

@@ -1,4 +1,4 @@
--- The status of a run over sockets, by how it ended.
+-- The status of a run over sockets: `Done`, or that of its fault.
 use Rattle.std.specs.Prelude.{Result, Ok, Err}
 use Rattle.feed_ends.specs.declared.fault.Fault.{Fault}
 use Rattle.feed_ends.specs.declared.fault.Fault.TheVariants as fault

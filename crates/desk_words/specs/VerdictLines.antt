@@ -1,13 +1,13 @@
--- What is written of a recorded tape.
+-- The line of a recorded tape's verdict, and its status.
 use Rattle.std.specs.Prelude.{◌+◌, ◌-◌, ◌==◌, ◌++◌, ℕ, List, [], codes, decimal, fold, get_or, if◌then◌else◌}
 use Rattle.std.specs.Option.{option_map_or}
 use Rattle.std.specs.Str.{bytes_eq}
 use Rattle.tape_core.specs.declared.refusal.Refusal.{Refusal}
-use Rattle.day_tables.specs.FaultTexts.{shown}
-use Rattle.table_days.specs.Refusals.{refused_for}
+use Rattle.csv_messages.specs.FaultTexts.{shown}
+use Rattle.csv_days.specs.Refusals.{refused_for}
 use Rattle.tape_core.specs.Refusals.{all_refusals}
-use Rattle.table_days.specs.TapeRows.{column_names}
-use Rattle.table_days.specs.declared.refusals.Refusals.{Refusals}
+use Rattle.csv_days.specs.TapeRows.{column_names}
+use Rattle.csv_days.specs.declared.refusals.Refusals.{Refusals}
 use Rattle.recorded_tapes.specs.declared.difference.Difference.{Difference}
 use Rattle.recorded_tapes.specs.declared.verdict.Rows.{Rows}
 use Rattle.recorded_tapes.specs.declared.verdict.Verdict.{Verdict}
@@ -25,17 +25,17 @@ refused_for_any refusals reasons = fold (λ refused reason. refused + refused_co
 abbrev pub refused_in_all : Refusals → ℕ
 refused_in_all refusals = refused_for_any refusals all_refusals
 
--- so many of what has one name for one and another for more
+-- a count and its noun, which is one word for 1 and another for more
 abbrev pub counted : ℕ → List ℕ → List ℕ → List ℕ
 counted count one more = decimal count ++ (if count == 1 then one else more)
 
--- how many entries and refusals the rows are
+-- how many of the rows are entries and how many are refusals
 abbrev pub rows_line : Rows → List ℕ
 rows_line rows =
     let refused = refused_in_all rows.refusals in
     counted (rows.count - refused) (codes " entry, ") (codes " entries, ") ++ counted refused (codes " refusal, ") (codes " refusals, ")
 
--- what stands in a column of a line, and what should
+-- what a column of a line has, and what it should have
 abbrev pub field_line : Difference → List ℕ
 field_line d =
     codes ": " ++ get_or column_names d.column [] ++ codes " is \"" ++ shown d.stands ++ codes "\" and should be \"" ++ shown d.wanted ++ codes "\"\n"
@@ -57,13 +57,13 @@ cut_text line = codes "all as recorded before line " ++ decimal line ++ codes ",
 abbrev pub cut_line : Rows → ℕ → List ℕ
 cut_line rows line = rows_line rows ++ cut_text line
 
--- what a recorded tape is found to be
+-- the line of a recorded tape's verdict
 abbrev pub verdict_line : Verdict → List ℕ
 verdict_line (Recorded rows) = recorded_line rows
 verdict_line (CutOff rows line) = cut_line rows line
 verdict_line (Differs difference) = difference_line difference
 
--- the status of what it is found to be
+-- the status of the verdict: 0, or 1 if the tape differs or is cut off
 abbrev pub verdict_status : Verdict → ℕ
 verdict_status (Recorded rows) = 0
 verdict_status (CutOff rows line) = 1

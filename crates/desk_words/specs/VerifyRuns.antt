@@ -1,22 +1,22 @@
--- What the program does where a recorded tape is verified.
+-- What `verify` does with a recorded tape: what it writes, what it says, and its status.
 use Rattle.std.specs.Prelude.{◌≡◌, ◌⊎◌, ℕ, List, Option, IfSome, Result, Ok, Err}
 use Rattle.std.specs.Io.KnownBytes.{Appends}
 use Rattle.sale_matrix.specs.declared.matrix.Matrix.{Matrix}
-use Rattle.row_reads.specs.Writing.{WritesPrefix}
-use Rattle.table_days.specs.EndTexts.{end_status}
-use Rattle.table_days.specs.declared.table_end.TableEnd.{TableEnd}
-use Rattle.table_days.specs.declared.table_end.TableEnd.TheVariants.{WriteFault}
+use Rattle.whole_io.specs.Writing.{WritesPrefix}
+use Rattle.csv_days.specs.EndTexts.{end_status}
+use Rattle.csv_days.specs.declared.table_end.TableEnd.{TableEnd}
+use Rattle.csv_days.specs.declared.table_end.TableEnd.TheVariants.{WriteFault}
 use Rattle.recorded_tapes.specs.Verdicts.{IsVerdict, IsVerifyEnd}
 use Rattle.recorded_tapes.specs.declared.verdict.Verdict.{Verdict}
 use Rattle.desk_words.specs.TextRuns.{end_line}
 use Rattle.desk_words.specs.VerdictLines.{verdict_line, verdict_status}
 
--- what a recorded tape is found to be, or why nothing is found
+-- the verdict on a recorded tape, or why there is none
 abbrev pub Finds : Matrix → List ℕ → Result Verdict TableEnd → Type 0
 Finds matrix input (Ok verdict) = IsVerdict matrix input verdict
 Finds matrix input (Err end) = IsVerifyEnd input end
 
--- its line was written, or a write failed; or nothing was written, and it was said why nothing is found
+-- the verdict's line was written, or a write failed; or nothing was written, and it was said why there is no verdict
 abbrev pub TellsVerdict : {W E : Type 0} → Result Verdict TableEnd → ℕ → W → W → Option (List ℕ) → Option (List ℕ) → E → E
     → Option (List ℕ) → Option (List ℕ) → Type 0
 TellsVerdict (Ok verdict) status writer_old writer_new old new errors_old errors_new said_old said_new =

@@ -1,4 +1,4 @@
-//! A word's input: a journal if it begins as one, and else a table.
+//! Tells by its first bytes whether a word's input is a journal or a table, and runs the word on it.
 ghost use Rattle.std.specs.Prelude.{◌≡◌, IfSome};
 ghost use Rattle.journal_days.specs.Days.{begins_journal};
 ghost use Rattle.program_words.specs.Statuses.{status_code};
@@ -11,14 +11,14 @@ use crate::program::run_rows;
 use crate::saying::say_status;
 use journal_days::is_journal;
 use program_words::{Command, Status};
-use row_reads::fill;
 use std::alloc::Global;
 use std::io::{Read, Write};
+use whole_io::fill;
 
-/// How many bytes tell a journal from a table.
+/// How many bytes it takes to tell a journal from a table.
 const TELLING: usize = 8;
 
-/// Whether an input begins as a journal does, or `None` if a read failed. No byte is read behind those that tell.
+/// Returns whether an input begins as a journal does, or `None` if a read failed. It reads no more than the first eight bytes.
 pub fn begins_journal<R: Read>(reader: &mut R) -> Option<bool>
     ensures { IfSome result (λ journal. IfSome (R.remaining reader.old) (λ bytes. journal ≡ begins_journal bytes)) }
 {
@@ -27,20 +27,21 @@ pub fn begins_journal<R: Read>(reader: &mut R) -> Option<bool>
     Some(is_journal(&row[..len]))
 }
 
-/// Writes a text of a journal or a table to `writer` and returns how that ended. The input is a journal if it begins as one, which is read
-/// whole, and else a table, which is read as it comes, or the text of a batch that `decode` takes.
+/// Writes a text of a journal or a table to `writer` and returns how that ended. An input that begins as a journal is read
+/// whole. Any other is a table, or the batch's text for `decode`, and is read as it comes.
 ///
-/// Of a journal a report is the day's, a tape its readable tape, an explanation what became of its reports, by the journal's own matrix, which
-/// has to be the one that is asked for, if any; a verification tells whether all stands as it is written. The other words say that they take
-/// none. A last group that is cut off is left out, which `errors` has a line of.
+/// `Report` writes the day's report, `Tape` its readable tape, `Explain` what became of its reports, and `Verify` whether a
+/// recorded tape or a journal stands as it is written.
 ///
-/// Of a table, which goes by Matrix One unless another is asked for, a report is the day's, a tape its readable tape, an explanation what became
-/// of its reports; a check writes every fault of the table, and a verification whether a recorded tape stands as it is written. `errors` has a
-/// line for each reason for which the first three refused rows.
+/// A journal's own matrix has to be the one that is asked for, if any. The other words say that they take no journal. A last
+/// group that is cut off is left out, and `errors` gets a line about it.
 ///
-/// `errors` also has a line for what goes wrong, but none for a write fault if whoever read what was written is gone. The status is `Done` where
-/// all is done, `Differs` where a recorded tape or a journal is not as it is written, `Bad` for a bad table, also one that is checked, a bad text
-/// or a journal that has no day, `ReadFault`, `WriteFault`, and `OutOfMemory`.
+/// A table goes by Matrix One unless another is asked for. `Check` writes every fault of the table, and `Convert` its messages
+/// in another form. `errors` gets a line for each reason for which `Report`, `Tape` and `Explain` refused rows.
+///
+/// `errors` also gets a line for what goes wrong, but none for a write fault if whoever read what was written is gone. The
+/// status is `Done` if all is done, `Differs` if a recorded tape or a journal is not as it is written, `Bad` for a bad table,
+/// also one that is checked, a bad text or a journal that has no day, `ReadFault`, `WriteFault`, or `OutOfMemory`.
 pub fn run_command<R: Read, W: Output, E: Write>(
     alloc: Global,
     command: Command,

@@ -1,8 +1,9 @@
-//! The texts of a journal, over its reader and the streams that they go to.
+//! Writes the texts of a journal, which is read whole, and turns their ends into statuses and lines on standard error.
 ghost use Rattle.std.specs.Prelude.{◌≡◌, ◌≢◌, ◌⊎◌, [], Err, IfErr, IfOk, IfSome, OnErr, OnOk, string_bytes};
 ghost use Rattle.std.specs.Io.KnownBytes.{Appends};
-ghost use Rattle.row_reads.specs.Writing.{WritesPrefix};
-ghost use Rattle.table_days.specs.declared.writing.WritingFault.TheVariants.{OutOfMemory as NoMemory};
+ghost use Rattle.std.specs.IoError.{error_kind};
+ghost use Rattle.whole_io.specs.Writing.{WritesPrefix};
+ghost use Rattle.csv_days.specs.declared.writing.WritingFault.TheVariants.{OutOfMemory as NoMemory};
 ghost use Rattle.program_words.specs.Statuses.{status_code};
 ghost use Rattle.program_words.specs.declared.status.Status.TheVariants.{Bad, OutOfMemory, ReadFault, WriteFault};
 ghost use Rattle.desk_words.specs.JournalLines.{no_day_line, no_day_status, no_table_line, torn_line, torn_text, verdict_line, verdict_status, written_line, written_status};
@@ -10,33 +11,25 @@ ghost use Rattle.desk_words.specs.JournalRuns.{AnswersJournal, Reads, RunsDay, R
 ghost use Rattle.desk_words.specs.Outputs.{IsQuietIfGone};
 
 use crate::Output;
+use crate::day_texts::DayText;
 use crate::saying::{say_ended, say_status};
 use crate::telling::say_told;
+use csv_days::WritingFault;
 use journal_days::{
     JournalDay, JournalFault, JournalVerdict, fault_text, read_day, verdict_text, verify_journal,
     write_journal_explained, write_journal_report, write_journal_tape,
 };
 use program_words::{Command, Status};
-use row_reads::write_text;
 use sale_matrix::Matrix;
 use std::alloc::{AllocError, Global};
 use std::io::{Error, ErrorKind, Read, Write};
-use table_days::WritingFault;
+use whole_io::write_text;
 
-/// A text of a journal's day.
-#[derive(Clone, Copy, Debug, PartialEq, Eq)]
-pub(crate) enum DayText {
-    /// Its report.
-    Report,
-    /// Its readable tape.
-    Tape,
-    /// What became of its reports.
-    Explained,
-}
-
-/// The status of a read that failed.
+/// Returns the status of a failed read: `OutOfMemory` if memory ran out, else `ReadFault`.
 fn failed_read(error: &Error) -> Status
-    ensures { (result ≡ ReadFault) ⊎ (result ≡ OutOfMemory) }
+    ensures one { (result ≡ ReadFault) ⊎ (result ≡ OutOfMemory) }
+    ensures memory { error_kind error.now ≡ ErrorKind.OutOfMemory → result ≡ OutOfMemory }
+    ensures fault { error_kind error.now ≢ ErrorKind.OutOfMemory → result ≡ ReadFault }
 {
     match error.kind() {
         ErrorKind::OutOfMemory => Status::OutOfMemory,
@@ -44,7 +37,7 @@ fn failed_read(error: &Error) -> Status
     }
 }
 
-/// All that a reader has left, or the status of the fault that kept it from being read.
+/// Reads all that a reader has left. Errors: `ReadFault`, or `OutOfMemory` if memory runs out.
 fn read_all<R: Read>(alloc: Global, reader: &mut R) -> Result<Vec<u8>, Status>
     ensures all { IfSome (R.remaining reader.old) (λ all. IfOk result (λ bytes. bytes.items ≡ all)) }
     ensures fault { IfErr result (λ status. (status ≡ ReadFault) ⊎ (status ≡ OutOfMemory)) }
@@ -57,7 +50,7 @@ fn read_all<R: Read>(alloc: Global, reader: &mut R) -> Result<Vec<u8>, Status>
 }
 
 /// Writes a text of a journal's day, and flushes it.
-fn write_day<W: Write>(
+fn write_journal_text<W: Write>(
     alloc: Global,
     text: DayText,
     day: &JournalDay,
@@ -70,11 +63,11 @@ fn write_day<W: Write>(
     match text {
         DayText::Report => write_journal_report(alloc, day, writer),
         DayText::Tape => write_journal_tape(alloc, day, writer),
-        DayText::Explained => write_journal_explained(alloc, day, writer),
+        DayText::Explain => write_journal_explained(alloc, day, writer),
     }
 }
 
-/// What is told of a group that is cut off behind so many bytes.
+/// Returns what is said of a group that is cut off behind so many bytes.
 fn torn_text(alloc: Global, from: usize) -> Result<String, AllocError>
     ensures { IfOk result (λ text. string_bytes text ≡ torn_text from) }
 {
@@ -95,7 +88,7 @@ fn say_torn<E: Write>(alloc: Global, errors: &mut E, torn: Option<usize>)
     }
 }
 
-/// Says what a day's text came to: where a group is cut off, or why the text is not whole. It gives the status.
+/// Says where a group is cut off, or why a day's text is not whole, and returns the status.
 fn end_day<E: Write>(
     alloc: Global,
     errors: &mut E,
@@ -124,7 +117,7 @@ fn end_day<E: Write>(
     }
 }
 
-/// Writes a text of a journal's day, says what was left out or why the text is not whole, and gives the status.
+/// Writes a text of a journal's day, says what was left out or why the text is not whole, and returns the status.
 fn tell_day<W: Output, E: Write>(
     alloc: Global,
     text: DayText,
@@ -136,11 +129,11 @@ fn tell_day<W: Output, E: Write>(
         errors.old errors.new (E.contents errors.old) (E.contents errors.new) }
     ensures gone { IsQuietIfGone (W.reader_gone writer.new) result errors.old errors.new }
 {
-    let run = write_day(alloc, text, day, writer);
+    let run = write_journal_text(alloc, text, day, writer);
     end_day(alloc, errors, writer.reader_is_gone(), day.torn, run)
 }
 
-/// Says why a journal has no day, unless there is no memory for the line, and gives the status.
+/// Says why a journal has no day, unless there is no memory for the line, and returns the status.
 #[tactic(auto, using(crate::proofs::LineLemmas::nothing_said))]
 fn say_no_day<E: Write>(alloc: Global, errors: &mut E, fault: &JournalFault) -> Status
     ensures status { result ≡ no_day_status fault.now }
@@ -157,7 +150,7 @@ fn say_no_day<E: Write>(alloc: Global, errors: &mut E, fault: &JournalFault) -> 
     Status::Bad
 }
 
-/// Writes a text of the day of a journal's bytes, says what was left out or why there is none, and gives the status.
+/// Writes a text of the day of a journal's bytes, says what was left out or why there is no day, and returns the status.
 fn run_bytes<W: Output, E: Write>(
     alloc: Global,
     text: DayText,
@@ -176,7 +169,7 @@ fn run_bytes<W: Output, E: Write>(
     }
 }
 
-/// Writes a text of a journal's day, says what was left out or why there is none, and gives the status.
+/// Writes a text of a journal's day, says what was left out or why there is no day, and returns the status.
 fn run_day<R: Read, W: Output, E: Write>(
     alloc: Global,
     text: DayText,
@@ -199,7 +192,7 @@ fn run_day<R: Read, W: Output, E: Write>(
     }
 }
 
-/// The line of what a journal is found to be.
+/// Returns the line of a journal's verdict.
 fn verdict_line(alloc: Global, found: &JournalVerdict) -> Result<String, AllocError>
     ensures { IfOk result (λ line. string_bytes line ≡ verdict_line found.now) }
 {
@@ -208,7 +201,7 @@ fn verdict_line(alloc: Global, found: &JournalVerdict) -> Result<String, AllocEr
     Ok(line)
 }
 
-/// The status of what a journal is found to be. A group that is cut off is no difference.
+/// Returns the status of a journal's verdict. A group that is cut off is no difference.
 fn verdict_status(found: &JournalVerdict) -> Status
     ensures status { result ≡ verdict_status found.now }
     ensures no_fault { result ≢ WriteFault }
@@ -219,7 +212,7 @@ fn verdict_status(found: &JournalVerdict) -> Status
     }
 }
 
-/// Writes the line of what a journal is found to be, or says why it is not whole, and gives the status.
+/// Writes the line of a journal's verdict, or says why it is not whole, and returns the status.
 fn tell_found<W: Output, E: Write>(
     alloc: Global,
     found: &JournalVerdict,
@@ -243,7 +236,7 @@ fn tell_found<W: Output, E: Write>(
     }
 }
 
-/// Writes what a journal's bytes are found to be, or says why nothing is found, and gives the status.
+/// Writes the verdict on a journal's bytes, or says why there is none, and returns the status.
 fn verify_bytes<W: Output, E: Write>(
     alloc: Global,
     asked: Option<Matrix>,
@@ -261,7 +254,7 @@ fn verify_bytes<W: Output, E: Write>(
     }
 }
 
-/// Writes what a journal is found to be, or says why nothing is found, and gives the status.
+/// Writes the verdict on a journal, or says why there is none, and returns the status.
 fn run_found<R: Read, W: Output, E: Write>(
     alloc: Global,
     asked: Option<Matrix>,
@@ -283,7 +276,7 @@ fn run_found<R: Read, W: Output, E: Write>(
     }
 }
 
-/// Says that a word takes no journal, and gives the status.
+/// Says that a word takes no journal, and returns the status.
 fn say_no_table<E: Write>(alloc: Global, errors: &mut E) -> Status
     ensures status { result ≡ Bad }
     ensures said { WritesPrefix no_table_line (E.contents errors.old) (E.contents errors.new) }
@@ -293,13 +286,14 @@ fn say_no_table<E: Write>(alloc: Global, errors: &mut E) -> Status
     Status::Bad
 }
 
-/// Writes a text of a journal to `writer` and returns how that ended. The journal is read whole from `reader` before anything is written.
+/// Writes a text of a journal to `writer` and returns how that ended. The journal is read whole from `reader` before anything
+/// is written.
 ///
-/// A report is the day's, a tape its readable tape, an explanation what became of its reports, and a verification whether all stands as it
-/// is written; a word that takes no journal says so. The journal goes by its own matrix, which has to be the one that is asked for, if any.
-/// `errors` has one line where a last group is cut off, or for what goes wrong, but none for a write fault if whoever read what was written
-/// is gone. The status is `Done` where all is done, `Differs` where a journal is not as it is written, `Bad` for one that has no day or goes
-/// by another matrix, `ReadFault`, `WriteFault`, and `OutOfMemory`.
+/// `Report` writes the day's report, `Tape` its readable tape, `Explain` what became of its reports, and `Verify` whether all
+/// stands as it is written; the other words say that they take no journal. The journal's own matrix has to be the one that is
+/// asked for, if any. `errors` gets one line if a last group is cut off, or for what goes wrong, but none for a write fault if
+/// whoever read what was written is gone. The status is `Done` if all is done, `Differs` if a journal is not as it is written,
+/// `Bad` for one that has no day or another matrix, `ReadFault`, `WriteFault`, or `OutOfMemory`.
 pub(crate) fn run_journal<R: Read, W: Output, E: Write>(
     alloc: Global,
     command: Command,
@@ -314,17 +308,10 @@ pub(crate) fn run_journal<R: Read, W: Output, E: Write>(
     match command {
         Command::Report(asked, _) => run_day(alloc, DayText::Report, asked, reader, writer, errors),
         Command::Tape(asked, _) => run_day(alloc, DayText::Tape, asked, reader, writer, errors),
-        Command::Explain(asked, _) => run_day(
-            alloc,
-            DayText::Explained,
-            asked,
-            reader,
-            writer,
-            errors,
-        ),
-        Command::Verify(asked) => run_found(alloc, asked, reader, writer, errors),
-        Command::Check | Command::Encode | Command::Decode | Command::Line(_) => {
-            say_no_table(alloc, errors)
+        Command::Explain(asked, _) => {
+            run_day(alloc, DayText::Explain, asked, reader, writer, errors)
         }
+        Command::Verify(asked) => run_found(alloc, asked, reader, writer, errors),
+        Command::Check | Command::Convert(_) => say_no_table(alloc, errors),
     }
 }

@@ -1,10 +1,10 @@
-//! The words of a desk's own table or a day's journal: the day's report, a readable tape, what became of each report or the day's bytes; and the
-//! readable tape of a running day, as it comes.
+//! Runs the words that take a table or a journal: they write the day's report, its readable tape, what became of each report,
+//! or the day's bytes. It also writes the readable tape of a running day as its entries come.
 #![tactic(auto)]
 
+mod day_texts;
 mod inputs;
 mod journal_words;
-mod number_text;
 mod output;
 mod program;
 mod progress;

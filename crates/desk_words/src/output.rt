@@ -1,4 +1,5 @@
-//! Writers that know whether whoever read what they write is gone.
+//! Writers that know whether whoever read what they write is gone: they remember whether the last error was that of a broken
+//! pipe.
 ghost use Rattle.std.specs.Prelude.{◌≡◌, ◌↔◌, Bool, IfErr, IsTrue, OnOk, false};
 ghost use Rattle.std.specs.Io.{WritesAtMost};
 ghost use Rattle.std.specs.Io.KnownBytes.{Keeps, WriteAppends};
@@ -9,22 +10,22 @@ use std::io::{Error, ErrorKind, Write};
 
 /// A writer that knows whether whoever read what it writes is gone.
 pub trait Output: Write {
-    // Whether its last error was that of a pipe that nobody reads any more.
+    // Whether its last error was that of a broken pipe.
     ghost reader_gone: { Self → Bool };
 
-    /// Whether its last error was that of a pipe that nobody reads any more.
+    /// Returns whether its last error was that of a broken pipe.
     fn reader_is_gone(&self) -> bool
         ensures { result ≡ reader_gone self.now };
 }
 
-/// Whether an error is that of a pipe that nobody reads any more.
+/// Returns whether an error is that of a broken pipe.
 fn is_broken_pipe(error: &Error) -> bool
     ensures { IsTrue result ↔ (error_kind error.now ≡ ErrorKind.BrokenPipe) }
 {
     matches!(error.kind(), ErrorKind::BrokenPipe)
 }
 
-/// A writer that notes whether its last error was that of a pipe that nobody reads any more.
+/// A writer that notes whether its last error was that of a broken pipe.
 #[derive(Drop)]
 pub struct PipeWriter<W> {
     inner: W,
@@ -32,7 +33,7 @@ pub struct PipeWriter<W> {
 }
 
 impl<W> PipeWriter<W> {
-    /// A writer that had no error so far.
+    /// Wraps a writer that had no error so far.
     pub fn new(inner: W) -> PipeWriter<W>
         ensures inner { result.inner ≡ inner }
         ensures gone { result.gone ≡ false }
@@ -40,7 +41,7 @@ impl<W> PipeWriter<W> {
         PipeWriter { inner, gone: false }
     }
 
-    /// The writer itself.
+    /// Returns the wrapped writer.
     pub fn into_inner(self) -> W
         ensures { result ≡ self.inner }
     {
@@ -86,7 +87,7 @@ impl<W: Write> Output for PipeWriter<W> {
     }
 }
 
-/// Bytes in memory, of which no reader goes away.
+/// Bytes in memory, whose reader is never gone.
 impl Output for Vec<u8> {
     ghost reader_gone = { λ _. false };
 

@@ -1,164 +1,91 @@
-//! The texts of a table, over its reader and the streams that they go to.
+//! Writes the texts of a table, which is read as it comes, and turns their ends into statuses and lines on standard error.
 ghost use Rattle.std.specs.Prelude.{◌≡◌, ◌≢◌, ◌⊎◌, Err, IfErr, IfOk, IfSome, OnErr, OnOk, true};
-ghost use Rattle.day_tables.specs.TableTexts.{table_text};
-ghost use Rattle.day_tables.specs.Tables.{IsTable};
-ghost use Rattle.table_days.specs.Days.{day_text};
-ghost use Rattle.table_days.specs.Explained.{explain_text};
-ghost use Rattle.table_days.specs.Refusals.{RefusesNone};
-ghost use Rattle.table_days.specs.Strict.{IsListed};
-ghost use Rattle.table_days.specs.TableEnds.{IsTableEnd, WritesTable, WritesTablePart};
-ghost use Rattle.table_days.specs.TapeRows.{tape_text};
-ghost use Rattle.table_days.specs.declared.table_end.TableEnd.TheVariants.{OutOfMemory, WriteFault};
-ghost use Rattle.table_texts.specs.DecodedTexts.{IsText, IsTextEnd};
-ghost use Rattle.table_texts.specs.EncodedTexts.{encoded_text};
-ghost use Rattle.table_texts.specs.Ends.{IsReadingEnd};
-ghost use Rattle.table_texts.specs.OwnBytes.{line_bytes};
+ghost use Rattle.csv_days.specs.Refusals.{RefusesNone};
+ghost use Rattle.csv_days.specs.Strict.{IsListed};
+ghost use Rattle.csv_days.specs.TableEnds.{IsTableEnd, WritesTable, WritesTablePart};
+ghost use Rattle.csv_days.specs.declared.table_end.TableEnd.TheVariants.{OutOfMemory, WriteFault};
 ghost use Rattle.program_words.specs.Statuses.{status_code};
+ghost use Rattle.desk_words.specs.DayTexts.{table_day_text};
 ghost use Rattle.desk_words.specs.Outputs.{IsQuietIfGone};
 ghost use Rattle.desk_words.specs.Program.{AnswersTable, RunsCheck, RunsTable, table_matrix, text_by};
 ghost use Rattle.desk_words.specs.VerifyRuns.{RunsVerify};
-ghost use Rattle.desk_words.specs.TextRuns.{RunsText, table_ends, text_ends};
+ghost use Rattle.desk_words.specs.TextRuns.{RunsText, decoded, encoded, kind_of, line_of};
 
 use crate::Output;
+use crate::day_texts::DayText;
 use crate::saying::{end_check, end_decoded, end_run, end_text, say_end};
 use crate::verdict_lines::write_verdict;
-use program_words::{Command, Status};
+use csv_days::{
+    Refusals, TableEnd, check_over, explain_over, explain_strict_over, report_over,
+    report_strict_over, tape_over, tape_strict_over,
+};
+use message_texts::{decode_over, encode_over, line_over};
+use program_words::{Command, Conversion, Status};
 use recorded_tapes::verify_over;
 use sale_matrix::Matrix;
 use std::alloc::Global;
 use std::io::{Read, Write};
-use table_days::{
-    Refusals, TableEnd, check_over, explain_over, explain_strict_over, report_over,
-    report_strict_over, tape_over, tape_strict_over,
-};
-use table_texts::{decode_over, encode_over, line_over};
 use tape_types::Participant;
 
-/// Writes the report of a table; of one with a refused row nothing where that is a fault.
-fn report_by<R: Read, W: Write>(
+/// Returns the matrix of a table: the one that is asked for, else Matrix One.
+fn table_matrix(asked: Option<Matrix>) -> Matrix
+    ensures { result ≡ table_matrix asked }
+{
+    asked.unwrap_or(Matrix::One)
+}
+
+/// Writes a text of a table's day, but nothing if refused rows are faults and there are any.
+fn write_table_text<R: Read, W: Write>(
     alloc: Global,
-    matrix: Matrix,
+    text: DayText,
+    asked: Option<Matrix>,
     strict: bool,
     reader: &mut R,
     writer: &mut W,
 ) -> Result<Refusals, TableEnd>
     ensures written { IfSome (R.remaining reader.old) (λ input. IfOk result (λ refusals.
-        WritesTable (text_by strict day_text) matrix input refusals (W.contents writer.old) (W.contents writer.new))) }
+        WritesTable (text_by strict (table_day_text text)) (table_matrix asked) input refusals (W.contents writer.old) (W.contents writer.new))) }
     ensures listed { strict ≡ true → IfSome (R.remaining reader.old) (λ input. OnOk result (IsListed input)) }
     ensures unwritten { strict ≡ true → IfOk result (λ refusals. RefusesNone refusals ⊎ (writer.new ≡ writer.old)) }
     ensures end { IfSome (R.remaining reader.old) (λ input. IfErr result (IsTableEnd input)) }
-    ensures silent { result ≢ Err WriteFault → OnErr result (writer.new ≡ writer.old) }
+    ensures silent { result ≢ Err WriteFault → result ≢ Err OutOfMemory → OnErr result (writer.new ≡ writer.old) }
+    ensures report { text ≡ DayText.Report → result ≡ Err OutOfMemory → writer.new ≡ writer.old }
+    ensures memory { text ≢ DayText.Report → result ≡ Err OutOfMemory
+        → IfSome (R.remaining reader.old) (λ input. WritesTablePart (text_by strict (table_day_text text)) (table_matrix asked) input (W.contents writer.old) (W.contents writer.new)) }
     ensures prefix { result ≡ Err WriteFault
-        → IfSome (R.remaining reader.old) (λ input. WritesTablePart (text_by strict day_text) matrix input (W.contents writer.old) (W.contents writer.new)) }
+        → IfSome (R.remaining reader.old) (λ input. WritesTablePart (text_by strict (table_day_text text)) (table_matrix asked) input (W.contents writer.old) (W.contents writer.new)) }
 {
-    if strict {
-        report_strict_over(alloc, matrix, reader, writer)
-    } else {
-        report_over(alloc, matrix, reader, writer)
+    let matrix = table_matrix(asked);
+    match (text, strict) {
+        (DayText::Report, false) => report_over(alloc, matrix, reader, writer),
+        (DayText::Report, true) => report_strict_over(alloc, matrix, reader, writer),
+        (DayText::Tape, false) => tape_over(alloc, matrix, reader, writer),
+        (DayText::Tape, true) => tape_strict_over(alloc, matrix, reader, writer),
+        (DayText::Explain, false) => explain_over(alloc, matrix, reader, writer),
+        (DayText::Explain, true) => explain_strict_over(alloc, matrix, reader, writer),
     }
 }
 
-/// Writes the report of a table, says what it refused or why there is none, and gives the status.
-fn run_report<R: Read, W: Output, E: Write>(
+/// Writes a text of a table's day, says which rows were refused or why the text is not whole, and returns the status.
+fn run_day<R: Read, W: Output, E: Write>(
     alloc: Global,
-    matrix: Matrix,
+    text: DayText,
+    asked: Option<Matrix>,
     strict: bool,
     reader: &mut R,
     writer: &mut W,
     errors: &mut E,
 ) -> Status
-    ensures memory { status_code result ≡ 5 → writer.new ≡ writer.old }
-    ensures runs { RunsTable strict day_text matrix (R.remaining reader.old) (W.contents writer.old) (W.contents writer.new) (status_code result)
+    ensures memory { text ≡ DayText.Report → status_code result ≡ 5 → writer.new ≡ writer.old }
+    ensures runs { RunsTable strict (table_day_text text) (table_matrix asked) (R.remaining reader.old) (W.contents writer.old) (W.contents writer.new) (status_code result)
         writer.old writer.new errors.old errors.new (E.contents errors.old) (E.contents errors.new) }
     ensures gone { IsQuietIfGone (W.reader_gone writer.new) result errors.old errors.new }
 {
-    let run = report_by(alloc, matrix, strict, reader, writer);
+    let run = write_table_text(alloc, text, asked, strict, reader, writer);
     end_run(alloc, errors, strict, writer.reader_is_gone(), run)
 }
 
-/// Writes the readable tape of a table; of one with a refused row nothing where that is a fault.
-fn tape_by<R: Read, W: Write>(
-    alloc: Global,
-    matrix: Matrix,
-    strict: bool,
-    reader: &mut R,
-    writer: &mut W,
-) -> Result<Refusals, TableEnd>
-    ensures written { IfSome (R.remaining reader.old) (λ input. IfOk result (λ refusals.
-        WritesTable (text_by strict tape_text) matrix input refusals (W.contents writer.old) (W.contents writer.new))) }
-    ensures listed { strict ≡ true → IfSome (R.remaining reader.old) (λ input. OnOk result (IsListed input)) }
-    ensures unwritten { strict ≡ true → IfOk result (λ refusals. RefusesNone refusals ⊎ (writer.new ≡ writer.old)) }
-    ensures end { IfSome (R.remaining reader.old) (λ input. IfErr result (IsTableEnd input)) }
-    ensures silent { result ≢ Err WriteFault → result ≢ Err OutOfMemory → OnErr result (writer.new ≡ writer.old) }
-    ensures prefix { (result ≡ Err WriteFault) ⊎ (result ≡ Err OutOfMemory)
-        → IfSome (R.remaining reader.old) (λ input. WritesTablePart (text_by strict tape_text) matrix input (W.contents writer.old) (W.contents writer.new)) }
-{
-    if strict {
-        tape_strict_over(alloc, matrix, reader, writer)
-    } else {
-        tape_over(alloc, matrix, reader, writer)
-    }
-}
-
-/// Writes the readable tape of a table, says what it refused or why it is not whole, and gives the status.
-fn run_tape<R: Read, W: Output, E: Write>(
-    alloc: Global,
-    matrix: Matrix,
-    strict: bool,
-    reader: &mut R,
-    writer: &mut W,
-    errors: &mut E,
-) -> Status
-    ensures runs { RunsTable strict tape_text matrix (R.remaining reader.old) (W.contents writer.old) (W.contents writer.new) (status_code result)
-        writer.old writer.new errors.old errors.new (E.contents errors.old) (E.contents errors.new) }
-    ensures gone { IsQuietIfGone (W.reader_gone writer.new) result errors.old errors.new }
-{
-    let run = tape_by(alloc, matrix, strict, reader, writer);
-    end_run(alloc, errors, strict, writer.reader_is_gone(), run)
-}
-
-/// Writes what became of the reports of a table; of one with a refused row nothing where that is a fault.
-fn explain_by<R: Read, W: Write>(
-    alloc: Global,
-    matrix: Matrix,
-    strict: bool,
-    reader: &mut R,
-    writer: &mut W,
-) -> Result<Refusals, TableEnd>
-    ensures written { IfSome (R.remaining reader.old) (λ input. IfOk result (λ refusals.
-        WritesTable (text_by strict explain_text) matrix input refusals (W.contents writer.old) (W.contents writer.new))) }
-    ensures listed { strict ≡ true → IfSome (R.remaining reader.old) (λ input. OnOk result (IsListed input)) }
-    ensures unwritten { strict ≡ true → IfOk result (λ refusals. RefusesNone refusals ⊎ (writer.new ≡ writer.old)) }
-    ensures end { IfSome (R.remaining reader.old) (λ input. IfErr result (IsTableEnd input)) }
-    ensures silent { result ≢ Err WriteFault → result ≢ Err OutOfMemory → OnErr result (writer.new ≡ writer.old) }
-    ensures prefix { (result ≡ Err WriteFault) ⊎ (result ≡ Err OutOfMemory)
-        → IfSome (R.remaining reader.old) (λ input. WritesTablePart (text_by strict explain_text) matrix input (W.contents writer.old) (W.contents writer.new)) }
-{
-    if strict {
-        explain_strict_over(alloc, matrix, reader, writer)
-    } else {
-        explain_over(alloc, matrix, reader, writer)
-    }
-}
-
-/// Writes what became of the reports of a table, says what the tape refused or why the text is not whole, and gives the status.
-fn run_explain<R: Read, W: Output, E: Write>(
-    alloc: Global,
-    matrix: Matrix,
-    strict: bool,
-    reader: &mut R,
-    writer: &mut W,
-    errors: &mut E,
-) -> Status
-    ensures runs { RunsTable strict explain_text matrix (R.remaining reader.old) (W.contents writer.old) (W.contents writer.new) (status_code result)
-        writer.old writer.new errors.old errors.new (E.contents errors.old) (E.contents errors.new) }
-    ensures gone { IsQuietIfGone (W.reader_gone writer.new) result errors.old errors.new }
-{
-    let run = explain_by(alloc, matrix, strict, reader, writer);
-    end_run(alloc, errors, strict, writer.reader_is_gone(), run)
-}
-
-/// Writes every fault of a table, says why they are not all told, and gives the status.
+/// Writes every fault of a table, says why they are not all written, and returns the status.
 fn run_check<R: Read, W: Output, E: Write>(
     alloc: Global,
     reader: &mut R,
@@ -173,7 +100,7 @@ fn run_check<R: Read, W: Output, E: Write>(
     end_check(alloc, errors, writer.reader_is_gone(), run)
 }
 
-/// Writes what a recorded tape is found to be, or says why nothing is found, and gives the status.
+/// Writes whether a recorded tape stands as it is written, or says why that is not known, and returns the status.
 fn run_verify<R: Read, W: Output, E: Write>(
     alloc: Global,
     matrix: Matrix,
@@ -191,14 +118,14 @@ fn run_verify<R: Read, W: Output, E: Write>(
     }
 }
 
-/// Writes the text of a batch of a table, says why it is not whole, and gives the status.
+/// Writes the batch text of a table, says why it is not whole, and returns the status.
 fn run_encode<R: Read, W: Output, E: Write>(
     alloc: Global,
     reader: &mut R,
     writer: &mut W,
     errors: &mut E,
 ) -> Status
-    ensures runs { RunsText table_ends IsTable encoded_text IsTableEnd (R.remaining reader.old) (W.contents writer.old) (W.contents writer.new) (status_code result)
+    ensures runs { RunsText encoded (R.remaining reader.old) (W.contents writer.old) (W.contents writer.new) (status_code result)
         writer.old writer.new errors.old errors.new (E.contents errors.old) (E.contents errors.new) }
     ensures gone { IsQuietIfGone (W.reader_gone writer.new) result errors.old errors.new }
 {
@@ -206,14 +133,14 @@ fn run_encode<R: Read, W: Output, E: Write>(
     end_text(alloc, errors, writer.reader_is_gone(), run)
 }
 
-/// Writes the table of a batch's text, says why it is not whole, and gives the status.
+/// Writes the table of a batch's text, says why it is not whole, and returns the status.
 fn run_decode<R: Read, W: Output, E: Write>(
     alloc: Global,
     reader: &mut R,
     writer: &mut W,
     errors: &mut E,
 ) -> Status
-    ensures runs { RunsText text_ends IsText table_text IsTextEnd (R.remaining reader.old) (W.contents writer.old) (W.contents writer.new) (status_code result)
+    ensures runs { RunsText decoded (R.remaining reader.old) (W.contents writer.old) (W.contents writer.new) (status_code result)
         writer.old writer.new errors.old errors.new (E.contents errors.old) (E.contents errors.new) }
     ensures gone { IsQuietIfGone (W.reader_gone writer.new) result errors.old errors.new }
 {
@@ -221,7 +148,7 @@ fn run_decode<R: Read, W: Output, E: Write>(
     end_decoded(alloc, errors, writer.reader_is_gone(), run)
 }
 
-/// Writes the bytes of a participant's messages, says why they are not whole, and gives the status.
+/// Writes the bytes of a participant's messages, says why they are not whole, and returns the status.
 fn run_line<R: Read, W: Output, E: Write>(
     alloc: Global,
     participant: Participant,
@@ -229,7 +156,7 @@ fn run_line<R: Read, W: Output, E: Write>(
     writer: &mut W,
     errors: &mut E,
 ) -> Status
-    ensures runs { RunsText table_ends IsTable (line_bytes participant) IsReadingEnd (R.remaining reader.old) (W.contents writer.old) (W.contents writer.new) (status_code result)
+    ensures runs { RunsText (line_of participant) (R.remaining reader.old) (W.contents writer.old) (W.contents writer.new) (status_code result)
         writer.old writer.new errors.old errors.new (E.contents errors.old) (E.contents errors.new) }
     ensures gone { IsQuietIfGone (W.reader_gone writer.new) result errors.old errors.new }
 {
@@ -237,21 +164,33 @@ fn run_line<R: Read, W: Output, E: Write>(
     end_text(alloc, errors, writer.reader_is_gone(), run)
 }
 
-/// The matrix that a table goes by: the one that is asked for, and else Matrix One.
-fn table_matrix(asked: Option<Matrix>) -> Matrix
-    ensures { result ≡ table_matrix asked }
+/// Writes messages in another form, says why they are not whole, and returns the status.
+fn run_conversion<R: Read, W: Output, E: Write>(
+    alloc: Global,
+    conversion: Conversion,
+    reader: &mut R,
+    writer: &mut W,
+    errors: &mut E,
+) -> Status
+    ensures runs { RunsText (kind_of conversion) (R.remaining reader.old) (W.contents writer.old) (W.contents writer.new) (status_code result)
+        writer.old writer.new errors.old errors.new (E.contents errors.old) (E.contents errors.new) }
+    ensures gone { IsQuietIfGone (W.reader_gone writer.new) result errors.old errors.new }
 {
-    asked.unwrap_or(Matrix::One)
+    match conversion {
+        Conversion::Encode => run_encode(alloc, reader, writer, errors),
+        Conversion::Decode => run_decode(alloc, reader, writer, errors),
+        Conversion::Line(participant) => run_line(alloc, participant, reader, writer, errors),
+    }
 }
 
-/// Writes a text of a table to `writer` and returns how that ended. The table is read from `reader` as it comes, and `decode`'s text of a
-/// batch too.
+/// Writes a text of a table to `writer` and returns how that ended. The table, or the batch's text for `decode`, is read from
+/// `reader` as it comes.
 ///
-/// A report is the day's, a tape its readable tape, an explanation what became of its reports; a check writes every fault of the table, and a
-/// verification whether a recorded tape stands as it is written. `errors` has a line for each reason for which the first three refused rows,
-/// and one for what goes wrong, but none for a write fault if whoever read what was written is gone. The status is `Done` where all is done,
-/// `Differs` where a tape is not as recorded, `Bad` for a bad table, also one that is checked, or a bad text, `ReadFault`, `WriteFault`, and
-/// `OutOfMemory`.
+/// `Report` writes the day's report, `Tape` its readable tape, `Explain` what became of its reports, `Check` every fault of the
+/// table, `Verify` whether a recorded tape stands as it is written, and `Convert` the messages in another form. `errors` gets a
+/// line for each reason for which the first three refused rows, and one for what goes wrong, but none for a write fault if
+/// whoever read what was written is gone. The status is `Done` if all is done, `Differs` if a tape is not as recorded, `Bad`
+/// for a bad table, also one that is checked, or a bad text, `ReadFault`, `WriteFault`, or `OutOfMemory`.
 pub(crate) fn run_rows<R: Read, W: Output, E: Write>(
     alloc: Global,
     command: Command,
@@ -264,22 +203,17 @@ pub(crate) fn run_rows<R: Read, W: Output, E: Write>(
     ensures gone { IsQuietIfGone (W.reader_gone writer.new) result errors.old errors.new }
 {
     match command {
-        Command::Report(asked, strict) => {
-            let matrix = table_matrix(asked);
-            run_report(alloc, matrix, strict, reader, writer, errors)
+        Command::Report(by, strict) => {
+            run_day(alloc, DayText::Report, by, strict, reader, writer, errors)
         }
-        Command::Tape(asked, strict) => {
-            let matrix = table_matrix(asked);
-            run_tape(alloc, matrix, strict, reader, writer, errors)
+        Command::Tape(by, strict) => {
+            run_day(alloc, DayText::Tape, by, strict, reader, writer, errors)
         }
-        Command::Explain(asked, strict) => {
-            let matrix = table_matrix(asked);
-            run_explain(alloc, matrix, strict, reader, writer, errors)
+        Command::Explain(by, strict) => {
+            run_day(alloc, DayText::Explain, by, strict, reader, writer, errors)
         }
         Command::Check => run_check(alloc, reader, writer, errors),
         Command::Verify(asked) => run_verify(alloc, table_matrix(asked), reader, writer, errors),
-        Command::Encode => run_encode(alloc, reader, writer, errors),
-        Command::Decode => run_decode(alloc, reader, writer, errors),
-        Command::Line(participant) => run_line(alloc, participant, reader, writer, errors),
+        Command::Convert(conversion) => run_conversion(alloc, conversion, reader, writer, errors),
     }
 }

@@ -1,4 +1,5 @@
-//! A line of progress on a terminal.
+//! Shows a line of progress on a terminal while lines are read or written: it counts them, and rewrites the line at most twice
+//! a second.
 
 use crate::Output;
 use std::cell::Cell;
@@ -7,7 +8,7 @@ use std::io::{IsTerminal, Read, Stderr, Write};
 use std::rt::Clock;
 use std::time::{Duration, Instant};
 
-/// How many lines come by before progress is told.
+/// How many lines come by before progress is shown.
 const FIRST_TOLD: u64 = 1_000_000;
 
 /// How many lines come by between two looks at the clock.
@@ -16,7 +17,7 @@ const LINES_A_LOOK: u64 = 4_096;
 /// The least time from one rewriting of the line to the next, in milliseconds.
 const LEAST_PAUSE: u64 = 500;
 
-/// What takes the line of progress off a terminal.
+/// The text that takes the line of progress off a terminal.
 const BLANK: &[u8] = b"\r                                                \r";
 
 /// How much of a file of known length came by.
@@ -27,13 +28,13 @@ struct Part {
 }
 
 impl Part {
-    /// How many of a hundred parts came by.
+    /// Returns how many of a hundred parts came by.
     fn percent(self) -> u64 {
         let percent = u128::from(self.bytes) * 100 / u128::from(self.length.max(1));
         percent.min(100) as u64
     }
 
-    /// How many seconds the rest takes if so many passed, at the pace so far.
+    /// Returns how many seconds the rest takes at the pace so far, if so many have passed.
     fn left(self, passed: u64) -> u64 {
         let rest = self.length.saturating_sub(self.bytes);
         let left = u128::from(passed) * u128::from(rest) / u128::from(self.bytes.max(1));
@@ -52,7 +53,7 @@ pub struct ProgressLine<'a, C> {
 }
 
 impl<C: Clock> ProgressLine<'_, C> {
-    /// The line on standard error, where that is a terminal. It does not stand there yet.
+    /// Returns the line on standard error, or `None` if that is no terminal. The line does not stand there yet.
     pub fn on(clock: &C, errors: Stderr) -> Option<ProgressLine<'_, C>> {
         if !errors.is_terminal() {
             return None;
@@ -66,7 +67,7 @@ impl<C: Clock> ProgressLine<'_, C> {
         })
     }
 
-    /// Whether the line was rewritten too short a time ago to be rewritten at this one.
+    /// Returns whether the line was rewritten too recently to be rewritten at this moment.
     fn is_fresh(&self, now: Instant) -> bool {
         match self.told.get() {
             Some(told) => now.duration_since(told) < Duration::from_millis(LEAST_PAUSE),
@@ -74,7 +75,7 @@ impl<C: Clock> ProgressLine<'_, C> {
         }
     }
 
-    /// Rewrites the line, unless it is fresh. A clock or a terminal that fails leaves it as it stands.
+    /// Rewrites the line, unless it is fresh. If the clock or the terminal fails, the line stays as it is.
     fn tell(&self, lines: u64, done: &str, part: Option<Part>) {
         let Ok(now) = Instant::now(self.clock) else {
             return;
@@ -102,7 +103,7 @@ impl<C: Clock> ProgressLine<'_, C> {
     }
 }
 
-/// The lines that come by, which a line of progress tells, if there is one.
+/// The count of the lines that come by, shown on a line of progress if there is one.
 #[derive(Drop)]
 struct LineCount<'a, C> {
     progress: Option<&'a ProgressLine<'a, C>>,
@@ -114,7 +115,7 @@ struct LineCount<'a, C> {
 }
 
 impl<'a, C: Clock> LineCount<'a, C> {
-    /// No line came by yet, of so many bytes if that is known.
+    /// Returns a count of no lines, of an input of so many bytes if that is known.
     fn new(
         progress: Option<&'a ProgressLine<'a, C>>,
         done: &'static str,
@@ -130,7 +131,7 @@ impl<'a, C: Clock> LineCount<'a, C> {
         }
     }
 
-    /// How much came by, if it is known of how much.
+    /// Returns how much came by, or `None` if the length is not known.
     fn part(&self) -> Option<Part> {
         let length = self.length?;
         Some(Part {
@@ -139,7 +140,8 @@ impl<'a, C: Clock> LineCount<'a, C> {
         })
     }
 
-    /// Counts the lines that end in these bytes, and tells them now and then. No bytes are the end, at which the line is taken off.
+    /// Counts the lines that end in these bytes, and shows the count now and then. No bytes are the end, at which the line is
+    /// taken off.
     fn count(&mut self, bytes: &[u8]) {
         let Some(progress) = self.progress else {
             return;
@@ -158,7 +160,7 @@ impl<'a, C: Clock> LineCount<'a, C> {
     }
 }
 
-/// A reader whose lines a line of progress tells while they are read, and to its end.
+/// A reader whose lines are counted on a line of progress until its end.
 #[derive(Drop)]
 pub struct ToldReader<'a, R, C> {
     inner: R,
@@ -166,7 +168,7 @@ pub struct ToldReader<'a, R, C> {
 }
 
 impl<'a, R: Read, C: Clock> ToldReader<'a, R, C> {
-    /// Tells what is read of a reader, of so many bytes if that is known.
+    /// Shows how much is read of a reader, of so many bytes if that is known.
     pub fn new(
         inner: R,
         progress: Option<&'a ProgressLine<'a, C>>,
@@ -189,7 +191,7 @@ impl<R: Read, C: Clock> Read for ToldReader<'_, R, C> {
     }
 }
 
-/// A writer whose lines a line of progress tells while they are written.
+/// A writer whose lines are counted on a line of progress.
 #[derive(Drop)]
 pub struct ToldWriter<'a, W, C> {
     inner: W,
@@ -197,7 +199,7 @@ pub struct ToldWriter<'a, W, C> {
 }
 
 impl<'a, W: Write, C: Clock> ToldWriter<'a, W, C> {
-    /// Tells what is written to a writer.
+    /// Shows how much is written to a writer.
     pub fn new(inner: W, progress: Option<&'a ProgressLine<'a, C>>) -> ToldWriter<'a, W, C> {
         ToldWriter {
             inner,
@@ -228,7 +230,7 @@ impl<W: Output, C: Clock> Output for ToldWriter<'_, W, C> {
     }
 }
 
-/// A writer to the terminal on which the line of progress stands, which is taken off before anything is written.
+/// A writer to the terminal of the line of progress, which is taken off before anything is written.
 #[derive(Drop)]
 pub struct ClearedWriter<'a, W, C> {
     inner: W,
@@ -236,7 +238,7 @@ pub struct ClearedWriter<'a, W, C> {
 }
 
 impl<'a, W: Write, C: Clock> ClearedWriter<'a, W, C> {
-    /// Takes the line off before what is written to a writer.
+    /// Takes the line off before anything is written to a writer.
     pub fn new(inner: W, progress: Option<&'a ProgressLine<'a, C>>) -> ClearedWriter<'a, W, C> {
         ClearedWriter { inner, progress }
     }

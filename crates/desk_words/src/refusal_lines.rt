@@ -1,15 +1,15 @@
-//! The lines of refused rows.
+//! Writes a line for each reason for which rows were refused: how many there were, the reason, and the first row.
 ghost use Rattle.std.specs.Prelude.{◌≡◌, ◌++◌, IfOk, OnOk};
 ghost use Rattle.std.specs.List.{flat_map};
 ghost use Rattle.desk_words.specs.RefusalLines.{advice, after_text, again_text, count_text, detail_text, reason_line, reason_text, refusal_lines, rows_word, stale_text, whose_text};
 
-use crate::number_text::push_number;
+use csv_days::{Refusals, StaleRow};
 use std::alloc::{AllocError, Global};
-use table_days::{Refusals, StaleRow};
 use tape_core::{ALL_REFUSALS, Refusal};
 use tape_types::Participant;
+use whole_io::push_number;
 
-/// One row, or several.
+/// Returns the words after the count: one row, or several.
 #[tactic(auto, unfolding(crate::specs::RefusalLines::rows_word))]
 fn rows_word(count: u64) -> &'static [u8]
     ensures { result.now ≡ rows_word count }
@@ -26,7 +26,7 @@ fn push_count(text: &mut Vec<u8>, count: u64) -> Result<(), AllocError>
     ensures { OnOk result (text.new.items ≡ text.old.items ++ count_text count) }
 {
     text.extend_from_slice(b"tapebox: ")?;
-    push_number(text, u128::from(count))?;
+    push_number(text, count)?;
     text.extend_from_slice(rows_word(count))
 }
 
@@ -34,14 +34,14 @@ fn push_count(text: &mut Vec<u8>, count: u64) -> Result<(), AllocError>
 fn push_reason(text: &mut Vec<u8>, reason: Refusal, first: u64) -> Result<(), AllocError>
     ensures { OnOk result (text.new.items ≡ text.old.items ++ reason_text reason first) }
 {
-    push_number(text, u128::from(reason.code()))?;
+    push_number(text, u64::from(reason.code()))?;
     text.extend_from_slice(b" ")?;
     text.extend_from_slice(reason.name().as_bytes())?;
     text.extend_from_slice(b", first at row ")?;
-    push_number(text, u128::from(first))
+    push_number(text, first)
 }
 
-/// Adds whose row it is.
+/// Adds the participant whose row it is.
 #[tactic(auto, unfolding(crate::specs::RefusalLines::whose_text))]
 fn push_whose(text: &mut Vec<u8>, participant: Participant) -> Result<(), AllocError>
     ensures { OnOk result (text.new.items ≡ text.old.items ++ whose_text participant) }
@@ -51,7 +51,7 @@ fn push_whose(text: &mut Vec<u8>, participant: Participant) -> Result<(), AllocE
     text.extend_from_slice(b"'s number ")
 }
 
-/// What may be done about a number below its participant's greatest one.
+/// Returns the advice about a number below its participant's greatest one.
 #[tactic(auto, unfolding(crate::specs::RefusalLines::advice))]
 fn advice() -> &'static [u8]
     ensures { result.now ≡ advice }
@@ -59,16 +59,16 @@ fn advice() -> &'static [u8]
     b"; sort by participant and number?"
 }
 
-/// Adds that a number stands below its participant's greatest one.
+/// Adds that a number comes after its participant's greatest one, with the advice about that.
 fn push_after(text: &mut Vec<u8>, greatest: u32) -> Result<(), AllocError>
     ensures { OnOk result (text.new.items ≡ text.old.items ++ after_text greatest) }
 {
     text.extend_from_slice(b" after ")?;
-    push_number(text, u128::from(greatest))?;
+    push_number(text, u64::from(greatest))?;
     text.extend_from_slice(advice())
 }
 
-/// Adds how a stale row's number stands to its participant's greatest one.
+/// Adds whether a stale row's number repeats its participant's greatest one or is below it.
 #[tactic(auto, unfolding(crate::specs::RefusalLines::again_text))]
 fn push_again(text: &mut Vec<u8>, row: StaleRow) -> Result<(), AllocError>
     ensures { OnOk result (text.new.items ≡ text.old.items ++ again_text row) }
@@ -81,7 +81,7 @@ fn push_again(text: &mut Vec<u8>, row: StaleRow) -> Result<(), AllocError>
     }
 }
 
-/// Adds what stood in the first stale row.
+/// Adds the participant and the number of the first stale row, and why it is stale.
 fn push_stale(text: &mut Vec<u8>, row: StaleRow) -> Result<(), AllocError>
     ensures { OnOk result (text.new.items ≡ text.old.items ++ stale_text row) }
 {
@@ -91,11 +91,11 @@ fn push_stale(text: &mut Vec<u8>, row: StaleRow) -> Result<(), AllocError>
         ..
     } = row;
     push_whose(text, participant)?;
-    push_number(text, u128::from(number.value()))?;
+    push_number(text, u64::from(number.value()))?;
     push_again(text, row)
 }
 
-/// Adds what stood in the first row that was refused as `Stale`, and nothing for another reason.
+/// Adds what the first row refused as `Stale` has, or nothing for another reason.
 fn push_detail(text: &mut Vec<u8>, refusals: &Refusals, reason: Refusal) -> Result<(), AllocError>
     ensures { OnOk result (text.new.items ≡ text.old.items ++ detail_text refusals.now reason) }
 {
@@ -105,7 +105,7 @@ fn push_detail(text: &mut Vec<u8>, refusals: &Refusals, reason: Refusal) -> Resu
     }
 }
 
-/// Adds the line of a reason, or nothing where no row was refused for it.
+/// Adds the line of a reason, or nothing if no row was refused for it.
 fn push_line(text: &mut Vec<u8>, refusals: &Refusals, reason: Refusal) -> Result<(), AllocError>
     ensures { OnOk result (text.new.items ≡ text.old.items ++ reason_line refusals.now reason) }
 {
@@ -132,7 +132,8 @@ fn push_lines(
     Ok(())
 }
 
-/// A line for each reason for which rows were refused, by the reason's rising number.
+/// Returns a line for each reason for which rows were refused, in the order of the reasons' numbers. It fails if memory runs
+/// out.
 pub fn refusal_lines(alloc: Global, refusals: &Refusals) -> Result<Vec<u8>, AllocError>
     ensures { IfOk result (λ text. text.items ≡ refusal_lines refusals.now) }
 {

@@ -1,11 +1,11 @@
-//! The status of a run over sockets, by how it ended.
+//! Turns the end of a run over sockets into a status.
 ghost use Rattle.std.specs.Prelude.{◌≡◌};
 ghost use Rattle.desk_words.specs.RunStatuses.{ended_status, fault_status};
 
 use feed_ends::Fault;
 use program_words::Status;
 
-/// The status of a fault of a run.
+/// Returns the status of a run's fault.
 pub fn fault_status(fault: Fault) -> Status
     ensures { result ≡ fault_status fault }
 {
@@ -18,7 +18,7 @@ pub fn fault_status(fault: Fault) -> Status
     }
 }
 
-/// The status of a run that ended so.
+/// Returns the status of a run: `Done`, or that of its fault.
 pub fn ended_status(ended: Result<(), Fault>) -> Status
     ensures { result ≡ ended_status ended }
 {

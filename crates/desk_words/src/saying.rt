@@ -1,28 +1,28 @@
-//! What is said on standard error.
+//! Writes the lines on standard error, one for each fault or kind of refusal, and returns the status that goes with them.
 ghost use Rattle.std.specs.Prelude.{◌≡◌, ◌≢◌, ◌↔◌, IsOk, IsTrue, Ok, [], true};
-ghost use Rattle.row_reads.specs.Writing.{WritesPrefix};
-ghost use Rattle.table_days.specs.EndTexts.{end_status, listing_fault_status, table_fault_status};
-ghost use Rattle.table_texts.specs.EndTexts as text;
+ghost use Rattle.whole_io.specs.Writing.{WritesPrefix};
+ghost use Rattle.csv_days.specs.EndTexts.{end_status, listing_fault_status, table_fault_status};
+ghost use Rattle.message_texts.specs.EndTexts as text;
 ghost use Rattle.program_words.specs.Statuses.{status_code, status_text};
 ghost use Rattle.program_words.specs.declared.status.Status.TheVariants.{WriteFault};
 ghost use Rattle.desk_words.specs.Outputs.{IsQuietIfGone};
 ghost use Rattle.desk_words.specs.Program.{check_line, check_status, checked_status, refuses_any, run_status, run_text};
 ghost use Rattle.desk_words.specs.RefusalLines.{refusal_lines};
 ghost use Rattle.desk_words.specs.TextRuns.{end_line, machine_status, table_ends, text_end_line, text_ends, text_line, text_machine_status, text_status};
-ghost use Rattle.table_days.specs.declared.table_end.TableEnd.TheVariants.{Listing, Table};
+ghost use Rattle.csv_days.specs.declared.table_end.TableEnd.TheVariants.{Listing, Table};
 
 use crate::refusal_lines::refusal_lines;
-use day_tables::TableFault;
+use csv_days::{Refusals, TableEnd};
+use csv_messages::TableFault;
+use message_texts::TextEnd;
 use program_words::Status;
-use row_reads::write_text;
 use std::alloc::Global;
 use std::io::Write;
-use table_days::{Refusals, TableEnd};
-use table_texts::TextEnd;
 use tape_core::ALL_REFUSALS;
 use tape_types::ListingFault;
+use whole_io::write_text;
 
-/// Says a text, and for no text writes nothing. A write that fails ends it, and changes nothing of the status.
+/// Writes a text to standard error, or nothing if it is empty. A failed write is ignored, and the rest is left out.
 pub fn say<E: Write>(errors: &mut E, text: &[u8])
     ensures quiet { text.now ≡ [] → errors.new ≡ errors.old }
     ensures said { WritesPrefix text.now (E.contents errors.old) (E.contents errors.new) }
@@ -40,7 +40,7 @@ pub fn say_status<E: Write>(errors: &mut E, status: Status)
     say(errors, status.text().as_bytes());
 }
 
-/// Whether nothing is said of a status: of a write fault if whoever read what was written is gone.
+/// Returns whether nothing is said of a status: a write fault if whoever read what was written is gone.
 fn is_quiet(status: Status, reader_gone: bool) -> bool
     ensures { IsTrue result ↔ ((reader_gone ≡ true) × (status ≡ WriteFault)) }
 {
@@ -60,7 +60,7 @@ pub fn say_ended<E: Write>(errors: &mut E, status: Status, reader_gone: bool)
     say_status(errors, status);
 }
 
-/// The status of a table's fault that has nothing to do with what the table says.
+/// Returns the status of a table's fault if the fault does not depend on what the table says.
 fn machine_status(fault: &TableFault) -> Option<Status>
     ensures { result ≡ machine_status fault.now }
 {
@@ -71,7 +71,7 @@ fn machine_status(fault: &TableFault) -> Option<Status>
     }
 }
 
-/// Says what is wrong with a table. What the table says wrong is not said where there is no memory for the line.
+/// Says what is wrong with a table. If there is no memory for the line of a faulty row or header, nothing is said.
 fn say_fault<E: Write>(alloc: Global, errors: &mut E, fault: &TableFault)
     ensures { WritesPrefix (end_line (Table fault.now)) (E.contents errors.old) (E.contents errors.new) }
 {
@@ -85,7 +85,7 @@ fn say_fault<E: Write>(alloc: Global, errors: &mut E, fault: &TableFault)
     say(errors, line.as_bytes());
 }
 
-/// What is said of names that make no listing.
+/// Returns what is said of names that make no listing.
 fn listing_line(fault: ListingFault) -> &'static [u8]
     ensures { result.now ≡ end_line (Listing fault) }
 {
@@ -109,14 +109,14 @@ fn say_why<E: Write>(alloc: Global, errors: &mut E, end: &TableEnd)
     }
 }
 
-/// The status of a table's fault.
+/// Returns the status of a table's fault.
 fn fault_status(fault: &TableFault) -> Status
     ensures { status_code result ≡ table_fault_status fault.now }
 {
     machine_status(fault).unwrap_or(Status::Bad)
 }
 
-/// The status of names that make no listing.
+/// Returns the status of names that make no listing.
 fn listing_status(fault: ListingFault) -> Status
     ensures { status_code result ≡ listing_fault_status fault }
 {
@@ -126,7 +126,7 @@ fn listing_status(fault: ListingFault) -> Status
     }
 }
 
-/// The status of a table's end.
+/// Returns the status of a table's end.
 fn status_of(end: &TableEnd) -> Status
     ensures { status_code result ≡ end_status end.now }
 {
@@ -138,7 +138,7 @@ fn status_of(end: &TableEnd) -> Status
     }
 }
 
-/// Says why a table has no text, but nothing of a write fault if whoever read it is gone, and gives the status.
+/// Says why a table has no text, but nothing of a write fault if whoever read it is gone, and returns the status.
 #[tactic(auto, using(crate::proofs::LineLemmas::nothing_said))]
 pub fn say_end<E: Write>(alloc: Global, errors: &mut E, reader_gone: bool, end: &TableEnd) -> Status
     ensures status { status_code result ≡ end_status end.now }
@@ -164,7 +164,7 @@ fn say_refusals<E: Write>(alloc: Global, errors: &mut E, refusals: &Refusals)
     say(errors, &lines);
 }
 
-/// Whether rows were refused.
+/// Returns whether rows were refused.
 fn refuses_any(refusals: &Refusals) -> bool
     ensures { result ≡ refuses_any refusals.now }
 {
@@ -173,7 +173,7 @@ fn refuses_any(refusals: &Refusals) -> bool
         .any(|reason| refusals.of(*reason).is_some())
 }
 
-/// The status of a table whose text was written, unless refused rows are faults.
+/// Returns the status of a table that was read whole: `Bad` if refused rows are faults and there are any, else `Done`.
 fn refused_status(strict: bool, refusals: &Refusals) -> Status
     ensures code { status_code result ≡ run_status strict (Ok refusals.now) }
     ensures no_fault { result ≢ WriteFault }
@@ -185,7 +185,7 @@ fn refused_status(strict: bool, refusals: &Refusals) -> Status
     }
 }
 
-/// Says what a table's text came to: the rows that were refused, which may be faults, or why it ended. It gives the status.
+/// Says which rows of a table were refused, or why its text ended, and returns the status. Refused rows are faults if `strict`.
 pub fn end_run<E: Write>(
     alloc: Global,
     errors: &mut E,
@@ -207,14 +207,15 @@ pub fn end_run<E: Write>(
     }
 }
 
-/// The status of a table that was checked.
+/// Returns the status of a table that was checked.
 fn checked_status(faultless: bool) -> Status
     ensures { status_code result ≡ checked_status faultless }
 {
     if faultless { Status::Done } else { Status::Bad }
 }
 
-/// Says why the faults of a table are not all told, or nothing where they are. It gives the status, which is 2 where there are any.
+/// Says why the faults of a table are not all written, or nothing if they are, and returns the status, which is `Bad` if there
+/// are any.
 pub fn end_check<E: Write>(
     alloc: Global,
     errors: &mut E,
@@ -232,7 +233,7 @@ pub fn end_check<E: Write>(
     }
 }
 
-/// Says why a text of a table was not written whole, or nothing where it was. It gives the status.
+/// Says why a text of a table was not written whole, or nothing if it was, and returns the status.
 pub fn end_text<E: Write>(
     alloc: Global,
     errors: &mut E,
@@ -250,7 +251,7 @@ pub fn end_text<E: Write>(
     }
 }
 
-/// The status of the end of a batch's text that has nothing to do with what the text says.
+/// Returns the status of the end of a batch's text if the end does not depend on what the text says.
 fn text_machine_status(end: &TextEnd) -> Option<Status>
     ensures { result ≡ text_machine_status end.now }
 {
@@ -262,14 +263,14 @@ fn text_machine_status(end: &TextEnd) -> Option<Status>
     }
 }
 
-/// The status of the end of a batch's text.
+/// Returns the status of the end of a batch's text.
 fn text_status_of(end: &TextEnd) -> Status
     ensures { status_code result ≡ text.end_status end.now }
 {
     text_machine_status(end).unwrap_or(Status::Bad)
 }
 
-/// Says why the text of a batch has no table. What the text says wrong is not said where there is no memory for the line.
+/// Says why the text of a batch has no table. If there is no memory for the line of a faulty line of it, nothing is said.
 fn say_text_why<E: Write>(alloc: Global, errors: &mut E, end: &TextEnd)
     ensures { WritesPrefix (text_end_line end.now) (E.contents errors.old) (E.contents errors.new) }
 {
@@ -283,7 +284,8 @@ fn say_text_why<E: Write>(alloc: Global, errors: &mut E, end: &TextEnd)
     say(errors, line.as_bytes());
 }
 
-/// Says why the text of a batch has no table, but nothing of a write fault if whoever read it is gone, and gives the status.
+/// Says why the text of a batch has no table, but nothing of a write fault if whoever read the table is gone, and returns the
+/// status.
 #[tactic(auto, using(crate::proofs::LineLemmas::nothing_said))]
 fn say_text_end<E: Write>(alloc: Global, errors: &mut E, reader_gone: bool, end: &TextEnd) -> Status
     ensures status { status_code result ≡ text.end_status end.now }
@@ -298,7 +300,7 @@ fn say_text_end<E: Write>(alloc: Global, errors: &mut E, reader_gone: bool, end:
     status
 }
 
-/// Says why the text of a batch was not written whole as a table, or nothing where it was. It gives the status.
+/// Says why the text of a batch was not written whole as a table, or nothing if it was, and returns the status.
 pub fn end_decoded<E: Write>(
     alloc: Global,
     errors: &mut E,

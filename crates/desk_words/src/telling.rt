@@ -1,7 +1,7 @@
-//! What is told of a running day that its file gives.
+//! Writes the program's own lines to standard error, such as those about a running day that a file describes.
 ghost use Rattle.std.specs.Prelude.{◌≡◌, IfOk, IsTrue, OnOk};
 ghost use Rattle.feed_ends.specs.OpenFaults.{open_fault_text};
-ghost use Rattle.row_reads.specs.Writing.{WritesPrefix};
+ghost use Rattle.whole_io.specs.Writing.{WritesPrefix};
 ghost use Rattle.desk_words.specs.Tellings.{told_line};
 
 use crate::saying::say;
@@ -10,7 +10,7 @@ use feed_follower::{FollowEnd, FollowFault, account_text};
 use std::alloc::{AllocError, Global};
 use std::io::Write;
 
-/// A line of the program's own.
+/// Returns a line of the program's own: `tapebox: `, the text and a line feed.
 fn told_line(alloc: Global, what: &[u8]) -> Result<Vec<u8>, AllocError>
     ensures { IfOk result (λ line. line.items ≡ told_line what.now) }
 {
@@ -20,7 +20,7 @@ fn told_line(alloc: Global, what: &[u8]) -> Result<Vec<u8>, AllocError>
     Ok(line)
 }
 
-/// Says something in a line, unless there is no memory for it.
+/// Says a text in a line of the program's own, unless there is no memory for the line.
 pub fn say_told<E: Write>(alloc: Global, errors: &mut E, what: &[u8])
     ensures { WritesPrefix (told_line what.now) (E.contents errors.old) (E.contents errors.new) }
 {
@@ -38,7 +38,8 @@ pub fn say_open_fault<E: Write>(alloc: Global, errors: &mut E, fault: OpenFault)
     }
 }
 
-/// Says what was heard of a day, unless there is no memory for it, and which socket its end is the fault of. Tells whether the fault was named so.
+/// Says what was heard of a day, unless there is no memory for it, and which socket ended it, if one did. It returns whether a
+/// socket did.
 pub fn say_followed<E: Write>(alloc: Global, errors: &mut E, end: &FollowEnd) -> bool
     ensures { OnOk end.now.ended (IsTrue result → ⊥) }
 {

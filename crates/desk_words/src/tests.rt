@@ -3,7 +3,7 @@
 mod journals;
 
 use crate::{PipeWriter, run_command};
-use program_words::{Command, Status};
+use program_words::{Command, Conversion, Status};
 use sale_matrix::Matrix;
 use std::alloc::{AllocError, Global};
 use std::io;
@@ -11,13 +11,13 @@ use std::io::{ErrorKind, Read, Write};
 use std::process::Abort;
 use tape_types::Participant;
 
-/// The report by no matrix that is given.
+/// The report, with no matrix given.
 const REPORT_OF: Command = Command::Report(None, false);
 
-/// The readable tape by no matrix that is given.
+/// The readable tape, with no matrix given.
 const TAPE_OF: Command = Command::Tape(None, false);
 
-/// What became of the reports by no matrix that is given.
+/// What became of the reports, with no matrix given.
 const EXPLAIN_OF: Command = Command::Explain(None, false);
 
 /// The first line of a report.
@@ -57,7 +57,7 @@ const EXPLAINED_ROWS: &[u8] = b"\
 AB,1,2,N,1,0,10.00,100,@___,standing,,yes,yes,yes,open high low last,yes,yes,open high low last\n\
 AB,2,3,Q,1,0,10.10,200,@___,cancelled,3,yes,yes,yes,,yes,yes,\n";
 
-/// The text of a batch of it.
+/// Its batch text.
 const ENCODED: &[u8] = b"\
 AB\n\
 N Q\n\
@@ -85,7 +85,7 @@ N,1,AB,10,1,@___\n\
 N,0,AB,10,1,@___\n\
 N,2,AB,10.00001,1,@___\n";
 
-/// What is told of it.
+/// The lines of its faults.
 const FAULTS: &[u8] = b"\
 row 3: number \"0\" is not 1 to 4294967295 in at most 20 digits\n\
 row 4: price \"10.00001\" is not 0.0001 to 99999999.9999 with at most 20 digits and four decimals\n";
@@ -115,7 +115,8 @@ impl Read for CutShort<'_> {
     }
 }
 
-/// A writer with room for so many bytes, which fails with an error of this kind after them, or takes none. It may fail to flush.
+/// A writer with room for so many bytes. Once it is full, it fails with an error of this kind, or takes no byte. It may fail to
+/// flush.
 #[derive(Drop)]
 struct Room {
     taken: Vec<u8>,
@@ -148,17 +149,17 @@ impl Write for Room {
     }
 }
 
-/// A text of this first line and these rows.
+/// Returns a text of this first line and these rows.
 fn text_of(alloc: Global, heading: &[u8], rows: &[u8]) -> Result<Vec<u8>, AllocError> {
     let mut text = Vec::from_slice(alloc, heading)?;
     text.extend_from_slice(rows)?;
     Ok(text)
 }
 
-/// The bytes of a participant's messages. Every letter here is one.
+/// Returns the word for the bytes of a participant's messages. Every letter used here is a participant.
 fn line_of(letter: u8) -> Command {
     match Participant::try_new(letter) {
-        Some(participant) => Command::Line(participant),
+        Some(participant) => Command::Convert(Conversion::Line(participant)),
         None => Command::Check,
     }
 }
@@ -245,7 +246,7 @@ fn a_table_is_encoded_and_decoded(rt: HostRuntime) {
     assert_answers(
         &rt,
         rt.alloc(),
-        Command::Encode,
+        Command::Convert(Conversion::Encode),
         &mut { TABLE },
         Status::Done,
         ENCODED,
@@ -254,7 +255,7 @@ fn a_table_is_encoded_and_decoded(rt: HostRuntime) {
     assert_answers(
         &rt,
         rt.alloc(),
-        Command::Decode,
+        Command::Convert(Conversion::Decode),
         &mut { ENCODED },
         Status::Done,
         DECODED,
@@ -310,7 +311,7 @@ fn a_bad_text_writes_nothing(rt: HostRuntime) {
         assert_answers(
             &rt,
             rt.alloc(),
-            Command::Decode,
+            Command::Convert(Conversion::Decode),
             &mut { *text },
             Status::Bad,
             b"",
@@ -337,7 +338,7 @@ fn a_bad_table_writes_nothing(rt: HostRuntime) {
             REPORT_OF,
             TAPE_OF,
             EXPLAIN_OF,
-            Command::Encode,
+            Command::Convert(Conversion::Encode),
             line_of(b'N'),
         ] {
             assert_answers(
@@ -360,8 +361,9 @@ fn a_read_that_fails_writes_nothing(rt: HostRuntime) {
         (TAPE_OF, TABLE),
         (EXPLAIN_OF, TABLE),
         (Command::Check, TABLE),
-        (Command::Encode, TABLE),
-        (Command::Decode, ENCODED),
+        (Command::Verify(None), TABLE),
+        (Command::Convert(Conversion::Encode), TABLE),
+        (Command::Convert(Conversion::Decode), ENCODED),
         (line_of(b'N'), TABLE),
     ] {
         let mut reader = CutShort { left: input };
@@ -424,8 +426,8 @@ fn a_write_and_a_flush_that_fail_are_told_unless_nobody_reads(
             (TAPE_OF, TABLE, tape.as_slice()),
             (EXPLAIN_OF, TABLE, explained.as_slice()),
             (Command::Check, FAULTY, FAULTS),
-            (Command::Encode, TABLE, ENCODED),
-            (Command::Decode, ENCODED, DECODED),
+            (Command::Convert(Conversion::Encode), TABLE, ENCODED),
+            (Command::Convert(Conversion::Decode), ENCODED, DECODED),
             (line_of(b'N'), TABLE, BYTES_OF_N),
         ] {
             let taken = &text[..text.len().min(room)];

@@ -1,25 +1,24 @@
-//! The line of what a recorded tape is found to be.
+//! Writes the line of a recorded tape's verdict, and returns its status.
 ghost use Rattle.std.specs.Prelude.{◌≡◌, ◌≢◌, ◌⊎◌, ◌<◌, ◌^◌, ◌++◌, [], Err, IfOk, Ok, OnOk, get_or, length, string_bytes};
-ghost use Rattle.table_days.specs.TapeRows.{column_names};
+ghost use Rattle.csv_days.specs.TapeRows.{column_names};
 ghost use Rattle.desk_words.specs.VerdictLines.{counted, cut_line, cut_text, difference_line, recorded_line, refused_count, refused_for_any, rows_line, verdict_line, verdict_status};
 ghost use Rattle.program_words.specs.Statuses.{status_code};
 ghost use Rattle.program_words.specs.declared.status.Status.TheVariants.{WriteFault};
 ghost use Rattle.desk_words.specs.Outputs.{IsQuietIfGone};
 ghost use Rattle.desk_words.specs.VerifyRuns.{TellsVerdict};
-ghost use Rattle.table_days.specs.declared.table_end.TableEnd.TheVariants.{OutOfMemory};
+ghost use Rattle.csv_days.specs.declared.table_end.TableEnd.TheVariants.{OutOfMemory};
 
 use crate::Output;
-use crate::number_text::push_number;
 use crate::saying::say_end;
+use csv_days::{Refusals, TableEnd};
 use program_words::Status;
 use recorded_tapes::{Difference, Rows, Verdict};
-use row_reads::write_text;
 use std::alloc::{AllocError, Global};
 use std::io::Write;
-use table_days::{Refusals, TableEnd};
 use tape_core::{ALL_REFUSALS, Refusal};
+use whole_io::{push_number, push_wide_number, write_text};
 
-/// How many rows were refused for a reason.
+/// Returns how many rows were refused for a reason.
 fn refused_count(refusals: &Refusals, reason: Refusal) -> u64
     ensures { result ≡ refused_count refusals.now reason }
 {
@@ -29,7 +28,7 @@ fn refused_count(refusals: &Refusals, reason: Refusal) -> u64
     }
 }
 
-/// How many rows were refused for any of these reasons.
+/// Returns how many rows were refused for any of these reasons.
 fn refused_for_any(refusals: &Refusals, reasons: &[Refusal]) -> u128
     requires { length reasons.now < 2 ^ 64 }
     ensures { result ≡ refused_for_any refusals.now reasons.now }
@@ -41,15 +40,15 @@ fn refused_for_any(refusals: &Refusals, reasons: &[Refusal]) -> u128
     refused
 }
 
-/// Adds so many of what has one name for one and another for more.
+/// Adds a count and its noun, which is `one` for 1 and else `more`.
 fn push_counted(text: &mut Vec<u8>, count: u128, one: &[u8], more: &[u8]) -> Result<(), AllocError>
     ensures { OnOk result (text.new.items ≡ text.old.items ++ counted count one.now more.now) }
 {
-    push_number(text, count)?;
+    push_wide_number(text, count)?;
     text.extend_from_slice(if count == 1 { one } else { more })
 }
 
-/// Adds how many entries and refusals the rows are.
+/// Adds how many of the rows are entries and how many are refusals.
 fn push_rows(text: &mut Vec<u8>, rows: &Rows) -> Result<(), AllocError>
     ensures { OnOk result (text.new.items ≡ text.old.items ++ rows_line rows.now) }
 {
@@ -59,7 +58,7 @@ fn push_rows(text: &mut Vec<u8>, rows: &Rows) -> Result<(), AllocError>
     push_counted(text, refused, b" refusal, ", b" refusals, ")
 }
 
-/// The name of a readable tape's column, by how many columns are before it.
+/// Returns the name of a readable tape's column, counted from 0, or an empty name behind the last.
 fn column_name(column: u64) -> &'static [u8]
     ensures { result.now ≡ get_or column_names column [] }
 {
@@ -85,7 +84,7 @@ fn column_name(column: u64) -> &'static [u8]
     }
 }
 
-/// The line of the first place at which a recorded tape differs.
+/// Returns the line of the first place at which a recorded tape differs.
 fn difference_line(alloc: Global, difference: &Difference) -> Result<Vec<u8>, AllocError>
     ensures { IfOk result (λ line. line.items ≡ difference_line difference.now) }
 {
@@ -97,7 +96,7 @@ fn difference_line(alloc: Global, difference: &Difference) -> Result<Vec<u8>, Al
     } = *difference;
     let mut text = Vec::new(alloc);
     text.extend_from_slice(b"line ")?;
-    push_number(&mut text, u128::from(line))?;
+    push_number(&mut text, line)?;
     if stands.bytes() == wanted.bytes() {
         text.extend_from_slice(b" has other fields than a readable tape's\n")?;
         return Ok(text);
@@ -109,7 +108,7 @@ fn difference_line(alloc: Global, difference: &Difference) -> Result<Vec<u8>, Al
     Ok(text)
 }
 
-/// The line of a tape that stands as recorded.
+/// Returns the line of a tape that stands as recorded.
 fn recorded_line(alloc: Global, rows: &Rows) -> Result<Vec<u8>, AllocError>
     ensures { IfOk result (λ line. line.items ≡ recorded_line rows.now) }
 {
@@ -119,14 +118,14 @@ fn recorded_line(alloc: Global, rows: &Rows) -> Result<Vec<u8>, AllocError>
     Ok(text)
 }
 
-/// Which line is cut off.
+/// Returns the words that say which line is cut off.
 fn cut_text(alloc: Global, line: u64) -> Result<String, AllocError>
     ensures { IfOk result (λ text. string_bytes text ≡ cut_text line) }
 {
     format!(in alloc; "all as recorded before line {line}, which is cut off\n")
 }
 
-/// The line of a tape that stands as recorded before this line, which is cut off.
+/// Returns the line of a tape that stands as recorded before this line, which is cut off.
 fn cut_line(alloc: Global, rows: &Rows, line: u64) -> Result<Vec<u8>, AllocError>
     ensures { IfOk result (λ text. text.items ≡ cut_line rows.now line) }
 {
@@ -137,7 +136,7 @@ fn cut_line(alloc: Global, rows: &Rows, line: u64) -> Result<Vec<u8>, AllocError
     Ok(text)
 }
 
-/// The line of what a recorded tape is found to be.
+/// Returns the line of a recorded tape's verdict.
 fn verdict_line(alloc: Global, verdict: &Verdict) -> Result<Vec<u8>, AllocError>
     ensures { IfOk result (λ line. line.items ≡ verdict_line verdict.now) }
 {
@@ -148,7 +147,7 @@ fn verdict_line(alloc: Global, verdict: &Verdict) -> Result<Vec<u8>, AllocError>
     }
 }
 
-/// The status of what a recorded tape is found to be.
+/// Returns the status of a recorded tape's verdict.
 fn verdict_status(verdict: &Verdict) -> Status
     ensures code { status_code result ≡ verdict_status verdict.now }
     ensures no_fault { result ≢ WriteFault }
@@ -159,7 +158,8 @@ fn verdict_status(verdict: &Verdict) -> Status
     }
 }
 
-/// Writes the line of what a recorded tape is found to be, and gives the status. Where there is no memory for it that is said.
+/// Writes the line of a recorded tape's verdict, or says why it is not whole, and returns the status. It says so if there is no
+/// memory for the line.
 pub fn write_verdict<W: Output, E: Write>(
     alloc: Global,
     verdict: &Verdict,

@@ -1,4 +1,4 @@
-//! The readable tape of a running day that its file gives, as it comes.
+//! Follows a running day that a file describes, and writes the readable tape of its entries as they come.
 ghost use Rattle.std.specs.Prelude.{◌≡◌, ◌⊎◌, OnOk};
 ghost use Rattle.program_words.specs.Statuses.{status_code};
 ghost use Rattle.program_words.specs.declared.status.Status.TheVariants.{Done};
@@ -9,6 +9,7 @@ use crate::run_status::ended_status;
 use crate::saying::{say_ended, say_status};
 use crate::telling::say_followed;
 use crate::watching::{RowSink, Watched, flushed, sink_fault, unbuffered};
+use csv_days::{EntryRows, write_head};
 use feed_ends::Fault;
 use feed_follower::{FollowEnd, FollowSockets, FollowTerms, follow_tape_day};
 use program_words::Status;
@@ -17,18 +18,17 @@ use std::io::{BufWriter, Write};
 use std::net::{Net, TcpListener, TcpStream};
 use std::sync::Wait;
 use std::thread::Threads;
-use table_days::{EntryRows, write_head};
 
-/// How a day whose rows were written ended.
+/// How a day ended whose rows were written.
 struct Rows<W> {
-    /// How it was followed, unless the names of the columns could not be written.
+    /// How it was followed, or `None` if the names of the columns could not be written.
     end: Option<FollowEnd>,
-    /// Well, or by what.
+    /// The fault that ended it, if any.
     ended: Result<(), Fault>,
     writer: W,
 }
 
-/// Follows a day, and writes the rows of its tape as they come to a writer, which comes back.
+/// Follows a day, writes the rows of its tape to a writer as they come, and returns the writer.
 #[tactic(auto, using(crate::proofs::WatchLemmas::head_part))]
 fn watch_rows<T, W>(
     rt: &T,
@@ -68,9 +68,9 @@ where
     }
 }
 
-/// Watches the day that a file gives as a follower: it writes the readable tape of its entries as they come to a writer, which comes back with the
-/// status. The writer, its buffer and the statuses are as in `watch`. What was heard of the day is said on `errors`, line by line, whatever the
-/// status.
+/// Watches the day that a file describes as a follower: it writes the readable tape of its entries to a writer as they come,
+/// and returns the status and the writer. The writer, its buffer and the statuses are as in `watch`. What was heard of the day
+/// is said on `errors`, line by line, with any status.
 #[tactic(auto, using(crate::proofs::WatchLemmas::run_status, crate::proofs::WatchLemmas::done_well))]
 pub fn watch_file<T, W, E>(
     rt: &T,

@@ -1,4 +1,4 @@
-//! The readable tape of a running day, as it comes.
+//! Follows a running day, and writes the readable tape of its entries as they come.
 ghost use Rattle.std.specs.Prelude.{◌≡◌, ◌⊎◌, [], Err, IfErr, IfSome, IsOk, IsSome, OnOk, Some};
 ghost use Rattle.std.specs.Io.Buffered.{writer_contents};
 ghost use Rattle.feed_ends.specs.declared.fault.Fault.TheVariants.{Write as WriteFault};
@@ -7,35 +7,33 @@ ghost use Rattle.feed_words.specs.Words.{words_of};
 ghost use Rattle.program_words.specs.Statuses.{status_code, status_text};
 ghost use Rattle.program_words.specs.declared.status.Status.TheVariants.{Done};
 ghost use Rattle.std.specs.Io.KnownBytes.{Keeps};
-ghost use Rattle.row_reads.specs.Writing.{WritesPrefix};
+ghost use Rattle.whole_io.specs.Writing.{WritesPrefix};
 ghost use Rattle.desk_words.specs.Outputs.{IsQuietIfGone};
 ghost use Rattle.desk_words.specs.Watches.{IsRunStatus, IsWatchStatus, WritesPartOf, WritesSome, WritesTapeOf, WritesWhole, entry_line, row_fault, watch_text};
 
 use crate::Output;
 use crate::run_status::ended_status;
 use crate::saying::{say, say_ended};
-use feed_ends::{Fault, here};
-use feed_follower::{EntrySink, FollowSockets, SinkFault, follow_tape};
+use csv_days::{EntryRows, WritingFault, write_head};
+use feed_ends::Fault;
+use feed_follower::{EntrySink, FollowSockets, FollowTerms, SinkFault, follow_tape};
 use feed_words::{FollowWords, WordsFault};
 use program_words::Status;
-use scratch_fold::Summary;
 use std::alloc::Global;
-use std::io;
 use std::io::{BufWriter, Write};
-use std::net::{Net, TcpListener, TcpStream, UdpSocket};
+use std::net::{Net, TcpListener, TcpStream};
 use std::sync::Wait;
 use std::thread::Threads;
-use table_days::{EntryRows, WritingFault, write_head};
-use tape_core::Entry;
+use tape_core::{Entry, RowFigures};
 
-/// The rows of a tape that is followed, and where they are written.
+/// A sink that writes the row of each entry of a followed tape.
 #[derive(Drop)]
 pub(crate) struct RowSink<W: Write + Drop> {
     pub(crate) rows: EntryRows,
     pub(crate) writer: W,
 }
 
-/// A fault of a row as a sink tells it.
+/// Returns the sink's fault for a row that was not written.
 pub(crate) fn sink_fault(fault: WritingFault) -> SinkFault
     ensures { result ≡ row_fault fault }
 {
@@ -54,18 +52,13 @@ impl<W: Write + Drop> EntrySink for RowSink<W> {
         false
     }
 
-    fn take(&mut self, entry: &Entry, after: &Summary) -> Result<(), SinkFault> {
-        match self.rows.write(entry, after, &mut self.writer) {
-            Ok(()) => Ok(()),
-            Err(fault) => Err(sink_fault(fault)),
-        }
+    fn take(&mut self, entry: &Entry, after: &RowFigures) -> Result<(), SinkFault> {
+        let written = self.rows.write(entry, after, &mut self.writer);
+        written.map_err(sink_fault)
     }
 
     fn flush(&mut self) -> Result<(), SinkFault> {
-        match self.writer.flush() {
-            Ok(()) => Ok(()),
-            Err(_) => Err(SinkFault::Write),
-        }
+        self.writer.flush().map_err(|_| SinkFault::Write)
     }
 
     #[tactic(auto, using(crate::proofs::WatchLemmas::keeps_same))]
@@ -74,20 +67,7 @@ impl<W: Write + Drop> EntrySink for RowSink<W> {
     }
 }
 
-/// Opens the sockets of a follower.
-fn open_sockets<T: Net<Listener = TcpListener, Stream = TcpStream>>(
-    rt: &T,
-    words: &FollowWords,
-) -> io::Result<FollowSockets> {
-    let [a, b] = words.ports;
-    Ok(FollowSockets {
-        a: UdpSocket::bind(rt, here(a))?,
-        b: UdpSocket::bind(rt, here(b))?,
-        retransmission: words.retransmission,
-    })
-}
-
-/// The fault of a run whose last flush failed: a write fault if all else was well.
+/// Returns the fault of a run whose last flush failed: its own fault, else a write fault.
 fn unflushed(ended: Result<(), Fault>) -> Fault
     ensures done { OnOk ended (result ≡ WriteFault) }
     ensures fault { IfErr ended (λ fault. result ≡ fault) }
@@ -98,7 +78,7 @@ fn unflushed(ended: Result<(), Fault>) -> Fault
     }
 }
 
-/// Flushes what a run has written, and tells how it ended then.
+/// Flushes what a run has written, and returns how the run ended after that.
 pub(crate) fn flushed<W: Write>(ended: Result<(), Fault>, writer: &mut W) -> Result<(), Fault>
     ensures kept { Keeps (W.contents writer.old) (W.contents writer.new) }
     ensures done { IsOk result → IsOk ended }
@@ -111,7 +91,7 @@ pub(crate) fn flushed<W: Write>(ended: Result<(), Fault>, writer: &mut W) -> Res
     }
 }
 
-/// Follows the day of these arguments, and writes the rows of its tape as they come to a writer, which comes back.
+/// Follows the day of these arguments, writes the rows of its tape to a writer as they come, and returns the writer.
 #[tactic(auto, using(crate::proofs::WatchLemmas::head_part, crate::proofs::WatchLemmas::tape_part))]
 fn watch_day<T, W>(rt: &T, alloc: Global, words: FollowWords, writer: W) -> (Result<(), Fault>, W)
 where
@@ -120,7 +100,7 @@ where
     ensures whole { OnOk result.0 (WritesTapeOf words.listing words.matrix words.limit (W.contents writer) (W.contents result.1)) }
     ensures part { (result.1 ≡ writer) ⊎ WritesPartOf words.listing words.matrix words.limit (W.contents writer) (W.contents result.1) }
 {
-    let Ok(sockets) = open_sockets(rt, &words) else {
+    let Ok(sockets) = FollowSockets::open(rt, words.ports, words.retransmission) else {
         return (Err(Fault::Read), writer);
     };
     let mut writer = writer;
@@ -131,16 +111,14 @@ where
         rows: EntryRows::new(alloc),
         writer,
     };
-    let (ended, sink) = follow_tape(
-        rt,
-        alloc,
-        words.listing,
-        words.limit,
-        words.matrix,
-        words.session,
-        sockets,
-        sink,
-    );
+    let terms = FollowTerms {
+        listing: words.listing,
+        limit: words.limit,
+        matrix: words.matrix,
+        session: words.session,
+        connect_within: None,
+    };
+    let (ended, sink) = follow_tape(rt, alloc, terms, sockets, sink);
     let RowSink {
         rows: _,
         mut writer,
@@ -149,7 +127,7 @@ where
     (ended, writer)
 }
 
-/// What is said of a day that is watched and ends so.
+/// Returns what is said of a watched day that ends with this status.
 fn watch_text(status: Status) -> &'static str
     ensures { result.now ≡ watch_text status }
 {
@@ -159,7 +137,7 @@ fn watch_text(status: Status) -> &'static str
     }
 }
 
-/// Says what there is to say of a day that is watched and ends so.
+/// Says what there is to say of a watched day that ends with this status.
 fn say_watched<E: Write>(errors: &mut E, status: Status)
     ensures quiet { watch_text status ≡ [] → errors.new ≡ errors.old }
     ensures said { WritesPrefix (watch_text status) (E.contents errors.old) (E.contents errors.new) }
@@ -167,18 +145,18 @@ fn say_watched<E: Write>(errors: &mut E, status: Status)
     say(errors, watch_text(status).as_bytes());
 }
 
-/// How a day that was watched with a buffer before its writer ended.
+/// How a watched day ended whose rows were written through a buffer.
 #[derive(Drop)]
 pub(crate) struct Watched<W> {
-    /// Well, or by what.
+    /// The fault that ended the day, if any.
     pub(crate) ended: Result<(), Fault>,
     /// Whether whoever read the rows is gone.
     pub(crate) reader_gone: bool,
-    /// The writer, unless what the buffer held could not be written, or there was no memory for the buffer.
+    /// The writer, unless the buffer could not be allocated or what it held could not be written.
     pub(crate) writer: Option<W>,
 }
 
-/// Takes the buffer off a writer. If all was well but the flush, the run ended by a write fault.
+/// Flushes the buffer and takes it off its writer. If only the flush failed, the run ended by a write fault.
 pub(crate) fn unbuffered<W: Output + Drop>(
     ended: Result<(), Fault>,
     buffer: BufWriter<W>,
@@ -205,7 +183,7 @@ pub(crate) fn unbuffered<W: Output + Drop>(
     }
 }
 
-/// Watches a day with a buffer before the writer.
+/// Watches a day, and writes its rows through a buffer.
 fn watch_buffered<T, W>(rt: &T, alloc: Global, words: FollowWords, writer: W) -> Watched<W>
 where
     T: Threads + Wait + Net<Listener = TcpListener, Stream = TcpStream> + Sync,
@@ -225,11 +203,13 @@ where
     unbuffered(ended, buffer)
 }
 
-/// Watches a running day as a follower, and writes the readable tape of its entries as they come to a writer, which comes back with the status.
-/// A buffer stands before it, which is flushed whenever no entry more is ready. Where memory runs out for the buffer, or what it holds can't be
-/// written at the end, no writer comes back. What goes wrong is said on `errors` in one line, but not that whoever read the rows is gone. The status is `Done` where the whole tape was
-/// written, `ReadFault` for a read fault or a socket that cannot be opened, `WriteFault`, `OutOfMemory`, `NotStarted` where no thread was
-/// started, and `Disagrees` where the tape disagrees.
+/// Watches a running day as a follower, writes the readable tape of its entries to a writer as they come, and returns the
+/// status and the writer. A buffer before the writer is flushed whenever no further entry is ready. If the buffer cannot be
+/// allocated, or what it holds cannot be written at the end, no writer is returned. What goes wrong is said on `errors` in one
+/// line, but not that whoever read the rows is gone.
+///
+/// The status is `Done` if the whole tape was written, `ReadFault` for a read fault or a socket that cannot be opened,
+/// `WriteFault`, `OutOfMemory`, `NotStarted` if a thread could not be started, and `Disagrees` if the tape disagrees.
 #[tactic(auto, using(crate::proofs::WatchLemmas::run_status, crate::proofs::WatchLemmas::done_well))]
 pub fn watch<T, W, E>(
     rt: &T,
@@ -259,8 +239,8 @@ where
     (status, writer)
 }
 
-/// Watches the day that the arguments after `watch` name in a row, each ended by a zero byte, as `watch` does. Bad arguments read and write
-/// nothing, and have the status `Bad`.
+/// Watches the day that the arguments after `watch` name in a row, each ended by a zero byte, as `watch` does. With bad
+/// arguments it reads and writes nothing, and returns the status `Bad`.
 pub fn watch_row<T, W, E>(
     rt: &T,
     alloc: Global,

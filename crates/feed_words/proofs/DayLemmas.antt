@@ -1,4 +1,4 @@
--- The day that judged arguments name.
+-- Arguments that pass every check name a day.
 use Rattle.std.proofs.Common.{◌≡◌, ◌∷◌, [], ℕ, List, Result, Ok, Err, None, refl}
 use Rattle.std.specs.Result.{result_err}
 use Rattle.sale_matrix.specs.declared.matrix.Matrix.{Matrix}
@@ -9,12 +9,12 @@ use Rattle.feed_words.specs.Listings.{COMMA}
 use Rattle.feed_words.specs.Values.{IsLimitOrLeftOut, IsMatrixOrOne, IsNumber, IsPort, ListSomePorts}
 use Rattle.feed_words.specs.Words.{IsFirst}
 
--- what is no error is there
+-- a result that is no error has a value
 pub found : {A E : Type 0} (result : Result A E) → result_err result ≡ None → (value : A) × (result ≡ Ok value)
 found (Ok value) none = (value, refl)
 found (Err error) none = absurd (cc none)
 
--- each argument is judged, so they name a day
+-- arguments of which each was checked name a day
 pub day_named : (words behind_names behind_first_port behind_a behind_b behind_ports behind_serves behind_session behind_matrix : List (List ℕ))
     (symbols participants a b : List ℕ) (first_port retransmission serves session : ℕ) (matrix : Matrix) (limit : ℕ)
     → words ≡ symbols ∷ participants ∷ behind_names

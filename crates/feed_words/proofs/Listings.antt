@@ -1,4 +1,4 @@
--- Names that are refused by none of their faults.
+-- Names that lack memory alone have no other fault.
 use Rattle.std.proofs.Common.{◌≡◌, ◌∷◌, [], ℕ, Bool, true, false, List, Option, Some, None, refl, sym, ap}
 use Rattle.std.specs.Prelude.{unwrap_or}
 use Rattle.std.specs.Result.{result_err}
@@ -8,14 +8,14 @@ use Rattle.tape_types.specs.declared.listing_fault.ListingFault.TheVariants.{Emp
 use Rattle.batch.specs.Header.{all_named, listing_by_fault, listing_of, name_texts, names_listing, participant_named}
 use Rattle.batch.specs.declared.header_fault.HeaderFault.TheVariants.{BadListing}
 
--- no fault of names is out of memory
+-- out of memory is no fault of the names
 never_memory : (a b c : Bool) → first_fault ((a, Empty) ∷ (b, TooMany) ∷ (c, Repeated) ∷ []) ≡ Some OutOfMemory → ⊥
 never_memory true b c is = cc is
 never_memory false true c is = cc is
 never_memory false false true is = cc is
 never_memory false false false is = cc is
 
--- so names for which memory was all that lacked have no fault
+-- names that lacked memory alone have no fault
 pub memory_alone : (separator : ℕ) (first second : List ℕ)
     → BadListing OutOfMemory ≡ unwrap_or (result_err (names_listing separator first second)) (BadListing OutOfMemory)
     → result_err (names_listing separator first second) ≡ None

@@ -1,4 +1,4 @@
--- The ports of a text, one after another.
+-- The ports of a text, split at its first comma.
 use Rattle.std.proofs.Common.{◌≡◌, ◌+◌, ◌∷◌, [], ℕ, List, Some, None, take, drop}
 use Rattle.std.specs.Prelude.{position}
 use Rattle.memchr.specs.Find.{is_byte}
@@ -12,7 +12,7 @@ pub ports-more : (text : List ℕ) (end port : ℕ) (ports : List ℕ) → Some 
     → IsPort (take end text) port → ListPorts (drop (end + 1) text) ports → ListPorts text (port ∷ ports)
 ports-more text end port ports found is listed = rw (pieces_of-more COMMA text end found) (is, listed)
 
--- and back: the ports of a text with a comma are one before it and those behind it
+-- conversely, the ports of a text with a comma are the one before it and those behind it
 pub ports-split : (text : List ℕ) (end : ℕ) → Some end ≡ position (is_byte COMMA) text → ListSomePorts text
     → ((port : ℕ) × IsPort (take end text) port) × ListSomePorts (drop (end + 1) text)
 ports-split text end found (ports, listed) = split ports (rw (pieces_of-more COMMA text end found) at listed)

@@ -1,4 +1,4 @@
--- The arguments of bytes, one after another.
+-- The arguments of bytes, split at the first zero byte.
 use Rattle.std.proofs.Common.{◌≡◌, ◌<◌, ◌≤◌, ◌+◌, ◌-◌, ◌∷◌, [], ℕ, List, false, Some, None, refl, arith, length, take, drop, nat_lt, All, inl, inr}
 use Rattle.std.proofs.lemmas.Bool.{cases_Bool}
 use Rattle.std.proofs.lemmas.Grind.{common_steps}
@@ -11,12 +11,12 @@ use Rattle.memchr.specs.Find.{is_byte}
 use Rattle.batch.specs.Header.{pieces_of}
 use Rattle.feed_words.specs.Words.{but_last, words_of}
 
--- the parts behind a first one, of which there are some
+-- a first part that others follow is not the last
 but_last-more : (part : List ℕ) (parts : List (List ℕ)) → 0 < length parts → but_last (part ∷ parts) ≡ part ∷ but_last parts
 but_last-more part [] some = absurd (omega (arith, some))
 but_last-more part (next ∷ parts) some = refl
 
--- the first separator stands within the bytes
+-- the first separator is within the bytes
 pub position_within : (separator : ℕ) (bytes : List ℕ) (end : ℕ) → Some end ≡ position (is_byte separator) bytes → end < length bytes
 position_within separator bytes end found = elim (cases_Bool (nat_lt (position_or_len (is_byte separator) bytes) (length bytes))) [
   | inl is ↦

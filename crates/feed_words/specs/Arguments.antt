@@ -1,4 +1,4 @@
--- Arguments as they are handed over.
+-- How an argument is handed over.
 use Rattle.std.specs.Prelude.{◌++◌, ◌∷◌, ℕ, List, [], String, string_bytes}
 use Rattle.std.specs.Global.{Global}
 

@@ -1,4 +1,4 @@
--- The arguments of a running day, each in its place.
+-- Which arguments, in which order, name a day for `live` and for `follow`.
 use Rattle.std.specs.Prelude.{◌≡◌, ◌∷◌, [], ℕ, List, Ok}
 use Rattle.tape_types.specs.Names.{Names}
 use Rattle.sale_matrix.specs.declared.matrix.Matrix.{Matrix}
@@ -9,7 +9,7 @@ use Rattle.feed_words.specs.Words.{IsFirst}
 use Rattle.feed_words.specs.declared.follow_words.FollowWords.{FollowWords}
 use Rattle.feed_words.specs.declared.live_words.LiveWords.{LiveWords}
 
--- a day that is made from lines, as its arguments name it
+-- a day whose tape is made from lines, as its arguments name it
 pub record LiveDay : Type 0 where
   pub listing : Names
   pub first_port : ℕ

@@ -1,4 +1,4 @@
--- The names of a running day.
+-- How the names of an argument are separated.
 use Rattle.std.specs.Prelude.{ℕ}
 
 -- what stands between two names of an argument: a comma

@@ -1,7 +1,8 @@
--- What arguments name.
-use Rattle.std.specs.Prelude.{◌≡◌, ◌≤◌, ◌<◌, ◌^◌, ◌∷◌, [], ◌⊎◌, ℕ, List, codes, length, true}
+-- Which texts are numbers, ports, matrices and limits.
+use Rattle.std.specs.Prelude.{◌≡◌, ◌≤◌, ◌<◌, ◌^◌, ◌∷◌, [], ◌⊎◌, ℕ, List, Option, Some, None, codes, length, true, if◌then◌else◌}
 use Rattle.std.specs.Char.{is_ascii_digit}
 use Rattle.std.specs.List.{list_all}
+use Rattle.std.specs.Str.{bytes_eq}
 use Rattle.std.specs.Str.Parse.{digits_value}
 use Rattle.sale_matrix.specs.declared.matrix.Matrix.{Matrix}
 use Rattle.sale_matrix.specs.declared.matrix.Matrix.TheVariants.{One, Two}
@@ -10,7 +11,7 @@ use Rattle.feed_words.specs.Limits.{LIMIT_LEFT_OUT}
 use Rattle.feed_words.specs.Listings.{COMMA}
 use Rattle.feed_words.specs.Words.{IsFirst}
 
--- decimal digits alone, and their number; zeros may stand first
+-- a word of decimal digits alone, and its number; leading zeros are allowed
 pub record IsNumber (word : List ℕ) (number : ℕ) : Type 0 where
   pub some : 0 < length word
   pub digits : list_all is_ascii_digit word ≡ true
@@ -42,6 +43,10 @@ abbrev pub IsMatrix : List ℕ → Matrix → Type 0
 IsMatrix word One = word ≡ codes "1"
 IsMatrix word Two = word ≡ codes "2"
 
+-- the matrix of a number
+abbrev pub matrix_named : List ℕ → Option Matrix
+matrix_named word = if bytes_eq word (codes "1") then Some One else if bytes_eq word (codes "2") then Some Two else None
+
 -- the first three arguments are the ports of both lines and of the retransmission
 pub record ArePorts (words left : List (List ℕ)) (lines : List ℕ) (retransmission : ℕ) : Type 0 where
   pub a : ℕ
@@ -53,10 +58,10 @@ pub record ArePorts (words left : List (List ℕ)) (lines : List ℕ) (retransmi
   pub third : IsFirst IsPort behind_b left retransmission
   pub lines_are : lines ≡ a ∷ b ∷ []
 
--- the first argument is a matrix, which is One where no argument is left
+-- the first argument is a matrix, which is One if no argument is left
 abbrev pub IsMatrixOrOne : List (List ℕ) → List (List ℕ) → Matrix → Type 0
 IsMatrixOrOne words left matrix = ((words ≡ []) × (left ≡ []) × (matrix ≡ One)) ⊎ IsFirst IsMatrix words left matrix
 
--- the first argument is a limit, which is the one that holds where no argument is left
+-- the first argument is a limit, which is the default one if no argument is left
 abbrev pub IsLimitOrLeftOut : List (List ℕ) → List (List ℕ) → ℕ → Type 0
 IsLimitOrLeftOut words left limit = ((words ≡ []) × (left ≡ []) × (limit ≡ LIMIT_LEFT_OUT)) ⊎ IsFirst IsNumber words left limit

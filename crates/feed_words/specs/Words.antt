@@ -1,4 +1,4 @@
--- Arguments in their order.
+-- The arguments of bytes, in order.
 use Rattle.std.specs.Prelude.{◌≡◌, ℕ, List, [], ◌∷◌}
 use Rattle.batch.specs.Header.{pieces_of}
 use Rattle.feed_words.specs.declared.reading.Words.{Words}

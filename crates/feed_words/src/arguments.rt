@@ -1,4 +1,4 @@
-//! The arguments of a program.
+//! Copies the arguments of a program into bytes, each ended by a zero byte.
 ghost use Rattle.std.specs.Prelude.{◌≡◌, ◌≢◌, [], IfOk, IfErr, IsOk, IsErr, drop};
 ghost use Rattle.std.specs.IoError.{error_kind};
 ghost use Rattle.std.specs.List.{flat_map};
@@ -10,7 +10,7 @@ use std::env::Args;
 use std::io;
 use std::io::ErrorKind;
 
-/// The arguments after the first, which is the program's own name, each ended by a zero byte.
+/// Returns the arguments after the first, which is the program's own name, each ended by a zero byte.
 fn ended_words(alloc: Global, mut words: Args) -> Result<Vec<u8>, AllocError>
     ensures { IfOk result (λ text. text.items ≡ flat_map ended_word (drop 1 (into_iter_items words))) }
 {
@@ -23,8 +23,8 @@ fn ended_words(alloc: Global, mut words: Args) -> Result<Vec<u8>, AllocError>
     Ok(text)
 }
 
-/// The arguments that the program was given, without its own name, each ended by a zero byte. Where one is not valid text
-/// there are none; where memory runs out, it is an error.
+/// Returns the arguments that the program was given, without its own name, each ended by a zero byte. If one is not valid text
+/// there are none. It fails if memory runs out.
 pub fn words(alloc: Global, args: io::Result<Args>) -> Result<Vec<u8>, AllocError>
     ensures words { IfOk args (λ args. IfOk result (λ text. text.items ≡ flat_map ended_word (drop 1 (into_iter_items args)))) }
     ensures memory { IfErr args (λ error. error_kind error ≡ ErrorKind.OutOfMemory → IsErr result) }

@@ -1,4 +1,4 @@
-//! The arguments of a day that is followed.
+//! Reads the arguments of `follow`: the day that is followed.
 ghost use Rattle.std.specs.Prelude.{IfOk};
 ghost use Rattle.tape_types.specs.Ranges.{IsTapeNumber};
 ghost use Rattle.feed_words.specs.Days.{NameFollow};
@@ -16,7 +16,7 @@ use tape_types::{Listing, PARTICIPANTS_MOST};
 pub struct FollowWords {
     /// The symbols and the participants.
     pub listing: Listing,
-    /// The ports that the packets come to.
+    /// The ports on which the packets of the two lines arrive.
     pub ports: [u16; 2],
     /// The port of the retransmission.
     pub retransmission: u16,
@@ -29,7 +29,7 @@ pub struct FollowWords {
 }
 
 impl FollowWords {
-    /// Reads the arguments after `follow`, each ended by a zero byte. Memory is taken for the names once all else is right.
+    /// Reads the arguments after `follow`, each ended by a zero byte. It allocates for the names once all else is right.
     pub fn read(alloc: Global, words: &[u8]) -> Result<FollowWords, WordsFault>
         ensures day { IfOk result (λ day. NameFollow (words_of words.now) day) }
         ensures limit { IfOk result (λ words. IsTapeNumber words.limit) }

@@ -1,4 +1,4 @@
-//! The arguments of a day whose tape is made from lines.
+//! Reads the arguments of `live`: the day whose tape is made from lines.
 ghost use Rattle.std.specs.Prelude.{◌+◌, ◌^◌, ◌≡◌, ◌≤◌, Err, IfOk, length};
 ghost use Rattle.tape_types.specs.Ranges.{IsTapeNumber};
 ghost use Rattle.feed_words.specs.Days.{LiveDay, NameLive, live_day};
@@ -12,7 +12,7 @@ use sale_matrix::Matrix;
 use std::alloc::Global;
 use tape_types::{Listing, PARTICIPANTS_MOST};
 
-/// How many ports there are, with port 0.
+/// The number of ports, including port 0.
 const PORTS: usize = 65_536;
 
 /// The arguments of `live`.
@@ -20,7 +20,7 @@ const PORTS: usize = 65_536;
 pub struct LiveWords {
     /// The symbols and the participants.
     pub listing: Listing,
-    /// The port of the first participant's line. Each further participant's is the next.
+    /// The port of the first participant's line. Each further participant has the next port.
     pub first_port: u16,
     /// The ports that line A is sent to.
     pub a: Vec<u16>,
@@ -28,7 +28,7 @@ pub struct LiveWords {
     pub b: Vec<u16>,
     /// The port of the retransmission.
     pub retransmission: u16,
-    /// How many retransmission connections are served.
+    /// The number of retransmission connections that are served.
     pub serves: u16,
     /// The session of the tape's packets.
     pub session: u64,
@@ -39,9 +39,9 @@ pub struct LiveWords {
 }
 
 impl LiveWords {
-    /// Reads the arguments after `live`, each ended by a zero byte. Memory is taken for the names once all else is right, which
-    /// includes a port for the last participant's line, and for the ports of the lines after that. So `OutOfMemory` is answered only where
-    /// no argument is bad.
+    /// Reads the arguments after `live`, each ended by a zero byte. It allocates for the names once all else is right,
+    /// including a port for the last participant's line, and then for the ports of the lines. So it returns `OutOfMemory` only
+    /// if no argument is bad.
     pub fn read(alloc: Global, words: &[u8]) -> Result<LiveWords, WordsFault>
         ensures day { IfOk result (λ day. NameLive (words_of words.now) (live_day day)) }
         ensures limit { IfOk result (λ words. IsTapeNumber words.limit) }

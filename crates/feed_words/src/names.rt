@@ -1,4 +1,4 @@
-//! The symbols and the participants of a running day.
+//! Reads the symbols and the participants of a running day from two arguments.
 ghost use Rattle.std.specs.Prelude.{◌≡◌, ◌≤◌, IfOk, Ok, Err, None, length};
 ghost use Rattle.std.specs.Result.{result_err};
 ghost use Rattle.batch.specs.Header.{names_listing};
@@ -10,11 +10,11 @@ use batch::{HeaderFault, read_names};
 use std::alloc::Global;
 use tape_types::{Listing, ListingFault};
 
-/// What stands between two names, and between two ports.
+/// The separator between two names and between two ports.
 pub(crate) const SEPARATOR: u8 = b',';
 
-/// The listing of the symbols and the participants in two arguments, of at most so many participants. Out of memory is
-/// answered only where nothing is wrong with either.
+/// Returns the listing of the symbols and the participants in two arguments, with at most `most` participants. It returns
+/// `OutOfMemory` only if nothing is wrong with either argument.
 pub fn listing(
     alloc: Global,
     symbols: &[u8],

@@ -1,4 +1,4 @@
-//! Arguments, one after another.
+//! Reads arguments one after another: numbers, ports, names, a matrix and a limit.
 ghost use Rattle.std.specs.Prelude.{◌≡◌, ◌<◌, ◌^◌, ◌∷◌, ◌++◌, ◌↔◌, [], ℕ, IfErr, IfOk, IfSome, IsErr, IsOk, List, MatchOption, Ok, OnOk, Some, length, position};
 ghost use Rattle.std.specs.Char.{is_ascii_digit};
 ghost use Rattle.std.specs.Iterator.{YieldsFirstRef, item_count};
@@ -11,14 +11,14 @@ ghost use Rattle.feed_words.specs.Values.{ArePorts, IsLimitOrLeftOut, IsMatrixOr
 ghost use Rattle.feed_words.specs.Words.{IsFirst, words_left, words_of};
 ghost use Rattle.feed_words.specs.declared.fault.WordsFault.TheVariants.{BadArguments, OutOfMemory};
 
-use crate::WordsFault;
 use crate::names::SEPARATOR;
+use crate::{WordsFault, matrix_named};
 use sale_matrix::Matrix;
 use std::alloc::Global;
 use std::str;
 use tape_types::TapeNumber;
 
-/// The limit of a running day's tape and of its follower's where no argument names one, in entries.
+/// The limit of a running day's tape and of its follower's tape if no argument names one, in entries.
 const FEED_TAPE_MOST: u32 = 1_048_576;
 
 /// The arguments that are left, each ended by a zero byte.
@@ -27,14 +27,14 @@ pub struct Words<'a> {
     pub rest: &'a [u8],
 }
 
-/// Where the first argument ends.
+/// Returns the index of the zero byte that ends the first argument, or `None` if there is none.
 fn end_of_word(bytes: &[u8]) -> Option<usize>
     ensures { result ≡ position (is_byte 0) bytes.now }
 {
     bytes.iter().position(|byte| *byte == 0)
 }
 
-/// The first of arguments that are each ended by a zero byte, and the others, or `None` where none is left.
+/// Returns the first of arguments that are each ended by a zero byte, and the others, or `None` if there is no argument.
 pub fn first_argument(bytes: &[u8]) -> Option<(&[u8], &[u8])>
     ensures { MatchOption result (words_of bytes.now ≡ [])
         (λ parts. (words_of bytes.now ≡ parts.0.now ∷ words_of parts.1.now) × (length parts.1.now < length bytes.now)) }
@@ -65,7 +65,8 @@ fn are_digits(word: &[u8]) -> bool
     word.iter().all(|byte| byte.is_ascii_digit())
 }
 
-/// The number of an argument that is decimal digits alone, with no sign, up to 18,446,744,073,709,551,615. Leading zeros are accepted.
+/// Returns the number of an argument of decimal digits alone, without a sign, up to 18,446,744,073,709,551,615, or `None`.
+/// Leading zeros are accepted.
 #[tactic(auto, using(crate::proofs::DigitLemmas::number_read, crate::proofs::DigitLemmas::digits_text, crate::proofs::DigitLemmas::each_read))]
 pub fn decimal(word: &[u8]) -> Option<u64>
     ensures number { IfSome result (λ number. IsNumber word.now number) }
@@ -77,7 +78,7 @@ pub fn decimal(word: &[u8]) -> Option<u64>
     str::from_utf8(word).ok()?.parse::<u64>().ok()
 }
 
-/// A port in decimal digits, 1 to 65,535.
+/// Returns the port, 1 to 65,535, that decimal digits name.
 fn port_of(word: &[u8]) -> Result<u16, WordsFault>
     ensures port { IfOk result (λ port. IsPort word.now port) }
     ensures each { (port : ℕ) → IsPort word.now port → result ≡ Ok port }
@@ -90,7 +91,7 @@ fn port_of(word: &[u8]) -> Result<u16, WordsFault>
     }
 }
 
-/// Takes one port more.
+/// Adds the port that an argument names.
 fn push_port(ports: &mut Vec<u16>, word: &[u8]) -> Result<(), WordsFault>
     ensures port { OnOk result ((port : ℕ) × IsPort word.now port × (ports.new.items ≡ ports.old.items ++ port ∷ [])) }
     ensures memory { (port : ℕ) → IsPort word.now port → IfErr result (λ fault. fault ≡ OutOfMemory) }
@@ -102,14 +103,14 @@ fn push_port(ports: &mut Vec<u16>, word: &[u8]) -> Result<(), WordsFault>
     }
 }
 
-/// Where the first port of some ends.
+/// Returns the index of the comma that ends the first port, or `None` if there is none.
 fn end_of_port(text: &[u8]) -> Option<usize>
     ensures { result ≡ position (is_byte COMMA) text.now }
 {
     text.iter().position(|byte| *byte == SEPARATOR)
 }
 
-/// Judges a text as ports with single commas between them. It takes no memory.
+/// Checks that a text is ports with single commas between them. It does not allocate.
 fn judge_ports(text: &[u8]) -> Result<(), WordsFault>
     ensures ports { IsOk result ↔ ListSomePorts text.now }
     ensures bad { IfErr result (λ fault. fault ≡ BadArguments) }
@@ -123,7 +124,7 @@ fn judge_ports(text: &[u8]) -> Result<(), WordsFault>
     Ok(())
 }
 
-/// The ports of a text, with single commas between them.
+/// Returns the ports of a text, which has single commas between them.
 pub(crate) fn ports_of(alloc: Global, text: &[u8]) -> Result<Vec<u16>, WordsFault>
     ensures { IfOk result (λ ports. ListPorts text.now ports.items) }
 {
@@ -138,7 +139,7 @@ pub(crate) fn ports_of(alloc: Global, text: &[u8]) -> Result<Vec<u16>, WordsFaul
 }
 
 impl<'a> Words<'a> {
-    /// The next argument.
+    /// Returns the next argument, or `BadArguments` if none is left.
     fn word(&mut self) -> Result<&'a [u8], WordsFault>
         ensures word { IfOk result (λ word. words_left self.old ≡ word.now ∷ words_left self.new) }
         ensures none { IsErr result → words_left self.old ≡ [] }
@@ -147,7 +148,7 @@ impl<'a> Words<'a> {
         self.next().ok_or(WordsFault::BadArguments)
     }
 
-    /// The next argument as a number up to 18,446,744,073,709,551,615.
+    /// Returns the next argument as a number up to 18,446,744,073,709,551,615, or `BadArguments`.
     pub fn number(&mut self) -> Result<u64, WordsFault>
         ensures number { IfOk result (λ number. IsFirst IsNumber (words_left self.old) (words_left self.new) number) }
         ensures each { (left : List (List ℕ)) (number : ℕ) → IsFirst IsNumber (words_left self.old) left number → number < 2 ^ 64 → result ≡ Ok number }
@@ -156,7 +157,7 @@ impl<'a> Words<'a> {
         decimal(self.word()?).ok_or(WordsFault::BadArguments)
     }
 
-    /// The next argument as a number up to 65,535.
+    /// Returns the next argument as a number up to 65,535, or `BadArguments`.
     pub fn short(&mut self) -> Result<u16, WordsFault>
         ensures number { IfOk result (λ number. IsFirst IsNumber (words_left self.old) (words_left self.new) number) }
         ensures each { (left : List (List ℕ)) (number : ℕ) → IsFirst IsNumber (words_left self.old) left number → number < 2 ^ 16 → result ≡ Ok number }
@@ -165,7 +166,7 @@ impl<'a> Words<'a> {
         u16::try_from(self.number()?).map_err(|_| WordsFault::BadArguments)
     }
 
-    /// The next argument as a port, 1 to 65,535.
+    /// Returns the next argument as a port, 1 to 65,535, or `BadArguments`.
     pub fn port(&mut self) -> Result<u16, WordsFault>
         ensures port { IfOk result (λ port. IsFirst IsPort (words_left self.old) (words_left self.new) port) }
         ensures each { (left : List (List ℕ)) (port : ℕ) → IsFirst IsPort (words_left self.old) left port → result ≡ Ok port }
@@ -177,7 +178,8 @@ impl<'a> Words<'a> {
         }
     }
 
-    /// The next argument as a text of ports with single commas between them, one at least, which `ports_of` makes of it. It takes no memory.
+    /// Returns the next argument as a text of one or more ports with single commas between them, for `ports_of` to read, or
+    /// `BadArguments`. It does not allocate.
     pub fn port_list(&mut self) -> Result<&'a [u8], WordsFault>
         ensures ports { IfOk result (λ text. (words_left self.old ≡ text.now ∷ words_left self.new) × ListSomePorts text.now) }
         ensures each { (text : List ℕ) (left : List (List ℕ)) → words_left self.old ≡ text ∷ left → ListSomePorts text → IsOk result }
@@ -188,7 +190,7 @@ impl<'a> Words<'a> {
         Ok(text)
     }
 
-    /// The next two arguments, the symbols and the participants.
+    /// Returns the next two arguments, the symbols and the participants, or `BadArguments` if one is missing.
     pub fn names(&mut self) -> Result<(&'a [u8], &'a [u8]), WordsFault>
         ensures names { IfOk result (λ names. words_left self.old ≡ names.0.now ∷ names.1.now ∷ words_left self.new) }
         ensures bad { IfErr result (λ fault. fault ≡ BadArguments) }
@@ -196,26 +198,25 @@ impl<'a> Words<'a> {
         Ok((self.word()?, self.word()?))
     }
 
-    /// The next three arguments as the ports of both lines and of the retransmission.
+    /// Returns the next three arguments as the ports of both lines and of the retransmission.
     pub fn feed_ports(&mut self) -> Result<([u16; 2], u16), WordsFault>
         ensures { IfOk result (λ ports. ArePorts (words_left self.old) (words_left self.new) ports.0 ports.1) }
     {
         Ok(([self.port()?, self.port()?], self.port()?))
     }
 
-    /// The next argument, if one is left, as a matrix: Matrix One where none is.
+    /// Returns the next argument as a matrix: Matrix One if no argument is left, `BadArguments` if it is not `1` or `2`.
     pub fn matrix(&mut self) -> Result<Matrix, WordsFault>
         ensures matrix { IfOk result (λ matrix. IsMatrixOrOne (words_left self.old) (words_left self.new) matrix) }
         ensures bad { IfErr result (λ fault. fault ≡ BadArguments) }
     {
         match self.next() {
-            None | Some(b"1") => Ok(Matrix::One),
-            Some(b"2") => Ok(Matrix::Two),
-            Some(_) => Err(WordsFault::BadArguments),
+            None => Ok(Matrix::One),
+            Some(word) => matrix_named(word).ok_or(WordsFault::BadArguments),
         }
     }
 
-    /// The next argument, if one is left, as a number of entries: `FEED_TAPE_MOST` where none is.
+    /// Returns the next argument as a number of entries, or `FEED_TAPE_MOST` if no argument is left.
     #[tactic(auto, unfolding(crate::specs::Words::words_of))]
     fn entries(&mut self) -> Result<u32, WordsFault>
         ensures left_out { self.old.rest.now ≡ [] → (result ≡ Ok LIMIT_LEFT_OUT) × (self.new ≡ self.old) }
@@ -228,8 +229,8 @@ impl<'a> Words<'a> {
         u32::try_from(self.number()?).map_err(|_| WordsFault::BadArguments)
     }
 
-    /// The last argument, if one is left, as the limit of a tape, 1 to `TAPE_MOST` entries: `FEED_TAPE_MOST` where none is.
-    /// Refused where another one follows.
+    /// Returns the last argument as the limit of a tape, 1 to `TAPE_MOST` entries, or `FEED_TAPE_MOST` if no argument is left.
+    /// It returns `BadArguments` if the limit is out of range or another argument follows.
     #[tactic(auto, unfolding(crate::specs::Words::words_of))]
     pub fn limit(&mut self) -> Result<u32, WordsFault>
         ensures left_out { self.old.rest.now ≡ [] → result ≡ Ok LIMIT_LEFT_OUT }

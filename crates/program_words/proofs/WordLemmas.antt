@@ -1,4 +1,4 @@
--- Each word has its name.
+-- Each word is found by its name.
 use Rattle.std.proofs.Common.{◌≡◌, Some, refl}
 use Rattle.program_words.specs.Words.{word_name, word_of}
 use Rattle.program_words.specs.declared.word.Word.{Word}

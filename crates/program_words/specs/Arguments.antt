@@ -1,4 +1,4 @@
--- What the program's arguments ask for.
+-- What the program's arguments ask for: a word with its options and files, help, or the version.
 use Rattle.std.specs.Prelude.{◌==◌, ◌||◌, ◌&&◌, ◌∷◌, ℕ, List, [], Option, Some, None, Result, Ok, Err, Bool, true, false, codes, not, if◌then◌else◌}
 use Rattle.std.specs.Option.{option_and_then, option_map_or}
 use Rattle.std.specs.Str.{bytes_eq}
@@ -8,6 +8,7 @@ use Rattle.program_words.specs.declared.command.Asked.{Asked}
 use Rattle.program_words.specs.declared.command.Asked.TheVariants as asked
 use Rattle.program_words.specs.declared.command.Command.{Command}
 use Rattle.program_words.specs.declared.command.Command.TheVariants as command
+use Rattle.program_words.specs.declared.command.Conversion.TheVariants as conversion
 use Rattle.program_words.specs.declared.command.Request.{Request}
 use Rattle.program_words.specs.declared.flag.Flag.{Flag}
 use Rattle.program_words.specs.declared.flag.Flag.TheVariants as flag
@@ -19,7 +20,7 @@ use Rattle.program_words.specs.declared.word.Word.TheVariants as word
 
 -- ## Arguments in a row
 
--- whether the arguments of a running day stand in a row: not where there is one alone, or up to four of which one is an option
+-- whether the arguments of a running day stand in a row: not if there is only one, or up to four of which one is an option
 abbrev pub day_in_a_row : List (List ℕ) → Bool
 day_in_a_row [] = true
 day_in_a_row (a ∷ []) = false
@@ -34,7 +35,7 @@ batch_in_a_row [] = true
 batch_in_a_row (a ∷ []) = not (bytes_eq a (flag_name flag.Help))
 batch_in_a_row (a ∷ b ∷ rest) = true
 
--- whether the arguments after a word stand in a row, each known by its place, and are not a file with its options
+-- whether the arguments after a word stand in a row, each known by its place, rather than a file with its options
 abbrev pub in_a_row : Word → List (List ℕ) → Bool
 in_a_row word.Report rest = false
 in_a_row word.Tape rest = false
@@ -57,7 +58,7 @@ in_a_row word.End rest = false
 abbrev pub table : Command → Given → Result Asked Wrong
 table command given = Ok (asked.Table (record { command = command; file = given.file }))
 
--- the place of a follower that is given, which is the first where none is
+-- the place of a follower that is given, or the first if none is
 abbrev pub follower_given : Given → ℕ
 follower_given given = option_map_or (λ follower. follower) given.follower 1
 
@@ -68,9 +69,9 @@ asked_by word.Tape given = table (command.Tape given.matrix given.strict) given
 asked_by word.Explain given = table (command.Explain given.matrix given.strict) given
 asked_by word.Check given = table command.Check given
 asked_by word.Verify given = table (command.Verify given.matrix) given
-asked_by word.Encode given = table command.Encode given
-asked_by word.Decode given = table command.Decode given
-asked_by word.Line given = option_map_or (λ participant. table (command.Line participant) given) given.participant (Err wrong.NoParticipant)
+asked_by word.Encode given = table (command.Convert conversion.Encode) given
+asked_by word.Decode given = table (command.Convert conversion.Decode) given
+asked_by word.Line given = option_map_or (λ participant. table (command.Convert (conversion.Line participant)) given) given.participant (Err wrong.NoParticipant)
 asked_by word.Batch given = Ok (asked.HelpOn word.Batch)
 asked_by word.Live given = option_map_or (λ file. Ok (asked.Live file)) given.file (Err wrong.NoDay)
 asked_by word.Follow given = option_map_or (λ file. Ok (asked.Follow (follower_given given) given.partial file)) given.file (Err wrong.NoDay)
@@ -98,7 +99,7 @@ asked_if word (Err wrong) = asked.Wrong word wrong
 abbrev pub asked_after : List (List ℕ) → Word → Option Asked
 asked_after rest word = if in_a_row word rest then None else Some (asked_if word (given_with word nothing_given 0 rest))
 
--- what one argument alone asks for
+-- what a single argument asks for
 abbrev pub asked_alone : List ℕ → List (List ℕ) → Option Asked
 asked_alone first [] = if bytes_eq first (codes "--help") then Some asked.Help else if bytes_eq first (codes "--version") then Some asked.Version else None
 asked_alone first (next ∷ rest) = None

@@ -1,4 +1,4 @@
--- What a word's arguments give, one after another, and which of them is wrong.
+-- What a word's arguments give, read one after another, or which of them is wrong.
 use Rattle.std.specs.Prelude.{◌+◌, ◌==◌, ◌&&◌, ◌∷◌, ℕ, List, [], Option, Some, None, Result, Ok, Err, Bool, true, false, codes, drop, length, not, position, take, nat_eq, nat_le, nat_lt, if◌then◌else◌}
 use Rattle.std.specs.Char.{is_ascii_digit}
 use Rattle.std.specs.List.{list_all, starts_with}
@@ -7,9 +7,9 @@ use Rattle.std.specs.Str.{bytes_eq}
 use Rattle.std.specs.Str.Parse.{digits_value}
 use Rattle.memchr.specs.Find.{is_byte}
 use Rattle.sale_matrix.specs.declared.matrix.Matrix.{Matrix}
-use Rattle.sale_matrix.specs.declared.matrix.Matrix.TheVariants.{One, Two}
 use Rattle.tape_types.specs.Ranges.{FIRST_PARTICIPANT, LAST_PARTICIPANT}
-use Rattle.day_tables.specs.Numbers.{within}
+use Rattle.csv_messages.specs.Numbers.{within}
+use Rattle.feed_words.specs.Values.{matrix_named}
 use Rattle.program_words.specs.Words.{flag_named, takes_file, takes_participant}
 use Rattle.program_words.specs.declared.flag.Flag.{Flag}
 use Rattle.program_words.specs.declared.flag.Flag.TheVariants as flag
@@ -20,7 +20,7 @@ use Rattle.program_words.specs.declared.word.Word.{Word}
 
 -- ## One argument
 
--- whether an argument is an option, and not the name of a file; a lone minus is standard input
+-- whether an argument is an option, not the name of a file; a lone minus is standard input
 abbrev pub is_option : List ℕ → Bool
 is_option argument = starts_with nat_eq argument (codes "-") && not (bytes_eq argument (codes "-"))
 
@@ -31,10 +31,6 @@ option_name argument = option_map_or (λ end. take end argument) (position (is_b
 -- an option's value, which stands behind the first equals sign
 abbrev pub option_value : List ℕ → Option (List ℕ)
 option_value argument = option_map (λ end. drop (end + 1) argument) (position (is_byte 61) argument)
-
--- the matrix of a number
-abbrev pub matrix_named : List ℕ → Option Matrix
-matrix_named value = if bytes_eq value (codes "1") then Some One else if bytes_eq value (codes "2") then Some Two else None
 
 -- the participant of a letter
 abbrev pub participant_named : List ℕ → Option ℕ
@@ -93,7 +89,7 @@ abbrev pub with_option : Word → Given → ℕ → List ℕ → Result Given Wr
 with_option word given place argument =
     option_map_or (λ flag. with_flag given flag place (option_value argument)) (flag_named word (option_name argument)) (Err (wrong.Unexpected place))
 
--- with the name of a file, of which a word takes one at most
+-- with the name of a file, of which a word takes at most one
 abbrev pub with_file : Word → Given → ℕ → Result Given Wrong
 with_file word given place =
     if takes_file word && not (is_some given.file) then Ok (record given { file = Some place }) else Err (wrong.Unexpected place)
@@ -112,13 +108,13 @@ abbrev pub with_plain : Word → Given → ℕ → List ℕ → Result Given Wro
 with_plain word given place argument =
     if awaits_participant word given then with_participant given place argument else with_file word given place
 
--- with one argument more, which is the value of an option that awaits one
+-- with one more argument, which is the value of an option that awaits one
 abbrev pub with_argument : Word → Given → ℕ → List ℕ → Result Given Wrong
 with_argument word given place argument =
     option_map_or (λ flag. with_value given flag place argument) given.awaits
     (if is_option argument then with_option word given place argument else with_plain word given place argument)
 
--- what is done with what a first step gives, unless that is wrong
+-- what a next step gives after a first one, unless that is wrong
 abbrev pub then_with : Result Given Wrong → (Given → Result Given Wrong) → Result Given Wrong
 then_with (Ok given) next = next given
 then_with (Err wrong) next = Err wrong

@@ -1,4 +1,4 @@
--- How the program ends, and what is said of a fault.
+-- The number and the message of each status with which the program ends.
 use Rattle.std.specs.Prelude.{ℕ, List, [], codes}
 use Rattle.program_words.specs.declared.status.Status.{Status}
 use Rattle.program_words.specs.declared.status.Status.TheVariants.{Done, Differs, Bad, ReadFault, WriteFault, OutOfMemory, NotStarted, Disagrees}
@@ -14,7 +14,7 @@ status_code OutOfMemory = 5
 status_code NotStarted = 6
 status_code Disagrees = 7
 
--- what is said of a fault that has nothing to do with what the input says
+-- the message of a fault that does not depend on what the input says
 abbrev pub status_text : Status → List ℕ
 status_text Done = []
 status_text Differs = []

@@ -94,7 +94,7 @@ flag_name Follower = codes "--follower"
 flag_name Partial = codes "--partial"
 flag_name Help = codes "--help"
 
--- the values that an option takes, or nothing for one that takes none
+-- the values that an option takes, in words, or an empty text if it takes none
 abbrev pub flag_values : Flag → List ℕ
 flag_values Matrix = codes "1 or 2"
 flag_values Strict = []

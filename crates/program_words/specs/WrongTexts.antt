@@ -1,4 +1,4 @@
--- What is said of a wrong argument.
+-- The message for a wrong argument: which one it is, why, and how its word is used.
 use Rattle.std.specs.Prelude.{◌++◌, ◌∷◌, ℕ, List, [], Option, None, Some, Bool, codes, find, get_or, length, nat_eq, nat_le, if◌then◌else◌}
 use Rattle.std.specs.Option.{option_map_or}
 use Rattle.strsim.specs.Edits.{levenshtein_row}
@@ -23,7 +23,7 @@ abbrev pub tip : Option Flag → List ℕ
 tip None = []
 tip (Some flag) = codes "; a similar one is '" ++ flag_name flag ++ (39 ∷ [])
 
--- what is said of an argument, and the argument
+-- a text about an argument, and the argument
 abbrev pub named_text : List ℕ → List ℕ → List ℕ
 named_text said argument = said ++ codes " argument '" ++ argument ++ (39 ∷ [])
 

@@ -1,4 +1,4 @@
-//! Arguments, one after another, each ended by a zero byte.
+//! Reads the arguments after a word, one after another, each ended by a zero byte.
 ghost use Rattle.std.specs.Prelude.{◌≡◌, [], get_or};
 ghost use Rattle.feed_words.specs.Words.{words_of};
 ghost use Rattle.program_words.specs.Arguments.{in_a_row};
@@ -9,7 +9,7 @@ use crate::given::{Given, Wrong, is_option};
 use crate::word::Word;
 use feed_words::first_argument;
 
-/// The argument at a place, counted from 0, or nothing past the last.
+/// Returns the argument at a place, counted from 0, or an empty one past the last.
 pub fn argument_at(bytes: &[u8], place: usize) -> &[u8]
     ensures { result.now ≡ get_or (words_of bytes.now) place [] }
 {
@@ -26,8 +26,9 @@ pub fn argument_at(bytes: &[u8], place: usize) -> &[u8]
     }
 }
 
-/// Whether the arguments after a word stand in a row, each known by its place, and are not a file with its options: those of a batch unless
-/// help is asked for, and those of a running day unless there is one alone, or up to four of which one is an option.
+/// Returns whether the arguments after a word stand in a row, each known by its place, rather than a file with its options:
+/// those of a batch unless help is asked for, and those of a running day unless there is only one, or up to four of which one
+/// is an option.
 pub(crate) fn are_in_a_row(word: Word, bytes: &[u8]) -> bool
     ensures { result ≡ in_a_row word (words_of bytes.now) }
 {
@@ -51,7 +52,7 @@ pub(crate) fn are_in_a_row(word: Word, bytes: &[u8]) -> bool
         || !(is_option(first) || is_option(second) || is_option(third) || is_option(fourth))
 }
 
-/// What the arguments after a word give, or the first that is wrong.
+/// Returns what the arguments after a word give, or the first that is wrong.
 pub(crate) fn given(word: Word, bytes: &[u8]) -> Result<Given, Wrong>
     ensures { result ≡ given_with word nothing_given 0 (words_of bytes.now) }
 {

@@ -1,4 +1,4 @@
-//! What the program's arguments ask for.
+//! Reads what the program's arguments ask for: a word with its options and files, help, or the version.
 ghost use Rattle.std.specs.Prelude.{◌≡◌};
 ghost use Rattle.feed_words.specs.Words.{words_of};
 ghost use Rattle.program_words.specs.Arguments.{asked_after, asked_alone, asked_by, asked_of, asked_with, follower_given};
@@ -14,20 +14,10 @@ use tape_types::Participant;
 /// The argument that asks for the version.
 const VERSION: &[u8] = b"--version";
 
-/// A text of a table or a journal. By no matrix a table goes by Matrix One, and a journal by its own.
+/// A text of messages in another form.
 #[derive(Clone, Copy, Debug, PartialEq, Eq)]
-pub enum Command {
-    /// The report of a table or a journal, by a matrix if one is given, and whether refused rows are faults.
-    Report(Option<Matrix>, bool),
-    /// The readable tape of a table or a journal, by a matrix if one is given, and whether refused rows are faults.
-    Tape(Option<Matrix>, bool),
-    /// What became of the reports of a table or a journal and what each sets, by a matrix if one is given, and whether refused rows are faults.
-    Explain(Option<Matrix>, bool),
-    /// Every fault of a table.
-    Check,
-    /// Whether a recorded tape or a journal stands as it is written, by a matrix if one is given.
-    Verify(Option<Matrix>),
-    /// The text of a batch of a table.
+pub enum Conversion {
+    /// The batch text of a table.
     Encode,
     /// The table of a batch's text.
     Decode,
@@ -35,12 +25,30 @@ pub enum Command {
     Line(Participant),
 }
 
-/// A text of a table or a journal, and where that is. The arguments after a word are counted from 0.
+/// A text of a table or a journal. If no matrix is given, a table is read by Matrix One, and a journal by its own matrix.
+#[derive(Clone, Copy, Debug, PartialEq, Eq)]
+pub enum Command {
+    /// The report of a table or a journal, by a matrix if one is given, and whether refused rows are faults.
+    Report(Option<Matrix>, bool),
+    /// The readable tape of a table or a journal, by a matrix if one is given, and whether refused rows are faults.
+    Tape(Option<Matrix>, bool),
+    /// What became of the reports of a table or a journal and what each sets, by a matrix if one is given, and whether refused
+    /// rows are faults.
+    Explain(Option<Matrix>, bool),
+    /// Every fault of a table.
+    Check,
+    /// Whether a recorded tape or a journal is as it is written, by a matrix if one is given.
+    Verify(Option<Matrix>),
+    /// The messages of a table or of a batch's text in another form.
+    Convert(Conversion),
+}
+
+/// A text of a table or a journal, and the file of that. The arguments after a word are counted from 0.
 #[derive(Clone, Copy, Debug, PartialEq, Eq)]
 pub struct Request {
     /// The text.
     pub command: Command,
-    /// Which argument is the name of the file, which is standard input where it is `-` or none is.
+    /// Which argument is the name of the file, which is standard input if it is `-` or there is none.
     pub file: Option<usize>,
 }
 
@@ -51,8 +59,8 @@ pub enum Asked {
     Table(Request),
     /// A running day, and which argument is the name of its file.
     Live(usize),
-    /// The report of a running day at a follower's place, from 1, whether what is held is reported where no end comes, and which argument is
-    /// the name of its file.
+    /// The report of a running day at a follower's place, from 1, whether what is held is reported if no end comes, and which
+    /// argument is the name of its file.
     Follow(u16, bool, usize),
     /// The readable tape of a running day at a follower's place, from 1, and which argument is the name of its file.
     Watch(u16, usize),
@@ -66,12 +74,12 @@ pub enum Asked {
     HelpOn(Word),
     /// The program's version.
     Version,
-    /// Nothing: an argument of a word is wrong.
+    /// Nothing, since an argument of a word is wrong.
     Wrong(Word, Wrong),
 }
 
 impl Given {
-    /// The place of a follower, which is the first where none is given.
+    /// Returns the place of a follower, or the first if none is given.
     fn follower(&self) -> u16
         ensures { result ≡ follower_given self.now }
     {
@@ -79,7 +87,7 @@ impl Given {
     }
 }
 
-/// What a word asks for with what is given, of which no option awaits its value and none is help.
+/// Returns what a word asks for with what is given, of which no option awaits its value and none is help.
 fn asked_by(word: Word, given: &Given) -> Result<Asked, Wrong>
     ensures { result ≡ asked_by word given.now }
 {
@@ -89,9 +97,12 @@ fn asked_by(word: Word, given: &Given) -> Result<Asked, Wrong>
         Word::Explain => Command::Explain(given.matrix, given.strict),
         Word::Check => Command::Check,
         Word::Verify => Command::Verify(given.matrix),
-        Word::Encode => Command::Encode,
-        Word::Decode => Command::Decode,
-        Word::Line => Command::Line(given.participant.ok_or(Wrong::NoParticipant)?),
+        Word::Encode => Command::Convert(Conversion::Encode),
+        Word::Decode => Command::Convert(Conversion::Decode),
+        Word::Line => {
+            let participant = given.participant.ok_or(Wrong::NoParticipant)?;
+            Command::Convert(Conversion::Line(participant))
+        }
         Word::Batch => return Ok(Asked::HelpOn(word)),
         Word::Live => return Ok(Asked::Live(given.file.ok_or(Wrong::NoDay)?)),
         Word::Follow => {
@@ -110,7 +121,7 @@ fn asked_by(word: Word, given: &Given) -> Result<Asked, Wrong>
     }))
 }
 
-/// What a word asks for with what is given.
+/// Returns what a word asks for with what is given.
 fn asked_with(word: Word, given: &Given) -> Result<Asked, Wrong>
     ensures { result ≡ asked_with word given.now }
 {
@@ -123,7 +134,7 @@ fn asked_with(word: Word, given: &Given) -> Result<Asked, Wrong>
     }
 }
 
-/// What a word asks for with the arguments after it, unless they stand in a row.
+/// Returns what a word asks for with the arguments after it, or `None` if they stand in a row.
 fn asked_after(word: Word, rest: &[u8]) -> Option<Asked>
     ensures { result ≡ asked_after (words_of rest.now) word }
 {
@@ -140,7 +151,7 @@ fn asked_after(word: Word, rest: &[u8]) -> Option<Asked>
     }
 }
 
-/// What one argument alone asks for.
+/// Returns what a single argument asks for, if that is help or the version.
 fn asked_alone(first: &[u8], rest: &[u8]) -> Option<Asked>
     ensures { result ≡ asked_alone first.now (words_of rest.now) }
 {
@@ -155,8 +166,8 @@ fn asked_alone(first: &[u8], rest: &[u8]) -> Option<Asked>
     }
 }
 
-/// What arguments ask for, each ended by a zero byte, or `None` where they stand in a row, as those of `live` and `follow` do, or begin with no
-/// word.
+/// Returns what arguments, each ended by a zero byte, ask for, or `None` if they stand in a row, as those of `live` and
+/// `follow` do, or do not begin with a word.
 #[tactic(auto, unfolding(crate::specs::Arguments::asked_of))]
 pub fn read_arguments(words: &[u8]) -> Option<Asked>
     ensures { result ≡ asked_of (words_of words.now) }

@@ -1,4 +1,4 @@
-//! The options of words.
+//! The options of the words, with their names and the values that they take.
 ghost use Rattle.std.specs.Prelude.{◌≡◌};
 ghost use Rattle.program_words.specs.Words.{flag_name, flag_values};
 
@@ -11,14 +11,14 @@ pub enum Flag {
     Strict,
     /// The place of a follower, from 1.
     Follower,
-    /// What was held is reported, where the day's end did not come.
+    /// What was held is reported if the day's end did not come.
     Partial,
-    /// What the word does.
+    /// Help: what the word does.
     Help,
 }
 
 impl Flag {
-    /// The option's name.
+    /// Returns the option's name.
     pub fn name(self) -> &'static [u8]
         ensures { result.now ≡ flag_name self }
     {
@@ -31,7 +31,7 @@ impl Flag {
         }
     }
 
-    /// The values that the option takes, in words, or nothing if it takes none.
+    /// Returns the values that the option takes, in words, or an empty text if it takes none.
     pub(crate) fn values(self) -> &'static [u8]
         ensures { result.now ≡ flag_values self }
     {

@@ -1,11 +1,11 @@
-//! What a word's arguments give, one after another, and which of them is wrong.
+//! Collects what a word's arguments give, one after another, or finds which of them is wrong.
 ghost use Rattle.std.specs.Prelude.{◌≡◌, MatchOption, None, Some, option_copied, position};
 ghost use Rattle.memchr.specs.Find.{is_byte};
-ghost use Rattle.program_words.specs.Given.{follower_named, is_given, is_option, matrix_named, nothing_given, option_name, option_value, participant_named, with_argument, with_flag, with_option, with_plain, with_value, without_value};
+ghost use Rattle.program_words.specs.Given.{follower_named, is_given, is_option, nothing_given, option_name, option_value, participant_named, with_argument, with_flag, with_option, with_plain, with_value, without_value};
 
 use crate::flag::Flag;
 use crate::word::Word;
-use feed_words::decimal;
+use feed_words::{decimal, matrix_named};
 use sale_matrix::Matrix;
 use tape_types::Participant;
 
@@ -18,7 +18,7 @@ pub(crate) struct Given {
     pub strict: bool,
     /// The place of a follower.
     pub follower: Option<u16>,
-    /// Whether what was held is reported, where the day's end did not come.
+    /// Whether what was held is reported if the day's end did not come.
     pub partial: bool,
     /// Whether help is asked for.
     pub help: bool,
@@ -37,36 +37,36 @@ pub enum Wrong {
     Unexpected(usize),
     /// The option was given before.
     Repeated(usize),
-    /// It is no value of the option.
+    /// The argument is not a value of the option.
     Value(Flag, usize),
-    /// It is no participant.
+    /// The argument is not a participant.
     Participant(usize),
     /// The option has no value.
     NoValue(Flag),
-    /// There is no participant.
+    /// The participant is missing.
     NoParticipant,
-    /// There is no name of a day's file.
+    /// The name of a day's file is missing.
     NoDay,
 }
 
 /// The name of standard input as a file.
 pub const STANDARD_INPUT: &str = "-";
 
-/// Whether an argument is an option, and not the name of a file. `-` is standard input.
+/// Returns whether an argument is an option, not the name of a file. `-` is standard input.
 pub(crate) fn is_option(argument: &[u8]) -> bool
     ensures { result ≡ is_option argument.now }
 {
     argument.starts_with(b"-") && argument != STANDARD_INPUT.as_bytes()
 }
 
-/// Where an option's name ends, if its value stands behind it.
+/// Returns the index at which an option's name ends, if its value stands behind it.
 fn end_of_name(argument: &[u8]) -> Option<usize>
     ensures { result ≡ position (is_byte 61) argument.now }
 {
     argument.iter().position(|byte| *byte == b'=')
 }
 
-/// An option's name, and its value if that stands behind a `=` in the same argument.
+/// Returns an option's name, and its value if that stands behind a `=` in the same argument.
 pub(crate) fn split_option(argument: &[u8]) -> (&[u8], Option<&[u8]>)
     ensures name { result.0.now ≡ option_name argument.now }
     ensures value { MatchOption result.1 (option_value argument.now ≡ None) (λ value. option_value argument.now ≡ Some value.now) }
@@ -77,18 +77,7 @@ pub(crate) fn split_option(argument: &[u8]) -> (&[u8], Option<&[u8]>)
     }
 }
 
-/// The matrix of a number.
-fn matrix_named(value: &[u8]) -> Option<Matrix>
-    ensures { result ≡ matrix_named value.now }
-{
-    match value {
-        b"1" => Some(Matrix::One),
-        b"2" => Some(Matrix::Two),
-        _ => None,
-    }
-}
-
-/// The participant of a letter.
+/// Returns the participant of a letter, or `None` if there is none.
 fn participant_named(argument: &[u8]) -> Option<Participant>
     ensures { result ≡ participant_named argument.now }
 {
@@ -98,7 +87,7 @@ fn participant_named(argument: &[u8]) -> Option<Participant>
     }
 }
 
-/// The place of a follower, from 1.
+/// Returns the place of a follower, 1 to 65,535, or `None` if the value is no such number.
 fn follower_named(value: &[u8]) -> Option<u16>
     ensures { result ≡ follower_named value.now }
 {
@@ -121,7 +110,7 @@ impl Given {
         awaits: None,
     };
 
-    /// Whether an option was given.
+    /// Returns whether an option was given.
     fn has(&self, flag: Flag) -> bool
         ensures { result ≡ is_given self.now flag }
     {
@@ -134,7 +123,7 @@ impl Given {
         }
     }
 
-    /// With an option's value, which is this argument or a part of it.
+    /// Adds an option's value, which is this argument or a part of it.
     fn with_value(self, flag: Flag, place: usize, value: &[u8]) -> Result<Given, Wrong>
         ensures { result ≡ with_value self flag place value.now }
     {
@@ -159,7 +148,7 @@ impl Given {
         }
     }
 
-    /// With an option whose argument has no value.
+    /// Adds an option whose argument has no value.
     fn without_value(self, flag: Flag) -> Given
         ensures { result ≡ without_value self flag }
     {
@@ -180,7 +169,7 @@ impl Given {
         }
     }
 
-    /// With an option that the word takes.
+    /// Adds an option that the word takes, which may be given once.
     fn with_flag(self, flag: Flag, place: usize, value: Option<&[u8]>) -> Result<Given, Wrong>
         ensures { result ≡ with_flag self flag place (option_copied value.entry) }
     {
@@ -193,7 +182,7 @@ impl Given {
         }
     }
 
-    /// With an argument that begins as an option.
+    /// Adds an argument that begins as an option.
     fn with_option(self, word: Word, place: usize, argument: &[u8]) -> Result<Given, Wrong>
         ensures { result ≡ with_option word self place argument.now }
     {
@@ -204,7 +193,7 @@ impl Given {
         }
     }
 
-    /// With an argument that is no option.
+    /// Adds an argument that is not an option.
     fn with_plain(self, word: Word, place: usize, argument: &[u8]) -> Result<Given, Wrong>
         ensures { result ≡ with_plain word self place argument.now }
     {
@@ -224,7 +213,7 @@ impl Given {
         }
     }
 
-    /// With one argument more.
+    /// Adds one more argument.
     pub fn with(self, word: Word, place: usize, argument: &[u8]) -> Result<Given, Wrong>
         ensures { result ≡ with_argument word self place argument.now }
     {

@@ -1,4 +1,4 @@
-//! What the program says of itself, and of each word.
+//! Writes the texts of help: for the program and for each word.
 ghost use Rattle.std.specs.Prelude.{◌≡◌, ◌++◌, IfOk, OnOk};
 ghost use Rattle.std.specs.List.{flat_map};
 ghost use Rattle.program_words.specs.HelpTexts.{help_text, usage_line, word_help_text};
@@ -6,7 +6,7 @@ ghost use Rattle.program_words.specs.HelpTexts.{help_text, usage_line, word_help
 use crate::word::{ALL_WORDS, Word};
 use std::alloc::{AllocError, Global};
 
-/// What stands before the words.
+/// The text before the words.
 const HEAD: &[u8] = b"\
 tapebox WORD .. reads a FILE or standard input and writes to standard output.\n\
 tapebox WORD --help is about one word, and tapebox --version tells the version.\n\n";
@@ -32,7 +32,7 @@ fn push_helps(text: &mut Vec<u8>, words: &[Word]) -> Result<(), AllocError>
     Ok(())
 }
 
-/// What the program does, word by word.
+/// Returns the text that says what the program does, word by word. It fails if memory runs out.
 pub fn help_text(alloc: Global) -> Result<Vec<u8>, AllocError>
     ensures { IfOk result (λ text. text.items ≡ help_text) }
 {
@@ -41,7 +41,7 @@ pub fn help_text(alloc: Global) -> Result<Vec<u8>, AllocError>
     Ok(text)
 }
 
-/// How a word is used, and what it does.
+/// Returns the text that says how a word is used and what it does. It fails if memory runs out.
 pub fn word_help_text(alloc: Global, word: Word) -> Result<Vec<u8>, AllocError>
     ensures { IfOk result (λ text. text.items ≡ word_help_text word) }
 {
@@ -50,7 +50,7 @@ pub fn word_help_text(alloc: Global, word: Word) -> Result<Vec<u8>, AllocError>
     Ok(text)
 }
 
-/// Adds the line of a word's use.
+/// Adds the line that says how a word is used.
 pub(crate) fn push_usage(text: &mut Vec<u8>, word: Word) -> Result<(), AllocError>
     ensures { OnOk result (text.new.items ≡ text.old.items ++ usage_line word) }
 {

@@ -1,4 +1,4 @@
-//! The program's words: what its arguments ask for, which of them is wrong, and what help says.
+//! Reads the program's arguments: what they ask for or which of them is wrong. It also has the texts of help and the statuses.
 #![tactic(auto)]
 
 mod arguments;
@@ -13,7 +13,7 @@ mod word;
 mod wrong_texts;
 
 pub use arguments::argument_at;
-pub use command::{Asked, Command, Request, read_arguments};
+pub use command::{Asked, Command, Conversion, Request, read_arguments};
 pub use flag::Flag;
 pub use given::{STANDARD_INPUT, Wrong};
 pub use help::{help_text, word_help_text};

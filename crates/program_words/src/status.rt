@@ -1,4 +1,4 @@
-//! How the program ends.
+//! The statuses with which the program ends, each with its number and its message.
 ghost use Rattle.std.specs.Prelude.{◌≡◌};
 ghost use Rattle.program_words.specs.Statuses.{status_code, status_text};
 
@@ -24,7 +24,7 @@ pub enum Status {
 }
 
 impl Status {
-    /// The number that the program ends with.
+    /// Returns the number that the program ends with, 0 to 7.
     pub fn code(self) -> u8
         ensures { result ≡ status_code self }
     {
@@ -40,7 +40,8 @@ impl Status {
         }
     }
 
-    /// What is said of a fault that has nothing to do with what the input says: one line, and nothing where there is no such fault.
+    /// Returns the message of a fault that does not depend on what the input says: one line, or an empty text if there is no
+    /// such fault.
     pub fn text(self) -> &'static str
         ensures { result.now ≡ status_text self }
     {

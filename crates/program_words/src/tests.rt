@@ -1,4 +1,4 @@
-//! What arguments ask for, and what is said of a wrong one and in help.
+//! Tests what arguments ask for, and the messages for a wrong one and for help.
 
 use crate::{Asked, Command, Request, Word, help_text, read_arguments, wrong_text};
 use feed_words::first_argument;
@@ -6,12 +6,12 @@ use sale_matrix::Matrix;
 use std::alloc::{AllocError, Global};
 use std::process::Abort;
 
-/// A text of a table whose name is this argument.
+/// Returns the request for a text of a table, whose name is this argument.
 fn table_in(command: Command, file: Option<usize>) -> Option<Asked> {
     Some(Asked::Table(Request { command, file }))
 }
 
-/// Whether arguments ask for a strict report by Matrix Two, whose name is this argument.
+/// Returns whether arguments ask for a strict report by Matrix Two of the table whose name is this argument.
 fn ask_for_a_strict_report(words: &[u8], file: Option<usize>) -> bool {
     read_arguments(words) == table_in(Command::Report(Some(Matrix::Two), true), file)
 }
@@ -71,7 +71,7 @@ fn arguments_in_a_row_are_not_read_here(rt: HostRuntime) {
     }
 }
 
-/// What is said of a wrong argument, or nothing where none is.
+/// Returns the message for a wrong argument, or an empty text if none is wrong.
 fn said(alloc: Global, words: &[u8]) -> Result<Vec<u8>, AllocError> {
     match (read_arguments(words), first_argument(words)) {
         (Some(Asked::Wrong(word, wrong)), Some((_, rest))) => wrong_text(alloc, word, rest, wrong),
@@ -79,7 +79,7 @@ fn said(alloc: Global, words: &[u8]) -> Result<Vec<u8>, AllocError> {
     }
 }
 
-/// Asserts the first line that is said of a wrong argument.
+/// Asserts the first line of the message for a wrong argument.
 fn assert_said<T: Abort>(rt: &T, alloc: Global, words: &[u8], line: &[u8]) {
     match said(alloc, words) {
         Ok(text) => assert!(rt; text.starts_with(line)),

@@ -1,4 +1,4 @@
-//! The words of the program, and what help says of each.
+//! The words of the program, with their names, their options and what help says of each.
 ghost use Rattle.std.specs.Prelude.{◌≡◌, Some};
 ghost use Rattle.program_words.specs.Words.{flag_named, flags_of, is_row_word, takes_file, word_does, word_form, word_name, word_of};
 
@@ -15,9 +15,9 @@ pub enum Word {
     Explain,
     /// Every fault of a table.
     Check,
-    /// Whether a recorded tape or a journal stands as it is written.
+    /// Whether a recorded tape or a journal is as it is written.
     Verify,
-    /// The text of a batch of a table.
+    /// The batch text of a table.
     Encode,
     /// The table of a batch's text.
     Decode,
@@ -55,7 +55,7 @@ pub const ALL_WORDS: [Word; 14] = [
     Word::End,
 ];
 
-/// The first word of this name.
+/// Returns the first word of this name.
 fn first_named(name: &[u8]) -> Option<Word>
     ensures { result ≡ word_of name.now }
 {
@@ -63,7 +63,7 @@ fn first_named(name: &[u8]) -> Option<Word>
 }
 
 impl Word {
-    /// The argument that names the word.
+    /// Returns the argument that names the word.
     pub fn name(self) -> &'static [u8]
         ensures { result.now ≡ word_name self }
     {
@@ -85,7 +85,7 @@ impl Word {
         }
     }
 
-    /// The word of this name. Each word has one.
+    /// Returns the word of this name, or `None` if there is none. Each word has one name.
     pub fn named(name: &[u8]) -> Option<Word>
         ensures word { result ≡ word_of name.now }
         ensures each { (word : Word) → name.now ≡ word_name word → result ≡ Some word }
@@ -93,7 +93,7 @@ impl Word {
         first_named(name)
     }
 
-    /// The options that the word takes.
+    /// Returns the options that the word takes.
     pub(crate) fn flags(self) -> &'static [Flag]
         ensures { result.now ≡ flags_of self }
     {
@@ -113,7 +113,7 @@ impl Word {
         }
     }
 
-    /// The option of a name that the word takes.
+    /// Returns the option of this name, if the word takes it.
     pub(crate) fn flag_named(self, name: &[u8]) -> Option<Flag>
         ensures { result ≡ flag_named self name.now }
     {
@@ -123,21 +123,21 @@ impl Word {
             .find(|flag| name == flag.name())
     }
 
-    /// Whether the word takes the name of a file.
+    /// Returns whether the word takes the name of a file.
     pub(crate) fn takes_file(self) -> bool
         ensures { result ≡ takes_file self }
     {
         !matches!(self, Word::Batch)
     }
 
-    /// Whether the word may have arguments in a row, each known by its place.
+    /// Returns whether the word may have arguments in a row, each known by its place.
     pub(crate) fn is_row_word(self) -> bool
         ensures { result ≡ is_row_word self }
     {
         matches!(self, Word::Batch | Word::Live | Word::Follow | Word::Watch)
     }
 
-    /// How the word is used.
+    /// Returns how the word is used.
     pub(crate) fn form(self) -> &'static [u8]
         ensures { result.now ≡ word_form self }
     {
@@ -165,7 +165,7 @@ impl Word {
         }
     }
 
-    /// What the word does, in one sentence.
+    /// Returns what the word does, in one sentence.
     pub(crate) fn sentence(self) -> &'static [u8]
         ensures { result.now ≡ word_does self }
     {

@@ -1,4 +1,4 @@
-//! What is said of a wrong argument.
+//! Writes the message for a wrong argument: which one it is, why, and how its word is used.
 ghost use Rattle.std.specs.Prelude.{◌≡◌, ◌++◌, [], IfOk, OnOk, find, get_or};
 ghost use Rattle.feed_words.specs.Words.{words_of};
 ghost use Rattle.program_words.specs.WrongTexts.{is_similar, named_text, range_text, similar, tip, why_text, wrong_text};
@@ -11,17 +11,17 @@ use crate::word::Word;
 use std::alloc::{AllocError, Global};
 use strsim::generic_levenshtein;
 
-/// How many edits lead at most from a name to a similar one.
+/// The greatest number of edits from a name to a similar one.
 const EDITS_MOST: usize = 2;
 
-/// Whether a name is similar to an option's.
+/// Returns whether a name is similar to that of an option.
 fn is_similar(alloc: Global, name: &[u8], flag: Flag) -> Result<bool, AllocError>
     ensures { IfOk result (λ similar. similar ≡ is_similar name.now flag) }
 {
     Ok(generic_levenshtein(alloc, name, flag.name())? <= EDITS_MOST)
 }
 
-/// The first of these options to whose name this one is similar.
+/// Returns the first of these options whose name is similar to this one.
 fn first_similar(alloc: Global, name: &[u8], flags: &[Flag]) -> Result<Option<Flag>, AllocError>
     ensures { IfOk result (λ flag. flag ≡ find (is_similar name.now) flags.now) }
 {
@@ -35,7 +35,7 @@ fn first_similar(alloc: Global, name: &[u8], flags: &[Flag]) -> Result<Option<Fl
     Ok(None)
 }
 
-/// The option of a word that an argument may have been meant for.
+/// Returns the option of a word that an argument may have been meant for.
 fn similar(alloc: Global, word: Word, argument: &[u8]) -> Result<Option<Flag>, AllocError>
     ensures { IfOk result (λ flag. flag ≡ similar word argument.now) }
 {
@@ -57,7 +57,7 @@ fn push_tip(text: &mut Vec<u8>, flag: Option<Flag>) -> Result<(), AllocError>
     text.extend_from_slice(b"'")
 }
 
-/// Adds what is said of an argument, and the argument.
+/// Adds a text about an argument, and the argument.
 fn push_named(text: &mut Vec<u8>, said: &[u8], argument: &[u8]) -> Result<(), AllocError>
     ensures { OnOk result (text.new.items ≡ text.old.items ++ named_text said.now argument.now) }
 {
@@ -112,7 +112,8 @@ fn push_why(
     }
 }
 
-/// What is said of a wrong argument of those after a word: which it is and why, and how the word is used.
+/// Returns the message for a wrong argument after a word: which one it is, why, and how the word is used. It fails if memory
+/// runs out.
 pub fn wrong_text(
     alloc: Global,
     word: Word,

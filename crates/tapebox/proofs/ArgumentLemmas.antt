@@ -1,4 +1,4 @@
--- The first argument.
+-- What the first argument excludes, and what arguments that are read as a fault ask for.
 use Rattle.std.proofs.Common.{◌≡◌, ◌-◌, ◌∷◌, ◌&&◌, Some, None, IfSome, Result, Ok, Err, [], ℕ, List, true, arith, drop, length, nat_eq, take}
 use Rattle.std.proofs.lemmas.Bool.{and_parts}
 use Rattle.std.proofs.lemmas.Bool.Decides.{nat_tests}

@@ -1,4 +1,4 @@
--- A run's report is that of the day which the arguments name.
+-- What the status of a running day says of its report, and that it is the report of the day which the arguments name.
 use Rattle.std.proofs.Common.{◌≡◌, ◌≢◌, ◌<◌, ◌⊎◌, Bool, true, false, IfErr, IfOk, IfSome, IsOk, OnOk, Result, Ok, Err, List, Option, None, Some, ℕ, ap, arith, inl, inr, refl, subst, sym}
 use Rattle.program_words.specs.Statuses.{status_code}
 use Rattle.program_words.specs.declared.status.Status.{Status}
@@ -39,7 +39,7 @@ known_by (Err Worker) = inr (omega arith, omega arith)
 known_by (Err Disagrees) = inr (omega arith, omega arith)
 
 module _ {W E : Type 0} (status : Status) (writer_old writer_new : W) (old new : Option (List ℕ)) (errors_old errors_new : E) (said_old said_new : Option (List ℕ)) where
-  -- a run writes another report where the one that it wrote is that one too
+  -- a run writes another report if the one that it wrote is that one too
   runs_too : (Wrote Writes : Option (List ℕ) → Option (List ℕ) → Type 0) → (Wrote old new → Writes old new)
       → RunsFeed Wrote status writer_old writer_new old new errors_old errors_new said_old said_new
       → RunsFeed Writes status writer_old writer_new old new errors_old errors_new said_old said_new
@@ -86,7 +86,7 @@ made_done ended (Some (Ok count)) well = well_done ended well
 made_done ended (Some (Err why)) well = tt
 
 module _ {W : Type 0} (listing : Names) (matrix : Matrix) (limit : ℕ) (writer_old writer_new : W) (old new : Option (List ℕ)) where
-  -- a day that was followed and ended so has that status
+  -- a day that was followed and ended like this has that status
   pub follow_ends : (is_partial : Bool) (ended : Result (Unit {0}) FollowFault) (reported : Option (Result ℕ Fault)) (status : Status)
       → status ≡ follow_status ended → OnOk ended (WritesItsReport listing matrix limit old new)
       → IfSome reported (λ made. IfOk made (λ count. WritesReportOf listing matrix limit count old new)) → (reported ≡ None → writer_new ≡ writer_old)
@@ -118,7 +118,7 @@ module _ {W : Type 0} (listing : Names) (matrix : Matrix) (limit : ℕ) (writer_
 
 -- ## A day that is run
 
--- the status of a fault is that of the feeds
+-- the status of a fault is the same in both enums
 fault_same : (why : Fault) → status_code (ended_status (Err why)) ≡ fault_code why
 fault_same Read = refl
 fault_same Write = refl
@@ -126,7 +126,7 @@ fault_same Memory = refl
 fault_same Worker = refl
 fault_same Disagrees = refl
 
--- after a fault that is none of a read or a write the report is whole, or nothing was written
+-- after a fault other than of a read or a write the report is whole, or nothing was written
 all_or_nothing : {W : Type 0} (writer_old writer_new : W) (Report : Type 0) (ended : Result (Unit {0}) Fault) (is_whole : Bool)
     → (is_whole ≡ true → Report) → (is_whole ≡ false → IfErr ended (λ why. 4 < fault_code why → writer_new ≡ writer_old))
     → 4 < status_code (ended_status ended) → (writer_new ≡ writer_old) ⊎ Report
@@ -174,7 +174,7 @@ module _ {W : Type 0} (Report : Option (List ℕ) → Option (List ℕ) → Type
   unready_day status (inr is) = unopened_day status (inr (inr (inr (inl is))))
 
 module _ {W : Type 0} (listing : Names) (matrix : Matrix) (limit : ℕ) (writer_old writer_new : W) (old new : Option (List ℕ)) where
-  -- a day that was run and ended so has that status
+  -- a day that was run and ended like this has that status
   pub day_ends : (end : LiveEnd) (status : Status) → status ≡ ended_status end.result → EndsDay listing matrix limit writer_old writer_new old new end
       → RunsDay (WritesItsReport listing matrix limit) status writer_old writer_new old new
   day_ends end status is ends =

@@ -1,9 +1,9 @@
--- What the program says of a day's file, and with which status.
+-- What the program says of a day's file, with which status, and what it takes from the file.
 use Rattle.std.specs.Prelude.{◌≡◌, ◌⊎◌, ℕ, Bool, List, Option, option_map, string_bytes}
 use Rattle.program_words.specs.Statuses.{status_text}
 use Rattle.program_words.specs.declared.status.Status.{Status}
 use Rattle.program_words.specs.declared.status.Status.TheVariants as status
-use Rattle.row_reads.specs.Writing.{WritesPrefix}
+use Rattle.whole_io.specs.Writing.{WritesPrefix}
 use Rattle.day_files.specs.Days.{ControlPlace, Day, at_path, at_port}
 use Rattle.day_files.specs.declared.day_fault.DayFault.{DayFault}
 use Rattle.day_files.specs.declared.day_fault.DayFault.TheVariants.{OutOfMemory}
@@ -22,11 +22,11 @@ abbrev pub SaysFault : List ℕ → DayFault → Option (List ℕ) → Option (L
 SaysFault name OutOfMemory old new = WritesPrefix (status_text status.OutOfMemory) old new
 SaysFault name _ old new = SaysOf name old new
 
--- the status of a day that its file, or that of its symbols, does not give
+-- the status if a day's file, or that of its symbols, has no day
 abbrev pub IsUnreadStatus : Status → Type 0
 IsUnreadStatus s = (s ≡ status.Bad) ⊎ (s ≡ status.ReadFault) ⊎ (s ≡ status.OutOfMemory)
 
--- the control socket that a day's file of this name gives: a path starts at the file's folder
+-- the control socket that a day's file of this name names: a path starts at the file's folder
 abbrev pub control_by : List ℕ → ControlPlace → ControlPlace
 control_by file (at_port port) = at_port port
 control_by file (at_path path) = at_path (beside_path path file)
@@ -36,7 +36,7 @@ pub record NamedJournal : Type 0 where
   pub path : List ℕ
   pub is_synced : Bool
 
--- the journal that a day's file of this name gives: a path starts at the file's folder
+-- the journal that a day's file of this name names: a path starts at the file's folder
 abbrev pub journal_by : List ℕ → Day → Option NamedJournal
 journal_by file day = option_map (λ path. record { path = beside_path path file; is_synced = day.journal_sync }) day.journal
 

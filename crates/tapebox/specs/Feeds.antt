@@ -1,4 +1,4 @@
--- How a running day ends, by the program's status.
+-- The statuses of a running day, and what is written before each.
 use Rattle.std.specs.Prelude.{◌≡◌, ◌≢◌, ◌<◌, ◌⊎◌, ℕ, Bool, true, false, List, Option, None, Result, Ok, Err, IfErr, IfOk, IfSome, OnOk}
 use Rattle.tape_types.specs.Names.{Names}
 use Rattle.sale_matrix.specs.declared.matrix.Matrix.{Matrix}
@@ -37,21 +37,21 @@ control_status control.WriteFault = status.WriteFault
 control_status control.OutOfMemory = status.OutOfMemory
 control_status _ = status.ReadFault
 
--- a status of what is asked at a control socket and not answered
+-- a status of a command at a control socket that is not answered
 abbrev pub IsControlStatus : Status → Type 0
 IsControlStatus s = (s ≡ status.ReadFault) ⊎ (s ≡ status.WriteFault) ⊎ (s ≡ status.OutOfMemory)
 
 -- ## What is written
 
--- a day of this listing, matrix and limit was run and ended so
+-- a day of this listing, matrix and limit was run and ended like this
 pub record EndsDay {W : Type 0} (listing : Names) (matrix : Matrix) (limit : ℕ) (writer_old writer_new : W) (old new : Option (List ℕ))
     (end : LiveEnd) : Type 0 where
   pub report : end.is_whole ≡ true → WritesItsReport listing matrix limit old new
   pub whole : OnOk end.result (end.is_whole ≡ true)
   pub unwritten : end.is_whole ≡ false → IfErr end.result (λ fault. 4 < fault_code fault → writer_new ≡ writer_old)
 
--- a day that a file gives was run and ended with this status: where all is done its whole report was written; where its journal is another's nothing
--- was; after a fault that is none of a read or a write the report was written whole, or nothing was
+-- the day of a file was run and ended with this status: if all is done, its whole report was written; if its journal is another
+-- day's, nothing was; after a fault other than of a read or a write the report was written whole, or nothing was
 pub record RunsDay {W : Type 0} (WritesReport : Option (List ℕ) → Option (List ℕ) → Type 0) (ended : Status) (writer_old writer_new : W)
     (old new : Option (List ℕ)) : Type 0 where
   pub known : (ended ≡ status.Bad) ⊎ IsFeedStatus (status_code ended)
@@ -59,8 +59,8 @@ pub record RunsDay {W : Type 0} (WritesReport : Option (List ℕ) → Option (Li
   pub refused : ended ≡ status.Bad → writer_new ≡ writer_old
   pub whole : 4 < status_code ended → (writer_new ≡ writer_old) ⊎ WritesReport old new
 
--- a day that a file gives was followed and ended with this status: where all is done the whole report was written; a report of so many
--- entries is whole, and is none of a day that did not end, unless it is wanted of what is held
+-- the day of a file was followed and ended with this status: if all is done, the whole report was written; a report of some
+-- number of entries is whole, and there is none of a day that did not end, unless it is wanted of the entries held
 pub record FollowsDay {W : Type 0} (listing : Names) (matrix : Matrix) (limit : ℕ) (is_partial : Bool) (ended : Status) (writer_old writer_new : W)
     (old new : Option (List ℕ)) : Type 0 where
   pub reported : Option (Result ℕ Fault)

@@ -1,5 +1,5 @@
 -- The files that arguments name, and what is said of them.
-use Rattle.std.specs.Prelude.{◌≡◌, ◌++◌, ℕ, Bool, true, false, drop, get_or, List, [], Option, Some, None, IfOk, IfErr, IfSome, Result, codes}
+use Rattle.std.specs.Prelude.{◌≡◌, ◌++◌, ℕ, Bool, true, false, drop, get_or, List, [], Option, Some, None, IfOk, IfErr, Result, codes}
 use Rattle.std.specs.Option.{unwrap_or}
 use Rattle.std.specs.IoError.{error_kind}
 use Rattle.std.specs.Path.{path_join, path_parent}
@@ -10,7 +10,7 @@ use Rattle.std.specs.declared.io.ErrorKind.TheVariants.{IsADirectory}
 use Rattle.feed_words.specs.Words.{words_of}
 use Rattle.program_words.specs.declared.command.Command.{Command}
 use Rattle.program_words.specs.declared.command.Command.TheVariants.{Tape, Explain}
-use Rattle.row_reads.specs.Writing.{WritesPrefix}
+use Rattle.whole_io.specs.Writing.{WritesPrefix}
 
 -- the argument after the word at a place, counted from 0
 abbrev pub argument_in : List ℕ → ℕ → List ℕ
@@ -22,15 +22,15 @@ has_rows (Tape matrix strict) = true
 has_rows (Explain matrix strict) = true
 has_rows _ = false
 
--- how many bytes a small file has at most
+-- the most bytes that a file of a day or of its symbols may have
 abbrev pub FILE_MOST : ℕ
 FILE_MOST = 16777216
 
--- the name of a file that stands in the folder of another, unless it is an absolute path
+-- the path of a file whose name starts at the folder of another file, unless it is an absolute path
 abbrev pub beside_path : List ℕ → List ℕ → List ℕ
 beside_path name file = path_join (unwrap_or (path_parent file) []) name
 
--- the length of a file is known, unless it is a pipe or a device; a folder is no file
+-- the length of a file is known, unless it is a pipe or a device; a folder is an error
 pub record KnowsLength (metadata : Metadata) (found : Result (Option ℕ) Error) : Type 0 where
   pub no_folder : IfOk found (λ length. IsDir (file_type metadata) → ⊥)
   pub folder : IfErr found (λ error. IsDir (file_type metadata) × (error_kind error ≡ IsADirectory))
@@ -41,6 +41,6 @@ pub record KnowsLength (metadata : Metadata) (found : Result (Option ℕ) Error)
 abbrev pub named_line : List ℕ → List ℕ → List ℕ
 named_line name what = codes "tapebox: " ++ name ++ codes ": " ++ what ++ codes "\n"
 
--- something was said of what has this name, or a part of it, or nothing for want of memory
+-- something was said of what has this name, or a prefix of it, which is nothing if there was no memory
 abbrev pub SaysOf : List ℕ → Option (List ℕ) → Option (List ℕ) → Type 0
 SaysOf name old new = (what : List ℕ) × WritesPrefix (named_line name what) old new

@@ -1,7 +1,6 @@
--- What the program says of a day's journal, and with which status.
-use Rattle.std.specs.Prelude.{◌≡◌, ◌⊎◌, ◌++◌, ◌==◌, ℕ, List, [], Option, Some, None, codes, string_bytes, if◌then◌else◌}
+-- What the program says of a day's journal, with which status, and what a running day has of it.
+use Rattle.std.specs.Prelude.{◌≡◌, ◌⊎◌, ◌++◌, ◌==◌, ℕ, List, Option, Some, None, codes, if◌then◌else◌}
 use Rattle.std.specs.Global.{Vec}
-use Rattle.desk_words.specs.Tellings.{told_line}
 use Rattle.journal_start.specs.Texts.{refusal_text}
 use Rattle.journal_start.specs.declared.journal_refusal.JournalRefusal.{JournalRefusal}
 use Rattle.journal_start.specs.declared.journal_refusal.JournalRefusal.TheVariants.{HeaderDamaged, Damaged}
@@ -11,6 +10,7 @@ use Rattle.journal_start.specs.declared.starting.Past.{Past}
 use Rattle.live_feed.specs.declared.journal.Restored.{Restored}
 use Rattle.program_words.specs.declared.status.Status.{Status}
 use Rattle.program_words.specs.declared.status.Status.TheVariants as status
+use Rattle.tapebox.specs.Files.{named_line}
 use Rattle.tapebox.specs.Outlets.{write_cause_text}
 use Rattle.tapebox.specs.declared.journal_fault.JournalFault.{JournalFault}
 use Rattle.tapebox.specs.declared.journal_fault.JournalFault.TheVariants as fault
@@ -48,7 +48,7 @@ IsJournalStatus s = (s ≡ status.Bad) ⊎ (s ≡ status.ReadFault) ⊎ (s ≡ s
 
 -- ## Texts
 
--- what is said of a file that is not held; how an error of the system reads is the kit's
+-- what is said of a file that is not held; the text of a system's error is the kit's
 abbrev pub unheld_text : Unheld → Vec ℕ → Type 0
 unheld_text Taken text = text.items ≡ codes "held by another program"
 unheld_text NoFile text = text.items ≡ codes "no journal"
@@ -62,13 +62,17 @@ fault_text (fault.Unstarted (Unread kind) cause) text = Unit {0}
 fault_text (fault.Unstarted Unwritten cause) text = text.items ≡ write_cause_text cause
 fault_text (fault.Unstarted OutOfMemory cause) text = text.items ≡ codes "out of memory"
 
+-- the name by which the journal of this path is spoken of
+abbrev pub journal_name : List ℕ → List ℕ
+journal_name path = codes "journal " ++ path
+
 -- a line about the journal of this path
 abbrev pub journal_line : List ℕ → List ℕ → List ℕ
-journal_line path what = told_line (codes "journal " ++ path ++ codes ": " ++ what)
+journal_line path what = named_line (journal_name path) what
 
--- ## A day that goes on
+-- ## A day that is continued
 
--- what a running day is given of what its journal had, which is nothing where it had no entry
+-- what a running day has of what its journal had, which is nothing if it had no entry
 abbrev pub restored_of : ℕ → Option Past → Option Restored
 restored_of held None = None
 restored_of held (Some past) =

@@ -1,4 +1,4 @@
-//! What an operator asks of a running day, at its control socket.
+//! Asks a running day at its control socket, for an operator.
 ghost use Rattle.std.specs.Prelude.{◌≡◌, ◌≢◌, ◌⊎◌, ℕ, List, Option};
 ghost use Rattle.day_control.specs.Asking.{Told};
 ghost use Rattle.day_control.specs.Faults.{fault_status as control_code};
@@ -13,7 +13,7 @@ use std::alloc::Global;
 use std::io::Write;
 use std::net::{Net, TcpListener, TcpStream};
 
-/// The status of a fault of a control socket.
+/// Returns the status of a fault of a control socket.
 fn control_status(fault: ControlFault) -> Status
     ensures status { result ≡ control_status fault }
     ensures code { status_code result ≡ control_code fault }
@@ -32,7 +32,7 @@ fn control_status(fault: ControlFault) -> Status
     }
 }
 
-/// Says why a control socket could not be opened or asked, unless there is no memory for the line, and gives the status.
+/// Says why a control socket could not be opened or asked, unless there is no memory for the line, and returns the status.
 pub fn say_control_fault<E: Write>(
     alloc: Global,
     errors: &mut E,
@@ -49,8 +49,8 @@ pub fn say_control_fault<E: Write>(
     control_status(fault)
 }
 
-/// Asks a running day at its control socket, and writes the answer. With the status `Done` the lines of an answer were written, and nothing else; with
-/// any other status but `WriteFault` nothing was.
+/// Asks a running day at its control socket, writes the answer, and returns the status. After `Done` the lines of an answer
+/// were written, and nothing else; after any other status but `WriteFault` nothing was.
 pub fn ask_day<T, W, E>(
     rt: &T,
     alloc: Global,

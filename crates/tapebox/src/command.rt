@@ -1,4 +1,4 @@
-//! What the program's arguments ask for.
+//! Reads what the program's arguments ask for.
 ghost use Rattle.std.specs.Prelude.{◌≡◌, ◌⊎◌, IfOk, IfSome, None, Ok, Err, true};
 ghost use Rattle.feed_words.specs.declared.fault.WordsFault.TheVariants.{OutOfMemory};
 ghost use Rattle.tapebox.specs.Program.{AsksFor, asked_in, asks_follow, asks_live, batch_matrix};
@@ -12,7 +12,7 @@ use std::alloc::Global;
 /// The arguments of a batch by Matrix One.
 const BATCH: &[u8] = b"batch\0";
 
-/// The same with the matrix named.
+/// The same, with the matrix named.
 const BATCH_ONE: &[u8] = b"batch\01\0";
 
 /// The arguments of a batch by Matrix Two.
@@ -37,7 +37,7 @@ pub enum Command {
     Asked(Asked),
 }
 
-/// The matrix that the arguments of a batch ask for, or `None` for other arguments.
+/// Returns the matrix that the arguments of a batch ask for, or `None` for other arguments.
 fn batch_matrix(words: &[u8]) -> Option<Matrix>
     ensures { result ≡ batch_matrix words.now }
 {
@@ -50,8 +50,8 @@ fn batch_matrix(words: &[u8]) -> Option<Matrix>
     }
 }
 
-/// What arguments ask for, each ended by a zero byte, or why they ask for nothing: `BadArguments`, or `OutOfMemory` for the
-/// names of `live` or `follow` in a row.
+/// Returns what arguments ask for, each ended by a zero byte. Errors: `BadArguments`, and `OutOfMemory` for the names of `live`
+/// or `follow` in a row.
 pub fn read_command(alloc: Global, words: &[u8]) -> Result<Command, WordsFault>
     ensures other { batch_matrix words.now ≡ None → IfSome (asked_in words.now) (λ asked. result ≡ Ok (Asks asked)) }
     ensures batch { IfSome (batch_matrix words.now) (λ matrix. result ≡ Ok (Batch matrix)) }

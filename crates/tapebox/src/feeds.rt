@@ -1,15 +1,15 @@
-//! `live` and `follow` by arguments in a row: their engines, and what is said of how they end.
+//! Runs `live` and `follow` by arguments in a row, and says how they ended.
 ghost use Rattle.std.specs.Prelude.{◌≡◌, ◌≢◌};
 ghost use Rattle.program_words.specs.Statuses.{status_code, status_text};
 ghost use Rattle.feed_ends.specs.Reports.{WritesItsReport};
 ghost use Rattle.tapebox.specs.Program.{IsFeedStatus, RunsFeed};
-ghost use Rattle.row_reads.specs.Writing.{WritesPrefix};
+ghost use Rattle.whole_io.specs.Writing.{WritesPrefix};
 
-use crate::sockets::{open_follow, open_live};
+use crate::sockets::open_live;
 use desk_words::{ended_status, fault_status, say_status};
-use feed_follower::{NoSink, follow_ended};
+use feed_follower::{FollowSockets, FollowTerms, NoSink, follow_ended};
 use feed_words::{FollowWords, LiveWords};
-use live_feed::NoLoss;
+use live_feed::{FeedTerms, NoLoss};
 use program_words::Status;
 use std::alloc::Global;
 use std::io::Write;
@@ -18,7 +18,7 @@ use std::rt::Clock;
 use std::sync::Wait;
 use std::thread::Threads;
 
-/// Says what there is to say of how an engine ended.
+/// Says the status of a run, if there is something to say of it.
 fn report_status<E: Write>(errors: &mut E, status: Status)
     ensures quiet { status_code status ≡ 0 → errors.new ≡ errors.old }
     ensures said { WritesPrefix (status_text status) (E.contents errors.old) (E.contents errors.new) }
@@ -26,7 +26,7 @@ fn report_status<E: Write>(errors: &mut E, status: Status)
     say_status(errors, status);
 }
 
-/// The status of `live` with its arguments. Where it is 0, the report of a legal tape is written.
+/// Runs `live` with its arguments, and returns its status. If it is 0, the report of a legal tape is written.
 fn live_status<T, W>(rt: &T, alloc: Global, words: LiveWords, writer: &mut W) -> Status
 where
     T: Threads + Wait + Clock + Net<Listener = TcpListener, Stream = TcpStream> + Sync,
@@ -36,23 +36,21 @@ where
     ensures known { IsFeedStatus (status_code result) }
 {
     match open_live(rt, alloc, &words) {
-        Ok(sockets) => ended_status(live_feed::run_live(
-            rt,
-            alloc,
-            words.listing,
-            words.limit,
-            words.matrix,
-            words.session,
-            words.serves,
-            sockets,
-            &NoLoss,
-            writer,
-        )),
+        Ok(sockets) => {
+            let terms = FeedTerms {
+                listing: words.listing,
+                limit: words.limit,
+                matrix: words.matrix,
+                session: words.session,
+                serves: words.serves,
+            };
+            ended_status(live_feed::run_live(rt, alloc, terms, sockets, &NoLoss, writer))
+        }
         Err(unopened) => fault_status(unopened.fault()),
     }
 }
 
-/// Runs `live` with its arguments, and returns its status.
+/// Runs `live` with its arguments, says how it ended, and returns its status.
 pub fn run_live<T, W, E>(
     rt: &T,
     alloc: Global,
@@ -72,7 +70,7 @@ where
     status
 }
 
-/// The status of `follow` with its arguments. Where it is 0, the report of a legal tape is written.
+/// Runs `follow` with its arguments, and returns its status. If it is 0, the report of a legal tape is written.
 fn follow_status<T, W>(rt: &T, alloc: Global, words: FollowWords, writer: &mut W) -> Status
 where
     T: Threads + Wait + Net<Listener = TcpListener, Stream = TcpStream> + Sync,
@@ -81,27 +79,23 @@ where
     ensures unwritten { status_code result ≢ 0 → status_code result ≢ 4 → writer.new ≡ writer.old }
     ensures known { IsFeedStatus (status_code result) }
 {
-    match open_follow(rt, &words) {
+    match FollowSockets::open(rt, words.ports, words.retransmission) {
         Ok(sockets) => {
-            let (ended, _sink) = follow_ended(
-                rt,
-                alloc,
-                words.listing,
-                words.limit,
-                words.matrix,
-                words.session,
-                sockets,
-                None,
-                NoSink,
-                writer,
-            );
+            let terms = FollowTerms {
+                listing: words.listing,
+                limit: words.limit,
+                matrix: words.matrix,
+                session: words.session,
+                connect_within: None,
+            };
+            let (ended, _sink) = follow_ended(rt, alloc, terms, sockets, None, NoSink, writer);
             ended_status(ended)
         }
         Err(_) => Status::ReadFault,
     }
 }
 
-/// Runs `follow` with its arguments, and returns its status.
+/// Runs `follow` with its arguments, says how it ended, and returns its status.
 pub fn run_follow<T, W, E>(
     rt: &T,
     alloc: Global,

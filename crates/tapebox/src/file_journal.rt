@@ -1,4 +1,4 @@
-//! A journal that stands in a file.
+//! Keeps a journal in a file, with the cause of its last error.
 ghost use Rattle.std.specs.Prelude.{◌≡◌};
 
 use crate::write_cause::WriteCause;
@@ -9,7 +9,7 @@ use std::fs::File;
 use std::io;
 use std::io::{Error, Read, Seek, SeekFrom, Write};
 
-/// A journal that stands in a file. It notes why its last error came.
+/// A journal in a file, with the cause of its last error.
 #[derive(Drop)]
 pub struct FileJournal {
     file: File,
@@ -18,7 +18,7 @@ pub struct FileJournal {
 }
 
 impl FileJournal {
-    /// The journal of a file that is open to be read and written, at its front; it is synced or not.
+    /// Returns the journal of a file that is open to be read and written, at its front. `is_synced` is whether it is synced.
     pub fn new(file: File, is_synced: bool) -> FileJournal
         ensures { result.is_synced ≡ is_synced }
     {
@@ -29,12 +29,12 @@ impl FileJournal {
         }
     }
 
-    /// Why its last error came, or `Other` where none did.
+    /// Returns the cause of its last error, or `Other` if it had none.
     pub fn cause(&self) -> WriteCause {
         self.cause.unwrap_or(WriteCause::Other)
     }
 
-    /// The same outcome, of which a fault is noted.
+    /// Returns the same outcome, and keeps the cause if it is an error.
     fn noted<T>(&mut self, outcome: io::Result<T>) -> io::Result<T>
         ensures { result ≡ outcome }
     {
@@ -44,7 +44,7 @@ impl FileJournal {
         outcome
     }
 
-    /// Has the disk take what was written, if the day wants that.
+    /// Has the disk keep what was written, if the day wants that.
     fn sync(&mut self) -> io::Result<()> {
         if !self.is_synced {
             return Ok(());

@@ -1,4 +1,4 @@
-//! A running day that its file gives, followed: its end says what was heard of it.
+//! Follows or watches the running day of a file, and says at its end what was heard of it.
 ghost use Rattle.std.specs.Prelude.{◌≡◌, IfErr, IfOk, OnOk};
 ghost use Rattle.desk_words.specs.Watches.{IsRunStatus, WritesSome, WritesWhole};
 ghost use Rattle.program_words.specs.Statuses.{status_code};
@@ -8,7 +8,6 @@ ghost use Rattle.tapebox.specs.Feeds.{FollowsDay, follow_status};
 use crate::day::FollowFile;
 use crate::outlet::Outlet;
 use crate::sayings::{say_day_end, say_unopened};
-use crate::sockets::open_follow;
 use crate::write_cause::WriteCause;
 use desk_words::{Output, ended_status, say_followed, watch_file};
 use feed_follower::{FollowEnd, FollowSockets, FollowTerms, NoSink, follow_day};
@@ -19,13 +18,13 @@ use std::net::{Net, TcpListener, TcpStream};
 use std::sync::Wait;
 use std::thread::Threads;
 
-/// A day that is to be followed.
+/// What a day has before it is followed.
 struct Ready {
     terms: FollowTerms,
     sockets: FollowSockets,
 }
 
-/// Opens the sockets of a follower, or says which could not be opened and gives the status.
+/// Opens the sockets of a follower. If one can't be opened, that is said and its status returned.
 fn ready_day<T, E>(rt: &T, alloc: Global, day: FollowFile, errors: &mut E) -> Result<Ready, Status>
 where
     T: Net<Listener = TcpListener, Stream = TcpStream>,
@@ -42,7 +41,7 @@ where
         words,
         connect_within,
     } = day;
-    let sockets = match open_follow(rt, &words) {
+    let sockets = match FollowSockets::open(rt, words.ports, words.retransmission) {
         Ok(sockets) => sockets,
         Err(fault) => return Err(say_unopened(alloc, errors, fault)),
     };
@@ -56,8 +55,8 @@ where
     Ok(Ready { terms, sockets })
 }
 
-/// Says what was heard of a day, unless there is no memory for it, and then how it ended; gives the status. The output of its report tells whether
-/// its reader is gone, and the cause of its last error.
+/// Says what was heard of a day, unless there is no memory for it, and then how it ended, and returns the status. `reader_gone`
+/// is whether the reader of its report's output is gone, and `cause` the cause of that output's last error.
 fn say_follow_end<E: Write>(
     alloc: Global,
     errors: &mut E,
@@ -67,18 +66,16 @@ fn say_follow_end<E: Write>(
 ) -> Status
     ensures { result ≡ follow_status end.now.ended }
 {
-    let ended = match end.ended {
-        Ok(()) => Ok(()),
-        Err(fault) => Err(fault.fault()),
-    };
+    let ended = end.outcome();
     if say_followed(alloc, errors, end) {
         return ended_status(ended);
     }
     say_day_end(alloc, errors, ended, reader_gone, cause)
 }
 
-/// Follows the day that a file gives, and returns the status: the report of its tape is written to `writer`, and where the day's end did not
-/// come that of what is held, if `is_partial`. What was heard is said, line by line, whatever the status, but nothing of a report whose reader is gone.
+/// Follows the day of a file, and returns the status. The report of its tape is written to `writer`; if the day's end did not
+/// come, that of the entries held is, if `is_partial`. What was heard is said whatever the status, line by line, but nothing of
+/// a report whose reader is gone.
 pub fn run_follow_file<T, W, E>(
     rt: &T,
     alloc: Global,
@@ -103,8 +100,8 @@ where
     }
 }
 
-/// Watches the day that a file gives, and returns the status, with the writer if there is one: the readable tape is written to it as it comes.
-/// What was heard is said, line by line, whatever the status.
+/// Watches the day of a file, and returns the status, and the writer if there is one. The readable tape is written to it as it
+/// comes. What was heard is said whatever the status, line by line.
 pub fn run_watch_file<T, W, E>(
     rt: &T,
     alloc: Global,

@@ -1,4 +1,4 @@
-//! The program over the process's streams, files and sockets.
+//! Runs the program over the process's streams, files and sockets.
 ghost use Rattle.std.specs.Prelude.{◌≡◌, None, Some, false};
 ghost use Rattle.std.specs.Str.{IsUtf8};
 ghost use Rattle.program_words.specs.declared.command.Asked.TheVariants.{Table};
@@ -12,7 +12,7 @@ use crate::files::{names_journal, open_file, say_unread};
 use crate::following::{run_follow_file, run_watch_file};
 use crate::operated::run_live_file;
 use crate::outlet::CauseWriter;
-use crate::program::{run, write_own};
+use crate::program::{arguments_of, run, write_own};
 use crate::version::version_text;
 use day_control::Command as Order;
 use desk_words::{ClearedWriter, PipeWriter, ProgressLine, ToldReader, ToldWriter, watch_row};
@@ -29,7 +29,8 @@ use std::str;
 use std::sync::Wait;
 use std::thread::Threads;
 
-/// Whether a text has a row of each message or of each report, so that a line may tell how many were written where nobody sees them scroll by.
+/// Returns whether a text has a row of each message or of each report, so that a line of progress may count them if nobody sees
+/// them scroll by.
 fn has_rows(request: &Request) -> bool
     ensures { result ≡ has_rows request.now.command }
 {
@@ -39,18 +40,14 @@ fn has_rows(request: &Request) -> bool
     )
 }
 
-/// The argument after the word at a place, counted from 0. All arguments are text.
+/// Returns the argument after the word at a place, counted from 0. All arguments are text.
 fn argument_text(words: &[u8], place: usize) -> &str
     ensures { IsUtf8 (argument_in words.now place) → result.now ≡ argument_in words.now place }
 {
-    let argument = match first_argument(words) {
-        Some((_, rest)) => argument_at(rest, place),
-        None => b"",
-    };
-    str::from_utf8(argument).unwrap_or("")
+    str::from_utf8(argument_at(arguments_of(words), place)).unwrap_or("")
 }
 
-/// The arguments that ask for the readable tape of an input, by no other matrix than its own.
+/// Returns the arguments that ask for the readable tape of an input, by no other matrix than its own.
 #[tactic(auto, unfolding(program_words::specs::Arguments::asked_of, feed_words::specs::Words::words_of))]
 fn tape_words() -> &'static [u8]
     ensures { asked_in result.now ≡ Some (Table (record { command = Tape None false; file = None })) }
@@ -58,7 +55,7 @@ fn tape_words() -> &'static [u8]
     b"tape\0"
 }
 
-/// What the process gives the program.
+/// What the process has for the program.
 #[derive(Drop)]
 pub struct Host<'a, T> {
     /// Its threads, clock, files and sockets.
@@ -83,7 +80,7 @@ where
         + Net<Listener = TcpListener, Stream = TcpStream>
         + Sync,
 {
-    /// Runs the program over its streams and a reader, of so many bytes if that is known.
+    /// Runs the program over its streams and a reader, which has `length` bytes if that is known.
     fn run_over<R: Read + Drop>(
         &self,
         words: &[u8],
@@ -117,7 +114,7 @@ where
         self.run_over(words, false, self.stdin, None)
     }
 
-    /// Runs the program over the file of this name, or says why it can't be opened.
+    /// Runs the program over the file of this name. If it can't be opened, that is said and its status returned.
     fn run_file(&self, words: &[u8], tells_rows: bool, name: &str) -> Status {
         match open_file(self.rt, name) {
             Ok(opened) => self.run_over(words, tells_rows, opened.file, opened.length),
@@ -138,7 +135,7 @@ where
         }
     }
 
-    /// Standard output, for the report of a day.
+    /// Returns standard output, for the report of a day.
     fn outlet(&self) -> CauseWriter<PipeWriter<Stdout>> {
         CauseWriter::new(PipeWriter::new(self.stdout))
     }
@@ -186,7 +183,7 @@ where
         }
     }
 
-    /// Watches the day that arguments in a row name, or `None` where they ask for something else.
+    /// Watches the day that arguments in a row name, or returns `None` if they ask for something else.
     fn run_watch_row(&self, words: &[u8]) -> Option<Status> {
         let (first, rest) = first_argument(words)?;
         if first != Word::Watch.name() {
@@ -197,7 +194,7 @@ where
         Some(watch_row(self.rt, self.alloc, rest, stdout, &mut stderr).0)
     }
 
-    /// Does what arguments ask for, each ended by a zero byte.
+    /// Does what arguments ask for, each ended by a zero byte, and returns the status.
     pub fn run_words(&self, words: &[u8]) -> Status {
         let (mut stdout, mut stderr) = (self.stdout, self.stderr);
         match read_arguments(words) {

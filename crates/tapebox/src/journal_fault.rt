@@ -1,4 +1,4 @@
-//! Why a day's journal was not opened.
+//! The reasons why a day's journal was not opened, each with its status and its text.
 ghost use Rattle.std.specs.Prelude.{◌≡◌, IfOk};
 ghost use Rattle.tapebox.specs.Journals.{fault_text, journal_status, refusal_status, start_status, unheld_status, unheld_text};
 
@@ -14,11 +14,17 @@ use std::io::ErrorKind;
 pub enum JournalFault {
     /// Its file is not held.
     Unheld(Unheld),
-    /// It was not started. The cause is that of a write that failed.
+    /// It was not started. The cause is that of its last error.
     Unstarted(StartFault, WriteCause),
 }
 
-/// The status of a file that is not held.
+impl From<Unheld> for JournalFault {
+    fn from(unheld: Unheld) -> JournalFault {
+        JournalFault::Unheld(unheld)
+    }
+}
+
+/// Returns the status of a file that is not held.
 fn unheld_status(unheld: Unheld) -> Status
     ensures { result ≡ unheld_status unheld }
 {
@@ -28,7 +34,7 @@ fn unheld_status(unheld: Unheld) -> Status
     }
 }
 
-/// The status of a journal that is refused: what is damaged disagrees, and all else is another journal than the day's.
+/// Returns the status of a journal that is refused: `Disagrees` if it is damaged, `Bad` if it is not the day's.
 fn refusal_status(refusal: JournalRefusal) -> Status
     ensures { result ≡ refusal_status refusal }
 {
@@ -39,7 +45,7 @@ fn refusal_status(refusal: JournalRefusal) -> Status
     }
 }
 
-/// The status of a journal that was not started.
+/// Returns the status of a journal that was not started.
 fn start_status(fault: StartFault) -> Status
     ensures { result ≡ start_status fault }
 {
@@ -51,12 +57,12 @@ fn start_status(fault: StartFault) -> Status
     }
 }
 
-/// What is said of an error of this kind.
+/// Returns the text of an error of this kind.
 fn kind_text(alloc: Global, kind: ErrorKind) -> Result<Vec<u8>, AllocError> {
     Ok(format!(in alloc; "{kind}")?.into_bytes())
 }
 
-/// What is said of a file that is not held.
+/// Returns the text of a file that is not held.
 fn unheld_text(alloc: Global, unheld: Unheld) -> Result<Vec<u8>, AllocError>
     ensures { IfOk result (unheld_text unheld) }
 {
@@ -68,7 +74,7 @@ fn unheld_text(alloc: Global, unheld: Unheld) -> Result<Vec<u8>, AllocError>
 }
 
 impl JournalFault {
-    /// The status that the program ends with.
+    /// Returns the status that the program ends with.
     pub fn status(self) -> Status
         ensures { result ≡ journal_status self }
     {
@@ -78,7 +84,7 @@ impl JournalFault {
         }
     }
 
-    /// What is said of it, without a line feed.
+    /// Returns its text, without a line feed. It fails if memory runs out.
     pub fn text(self, alloc: Global) -> Result<Vec<u8>, AllocError>
         ensures { IfOk result (fault_text self) }
     {

@@ -1,4 +1,4 @@
-//! The file of a journal, opened and held.
+//! Opens the file of a journal, and holds it so that no other `live` does.
 
 use std::fs;
 use std::fs::{File, Files, OpenOptions, TryLockError};
@@ -10,46 +10,45 @@ use std::path::Path;
 pub enum Unheld {
     /// Another program holds it.
     Taken,
-    /// It is no file, as a folder, a pipe or a device is none.
+    /// It is a folder, a pipe or a device.
     NoFile,
     /// It can't be opened or made.
     Unopened(ErrorKind),
 }
 
-/// Why a file is not held, by the error of a call.
-fn reason_of(error: &Error) -> Unheld {
-    match error.kind() {
-        ErrorKind::IsADirectory => Unheld::NoFile,
-        kind => Unheld::Unopened(kind),
+impl From<Error> for Unheld {
+    fn from(error: Error) -> Unheld {
+        match error.kind() {
+            ErrorKind::IsADirectory => Unheld::NoFile,
+            kind => Unheld::Unopened(kind),
+        }
     }
 }
 
-/// Takes the lock of a file, which is let go when the file is closed.
+/// Locks a file. The lock is released when the file is closed.
 fn hold(file: &File) -> Result<(), Unheld> {
     match file.try_lock() {
         Ok(()) => Ok(()),
         Err(TryLockError::WouldBlock) => Err(Unheld::Taken),
-        Err(TryLockError::Error(error)) => Err(reason_of(&error)),
+        Err(TryLockError::Error(error)) => Err(Unheld::from(error)),
     }
 }
 
-/// Opens the file of a path to be read and written, and holds it, so that no other `live` does. It is made if it isn't there.
+/// Opens the file of a path to be read and written, and holds it. It is made if it isn't there.
 pub fn hold_journal<R: Files<File = File>>(files: &R, path: &str) -> Result<File, Unheld> {
-    let opened = OpenOptions::new()
+    let file = OpenOptions::new()
         .read(true)
         .write(true)
         .create(true)
-        .open(files, path);
-    let file = opened.map_err(|error| reason_of(&error))?;
-    let metadata = file.metadata().map_err(|error| reason_of(&error))?;
-    if !metadata.is_file() {
+        .open(files, path)?;
+    if !file.metadata()?.is_file() {
         return Err(Unheld::NoFile);
     }
     hold(&file)?;
     Ok(file)
 }
 
-/// Has the disk take the entry of a path in its folder, where the folder can be opened and synced.
+/// Has the disk keep the entry of a path in its folder, if the folder can be opened and synced.
 pub fn sync_folder<R: Files<File = File>>(files: &R, path: &str) {
     let folder = match Path::new(path).parent() {
         Some(folder) if !folder.as_str().is_empty() => folder,

@@ -1,6 +1,6 @@
 //! Where a day's journal is.
 
-/// Where a day's journal is, as its file says.
+/// Where a day's journal is, by the day's file.
 #[derive(Drop)]
 pub struct JournalPlace {
     /// Its path.

@@ -1,4 +1,4 @@
-//! The journal of a day, opened.
+//! Opens the journal of a day in its file, and says where the day is continued or why the journal is not opened.
 ghost use Rattle.std.specs.Prelude.{◌≡◌, IfErr};
 ghost use Rattle.journal_start.specs.Terms.{terms_of as journal_terms};
 ghost use Rattle.tapebox.specs.Journals.{IsJournalStatus, restored_of};
@@ -16,7 +16,7 @@ use std::alloc::Global;
 use std::fs::{File, Files};
 use std::io::Write;
 
-/// The journal of a day that is opened.
+/// The open journal of a day.
 #[derive(Drop)]
 pub struct OpenJournal {
     /// Its path.
@@ -27,7 +27,7 @@ pub struct OpenJournal {
     pub lines: Vec<PastLine>,
 }
 
-/// What a journal had, as a running day is given it: nothing where it had no entry. And how far its lines had come.
+/// Returns what a journal had, for a running day, or `None` if it had no entry, and how far its lines had come.
 fn split_past(alloc: Global, held: u32, past: Option<Past>) -> (Option<Restored>, Vec<PastLine>)
     ensures { result.0 ≡ restored_of held past }
 {
@@ -51,7 +51,7 @@ fn split_past(alloc: Global, held: u32, past: Option<Past>) -> (Option<Restored>
     (Some(restored), lines)
 }
 
-/// The journal of a day that was started so, in its file.
+/// Returns the started journal of a day in its file, and how far its lines had come.
 fn day_journal<J: JournalFile>(
     alloc: Global,
     started: Started,
@@ -75,7 +75,7 @@ fn day_journal<J: JournalFile>(
     (journal, lines)
 }
 
-/// The terms that a day's journal has too.
+/// Returns the terms that a day's journal has too.
 fn terms_of(words: &LiveWords) -> DayTerms<'_>
     ensures { journal_terms result ≡ record { session = words.now.session; matrix = words.now.matrix; limit = words.now.limit; listing = words.now.listing } }
 {
@@ -87,15 +87,15 @@ fn terms_of(words: &LiveWords) -> DayTerms<'_>
     }
 }
 
-/// Starts a day's journal in its file, or tells why it is not.
+/// Starts a day's journal in its file.
 fn start<R: Files<File = File>>(
     rt: &R,
     alloc: Global,
     words: &LiveWords,
     place: &JournalPlace,
 ) -> Result<(Started, FileJournal), JournalFault> {
-    let file = hold_journal(rt, &place.path).map_err(|unheld| JournalFault::Unheld(unheld))?;
-    let mut file = FileJournal::new(file, place.is_synced);
+    let held = hold_journal(rt, &place.path)?;
+    let mut file = FileJournal::new(held, place.is_synced);
     match start_journal(alloc, &terms_of(words), &mut file) {
         Ok(started) => {
             if place.is_synced && started.past.is_none() {
@@ -107,7 +107,8 @@ fn start<R: Files<File = File>>(
     }
 }
 
-/// Opens the journal of a day, which other programs then don't, and says where the day goes on, or why the journal is not opened, with the status.
+/// Opens and holds the journal of a day, and says where the day is continued. If it is not opened, that is said and its status
+/// returned.
 pub fn open_journal<R: Files<File = File>, E: Write>(
     rt: &R,
     alloc: Global,

@@ -1,4 +1,4 @@
-//! A running day that its file gives: it is operated by a control socket, and its end says what became of it.
+//! Runs the day of a file, beside its control socket if it has one, and says at its end what became of it.
 ghost use Rattle.std.specs.Prelude.{◌≡◌, ◌⊎◌, IfErr, IfOk, IfSome, IsSome, None, OnOk};
 ghost use Rattle.std.specs.Thread.{IsSync};
 ghost use Rattle.desk_words.specs.RunStatuses.{ended_status};
@@ -29,7 +29,7 @@ use std::rt::Clock;
 use std::sync::Wait;
 use std::thread::{Threads, join_mut};
 
-/// A day that waits to run.
+/// What a day has once its sockets are open.
 #[derive(Drop)]
 struct Ready {
     terms: LiveTerms,
@@ -53,7 +53,7 @@ impl Operated for OperatedDay<'_> {
     }
 }
 
-/// What a day has before it runs.
+/// What a day needs to run.
 #[derive(Drop)]
 struct Parts {
     terms: LiveTerms,
@@ -61,7 +61,7 @@ struct Parts {
     journal: Option<DayJournal<FileJournal>>,
 }
 
-/// Runs the day whose parts wait, which are taken out, and then ends its control socket.
+/// Runs the day of these parts, which are taken out, and then closes its control socket. It returns `None` if there are none.
 fn run_parts<T, W>(
     rt: &T,
     alloc: Global,
@@ -95,7 +95,7 @@ where
     end
 }
 
-/// Runs a day beside its control socket, which ends with it. If no thread can be started, the day runs without it.
+/// Runs a day beside its control socket, which is closed at its end. If no thread can be started, the day runs without it.
 fn run_controlled<T, W>(
     rt: &T,
     alloc: Global,
@@ -127,7 +127,7 @@ where
     }
 }
 
-/// Opens the sockets of a day, or says which could not be opened and gives the status.
+/// Opens the sockets of a day. If one can't be opened or memory runs out, that is said and its status returned.
 fn ready_day<T, E>(rt: &T, alloc: Global, day: LiveFile, errors: &mut E) -> Result<Ready, Status>
 where
     T: Clock + Net<Listener = TcpListener, Stream = TcpStream>,
@@ -173,7 +173,7 @@ where
     })
 }
 
-/// Takes note of how far the participants' lines had come, of a day that goes on.
+/// Notes how far the participants' lines had come in a day that is continued.
 fn note_lines<T: Wait>(rt: &T, operation: &Operation, lines: &[PastLine]) {
     for line in lines {
         if line.admitted > 0 {
@@ -182,7 +182,7 @@ fn note_lines<T: Wait>(rt: &T, operation: &Operation, lines: &[PastLine]) {
     }
 }
 
-/// The journal of a day, and its path, if it keeps one. The operation takes note of how far the lines had come.
+/// Returns the journal of a day and its path, if it keeps one. The operation notes how far the lines had come.
 fn split_journal<T: Wait>(
     rt: &T,
     operation: &Operation,
@@ -202,7 +202,7 @@ fn split_journal<T: Wait>(
     (Some(journal), Some(path))
 }
 
-/// Says that the journal could not be written if it could not, and then how the day ended; gives the status.
+/// Says that the journal could not be written if so, and then how the day ended, and returns the status.
 fn say_end<E: Write>(
     alloc: Global,
     errors: &mut E,
@@ -223,7 +223,7 @@ fn say_end<E: Write>(
     }
 }
 
-/// Runs a day, beside its control socket if it has one, and says what became of it.
+/// Runs a day, beside its control socket if it has one, says what became of it, and returns the status.
 #[tactic(auto, using(crate::proofs::FeedLemmas::unready_day))]
 fn run_day<T, W, E>(
     rt: &T,
@@ -272,7 +272,7 @@ where
     say_end(alloc, errors, end.result, failed, reader_gone, cause)
 }
 
-/// Runs a day whose journal is open, beside its control socket if it has one.
+/// Runs a day whose journal is open, if it keeps one, beside its control socket if it has one.
 #[tactic(auto, using(crate::proofs::FeedLemmas::uncontrolled_day))]
 fn run_opened<T, W, E>(
     rt: &T,
@@ -302,9 +302,10 @@ where
     }
 }
 
-/// Runs the day that a file gives, and returns its status: the report is written to `writer`, and what became of the day is said, line by line,
-/// whatever the status, but nothing of a report whose reader is gone. Its journal is opened first, and a journal that is not this day's has the status
-/// `Bad`: nothing is opened or written then. Its control socket is opened before all other sockets, and gone once the day has ended.
+/// Runs the day of a file, and returns its status. The report is written to `writer`, and what became of the day is said
+/// whatever the status, line by line, but nothing of a report whose reader is gone. Its journal is opened first: if it is not
+/// this day's, the status is `Bad`, and nothing else is opened or written. Its control socket is opened before all other
+/// sockets, and removed once the day has ended.
 #[tactic(auto, using(crate::proofs::FeedLemmas::unopened_day))]
 pub fn run_live_file<T, W, E>(
     rt: &T,

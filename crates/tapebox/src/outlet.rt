@@ -1,4 +1,4 @@
-//! Where a day's report is written: it knows why its last write failed.
+//! Writers of a day's report that keep the cause of their last error.
 ghost use Rattle.std.specs.Prelude.{◌≡◌, IfErr, None, OnOk, Option, Some};
 ghost use Rattle.std.specs.Io.{WritesAtMost};
 ghost use Rattle.std.specs.Io.KnownBytes.{Keeps, WriteAppends};
@@ -11,17 +11,17 @@ use desk_words::Output;
 use std::io;
 use std::io::Write;
 
-/// A writer that knows why its last error came, and whether whoever reads what it writes is gone.
+/// A writer that knows the cause of its last error, and whether the reader of what it writes is gone.
 pub trait Outlet: Output {
-    // Why its last error came, if one did.
+    // The cause of its last error, if it had one.
     ghost write_cause: { Self → Option WriteCause };
 
-    /// Why its last error came, or `None` where none did.
+    /// Returns the cause of its last error, or `None` if it had none.
     fn write_cause(&self) -> Option<WriteCause>
         ensures { result ≡ write_cause self.now };
 }
 
-/// A writer that notes why its last error came.
+/// A writer that keeps the cause of its last error.
 #[derive(Drop)]
 pub struct CauseWriter<W> {
     inner: W,
@@ -29,7 +29,7 @@ pub struct CauseWriter<W> {
 }
 
 impl<W> CauseWriter<W> {
-    /// A writer that had no error so far.
+    /// Returns a writer that had no error so far.
     pub fn new(inner: W) -> CauseWriter<W>
         ensures inner { result.inner ≡ inner }
         ensures cause { result.cause ≡ None }

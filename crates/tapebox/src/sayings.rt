@@ -1,11 +1,12 @@
-//! What is said of how a running day ended.
-ghost use Rattle.std.specs.Prelude.{◌≡◌, [], IfOk, Some, false};
+//! Says on standard error how a running day ended, and what is wrong with what has a name, such as a file.
+ghost use Rattle.std.specs.Prelude.{◌≡◌, [], IfOk};
 ghost use Rattle.desk_words.specs.RunStatuses.{ended_status};
 ghost use Rattle.desk_words.specs.Tellings.{told_line};
 ghost use Rattle.feed_ends.specs.OpenFaults.{open_fault_text};
 ghost use Rattle.program_words.specs.Statuses.{status_text};
 ghost use Rattle.program_words.specs.declared.status.Status.TheVariants.{OutOfMemory, ReadFault};
-ghost use Rattle.row_reads.specs.Writing.{WritesPrefix};
+ghost use Rattle.whole_io.specs.Writing.{WritesPrefix};
+ghost use Rattle.tapebox.specs.Files.{named_line};
 ghost use Rattle.tapebox.specs.Outlets.{day_end_text, write_fault_text};
 
 use crate::write_cause::WriteCause;
@@ -15,7 +16,7 @@ use program_words::Status;
 use std::alloc::{AllocError, Global};
 use std::io::Write;
 
-/// Says which socket could not be opened, unless there is no memory for the line, and gives the status.
+/// Says which socket could not be opened, unless there is no memory for the line, and returns the status.
 pub fn say_unopened<E: Write>(alloc: Global, errors: &mut E, fault: OpenFault) -> Status
     ensures status { result ≡ ReadFault }
     ensures said { WritesPrefix (told_line (open_fault_text fault)) (E.contents errors.old) (E.contents errors.new) }
@@ -24,7 +25,7 @@ pub fn say_unopened<E: Write>(alloc: Global, errors: &mut E, fault: OpenFault) -
     Status::ReadFault
 }
 
-/// Says that memory ran out, and gives the status.
+/// Says that memory ran out, and returns the status.
 pub fn say_no_memory<E: Write>(errors: &mut E) -> Status
     ensures status { result ≡ OutOfMemory }
     ensures said { WritesPrefix (status_text OutOfMemory) (E.contents errors.old) (E.contents errors.new) }
@@ -33,26 +34,27 @@ pub fn say_no_memory<E: Write>(errors: &mut E) -> Status
     Status::OutOfMemory
 }
 
-/// What is told of an output that could not be written for this cause.
-fn output_text(alloc: Global, cause: WriteCause) -> Result<Vec<u8>, AllocError>
-    ensures { IfOk result (λ text. told_line text.items ≡ write_fault_text false (Some cause)) }
+/// Returns a name, a colon and what is said of it.
+fn named_text(alloc: Global, name: &[u8], what: &[u8]) -> Result<Vec<u8>, AllocError>
+    ensures { IfOk result (λ text. told_line text.items ≡ named_line name.now what.now) }
 {
-    let mut text = Vec::from_slice(alloc, b"standard output: ")?;
-    text.extend_from_slice(cause.text())?;
+    let mut text = Vec::from_slice(alloc, name)?;
+    text.extend_from_slice(b": ")?;
+    text.extend_from_slice(what)?;
     Ok(text)
 }
 
-/// Says for which cause an output could not be written, unless there is no memory for the line.
+/// Says something of what has this name, unless there is no memory for the line.
 #[tactic(auto, using(crate::proofs::SayingLemmas::nothing_said))]
-fn say_output_fault<E: Write>(alloc: Global, errors: &mut E, cause: WriteCause)
-    ensures { WritesPrefix (write_fault_text false (Some cause)) (E.contents errors.old) (E.contents errors.new) }
+pub fn say_of<E: Write>(alloc: Global, errors: &mut E, name: &[u8], what: &[u8])
+    ensures { WritesPrefix (named_line name.now what.now) (E.contents errors.old) (E.contents errors.new) }
 {
-    if let Ok(text) = output_text(alloc, cause) {
+    if let Ok(text) = named_text(alloc, name, what) {
         say_told(alloc, errors, &text);
     }
 }
 
-/// Says that something could not be written, with the cause if it is the output, and nothing if whoever reads the output is gone.
+/// Says that something could not be written, with the cause if it is the output, and nothing if the output's reader is gone.
 #[tactic(auto, using(crate::proofs::SayingLemmas::nothing_said))]
 fn say_write_fault<E: Write>(
     alloc: Global,
@@ -65,13 +67,13 @@ fn say_write_fault<E: Write>(
 {
     match cause {
         Some(_) if reader_gone => {}
-        Some(cause) => say_output_fault(alloc, errors, cause),
+        Some(cause) => say_of(alloc, errors, b"standard output", cause.text()),
         None => say_status(errors, Status::WriteFault),
     }
 }
 
-/// Says what there is to say of how a day ended, and gives the status. The output of its report tells whether its reader is gone, of which nothing is
-/// said, and the cause of its last error, if it had one.
+/// Says what there is to say of how a day ended, and returns the status. `reader_gone` is whether the reader of its report's
+/// output is gone, of which nothing is said, and `cause` the cause of that output's last error, if it had one.
 pub fn say_day_end<E: Write>(
     alloc: Global,
     errors: &mut E,

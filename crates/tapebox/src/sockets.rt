@@ -1,14 +1,12 @@
-//! The sockets of a running day.
+//! Opens the sockets of `live`.
 ghost use Rattle.std.specs.Prelude.{◌≡◌, IfErr, IfOk};
-ghost use Rattle.feed_ends.specs.declared.open_fault.OpenFault.{OpenFault};
 ghost use Rattle.tapebox.specs.declared.sockets.Unopened.TheVariants.{Memory, Socket};
 ghost use Rattle.tapebox.specs.Feeds.{unopened_fault};
 
 use feed_ends::{Fault, OpenFault, Place, here};
-use feed_follower::FollowSockets;
-use feed_words::{FollowWords, LiveWords};
+use feed_words::LiveWords;
 use live_feed::LiveSockets;
-use std::alloc::Global;
+use std::alloc::{AllocError, AllocFailed, Global};
 use std::net::{Net, TcpListener, TcpStream, UdpSocket};
 
 /// Why the sockets of a day are not open.
@@ -20,8 +18,32 @@ pub enum Unopened {
     Memory,
 }
 
+impl From<OpenFault> for Unopened {
+    ghost from_gives = { λ why unopened. unopened ≡ Socket why };
+
+    fn from(why: OpenFault) -> Unopened {
+        Unopened::Socket(why)
+    }
+}
+
+impl From<AllocError> for Unopened {
+    ghost from_gives = { λ _ unopened. unopened ≡ Memory };
+
+    fn from(_refused: AllocError) -> Unopened {
+        Unopened::Memory
+    }
+}
+
+impl<T: Drop> From<AllocFailed<T>> for Unopened {
+    ghost from_gives = { λ _ unopened. unopened ≡ Memory };
+
+    fn from(_refused: AllocFailed<T>) -> Unopened {
+        Unopened::Memory
+    }
+}
+
 impl Unopened {
-    /// The fault that the day ends with.
+    /// Returns the fault that the day ends with.
     pub fn fault(self) -> Fault
         ensures { result ≡ unopened_fault self }
     {
@@ -37,30 +59,22 @@ fn listen<T: Net<Listener = TcpListener, Stream = TcpStream>>(
     rt: &T,
     place: Place,
     port: u16,
-) -> Result<TcpListener, Unopened>
-    ensures { IfErr result (λ fault. (why : OpenFault) × (fault ≡ Socket why) × (why.place ≡ place) × (why.port ≡ port)) }
-{
-    match TcpListener::bind(rt, here(port)) {
-        Ok(listener) => Ok(listener),
-        Err(error) => Err(Unopened::Socket(OpenFault::new(place, port, error.kind()))),
-    }
-}
-
-/// Opens a socket for packets.
-fn bind<T: Net<Listener = TcpListener, Stream = TcpStream>>(
-    rt: &T,
-    place: Place,
-    port: u16,
-) -> Result<UdpSocket, OpenFault>
+) -> Result<TcpListener, OpenFault>
     ensures { IfErr result (λ why. (why.place ≡ place) × (why.port ≡ port)) }
 {
-    match UdpSocket::bind(rt, here(port)) {
-        Ok(socket) => Ok(socket),
-        Err(error) => Err(OpenFault::new(place, port, error.kind())),
-    }
+    TcpListener::bind(rt, here(port)).map_err(|error| OpenFault::new(place, port, error.kind()))
 }
 
-/// Opens a listener on each port from the first on, one for each participant.
+/// Opens the socket that packets are sent from, at any free port.
+fn open_sender<T: Net<Listener = TcpListener, Stream = TcpStream>>(
+    rt: &T,
+) -> Result<UdpSocket, OpenFault>
+    ensures { IfErr result (λ why. (why.place ≡ Place.Sender) × (why.port ≡ 0)) }
+{
+    UdpSocket::bind(rt, here(0)).map_err(|error| OpenFault::new(Place::Sender, 0, error.kind()))
+}
+
+/// Opens a listener for each participant, on consecutive ports from the first.
 fn open_lines<T: Net<Listener = TcpListener, Stream = TcpStream>>(
     rt: &T,
     alloc: Global,
@@ -69,27 +83,13 @@ fn open_lines<T: Net<Listener = TcpListener, Stream = TcpStream>>(
     let mut lines = Vec::new(alloc);
     let ports = words.first_port..=u16::MAX;
     for (port, participant) in ports.zip(words.listing.participants()) {
-        let listener = listen(rt, Place::Line(*participant), port)?;
-        if lines.push(listener).is_err() {
-            return Err(Unopened::Memory);
-        }
+        lines.push(listen(rt, Place::Line(*participant), port)?)?;
     }
     Ok(lines)
 }
 
-/// The same ports.
-fn copy_of(alloc: Global, ports: &[u16]) -> Result<Vec<u16>, Unopened>
-    ensures ports { IfOk result (λ copy. copy.items ≡ ports.now) }
-    ensures memory { IfErr result (λ fault. fault ≡ Memory) }
-{
-    match Vec::from_slice(alloc, ports) {
-        Ok(ports) => Ok(ports),
-        Err(_) => Err(Unopened::Memory),
-    }
-}
-
-/// Opens the sockets of `live`: the participants' listeners by their ports, the retransmission and then the socket that packets go out from.
-/// The first that can't be opened is the fault.
+/// Opens the sockets of `live`: the participants' listeners by their ports, the retransmission and then the socket that packets
+/// are sent from. It returns the first fault.
 pub fn open_live<T: Net<Listener = TcpListener, Stream = TcpStream>>(
     rt: &T,
     alloc: Global,
@@ -98,33 +98,11 @@ pub fn open_live<T: Net<Listener = TcpListener, Stream = TcpStream>>(
     ensures a { IfOk result (λ sockets. sockets.a.items ≡ words.now.a.items) }
     ensures b { IfOk result (λ sockets. sockets.b.items ≡ words.now.b.items) }
 {
-    let lines = open_lines(rt, alloc, words)?;
-    let a = copy_of(alloc, &words.a)?;
-    let b = copy_of(alloc, &words.b)?;
-    let retransmission = listen(rt, Place::Retransmission, words.retransmission)?;
-    match bind(rt, Place::Sender, 0) {
-        Ok(sender) => Ok(LiveSockets {
-            lines,
-            retransmission,
-            sender,
-            a,
-            b,
-        }),
-        Err(why) => Err(Unopened::Socket(why)),
-    }
-}
-
-/// Opens the sockets of `follow`: A's, and then B's. The first that can't be opened is the fault.
-pub fn open_follow<T: Net<Listener = TcpListener, Stream = TcpStream>>(
-    rt: &T,
-    words: &FollowWords,
-) -> Result<FollowSockets, OpenFault>
-    ensures retransmission { IfOk result (λ sockets. sockets.retransmission ≡ words.now.retransmission) }
-{
-    let [a, b] = words.ports;
-    Ok(FollowSockets {
-        a: bind(rt, Place::A, a)?,
-        b: bind(rt, Place::B, b)?,
-        retransmission: words.retransmission,
+    Ok(LiveSockets {
+        lines: open_lines(rt, alloc, words)?,
+        a: Vec::from_slice(alloc, &words.a)?,
+        b: Vec::from_slice(alloc, &words.b)?,
+        retransmission: listen(rt, Place::Retransmission, words.retransmission)?,
+        sender: open_sender(rt)?,
     })
 }

@@ -1,4 +1,4 @@
-//! The program's version.
+//! The program's version, and how it was built.
 
 use crate::files::read_file;
 use std::alloc::{Alloc, AllocError, Global};
@@ -8,10 +8,11 @@ use std::{env, str};
 /// The program's version.
 pub const VERSION: &str = "1.0";
 
-/// What is told where nothing says how the program was built.
+/// The text if nothing says how the program was built.
 const UNKNOWN: &str = "build unknown";
 
-/// The first line of the file beside the program that says how it was built, if there is one: its name is the program's and ends in `.build`.
+/// Returns the first line of the file beside the program that says how it was built, if there is one. Its name is the program's
+/// with `.build` behind it.
 fn build_line<R: Files + Alloc<A = Global>>(rt: &R) -> Option<String> {
     let alloc = rt.alloc();
     let program = env::current_exe(rt).ok()?;
@@ -21,13 +22,10 @@ fn build_line<R: Files + Alloc<A = Global>>(rt: &R) -> Option<String> {
     String::from_str(alloc, line).ok()
 }
 
-/// The program's version, and how it was built.
+/// Returns the program's version and how it was built, with a line feed. It fails if memory runs out.
 pub fn version_text<R: Files + Alloc<A = Global>>(rt: &R) -> Result<Vec<u8>, AllocError> {
     let build = build_line(rt);
-    let build = match &build {
-        Some(line) => line.as_str(),
-        None => UNKNOWN,
-    };
+    let build = build.as_deref().unwrap_or(UNKNOWN);
     let text = format!(in rt.alloc(); "tapebox {VERSION}, {build}\n")?;
     Ok(text.into_bytes())
 }

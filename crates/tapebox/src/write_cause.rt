@@ -1,4 +1,4 @@
-//! Why a write failed.
+//! The causes of a write that failed, each with its text.
 ghost use Rattle.std.specs.Prelude.{◌≡◌};
 ghost use Rattle.tapebox.specs.Outlets.{write_cause_of, write_cause_text};
 
@@ -9,7 +9,7 @@ use std::io::ErrorKind;
 pub enum WriteCause {
     /// The disk or the device is full.
     NoSpace,
-    /// The user may keep no more.
+    /// The user's quota is used up.
     QuotaUsedUp,
     /// The file would be larger than a file may be.
     TooLarge,
@@ -20,7 +20,7 @@ pub enum WriteCause {
 }
 
 impl WriteCause {
-    /// The cause of an error of this kind.
+    /// Returns the cause of an error of this kind.
     pub fn of(kind: ErrorKind) -> WriteCause
         ensures { result ≡ write_cause_of kind }
     {
@@ -33,7 +33,7 @@ impl WriteCause {
         }
     }
 
-    /// The cause in words.
+    /// Returns the cause in words.
     pub fn text(self) -> &'static [u8]
         ensures { result.now ≡ write_cause_text self }
     {

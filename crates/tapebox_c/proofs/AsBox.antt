@@ -1,4 +1,4 @@
--- An `Inside` that is full and a `Loose` own what a box at the same types owns.
+-- Shows that a full `Inside` and a `Loose` own what a box of the same types owns.
 use mathlib.Core.List.{[]}
 use mir.Syntax.{impl, tnil, dnil}
 use denote.Signature.{Slot, plain}

@@ -44,7 +44,7 @@ both_tt false y s t = absurd s
 pub word_good : (p : Ptr) (h : Val) → Fits al h → T (has_ty ty_ptr (ptr_val p) && (has_ty (layout Heap.the_row) h && true)) × WT (word p h)
 word_good p h fits = (both_tt (has_ty ty_ptr (ptr_val p)) (has_ty (layout Heap.the_row) h) (ptr_good p).0 fits.0, ((ptr_good p).1, (fits.1, tt)))
 
--- what a full one holds
+-- what a full inside holds
 pub held_of : (h : Option Held.the_row.Denot) → is_some h ≡ true → (x : Held.the_row.Denot) × (h ≡ Some x)
 held_of None e = absurd (subst (λ (b : Bool). T (not b)) e tt)
 held_of (Some x) e = (x, refl)

@@ -1,9 +1,9 @@
--- Messages that are answered in turn, and one more.
+-- Answers messages in turn, and then one more.
 use Rattle.std.proofs.Common.{◌≡◌, ◌++◌, ℕ, List, [], ◌∷◌, refl, subst}
 use Rattle.tape_core.specs.Tape.{TapeState}
 use Rattle.tapebox_c.specs.Many.{Turn, Turns}
 
--- turns, and one that follows them
+-- turns, and one more after them
 pub turns_more : (bytes : List ℕ) (old mid new : TapeState) (at next end number : ℕ) (numbers : List ℕ)
     → Turns bytes old at numbers mid next → Turn bytes mid next number new end → Turns bytes old at (numbers ++ number ∷ []) new end
 turns_more bytes old mid new at next end number [] made turn =

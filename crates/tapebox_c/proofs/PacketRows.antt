@@ -1,4 +1,4 @@
--- What a row can hold.
+-- Shows that a row has room for what it holds.
 use Rattle.std.proofs.Common.{◌≤◌}
 use Rattle.tape_frames.specs.Limits.{LONGEST_PACKET}
 use Rattle.tape_frames.specs.Lemmas.Versions.{longest_packet-within}

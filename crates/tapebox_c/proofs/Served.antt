@@ -1,4 +1,4 @@
--- One request that was served of bytes in memory.
+-- Serves one request of bytes in memory.
 use Rattle.std.proofs.Common.{◌≡◌, ℕ, ◌+◌, List, [], ◌∷◌, ◌++◌, ◌∙◌, Option, Some, None, append-nil, length, length-append, sym, ap, subst, arith}
 use Rattle.std.specs.List.{concat}
 use Rattle.std.specs.Io.KnownBytes.{IsAtEnd}
@@ -11,7 +11,7 @@ use Rattle.retransmit.specs.Serving.{Answered, Serves, ServesTo}
 use Rattle.retransmit.specs.declared.serve_end.Ended.{Ended}
 use Rattle.retransmit.specs.declared.serve_end.Ended.TheVariants.{Clean}
 
--- what is no longer than the list that it begins with is that list
+-- a list that is no longer than its front is that front
 no_more : (a r : List Entry) → length (a ++ r) ≡ length a → a ++ r ≡ a
 no_more a [] same = append-nil a
 no_more a (x ∷ r) same = absurd (omega (arith, same, length-append a (x ∷ r)))
@@ -26,7 +26,7 @@ between a b c first second same =
     let longer : length c ≡ length b + length second.0 = ap (λ (l : List Entry). length l) second.1 ∙ length-append b second.0 in
     same_list a b first (omega (arith, long, longer, same))
 
--- the answer to the one request that bytes are
+-- the answer to bytes that are one request
 one_answered : (session : ℕ) (version : Version) (first last : List Entry) (requests : List (List ℕ)) (text bytes : List ℕ) → Answered session version first last requests text
     → bytes ≡ concat requests → length bytes ≡ REQUEST_LENGTH → length last ≡ length first → text ≡ answer_text first session version bytes
 unfolding Answered
@@ -51,7 +51,7 @@ one_answered session version first last (r ∷ s ∷ rs) text bytes answered is 
       answered.6.3,
     ))
 
--- what was written where bytes that are one request were served to their end
+-- what was written if bytes that are one request were served to their end
 serves_one : (session : ℕ) (version : Version) (first last : List Entry) (bytes text : List ℕ) (rest : Option (List ℕ)) (served : ℕ)
     → Serves session version first last (Some bytes) rest (Some []) (Some text) served → IsAtEnd rest → length bytes ≡ REQUEST_LENGTH → length last ≡ length first
     → text ≡ answer_text first session version bytes
@@ -61,7 +61,7 @@ serves_one session version first last bytes text (Some left) served serves end s
     serves.read ∙ ap (λ (l : List ℕ). concat serves.requests ++ l) end ∙ append-nil (concat serves.requests) in
     serves.written ∙ one_answered session version first last serves.requests serves.text bytes serves.answered all size same
 
--- the same, as serving tells it
+-- the same, by the end of the serving
 pub served_one : (ended : Ended) (session : ℕ) (version : Version) (first last : List Entry) (bytes start text : List ℕ) (rest : Option (List ℕ)) (served : ℕ)
     → ServesTo ended session version first last (Some bytes) rest (Some start) (Some text) served → ended ≡ Clean → start ≡ [] → length bytes ≡ REQUEST_LENGTH
     → length last ≡ length first → text ≡ answer_text first session version bytes

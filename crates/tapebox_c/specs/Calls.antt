@@ -1,4 +1,4 @@
--- What the calls of another language answer.
+-- Defines the results of the calls from another language.
 use Rattle.std.specs.Prelude.{◌≡◌, ◌==◌, ◌-◌, ℕ, true, List, length, slice_get, Option, None, Some, Result, Ok, Err, option_and_then, unwrap_or, if◌then◌else◌}
 use Rattle.batch.specs.MessageLine.{is_capital}
 use Rattle.reports.specs.Reading.{message_at}
@@ -23,7 +23,7 @@ own_tape (Words words) = None
 abbrev pub held_tape : Option Held → Option TapeState
 held_tape held = option_and_then own_tape held
 
--- the message that was read, where it took all the bytes
+-- the message that was read, if it took all the bytes
 abbrev pub message_of_all : ℕ → Result (Message × ℕ) MessageFault → Result Message Fault
 message_of_all len (Err fault) = Err (NoMessage fault)
 message_of_all len (Ok read) = if read.1 == len then Ok read.0 else Err ExtraBytes
@@ -32,13 +32,14 @@ message_of_all len (Ok read) = if read.1 == len then Ok read.0 else Err ExtraByt
 abbrev pub whole_message : List ℕ → Result Message Fault
 whole_message bytes = message_of_all (length bytes) (message_at bytes)
 
--- a message is answered by a tape: it is admitted, or the fault of its bytes, the tape's first refusal, or out of memory is told, and nothing changes
+-- a tape answers a message: it is admitted, or the result is the fault of its bytes, the tape's first refusal, or out of
+-- memory, and nothing changes
 abbrev pub Takes : TapeState → Result Message Fault → Result Entry Fault → TapeState → Type 0
 Takes old (Err fault) answer new = (answer ≡ Err fault) × (new ≡ old)
 Takes old (Ok m) (Ok e) new = Answers old m (Ok e) new
 Takes old (Ok m) (Err fault) new = (fault ≡ Refused (unwrap_or (refusal old m) OutOfMemory)) × (new ≡ old)
 
--- bytes are answered by what a handle holds
+-- what a handle holds answers bytes
 abbrev pub Admits : Held → List ℕ → Result Entry Fault → Held → Type 0
 Admits (Tape t) bytes answer (Tape u) = Takes t (whole_message bytes) answer u
 Admits (Tape t) bytes answer new = ⊥

@@ -1,4 +1,4 @@
--- The bytes of a message made of its fields, and its fields read of its bytes.
+-- Defines the bytes of a message made of its fields, and the fields read from its bytes.
 use Rattle.std.specs.Prelude.{◌≡◌, ◌==◌, ◌||◌, ℕ, List, [], ◌∷◌, ◌++◌, drop, length, replicate, take, Result, Ok, Err, if◌then◌else◌}
 use Rattle.std.specs.Int.{w16, w32, w64, to_be_bytes}
 use Rattle.reports.specs.declared.message.Header.{Header}
@@ -31,13 +31,13 @@ fields_text f =
     else if (f.kind == 88) || (f.kind == 83) then start_part 26 f.kind ++ (header_part f ++ to_be_bytes w32 f.target)
     else start_part 1 f.kind
 
--- bytes are told where they are a message, with zeros behind them
+-- the bytes, with zeros after them, if they are a message
 abbrev pub EncodesTo : List ℕ → Result Message Fault → ℕ → MessageRow → MessageRow → Type 0
 EncodesTo text (Ok message) code old new =
     (code ≡ 0) × (new.len ≡ length text) × (take new.len new.bytes ≡ text) × (drop new.len new.bytes ≡ drop new.len (replicate LONGEST_MESSAGE 0))
 EncodesTo text (Err fault) code old new = (code ≡ fault_code fault) × (new ≡ old)
 
--- the fields of a kind that its header has
+-- the fields that a kind has from its header
 abbrev pub with_header : ℕ → Header → FieldsRow
 with_header kind h = record {
   moment = h.moment;
@@ -62,7 +62,7 @@ fields_of (Cancel header target) = record (with_header 88 header) { target = tar
 fields_of (Correct header target content) = with_content (record (with_header 67 header) { target = target }) content
 fields_of (Reinstate header target) = record (with_header 83 header) { target = target }
 
--- the fields of a message are told
+-- the fields of a message as the result of a call
 abbrev pub DecodesTo : Result Message Fault → ℕ → FieldsRow → FieldsRow → Type 0
 DecodesTo (Ok message) code old new = (code ≡ 0) × (new ≡ fields_of message)
 DecodesTo (Err fault) code old new = (code ≡ fault_code fault) × (new ≡ old)

@@ -1,4 +1,4 @@
--- What each exported call answers by its number and its row.
+-- Defines the number and the row of each exported call.
 use Rattle.std.specs.Prelude.{◌≡◌, ◌⊎◌, ℕ, List, length, Option, None, Some, Result, Ok, Err, ok_or, option_and_then}
 use Rattle.tape_types.specs.Names.{symbol_named}
 use Rattle.scratch_fold.specs.declared.summary.Summary.{Summary}
@@ -14,24 +14,24 @@ use Rattle.tapebox_c.specs.declared.held.Held.{Held}
 use Rattle.tapebox_c.specs.declared.rows.AnswerRow.{AnswerRow}
 use Rattle.tapebox_c.specs.declared.rows.EntryRow.{EntryRow}
 
--- the number of what was refused: the one that is due, or out of memory (4 or 6) where none is
+-- the number of a refusal: that of the fault that is due, or out of memory (4 or 6) if none is
 abbrev pub IsCodeOf : {X : Type 0} → Result X Fault → ℕ → Type 0
 IsCodeOf (Err due) code = code ≡ fault_code due
 IsCodeOf (Ok made) code = (code ≡ 4) ⊎ (code ≡ 6)
 
--- a handle is opened: it holds what was to be made and 0 is given, or it is as it was
+-- a handle is opened: it holds what was made and the number is 0, or it is as it was
 abbrev pub OpensIn : {X : Type 0} → (X → Held) → Option Held → Result X Fault → ℕ → Option Held → Type 0
 OpensIn make (Some held) due code new = (code ≡ 103) × (new ≡ Some held)
 OpensIn make None due code None = IsCodeOf due code
 OpensIn make None (Ok made) code (Some now) = (code ≡ 0) × (now ≡ make made)
 OpensIn make None (Err fault) code (Some now) = ⊥
 
--- an answer is told: 0 and the entry's row, or the fault's number and the row as it was
+-- an answer: 0 and the entry's row, or the fault's number and the row as it was
 abbrev pub Tells : Result Entry Fault → ℕ → AnswerRow → AnswerRow → Type 0
 Tells (Ok e) code old new = (code ≡ 0) × (new ≡ answer_row e)
 Tells (Err fault) code old new = (code ≡ fault_code fault) × (new ≡ old)
 
--- bytes are answered by what a handle holds, if anything
+-- what a handle holds, if anything, answers bytes
 abbrev pub AdmitsIn : Option Held → List ℕ → ℕ → AnswerRow → AnswerRow → Option Held → Type 0
 AdmitsIn None bytes code row row' held' = (code ≡ 101) × (row' ≡ row) × (held' ≡ None)
 AdmitsIn (Some held) bytes code row row' None = ⊥
@@ -48,22 +48,22 @@ ClosesIn None code new = (code ≡ 101) × (new ≡ None)
 ClosesIn (Some held) code None = ⊥
 ClosesIn (Some held) code (Some held') = (answer : Result (Unit {0}) Fault) × Closes held answer held' × (code ≡ code_of answer)
 
--- what was looked for is told by 0 and its row, or why it is not there by a number and the row as it was
+-- what was looked for: 0 and its row, or the number of the reason why it is not there, and the row as it was
 abbrev pub told : {A B : Type 0} → (A → B) → Result A Fault → B → ℕ × B
 told view (Ok x) old = (0, view x)
 told view (Err fault) old = (fault_code fault, old)
 
--- a symbol's consolidated summary: 101 without a tape, 36 where the symbol is not listed
+-- a symbol's consolidated summary: 101 without a tape, 36 if the symbol is not listed
 abbrev pub summary_found : Option TapeState → List ℕ → Result Summary Fault
 summary_found None name = Err NoTape
 summary_found (Some t) name = ok_or (option_and_then (summary_at t) (symbol_named name)) (Refused UnknownSymbol)
 
--- why a participant has no summary of a symbol: 36 where the symbol is not listed, else 34
+-- why a participant has no summary of a symbol: 36 if the symbol is not listed, else 34
 abbrev pub unlisted : Option Summary → Fault
 unlisted None = Refused UnknownSymbol
 unlisted (Some summary) = Refused UnknownParticipant
 
--- a participant's own summary: 36 where the symbol is not listed, 34 where the participant is not
+-- a participant's own summary: 36 if the symbol is not listed, 34 if the participant is not
 abbrev pub summary_of_found : Option TapeState → List ℕ → ℕ → Result Summary Fault
 summary_of_found None name letter = Err NoTape
 summary_of_found (Some t) name letter =
@@ -75,12 +75,12 @@ abbrev pub count_told : Option TapeState → ℕ
 count_told None = 0
 count_told (Some t) = length t.entries
 
--- the entry of a number: 101 without a tape, 105 where the tape has none of that number
+-- the entry of a number: 101 without a tape, 105 if the tape has no entry of that number
 abbrev pub entry_found : Option TapeState → ℕ → Result Entry Fault
 entry_found None number = Err NoTape
 entry_found (Some t) number = ok_or (entry_numbered t.entries number) NoEntry
 
--- an entry that was looked for is told, or why there is none
+-- an entry that was looked for, or the reason why there is none
 abbrev pub EntryTold : Result Entry Fault → ℕ → EntryRow → EntryRow → Type 0
 EntryTold (Ok e) code old new = (code ≡ 0) × IsEntryRow e new
 EntryTold (Err fault) code old new = (code ≡ fault_code fault) × (new ≡ old)

@@ -1,4 +1,4 @@
--- The faults of calls by number.
+-- Defines the numbers of the calls' faults.
 use Rattle.std.specs.Prelude.{ℕ}
 use Rattle.batch.specs.Header.{header_fault_code}
 use Rattle.reports.specs.Faults.{message_fault_code}

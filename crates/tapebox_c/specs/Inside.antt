@@ -1,4 +1,4 @@
--- What an `Inside` owns: what a box owns, or nothing.
+-- Defines what an `Inside` owns: what a box owns, or nothing.
 use base.Fml.{Fml, ftrue}
 use base.Stored.{Coded}
 use denote.RawPtr.{Ptr}
@@ -14,6 +14,6 @@ abbrev pub inside_owns : Global → Ptr → Option the_row.Denot → Fml
 inside_owns alloc at None = ftrue
 inside_owns alloc at (Some held) = box_owns (ghosts.dealloc_token alloc) the_row at held
 
--- how the logic stores what an inside holds
+-- how the logic stores what an `Inside` holds
 abbrev pub held_coded : Coded (Option the_row.Denot)
 held_coded = coded_option the_row.coded

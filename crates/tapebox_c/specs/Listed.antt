@@ -1,4 +1,4 @@
--- What the calls answer that tell of a tape's names.
+-- Defines the results of the calls that read a tape's names.
 use Rattle.std.specs.Prelude.{ℕ, List, ok_or, slice_get, Option, None, Some, Result, Err}
 use Rattle.std.specs.Option.{option_map}
 use Rattle.tape_core.specs.Standing.{figures_of}
@@ -19,7 +19,7 @@ totals_row f = record { shares = f.sizes; messages = f.count; last = f.last }
 abbrev pub totals_of : TapeState → ℕ → Option Figures
 totals_of t letter = option_map (figures_of (messages_of t.entries)) (letter_named letter)
 
--- what a participant has sent: 101 without a tape, 34 where the letter is none
+-- what a participant has sent: 101 without a tape, 34 if the letter is not one
 abbrev pub totals_found : Option TapeState → ℕ → Result Figures Fault
 totals_found None letter = Err NoTape
 totals_found (Some t) letter = ok_or (totals_of t letter) (Refused UnknownParticipant)
@@ -28,12 +28,12 @@ totals_found (Some t) letter = ok_or (totals_of t letter) (Refused UnknownPartic
 abbrev pub name_row : List ℕ → NameRow
 name_row symbol = record { bytes = symbol }
 
--- the symbol at a place: 101 without a tape, 36 where there is none
+-- the symbol at a place: 101 without a tape, 36 if there is none
 abbrev pub symbol_found : Option TapeState → ℕ → Result (List ℕ) Fault
 symbol_found None place = Err NoTape
 symbol_found (Some t) place = ok_or (slice_get t.listing.symbols place) (Refused UnknownSymbol)
 
--- the participant at a place: 101 without a tape, 34 where there is none
+-- the participant at a place: 101 without a tape, 34 if there is none
 abbrev pub letter_found : Option TapeState → ℕ → Result ℕ Fault
 letter_found None place = Err NoTape
 letter_found (Some t) place = ok_or (slice_get t.listing.participants place) (Refused UnknownParticipant)

@@ -1,4 +1,4 @@
--- What the call answers that admits messages one after another.
+-- Defines the results of the call that admits messages one after the other.
 use Rattle.std.specs.Prelude.{◌≡◌, ◌≤◌, ◌+◌, ◌==◌, ℕ, Bool, true, false, List, [], ◌∷◌, length, take, drop, Option, None, Some, Result, Ok, Err}
 use Rattle.reports.specs.Reading.{message_at}
 use Rattle.reports.specs.declared.fault.MessageFault.{MessageFault}
@@ -17,7 +17,7 @@ abbrev pub number_of : Result Entry Refusal → ℕ
 number_of (Ok e) = 0
 number_of (Err refusal) = fault_code (Refused refusal)
 
--- the message at a place of bytes is answered by a tape with this number, and the next place is behind it
+-- a tape answers the message at a place of bytes with this number, and the next place is after it
 pub record Turn (bytes : List ℕ) (old : TapeState) (at number : ℕ) (new : TapeState) (next : ℕ) : Type 0 where
   pub message : Message
   pub taken : ℕ
@@ -37,7 +37,7 @@ abbrev pub Turns : List ℕ → TapeState → ℕ → List ℕ → TapeState →
 Turns bytes old at [] new end = (new ≡ old) × (end ≡ at)
 Turns bytes old at (number ∷ numbers) new end = (mid : TapeState) × (next : ℕ) × Turn bytes old at number mid next × Turns bytes mid next numbers new end
 
--- why it stops, by whether the bytes have ended and whether there is room, and what is read there
+-- why the call stops, by whether the bytes have ended, whether there is room, and what is read there
 abbrev pub IsStop : Bool → Bool → Result (Message × ℕ) MessageFault → ℕ → Type 0
 IsStop true full read code = code ≡ 0
 IsStop false true read code = code ≡ 108
@@ -57,12 +57,12 @@ HeldAdmits (Tape t) bytes row row' (Some told) (Tape u) = AdmitsMany bytes t tol
 HeldAdmits (Tape t) bytes row row' told new = ⊥
 HeldAdmits held bytes row row' told new = (told ≡ None) × (row' ≡ row) × (new ≡ held)
 
--- what was done is told with the code, or 101 without a tape
+-- what was done, with the code, or 101 without a tape
 abbrev pub ManyTold : Option (ManyRow × ℕ) → ℕ → ManyRow → ManyRow → Type 0
 ManyTold None code done done' = (code ≡ 101) × (done' ≡ done)
 ManyTold (Some told) code done done' = (code ≡ told.1) × (done' ≡ told.0)
 
--- the messages of bytes are admitted by what a handle holds, if anything
+-- what a handle holds, if anything, admits the messages of bytes
 abbrev pub AdmitsManyIn : Option Held → List ℕ → ℕ → List ℕ → List ℕ → ManyRow → ManyRow → Option Held → Type 0
 AdmitsManyIn None bytes code row row' done done' held' = (code ≡ 101) × (row' ≡ row) × (done' ≡ done) × (held' ≡ None)
 AdmitsManyIn (Some held) bytes code row row' done done' None = ⊥

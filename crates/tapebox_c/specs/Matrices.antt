@@ -1,4 +1,4 @@
--- The cells of a sale condition, as another language is told of them.
+-- Defines the cells of a sale condition as another language gets them.
 use Rattle.std.specs.Prelude.{ℕ, Bool, List, Option, None, Some, if◌then◌else◌}
 use Rattle.reports.specs.Texts.{is_condition}
 use Rattle.sale_matrix.specs.Matrix.{cells_of, is_within}
@@ -33,7 +33,8 @@ cells_row c = record {
   volume = yes_letter c.volume;
 }
 
--- the cells of a condition are told: 104 where there is no such matrix, 21 where the bytes are no condition, 44 where the matrix has not its codes
+-- the cells of a condition: 104 if there is no such matrix, 21 if the bytes are no condition, 44 if the matrix does not have
+-- its codes
 abbrev pub cells_told : Option Matrix → Option (List ℕ) → CellsRow → ℕ × CellsRow
 cells_told None condition row = (104, row)
 cells_told (Some matrix) None row = (21, row)

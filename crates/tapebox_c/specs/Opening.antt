@@ -1,4 +1,4 @@
--- How a tape and a subscriber are made of what another language gives.
+-- Defines how a tape and a subscriber are made from another language's values.
 use Rattle.std.specs.Prelude.{◌≡◌, ◌⊎◌, ◌==◌, ◌&&◌, ℕ, nat_le, Bool, Option, None, Some, Result, Ok, Err, if◌then◌else◌}
 use Rattle.batch.specs.declared.header_fault.HeaderFault.{HeaderFault}
 use Rattle.batch.specs.declared.header_fault.HeaderFault.TheVariants.{BadListing}
@@ -31,7 +31,7 @@ abbrev pub opened : {X : Type 0} → (Matrix → Names → X) → Option Matrix 
 opened make None limit listing = Err BadMatrix
 opened make (Some matrix) limit listing = if is_limit limit then of_listing (make matrix) listing else Err (NotMade BadLimit)
 
--- an empty open tape, or the first thing wrong with what it is to be made of
+-- an empty open tape, or the first thing wrong with what it is to be made from
 abbrev pub tape_opened : Option Matrix → ℕ → Result Names HeaderFault → Result TapeState Fault
 tape_opened matrix limit listing = opened (λ m names. empty_tape names limit m) matrix limit listing
 
@@ -39,7 +39,7 @@ tape_opened matrix limit listing = opened (λ m names. empty_tape names limit m)
 abbrev pub subscriber_opened : Option Matrix → ℕ → ℕ → Result Names HeaderFault → Result SubscriberState Fault
 subscriber_opened matrix limit session listing = opened (λ m names. new_subscriber names limit session m) matrix limit listing
 
--- a fault is the one that is due, or out of memory where none is
+-- a fault is the one that is due, or out of memory if none is
 abbrev pub IsFaultOf : {X : Type 0} → Fault → Result X Fault → Type 0
 IsFaultOf fault (Err due) = fault ≡ due
 IsFaultOf fault (Ok made) = (fault ≡ NoListing (BadListing OutOfMemory)) ⊎ (fault ≡ NotMade NoRoom)

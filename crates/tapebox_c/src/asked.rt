@@ -1,4 +1,4 @@
-//! Requests and their answers, read by another language.
+//! Reads requests and their answers for another language.
 ghost use Rattle.std.specs.Prelude.{◌≡◌, Ok};
 ghost use Rattle.tapebox_c.specs.Asked.{AnswerRead, GivesPacket, ReadsAnswer, ReadsRequest, fault_row, request_due};
 
@@ -53,7 +53,7 @@ pub extern "C" fn tapebox_read_answer(alloc: Global, answer: &[u8], row: &mut Re
     }
 }
 
-/// Gives the bytes of the packet at a place, from 0, of the answer at the front of the bytes, at the front of the row.
+/// Writes the bytes of the packet at a place, from 0, of the answer at the front of the bytes, at the front of the row.
 #[unsafe(no_mangle)]
 pub extern "C" fn tapebox_answer_packet(
     alloc: Global,
@@ -76,7 +76,7 @@ pub extern "C" fn tapebox_answer_packet(
     }
 }
 
-/// Tells why an answer has no packets. Where memory ran out, the row stays.
+/// Writes why an answer has no packets. If memory ran out, the row stays as it was.
 fn tell_fault(fault: AskFault, taken: usize, row: &mut ReplyRow)
     ensures { row.new ≡ fault_row fault taken row.old }
 {
@@ -92,7 +92,7 @@ fn tell_fault(fault: AskFault, taken: usize, row: &mut ReplyRow)
     };
 }
 
-/// The request that is written where only an answer is read.
+/// A request to write when only an answer is read.
 fn any_request() -> Request {
     Request {
         session: 0,
@@ -101,7 +101,7 @@ fn any_request() -> Request {
     }
 }
 
-/// What the one who asks reads at the front of the bytes, and how many bytes that takes.
+/// Reads the answer at the front of the bytes as one who asked, and returns it with how many bytes it has.
 fn answered(alloc: Global, bytes: &[u8]) -> (Result<Vec<Vec<u8>>, AskFault>, usize)
     ensures { AnswerRead bytes.now result.0 result.1 }
 {
@@ -110,7 +110,7 @@ fn answered(alloc: Global, bytes: &[u8]) -> (Result<Vec<Vec<u8>>, AskFault>, usi
     let told = ask(alloc, &any_request(), &mut unread, &mut nowhere);
     let taken = bytes.len() - unread.len();
     match told {
-        // Bytes in memory are read to their end, and nothing is written, so neither comes.
+        // Bytes in memory are read to their end, and nothing is written, so neither fault comes.
         Err(AskFault::WriteFault) => (Err(AskFault::OutOfMemory), taken),
         Err(AskFault::ReadFault) if taken < bytes.len() => (Err(AskFault::OutOfMemory), taken),
         told => (told, taken),

@@ -1,4 +1,4 @@
-//! The bytes of a message made of its fields, and its fields read of its bytes.
+//! Makes the bytes of a message from its fields, and reads its fields from its bytes.
 ghost use Rattle.std.specs.Prelude.{◌≡◌, ◌+◌, ◌≤◌, length};
 ghost use Rattle.reports.specs.ByteRows.{Puts};
 ghost use Rattle.tapebox_c.specs.Calls.{whole_message};
@@ -9,7 +9,7 @@ use crate::rows::{FieldsRow, MessageRow};
 use reports::{Content, Header, LONGEST_MESSAGE, Message, put};
 use tape_types::MsgNumber;
 
-/// Makes the bytes of a message of its fields. Those that its kind does not have are not looked at.
+/// Makes the bytes of a message from its fields. The fields that its kind does not have are not looked at.
 #[unsafe(no_mangle)]
 pub extern "C" fn tapebox_encode(fields: &FieldsRow, row: &mut MessageRow) -> u32
     ensures { EncodesTo (fields_text fields.now) (whole_message (fields_text fields.now)) result row.old row.new }
@@ -28,7 +28,7 @@ pub extern "C" fn tapebox_encode(fields: &FieldsRow, row: &mut MessageRow) -> u3
     }
 }
 
-/// Reads the fields of the message that the bytes are. Those that its kind does not have are 0.
+/// Reads the fields of the message that the bytes are. The fields that its kind does not have are 0.
 #[unsafe(no_mangle)]
 pub extern "C" fn tapebox_decode(message: &[u8], fields: &mut FieldsRow) -> u32
     ensures { DecodesTo (whole_message message.now) result fields.old fields.new }
@@ -42,7 +42,7 @@ pub extern "C" fn tapebox_decode(message: &[u8], fields: &mut FieldsRow) -> u32
     }
 }
 
-/// Puts the fields of a kind at the front of the row, each as it is, and gives how many bytes they have.
+/// Puts the fields of a kind at the front of the row, each as it is, and returns how many bytes they have.
 fn put_fields(row: &mut [u8], fields: &FieldsRow) -> usize
     requires { 44 ≤ length row.old }
     ensures puts { Puts 0 (fields_text fields.now) row.old row.new result }
@@ -65,12 +65,12 @@ fn put_fields(row: &mut [u8], fields: &FieldsRow) -> usize
             let at = put_header(row, at, fields);
             put(row, at, &fields.target.to_be_bytes())
         }
-        // No message has this kind, and reading the byte says so.
+        // No message has this kind, and reading the byte finds that.
         _ => put_start(row, 1, fields.kind),
     }
 }
 
-/// The length of what follows, and the kind, at the front of the row.
+/// Puts the length of what follows, and the kind, at the front of the row.
 fn put_start(row: &mut [u8], len: u16, kind: u8) -> usize
     requires { 3 ≤ length row.old }
     ensures { Puts 0 (start_part len kind) row.old row.new result }
@@ -79,7 +79,7 @@ fn put_start(row: &mut [u8], len: u16, kind: u8) -> usize
     put(row, at, &[kind])
 }
 
-/// Participant, number, moment and symbol.
+/// Puts participant, number, moment and symbol into the row.
 fn put_header(row: &mut [u8], at: usize, fields: &FieldsRow) -> usize
     requires { at + 21 ≤ length row.old }
     ensures { Puts at (header_part fields.now) row.old row.new result }
@@ -90,7 +90,7 @@ fn put_header(row: &mut [u8], at: usize, fields: &FieldsRow) -> usize
     put(row, at, &fields.symbol)
 }
 
-/// Price, size and condition.
+/// Puts price, size and condition into the row.
 fn put_content(row: &mut [u8], at: usize, fields: &FieldsRow) -> usize
     requires { at + 16 ≤ length row.old }
     ensures { Puts at (content_part fields.now) row.old row.new result }
@@ -116,7 +116,7 @@ fn fields_of(message: &Message) -> FieldsRow
     }
 }
 
-/// The fields of a kind that its header has.
+/// The fields that a kind has from its header.
 fn with_header(kind: u8, header: &Header) -> FieldsRow
     ensures { result ≡ with_header kind header.now }
 {

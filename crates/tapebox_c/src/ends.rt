@@ -1,14 +1,14 @@
-//! Why a table has no text, in words.
+//! Puts into words why a table has no text.
 ghost use Rattle.std.specs.Prelude.{◌≡◌, IfOk};
-ghost use Rattle.day_tables.specs.FaultLines.{table_fault_text};
-ghost use Rattle.table_days.specs.EndTexts.{end_text, listing_fault_text};
+ghost use Rattle.csv_messages.specs.FaultLines.{table_fault_text};
+ghost use Rattle.csv_days.specs.EndTexts.{end_text, listing_fault_text};
 
-use day_tables::TableFault;
+use csv_days::TableEnd;
+use csv_messages::TableFault;
 use std::alloc::{AllocError, Global};
-use table_days::TableEnd;
 use tape_types::ListingFault;
 
-/// What is wrong with a table, in words.
+/// Returns what is wrong with a table, in words.
 pub(crate) fn fault_text(alloc: Global, fault: &TableFault) -> Result<Vec<u8>, AllocError>
     ensures { IfOk result (λ text. text.items ≡ table_fault_text fault.now) }
 {
@@ -28,7 +28,7 @@ fn listing_text(fault: ListingFault) -> &'static [u8]
     }
 }
 
-/// Why a table has no text, in words; an error where memory runs out for these.
+/// Returns why a table has no text, in words; an error if memory runs out for these.
 pub(crate) fn end_text(alloc: Global, end: &TableEnd) -> Result<Vec<u8>, AllocError>
     ensures { IfOk result (λ text. text.items ≡ end_text end.now) }
 {

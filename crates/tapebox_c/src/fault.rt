@@ -1,4 +1,4 @@
-//! Why a call of another language did nothing.
+//! The faults of the calls from another language, and their numbers.
 ghost use Rattle.std.specs.Prelude.{◌≡◌};
 ghost use Rattle.tapebox_c.specs.Faults.{fault_code};
 
@@ -20,7 +20,7 @@ pub enum Fault {
     InUse,
     /// The matrix is neither 1 nor 2.
     BadMatrix,
-    /// The tape has no entry of that number, or the packet or the answer nothing at that place.
+    /// The tape has no entry of that number, or the packet or the answer has nothing at that place.
     NoEntry,
     /// The line is none of 0 (A), 1 (B) and 2 (retransmission).
     NoLine,
@@ -48,7 +48,7 @@ pub enum Fault {
     NotDelivered(DeliveryFault),
     /// The drain stopped.
     Stopped(Stop),
-    /// The bytes are no packet, or no packet can say what it was to say.
+    /// The bytes are no packet, or no packet can hold the number asked for.
     NoPacket(PacketFault),
     /// The bytes are no request.
     BadRequest(RequestFault),

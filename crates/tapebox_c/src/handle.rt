@@ -1,4 +1,4 @@
-//! A handle.
+//! The handle by which another language keeps a tape, a subscriber or a table.
 ghost use Rattle.std.specs.Prelude.{◌≡◌, is_some, None, Some};
 ghost use Rattle.std.specs.Option.{option_map};
 ghost use Rattle.std.specs.Box.{box_value};
@@ -12,7 +12,7 @@ use std::alloc::Global;
 use std::mem::replace;
 use tape_core::TapeFault;
 
-/// What another language keeps of a tape or of a subscriber. Zero bytes are a handle that holds nothing.
+/// A tape, a subscriber or a table of another language. Zero bytes are a handle that holds nothing.
 #[repr(C)]
 pub struct Handle {
     is_open: bool,
@@ -21,7 +21,7 @@ pub struct Handle {
 }
 
 impl Handle {
-    /// One that holds nothing.
+    /// A handle that holds nothing.
     fn closed(alloc: Global) -> Handle
         ensures { result.inside.held ≡ None }
     {
@@ -31,7 +31,7 @@ impl Handle {
         }
     }
 
-    /// One that holds this.
+    /// A handle that holds this.
     fn opened(held: Box<Held>) -> Handle
         ensures { result.inside.held ≡ Some held.value }
     {
@@ -41,14 +41,14 @@ impl Handle {
         }
     }
 
-    /// Whether it holds something.
+    /// Whether the handle holds something.
     pub(crate) fn is_full(&self) -> bool
         ensures { result ≡ is_some self.now.inside.held }
     {
         self.is_open
     }
 
-    /// Takes out what it holds. The handle holds nothing then.
+    /// Takes out what the handle holds. The handle then holds nothing.
     pub(crate) fn take(&mut self, alloc: Global) -> Option<Box<Held>>
         ensures held { option_map box_value result ≡ self.old.inside.held }
         ensures empty { self.new.inside.held ≡ None }
@@ -62,7 +62,7 @@ impl Handle {
         }
     }
 
-    /// Puts it into a handle that holds nothing.
+    /// Puts a box into a handle that holds nothing.
     pub(crate) fn put(&mut self, held: Box<Held>)
         requires empty { self.old.inside.held ≡ None }
         ensures held { self.new.inside.held ≡ Some held.value }
@@ -71,7 +71,7 @@ impl Handle {
         inside.end();
     }
 
-    /// Makes a handle that holds nothing hold this, and gives 0, or the number of the fault where memory ran out.
+    /// Fills a handle that holds nothing, and returns 0, or the number of the fault if memory ran out.
     pub(crate) fn fill(&mut self, alloc: Global, held: Held) -> u32
         requires empty { self.old.inside.held ≡ None }
         ensures { FillsWith held result self.new.inside.held }

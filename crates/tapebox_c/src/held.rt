@@ -1,4 +1,4 @@
-//! What a handle holds.
+//! What a handle holds, and what each call does to it.
 ghost use Rattle.std.specs.Prelude.{◌≡◌, Some, option_copied};
 ghost use Rattle.tapebox_c.specs.Calls.{Admits, own_tape, whole_message, Closes};
 ghost use Rattle.tapebox_c.specs.Exports.{count_told, entry_found, summary_found, summary_of_found};
@@ -26,7 +26,7 @@ use tape_core::{Entry, Figures, Refusal, Tape};
 use tape_frames::{Packet, REQUEST_LENGTH, Request, Version};
 use tape_types::{Participant, Symbol};
 
-/// A tape, a subscriber with a tape of its own, a table, or why there is none.
+/// A tape, a subscriber with a tape of its own, a table, or why a table was not read.
 #[derive(Drop)]
 pub enum Held {
     /// A tape that admits messages.
@@ -40,7 +40,7 @@ pub enum Held {
 }
 
 impl Held {
-    /// The tape: the one that is held, or the subscriber's own, if one of them is held.
+    /// The tape that is held, or the subscriber's own, if one of them is held.
     pub(crate) fn tape(&self) -> Option<&Tape<IndexStore>>
         ensures { option_copied result ≡ own_tape self.now }
     {
@@ -65,7 +65,7 @@ impl Held {
         }
     }
 
-    /// Admits the messages of bytes, one after another, if it is a tape.
+    /// Admits the messages of bytes, one after the other, if a tape is held.
     pub(crate) fn admit_many(&mut self, bytes: &[u8], numbers: &mut [u32]) -> Option<(ManyRow, u32)>
         ensures { HeldAdmits self.old bytes.now numbers.old numbers.new result self.new }
     {
@@ -86,7 +86,7 @@ impl Held {
         Ok(())
     }
 
-    /// The consolidated summary of a symbol by its name.
+    /// The consolidated summary of a symbol, by its name.
     pub(crate) fn summary(&self, name: &[u8]) -> Result<Summary, Fault>
         ensures { result ≡ summary_found (own_tape self.now) name.now }
     {
@@ -99,7 +99,7 @@ impl Held {
         }
     }
 
-    /// A participant's own summary of a symbol by its name.
+    /// A participant's own summary of a symbol, by the symbol's name.
     pub(crate) fn summary_of(&self, name: &[u8], letter: u8) -> Result<Summary, Fault>
         ensures { result ≡ summary_of_found (own_tape self.now) name.now letter }
     {
@@ -129,7 +129,7 @@ impl Held {
         Some(subscriber.deliver(line, bytes))
     }
 
-    /// Replays what is ready.
+    /// Replays what is ready, and returns how many entries were put on the tape.
     pub(crate) fn drain(&mut self) -> Option<Result<u32, DrainFault>>
         ensures { DrainsTo self.old result self.new }
     {
@@ -139,7 +139,7 @@ impl Held {
         Some(subscriber.drain())
     }
 
-    /// A request for what is missing first.
+    /// Returns a request for the first gap.
     pub(crate) fn missing(&self) -> Option<Option<Request>>
         ensures { Misses self.now result }
     {
@@ -242,7 +242,7 @@ impl Held {
         packet_in(tape, version, session, from, to).ok_or(Fault::NoEntry)
     }
 
-    /// The answer to a request.
+    /// Returns the answer to a request.
     pub(crate) fn answer(
         &self,
         alloc: Global,
@@ -258,7 +258,7 @@ impl Held {
         answer_in(alloc, tape, version, session, request).ok_or(Fault::OutOfMemory)
     }
 
-    /// Makes a text of the table, in place of the one before, and gives 0 or the number of why there is none.
+    /// Makes a text of the table, in place of the one before, and returns 0, or the number of the reason why there is none.
     pub(crate) fn write(&mut self, alloc: Global, text: Text, matrix: Matrix) -> u32
         ensures { WritesTo (text_named text) matrix self.old result self.new }
     {
@@ -268,7 +268,7 @@ impl Held {
         table.write(alloc, text, matrix)
     }
 
-    /// The text of the table, or why it was not read in words.
+    /// The text of the table, or why it was not read, in words.
     pub(crate) fn text(&self) -> &[u8]
         ensures { result.now ≡ text_of self.now }
     {

@@ -1,4 +1,4 @@
-//! What a handle points to.
+//! The pointer of a handle to what it holds.
 ghost use Rattle.std.specs.Prelude.{◌≡◌, is_some, true};
 ghost use Rattle.std.specs.declared.option.Option.{Option};
 ghost use Rattle.std.specs.declared.option.Option.TheVariants.{None, Some};
@@ -11,7 +11,7 @@ use std::alloc::Global;
 use std::marker::Model;
 use std::ptr::null_mut;
 
-/// The pointer to what a handle holds, or one that owns nothing. It cannot be dropped: a call that forgets to put back what it
+/// The pointer to what a handle holds, or one that owns nothing. It can't be dropped: a call that forgets to put back what it
 /// took out, or to free it, does not compile.
 #[repr(C)]
 pub struct Inside {
@@ -25,7 +25,7 @@ impl Model for Inside {
 }
 
 impl Inside {
-    /// One that owns nothing.
+    /// An `Inside` that owns nothing.
     pub(crate) fn empty(alloc: Global) -> Inside
         ensures { result.held ≡ None }
     {
@@ -35,7 +35,7 @@ impl Inside {
         }
     }
 
-    /// One that owns what a box owned.
+    /// An `Inside` that owns what a box owned.
     pub(crate) fn full(loose: Loose<Held, Global>) -> Inside
         ensures { result.held ≡ Some loose.value }
     {
@@ -46,7 +46,7 @@ impl Inside {
         }
     }
 
-    /// The box that it owns.
+    /// Returns the box that it owns.
     pub(crate) fn into_loose(self) -> Loose<Held, Global>
         requires { is_some self.held ≡ true }
         ensures { Some result.value ≡ self.held }
@@ -58,7 +58,7 @@ impl Inside {
         }
     }
 
-    /// Lets go of one that owns nothing.
+    /// Ends an `Inside` that owns nothing.
     pub(crate) fn end(self)
         requires { self.held ≡ None }
         ensures { self.held ≡ None }

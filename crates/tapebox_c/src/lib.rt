@@ -1,4 +1,4 @@
-//! A tape, a subscriber, a table's texts and the messages' bytes for other languages, as a static library.
+//! A static library for other languages: a tape, a subscriber, a table's texts and the messages' bytes.
 #![tactic(auto)]
 
 mod asked;

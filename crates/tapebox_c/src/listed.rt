@@ -1,4 +1,4 @@
-//! What a tape says of its names.
+//! The calls that read a tape's names, and what a participant has sent.
 ghost use Rattle.std.specs.Prelude.{◌≡◌};
 ghost use Rattle.tapebox_c.specs.Calls.{held_tape};
 ghost use Rattle.tapebox_c.specs.Exports.{told};
@@ -10,7 +10,7 @@ use crate::rows::{NameRow, TotalsRow};
 use std::alloc::Global;
 use tape_core::Figures;
 
-/// Gives what a participant has sent, by its letter: zeros for one that is not listed.
+/// Writes what a participant has sent, by its letter: zeros for one that is not listed.
 #[unsafe(no_mangle)]
 pub extern "C" fn tapebox_totals(
     alloc: Global,
@@ -35,7 +35,7 @@ pub extern "C" fn tapebox_totals(
     }
 }
 
-/// Gives the symbol at a place of the listing, from 0.
+/// Writes the symbol at a place of the listing, from 0.
 #[unsafe(no_mangle)]
 pub extern "C" fn tapebox_symbol(
     alloc: Global,
@@ -61,7 +61,7 @@ pub extern "C" fn tapebox_symbol(
     }
 }
 
-/// Gives the letter of the participant at a place of the listing, from 0.
+/// Writes the letter of the participant at a place of the listing, from 0.
 #[unsafe(no_mangle)]
 pub extern "C" fn tapebox_participant(
     alloc: Global,

@@ -1,4 +1,4 @@
-//! Messages that are admitted one after another.
+//! Admits messages one after the other.
 ghost use Rattle.std.specs.Prelude.{◌≡◌, ◌≤◌, length};
 ghost use Rattle.tapebox_c.specs.Many.{AdmitsMany, AdmitsManyIn, TurnAt};
 
@@ -10,9 +10,9 @@ use std::alloc::Global;
 use summaries::IndexStore;
 use tape_core::Tape;
 
-/// Admits the messages that stand one after another in the bytes, in their order, and writes a number for each: 0 where it was admitted,
-/// else that of its refusal. It stops where the bytes end, where the numbers have no room for another (108), and at bytes that begin with
-/// no message, whose refusal it gives.
+/// Admits the messages of the bytes, one after the other in their order, and writes a number for each: 0 if it was admitted,
+/// else that of its refusal. It stops at the end of the bytes, if the numbers have no room for another (108), and at bytes that
+/// begin with no message, with the number of their fault.
 #[unsafe(no_mangle)]
 pub extern "C" fn tapebox_admit_many(
     alloc: Global,
@@ -35,7 +35,7 @@ pub extern "C" fn tapebox_admit_many(
     code
 }
 
-/// Admits the messages of bytes, and gives how far it came and why it stopped, 0 at the end of the bytes.
+/// Admits the messages of bytes, and returns how far it came and why it stopped, 0 at the end of the bytes.
 pub(crate) fn admit_each(
     tape: &mut Tape<IndexStore>,
     bytes: &[u8],
@@ -61,7 +61,7 @@ pub(crate) fn admit_each(
     (ManyRow { answered, taken }, 0)
 }
 
-/// Admits the message at a place of bytes: its number, and the place behind it.
+/// Admits the message at a place of bytes, and returns its number and the place after it.
 fn turn(tape: &mut Tape<IndexStore>, bytes: &[u8], at: usize) -> Result<(u32, usize), MessageFault>
     requires within { at ≤ length bytes.now }
     ensures { TurnAt bytes.now tape.old at result tape.new }

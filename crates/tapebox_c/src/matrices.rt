@@ -10,7 +10,7 @@ use reports::MessageFault;
 use sale_matrix::{Cells, Condition, LastRule, cells};
 use tape_core::Refusal;
 
-/// Gives the cells of the sale condition that the four bytes are, by a matrix, 1 or 2.
+/// Writes the cells of the sale condition that the four bytes are, by a matrix, 1 or 2.
 #[unsafe(no_mangle)]
 pub extern "C" fn tapebox_cells(matrix: u32, condition: &[u8], row: &mut CellsRow) -> u32
     ensures { (result, row.new) ≡ cells_told (matrix_numbered matrix) (as_condition condition.now) row.old }

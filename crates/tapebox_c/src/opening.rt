@@ -1,4 +1,4 @@
-//! How a tape and a subscriber are made.
+//! Makes a tape and a subscriber from another language's values.
 ghost use Rattle.std.specs.Prelude.{◌≡◌, Ok, IfOk, IfErr};
 ghost use Rattle.batch.specs.Header.{header_listing};
 ghost use Rattle.tapebox_c.specs.Opening.{IsFaultOf, is_limit, matrix_numbered, subscriber_opened, tape_opened};
@@ -30,7 +30,7 @@ fn is_limit(limit: u32) -> bool
     1 <= limit && limit <= TAPE_MOST
 }
 
-/// An empty open tape. What needs no memory is looked at first, so that out of memory comes last.
+/// Makes an empty open tape. What does not allocate is checked first, so that out of memory comes last.
 pub(crate) fn open_tape(
     alloc: Global,
     symbols: &[u8],
@@ -57,7 +57,7 @@ pub(crate) fn open_tape(
     }
 }
 
-/// A subscriber that holds nothing. Refused as a tape is.
+/// Makes a subscriber that holds nothing. Its errors are those of a tape.
 pub(crate) fn open_subscriber(
     alloc: Global,
     symbols: &[u8],

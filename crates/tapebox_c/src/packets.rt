@@ -1,4 +1,4 @@
-//! A packet read by another language.
+//! Reads a packet for another language.
 ghost use Rattle.std.specs.Prelude.{◌≡◌};
 ghost use Rattle.tape_frames.specs.Reading.{packet_of};
 ghost use Rattle.tapebox_c.specs.Packets.{GivesEntry, ReadsPacket, packet_fields};
@@ -7,7 +7,7 @@ use crate::fault::Fault;
 use crate::rows::{EntryRow, PacketFieldsRow, entry_row};
 use tape_frames::{Packet, decode_packet};
 
-/// Reads the packet that the bytes are, but for its entries.
+/// Reads the packet that the bytes are, except its entries.
 #[unsafe(no_mangle)]
 pub extern "C" fn tapebox_read_packet(packet: &[u8], row: &mut PacketFieldsRow) -> u32
     ensures { ReadsPacket (packet_of packet.now) result row.old row.new }
@@ -38,7 +38,7 @@ pub extern "C" fn tapebox_packet_entry(packet: &[u8], place: u32, row: &mut Entr
     }
 }
 
-/// What a packet says besides its entries.
+/// What a packet holds besides its entries.
 fn packet_fields(packet: &Packet) -> PacketFieldsRow
     ensures { result ≡ packet_fields packet.now }
 {

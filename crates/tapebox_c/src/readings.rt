@@ -1,4 +1,4 @@
-//! What is read of a tape.
+//! Reads a tape: summaries, entries, names, packets and answers.
 ghost use Rattle.std.specs.Prelude.{◌≡◌, IfSome, option_and_then, slice_get};
 ghost use Rattle.tape_types.specs.Names.{symbol_named};
 ghost use Rattle.retransmit.specs.Answers.{answer_text};
@@ -22,7 +22,7 @@ fn participant(letter: u8) -> Option<Participant>
     Participant::try_new(letter)
 }
 
-/// The consolidated summary of a symbol by its name.
+/// The consolidated summary of a symbol, by its name.
 pub(crate) fn summary_in(tape: &Tape<IndexStore>, name: &[u8]) -> Option<Summary>
     ensures { result ≡ option_and_then (summary_at tape.now) (symbol_named name.now) }
 {
@@ -30,7 +30,7 @@ pub(crate) fn summary_in(tape: &Tape<IndexStore>, name: &[u8]) -> Option<Summary
     tape.summary(symbol)
 }
 
-/// A participant's own summary of a symbol by its name.
+/// A participant's own summary of a symbol, by the symbol's name.
 pub(crate) fn summary_of_in(tape: &Tape<IndexStore>, name: &[u8], letter: u8) -> Option<Summary>
     ensures { result ≡ option_and_then (λ symbol. option_and_then (participant_summary_at tape.now symbol) (letter_named letter)) (symbol_named name.now) }
 {
@@ -93,7 +93,7 @@ pub(crate) fn packet_in(
     Some(cut(version, session, from, &source))
 }
 
-/// The answer to a request, or `None` where memory runs out.
+/// The answer to a request, or `None` if memory runs out.
 pub(crate) fn answer_in(
     alloc: Global,
     tape: &Tape<IndexStore>,
@@ -108,7 +108,7 @@ pub(crate) fn answer_in(
     let mut reader: &[u8] = request;
     let mut text = Vec::new(alloc);
     let end = serve(alloc, &mut source, session, version, &mut reader, &mut text);
-    // The tape is lent while it is served, so the answer is over the entries that it had before.
+    // The tape is borrowed while it is served, so the answer has the entries that it had before.
     if source.published() != published {
         return None;
     }

@@ -1,4 +1,4 @@
-//! What crosses to another language by value: fixed structs of numbers.
+//! The fixed structs of numbers that cross to another language by value.
 ghost use Rattle.std.specs.Prelude.{◌≡◌};
 ghost use Rattle.tapebox_c.specs.Rows.{mark_row, summary_row, answer_row, empty_summary_row, IsEntryRow};
 ghost use Rattle.tapebox_c.specs.Feeds.{taken_row};
@@ -9,7 +9,7 @@ use scratch_fold::{Mark, Summary};
 use tape_core::Entry;
 use tape_frames::{LONGEST_PACKET, REQUEST_LENGTH};
 
-/// A report that a summary names. All three are 0 where it names none.
+/// A report that a summary names. All three fields are 0 if there is none.
 #[repr(C)]
 #[derive(Clone, Copy)]
 pub struct MarkRow {
@@ -25,7 +25,7 @@ pub struct MarkRow {
 #[repr(C)]
 #[derive(Clone, Copy)]
 pub struct SummaryRow {
-    /// The report that set the first last.
+    /// The report that first set the last.
     pub opening: MarkRow,
     /// The highest report.
     pub high: MarkRow,
@@ -39,13 +39,13 @@ pub struct SummaryRow {
     pub trades: u64,
 }
 
-/// What an admission gives.
+/// The result of an admission.
 #[repr(C)]
 #[derive(Clone, Copy)]
 pub struct AnswerRow {
     /// The tape number of the message.
     pub number: u32,
-    /// 1 where the entry carries its symbol's summary, else 0.
+    /// 1 if the entry carries its symbol's summary, else 0.
     pub carries: u32,
     /// The summary that the entry carries, or zeros.
     pub after: SummaryRow,
@@ -107,7 +107,7 @@ pub struct TakenRow {
     pub repeated: u32,
     /// Entries too far ahead to be kept.
     pub beyond: u32,
-    /// The entry of which another is known, where the packet was refused for it, else 0.
+    /// The entry of which another is known, if the packet was refused for it, else 0.
     pub conflict: u32,
 }
 
@@ -115,9 +115,9 @@ pub struct TakenRow {
 #[repr(C)]
 #[derive(Clone, Copy)]
 pub struct RequestRow {
-    /// How many entries it asks for, 0 where none is missing.
+    /// How many entries it asks for, 0 if none is missing.
     pub count: u32,
-    /// Its bytes, where something is missing.
+    /// Its bytes, if something is missing.
     pub bytes: [u8; REQUEST_LENGTH],
 }
 
@@ -129,9 +129,9 @@ pub struct NewsRow {
     pub held: u32,
     /// The greatest number that was announced.
     pub announced: u32,
-    /// 1 where the tape's end is known, else 0.
+    /// 1 if the tape's end is known, else 0.
     pub is_ended: u32,
-    /// How many entries the whole tape has, where its end is known.
+    /// How many entries the whole tape has, if its end is known.
     pub ended: u32,
     /// The entries that line A was the first to bring.
     pub brought_a: u32,
@@ -151,13 +151,13 @@ pub struct PacketRow {
     pub bytes: [u8; LONGEST_PACKET],
 }
 
-/// What a packet says besides its entries.
+/// What a packet holds besides its entries.
 #[repr(C)]
 #[derive(Clone, Copy)]
 pub struct PacketFieldsRow {
     /// The session under which it is sent.
     pub session: u64,
-    /// The number of its first entry, or the one that it tells where it has none.
+    /// The number of its first entry, or the one that it announces if it has none.
     pub number: u32,
     /// How many entries it has.
     pub count: u32,
@@ -179,7 +179,7 @@ pub struct RequestFieldsRow {
     pub count: u32,
 }
 
-/// What an answer to a request is.
+/// The result of reading an answer to a request.
 #[repr(C)]
 #[derive(Clone, Copy)]
 pub struct ReplyRow {
@@ -300,7 +300,7 @@ fn empty_summary_row() -> SummaryRow
     }
 }
 
-/// What is told of an entry.
+/// The row of an entry's answer.
 pub(crate) fn answer_row(entry: &Entry) -> AnswerRow
     ensures { result ≡ answer_row entry.now }
 {

@@ -1,4 +1,4 @@
-//! The calls of one who sends a tape: packets, and answers to requests.
+//! The calls of a tape's sender: packets, and answers to requests.
 ghost use Rattle.std.specs.Prelude.{◌≡◌, IfSome, Ok};
 ghost use Rattle.tape_frames.specs.Versions.{version_of_byte};
 ghost use Rattle.tape_frames.specs.declared.packet.Packet.TheVariants.{Beat, End};
@@ -25,7 +25,7 @@ fn version_numbered(number: u32) -> Option<Version>
     }
 }
 
-/// Gives the packet of the entries from one number on: as many as the version takes, but none above another number.
+/// Writes the packet of the entries from one number on: as many as the version takes, but none above another number.
 #[unsafe(no_mangle)]
 pub extern "C" fn tapebox_cut(
     alloc: Global,
@@ -53,7 +53,7 @@ pub extern "C" fn tapebox_cut(
     }
 }
 
-/// Gives a beat, which tells how many entries the tape has so far.
+/// Writes a beat, which states how many entries the tape has so far.
 #[unsafe(no_mangle)]
 pub extern "C" fn tapebox_beat(
     alloc: Global,
@@ -70,7 +70,7 @@ pub extern "C" fn tapebox_beat(
     }
 }
 
-/// Gives an end, which tells how many entries the closed tape has.
+/// Writes an end, which states how many entries the closed tape has.
 #[unsafe(no_mangle)]
 pub extern "C" fn tapebox_end(
     alloc: Global,
@@ -87,7 +87,7 @@ pub extern "C" fn tapebox_end(
     }
 }
 
-/// Gives the answer to the request that the bytes are, over what is on the tape, at the front of the row.
+/// Writes the answer to the request that the bytes are, from what is on the tape, at the front of the row.
 #[unsafe(no_mangle)]
 pub extern "C" fn tapebox_serve(
     alloc: Global,
@@ -118,7 +118,7 @@ pub extern "C" fn tapebox_serve(
     }
 }
 
-/// The number of entries that a packet of a version tells.
+/// The number of entries that a packet of a version states.
 fn entry_count(version: u32, number: u32) -> Result<EntryCount, PacketFault>
     ensures { result ≡ count_due (version_of_byte version) number }
 {
@@ -128,7 +128,7 @@ fn entry_count(version: u32, number: u32) -> Result<EntryCount, PacketFault>
     EntryCount::try_new(version, number).ok_or(PacketFault::BadCount)
 }
 
-/// Writes a packet's bytes, and gives 0, or the number of the fault where memory runs out.
+/// Writes a packet's bytes, and returns 0, or the number of the fault if memory runs out.
 fn give_packet(alloc: Global, packet: &Packet, row: &mut PacketRow) -> u32
     ensures { PacketTold packet.now result row.old row.new }
 {
@@ -139,7 +139,7 @@ fn give_packet(alloc: Global, packet: &Packet, row: &mut PacketRow) -> u32
     0
 }
 
-/// A packet's bytes as a row, or `None` where memory runs out.
+/// Returns a packet's bytes as a row, or `None` if memory runs out.
 #[tactic(auto, using(crate::proofs::PacketRows::packet_fits))]
 fn packet_row(alloc: Global, packet: &Packet) -> Option<PacketRow>
     ensures { IfSome result (IsPacketRow packet.now) }
@@ -156,7 +156,7 @@ fn packet_row(alloc: Global, packet: &Packet) -> Option<PacketRow>
     })
 }
 
-/// Writes a text at the front of a row and its length, and gives 0, or the number of the fault where the row is shorter.
+/// Writes a text at the front of a row and its length, and returns 0, or the number of the fault if the row is shorter.
 pub(crate) fn give_text(text: &[u8], row: &mut [u8], len: &mut usize) -> u32
     ensures { TellsText text.now result row.old row.new len.old len.new }
 {

@@ -1,4 +1,4 @@
-//! The calls of a subscriber alone.
+//! The calls that only a subscriber has.
 ghost use Rattle.std.specs.Prelude.{◌≡◌};
 ghost use Rattle.batch.specs.Header.{header_listing};
 ghost use Rattle.tapebox_c.specs.Exports.{OpensIn};
@@ -28,7 +28,7 @@ fn line_numbered(number: u32) -> Option<Line>
     }
 }
 
-/// The entry of which another is known, where that is why a packet is refused, else 0.
+/// The entry of which another is known, if a packet is refused for it, else 0.
 fn conflict_of(fault: &DeliveryFault) -> u32
     ensures { result ≡ conflict_of fault.now }
 {
@@ -38,7 +38,7 @@ fn conflict_of(fault: &DeliveryFault) -> u32
     }
 }
 
-/// Opens a subscriber, as a tape is opened, of the session under which the tape is sent.
+/// Opens a subscriber, as a tape is opened, to the session in which the tape is sent.
 #[unsafe(no_mangle)]
 pub extern "C" fn tapebox_subscribe(
     alloc: Global,
@@ -60,8 +60,8 @@ pub extern "C" fn tapebox_subscribe(
     }
 }
 
-/// Takes the packet that the bytes are, which came by a line: 0 for A, 1 for B, 2 for the retransmission. Where it is refused, the conflict
-/// alone is written.
+/// Takes the packet that the bytes are, from a line: 0 for A, 1 for B, 2 for the retransmission. If it is refused, only the
+/// conflict is written.
 #[unsafe(no_mangle)]
 pub extern "C" fn tapebox_deliver(
     alloc: Global,
@@ -93,7 +93,7 @@ pub extern "C" fn tapebox_deliver(
     }
 }
 
-/// Replays what is ready, and gives how many entries were put on the tape, also where it stops.
+/// Replays what is ready, and writes how many entries were put on the tape, even if it stops.
 #[unsafe(no_mangle)]
 pub extern "C" fn tapebox_drain(alloc: Global, handle: &mut Handle, drained: &mut u32) -> u32
     ensures { DrainsIn handle.old.inside.held result drained.old drained.new handle.new.inside.held }
@@ -116,7 +116,7 @@ pub extern "C" fn tapebox_drain(alloc: Global, handle: &mut Handle, drained: &mu
     }
 }
 
-/// Gives the bytes of a request for the first numbers that are missing, and how many it asks for: 0 where none is missing.
+/// Writes the bytes of a request for the first numbers that are missing, and how many it asks for: 0 if none is missing.
 #[unsafe(no_mangle)]
 pub extern "C" fn tapebox_missing(alloc: Global, handle: &mut Handle, row: &mut RequestRow) -> u32
     ensures told { MissingIn handle.old.inside.held result row.old row.new }
@@ -143,7 +143,7 @@ pub extern "C" fn tapebox_missing(alloc: Global, handle: &mut Handle, row: &mut 
     }
 }
 
-/// Gives what the subscriber knows of the feed.
+/// Writes what the subscriber knows of the feed.
 #[unsafe(no_mangle)]
 pub extern "C" fn tapebox_news_of(alloc: Global, handle: &mut Handle, row: &mut NewsRow) -> u32
     ensures told { (result, row.new) ≡ news_told handle.old.inside.held row.old }

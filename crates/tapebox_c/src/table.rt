@@ -1,18 +1,18 @@
-//! A table that was read, and its texts.
+//! A table that was read, and the text that was last made of it.
 ghost use Rattle.std.specs.Prelude.{◌≡◌};
 ghost use Rattle.tapebox_c.specs.Tables.{ComesTo, Tells, Writes, end_fault, run_of, text_named};
 
 use crate::ends::end_text;
 use crate::fault::Fault;
+use csv_days::{TableEnd, write_explained, write_messages_report, write_tape};
 use reports::Message;
 use sale_matrix::Matrix;
 use std::alloc::Global;
-use table_days::{TableEnd, write_explained, write_messages_report, write_tape};
 
-/// The status of an end at which memory ran out.
+/// The status of an end for which memory ran out.
 const OUT_OF_MEMORY: u8 = 5;
 
-/// A text of a table.
+/// The kinds of a table's texts.
 #[derive(Clone, Copy)]
 pub enum Text {
     /// Its report.
@@ -28,7 +28,7 @@ pub enum Text {
 pub struct Table {
     /// Its messages.
     pub messages: Vec<Message>,
-    /// The text that was made of them last, or why there is none, in words. Empty where none was made.
+    /// The text that was last made of them, or why there is none, in words. Empty if none was made.
     pub text: Vec<u8>,
 }
 
@@ -43,7 +43,7 @@ pub(crate) fn end_fault(end: &TableEnd) -> Fault
     }
 }
 
-/// A text of messages, or why they have none. A write into memory fails only where that runs out.
+/// Returns a text of messages, or why they have none. A write into memory fails only if memory runs out.
 fn text_of(
     alloc: Global,
     text: Text,
@@ -65,7 +65,8 @@ fn text_of(
     }
 }
 
-/// The text that a run came to and 0, or why there is none, in words, and the number of that; no words where memory runs out for them.
+/// Returns the text of a run and 0, or why there is none, in words, and the number of that; no words if memory runs out for
+/// them.
 fn told(alloc: Global, run: Result<Vec<u8>, TableEnd>) -> (u32, Vec<u8>)
     ensures { Tells (run_of run) result.0 result.1.items }
 {
@@ -80,11 +81,11 @@ fn told(alloc: Global, run: Result<Vec<u8>, TableEnd>) -> (u32, Vec<u8>)
 }
 
 impl Table {
-    /// Makes a text of the table, in place of the one before, and gives 0 or the number of why there is none.
+    /// Makes a text of the table, in place of the one before, and returns 0, or the number of the reason why there is none.
     pub(crate) fn write(&mut self, alloc: Global, text: Text, matrix: Matrix) -> u32
         ensures { Writes (text_named text) matrix self.old result self.new }
     {
-        // The text before goes first, so that two are never held.
+        // The former text is dropped first, so that two are never held.
         self.text = Vec::new(alloc);
         let run = text_of(alloc, text, matrix, &self.messages);
         let (code, told) = told(alloc, run);

@@ -1,8 +1,8 @@
-//! The calls of a table: it is read once, and its texts are made of what was read, one at a time.
+//! The calls of a table: it is read once, and its texts are made from what was read, one at a time.
 ghost use Rattle.std.specs.Prelude.{◌≡◌, ◌++◌, IfSome, Some, drop, length};
-ghost use Rattle.table_days.specs.Days.{day_text};
-ghost use Rattle.table_days.specs.Explained.{explain_text};
-ghost use Rattle.table_days.specs.TapeRows.{tape_text};
+ghost use Rattle.csv_days.specs.Days.{day_text};
+ghost use Rattle.csv_days.specs.Explained.{explain_text};
+ghost use Rattle.csv_days.specs.TapeRows.{tape_text};
 ghost use Rattle.tapebox_c.specs.Opening.{matrix_numbered};
 ghost use Rattle.tapebox_c.specs.Tables.{Reads, ReadsIn, WritesIn, copied, held_text, text_named};
 
@@ -12,11 +12,12 @@ use crate::handle::Handle;
 use crate::held::Held;
 use crate::opening::matrix_numbered;
 use crate::table::{Table, Text, end_fault};
-use day_tables::read_table;
+use csv_days::TableEnd;
+use csv_messages::read_table;
 use std::alloc::Global;
-use table_days::TableEnd;
 
-/// What a table is once it was read, or why it is none in words, with 0 or the number of that; `None` where memory runs out for the words.
+/// Returns a table that was read, or why it is none in words, with 0 or the number of that; `None` if memory runs out for the
+/// words.
 fn table_read(alloc: Global, table: &[u8]) -> Option<(Held, u32)>
     ensures { IfSome result (λ read. Reads table.now read.1 (Some read.0)) }
 {
@@ -35,7 +36,7 @@ fn table_read(alloc: Global, table: &[u8]) -> Option<(Held, u32)>
     }
 }
 
-/// Reads a table. The handle must hold nothing. It then holds the table, or if that has a fault, what the fault is in words.
+/// Reads a table. The handle must hold nothing. It then holds the table, or if that has a fault, the fault in words.
 #[unsafe(no_mangle)]
 pub extern "C" fn tapebox_read_table(alloc: Global, handle: &mut Handle, table: &[u8]) -> u32
     ensures { ReadsIn handle.old.inside.held table.now result handle.new.inside.held }
@@ -70,8 +71,8 @@ fn write_text(alloc: Global, handle: &mut Handle, text: Text, matrix: u32) -> u3
     code
 }
 
-/// Makes the report of the table that the handle holds by a matrix, 1 or 2. The handle then holds the report in place of the text before;
-/// or if there is none, why, in words.
+/// Makes the report of the table that the handle holds by a matrix, 1 or 2. The handle then holds the report in place of the
+/// former text, or if there is none, the reason in words.
 #[unsafe(no_mangle)]
 pub extern "C" fn tapebox_report(alloc: Global, handle: &mut Handle, matrix: u32) -> u32
     ensures { WritesIn day_text (matrix_numbered matrix) handle.old.inside.held result handle.new.inside.held }
@@ -87,7 +88,8 @@ pub extern "C" fn tapebox_tape(alloc: Global, handle: &mut Handle, matrix: u32) 
     write_text(alloc, handle, Text::Tape, matrix)
 }
 
-/// Tells of each report of the table what became of it and which figures it sets, as `tapebox_report` makes the table's report.
+/// Makes a text of what became of each report of the table and which figures it sets, as `tapebox_report` makes the table's
+/// report.
 #[unsafe(no_mangle)]
 pub extern "C" fn tapebox_explain(alloc: Global, handle: &mut Handle, matrix: u32) -> u32
     ensures { WritesIn explain_text (matrix_numbered matrix) handle.old.inside.held result handle.new.inside.held }
@@ -95,7 +97,7 @@ pub extern "C" fn tapebox_explain(alloc: Global, handle: &mut Handle, matrix: u3
     write_text(alloc, handle, Text::Explanation, matrix)
 }
 
-/// How many bytes the text has that the handle holds, 0 if it holds none.
+/// Returns how many bytes the handle's text has, 0 if it holds none.
 #[unsafe(no_mangle)]
 pub extern "C" fn tapebox_text_length(alloc: Global, handle: &mut Handle) -> usize
     ensures length { result ≡ length (held_text handle.old.inside.held) }
@@ -109,8 +111,9 @@ pub extern "C" fn tapebox_text_length(alloc: Global, handle: &mut Handle) -> usi
     length
 }
 
-/// Copies the bytes of the text that the handle holds, from the one at `from` on, to the front of a row, and gives how many they are: as
-/// many as there are and as the row takes, so 0 at the end of the text or if none is held. The rest of the row stays as it was.
+/// Copies the bytes of the text that the handle holds, from the one at `from` on, to the front of a row, and returns how many
+/// they are: as many as there are and as the row has room for, so 0 at the end of the text or if none is held. The rest of the
+/// row stays as it was.
 #[unsafe(no_mangle)]
 pub extern "C" fn tapebox_text_copy(
     alloc: Global,
@@ -130,8 +133,8 @@ pub extern "C" fn tapebox_text_copy(
     count
 }
 
-/// Copies the bytes of a text from the one at `from` on to the front of a row, as many as there are and as the row takes, and gives how
-/// many they are. The rest of the row stays as it was.
+/// Copies the bytes of a text from the one at `from` on to the front of a row, as many as there are and as the row has room
+/// for, and returns how many they are. The rest of the row stays as it was.
 fn copy(text: &[u8], from: usize, row: &mut [u8]) -> usize
     ensures count { result ≡ length (copied from text.now row.old) }
     ensures bytes { row.new ≡ copied from text.now row.old ++ drop result row.old }

@@ -36,7 +36,7 @@ pub extern "C" fn tapebox_open(
     }
 }
 
-/// Admits the message that the bytes are. The answer is written where it was admitted.
+/// Admits the message that the bytes are. The answer is written if it was admitted.
 #[unsafe(no_mangle)]
 pub extern "C" fn tapebox_admit(
     alloc: Global,
@@ -76,7 +76,7 @@ pub extern "C" fn tapebox_close(alloc: Global, handle: &mut Handle) -> u32
     }
 }
 
-/// Gives the consolidated summary of a symbol, by its name without padding.
+/// Writes the consolidated summary of a symbol, by its name without padding.
 #[unsafe(no_mangle)]
 pub extern "C" fn tapebox_summary(
     alloc: Global,
@@ -101,7 +101,7 @@ pub extern "C" fn tapebox_summary(
     }
 }
 
-/// Gives a participant's own summary of a symbol, by its letter and the symbol's name.
+/// Writes a participant's own summary of a symbol, by its letter and the symbol's name.
 #[unsafe(no_mangle)]
 pub extern "C" fn tapebox_summary_of(
     alloc: Global,
@@ -127,7 +127,7 @@ pub extern "C" fn tapebox_summary_of(
     }
 }
 
-/// How many entries the tape has, 0 where there is none.
+/// Returns how many entries the tape has, 0 if there is none.
 #[unsafe(no_mangle)]
 pub extern "C" fn tapebox_count(alloc: Global, handle: &mut Handle) -> u32
     ensures count { result ≡ count_told (held_tape handle.old.inside.held) }
@@ -141,7 +141,7 @@ pub extern "C" fn tapebox_count(alloc: Global, handle: &mut Handle) -> u32
     count
 }
 
-/// Gives the entry of a tape number.
+/// Writes the entry of a tape number.
 #[unsafe(no_mangle)]
 pub extern "C" fn tapebox_entry(
     alloc: Global,

@@ -1,4 +1,5 @@
-//! Shared tapes, the ends of a line, two and eight lines at once, a seeded day of eight lines, and a retransmission while a day is open.
+//! Tests shared tapes, the ends of a line, two and eight lines at once, a seeded day of eight lines, and a retransmission while
+//! a day is open.
 
 mod closing;
 mod days;

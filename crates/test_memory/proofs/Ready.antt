@@ -1,4 +1,4 @@
--- How many entries are ready, told by the drains that take them.
+-- Counts the entries that are ready by the drains that take them.
 use Rattle.std.proofs.Common.{◌≡◌, ℕ, zero, suc, ◌+◌, length, None, sym, ap, subst, ◌∙◌, arith}
 use Rattle.arbitration.specs.Lemmas.Gaps.{none_ready, ready-past}
 use Rattle.arbitration.specs.Windows.{next_of, ready_entries}
@@ -12,7 +12,7 @@ use Rattle.subscriber.specs.Lemmas.Turns.{after_entry-keeps, length-with_entry}
 abbrev pub ready_count : SubscriberState → ℕ
 ready_count s = length (ready_entries s.window.slots)
 
--- where n turns hold n entries more and leave nothing ready, n were ready
+-- if after n turns there are n more entries and nothing is ready, n were ready
 pub ready_told : (n : ℕ) (s : SubscriberState) → length (subscriber_after n s).tape.entries ≡ length s.tape.entries + n
     → next_of (subscriber_after n s).window ≡ None → ready_count s ≡ n
 ready_told zero s held empty = (none_ready s.window.slots).1 empty
@@ -39,7 +39,7 @@ after_both (suc n) m s =
     let same : suc (n + m) ≡ suc n + m = omega arith in
     after_both n m (subscriber_after_entry (next_of s.window) s) ∙ ap (λ k. subscriber_after k s) same
 
--- a drain that stops and one that is Ok give between them what was ready
+-- a drain that stops and one that is Ok together return what was ready
 pub ready_of_two : (stop : DrainFault) (more : ℕ) (old mid new : SubscriberState) → DrainStops stop old mid → DrainsAll more mid new
     → ready_count old ≡ stop.drained + more
 ready_of_two stop more old mid new stops all =
@@ -49,7 +49,7 @@ ready_of_two stop more old mid new stops all =
     (ap (λ (t : SubscriberState). length t.tape.entries) (sym both) ∙ omega (arith, all.held, stops.held))
     (subst (λ (t : SubscriberState). next_of t.window ≡ None) both all.nothing_ready)
 
--- a drain that is Ok gives what was ready
+-- a drain that is Ok returns what was ready
 pub ready_of_one : (n : ℕ) (old new : SubscriberState) → DrainsAll n old new → ready_count old ≡ n
 ready_of_one n old new all =
     ready_told n old (ap (λ (t : SubscriberState). length t.tape.entries) (sym all.state) ∙ all.held)

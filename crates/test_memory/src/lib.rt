@@ -1,4 +1,4 @@
-//! Calls that take memory, and what stands where it is refused.
+//! Tests calls that allocate, and what they leave if memory is refused.
 #![tactic(auto)]
 
 #[cfg(test)]

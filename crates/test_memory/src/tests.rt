@@ -1,6 +1,6 @@
-//! Each test makes calls that take memory. Where one of them runs out of it, the test asserts what that left, and makes the call
-//! again. Memory that only prepares a call is taken by `?`: a test that finds none for that ends with an error, which is a
-//! failure where memory is ample. `tests/test_refused.py` runs each test once for each of its requests, with that one refused.
+//! Each test makes calls that allocate. If one of them runs out of memory, the test asserts what that left, and makes the call
+//! again. Memory that only prepares a call is allocated with `?`: a test that gets none for it ends with an error, which is a
+//! failure with ample memory. `tests/cases/test_refused.py` runs each test once for each of its allocations, with that one refused.
 
 mod batches;
 mod books;

@@ -1,4 +1,4 @@
--- What a map of trades has after a trade was put in, or given another content.
+-- What a map of trades has after a trade was inserted or got another content.
 use Rattle.std.proofs.Common.{◌≡◌, ◌≢◌, ℕ, cond, Some, None, IsSome, refl, sym, ap, subst, ◌∙◌}
 use Rattle.std.specs.Cmp.{nat_cmp_total}
 use Rattle.std.specs.FinMap as map
@@ -8,12 +8,12 @@ use Rattle.symbol_book.specs.declared.trade.Trade.{Trade}
 use Rattle.symbol_book.specs.Columns.{Trades, with_content, trades_with_content, reported_trade}
 use Rattle.tape_types.specs.Lemmas.NumberMaps.{key_itself, other_key}
 
--- a place that had a trade put in has it
+-- a place where a trade was inserted has one
 pub has-put : (m n : Trades) (k : ℕ) (v : Trade) → n ≡ map.insert m k v → IsSome (map.get n k)
 has-put m n k v is = subst (λ o. IsSome o)
     (sym (ap (λ (x : Trades). map.get x k) is ∙ map.get-insert nat_cmp_total m k v k ∙ ap (λ b. cond b (Some v) (map.get m k)) (key_itself k))) refl
 
--- another place has what it had
+-- another place is unchanged
 pub other-kept : (m n : Trades) (k q : ℕ) (v : Trade) → n ≡ map.insert m k v → k ≢ q → map.get n q ≡ map.get m q
 other-kept m n k q v is apart = ap (λ (x : Trades). map.get x q) is ∙ map.get-insert nat_cmp_total m k v q
     ∙ ap (λ b. cond b (Some v) (map.get m q)) (other_key q k (λ same. apart (sym same)))

@@ -1,4 +1,4 @@
-//! Worked rows and vectors of a tape, of what it stands on, and of the tables that it comes in.
+//! Tests a tape, what it is built on and the tables that it comes in, by worked rows and vectors.
 #![tactic(auto)]
 
 #[cfg(test)]

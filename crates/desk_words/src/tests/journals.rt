@@ -4,7 +4,7 @@ use super::{
     CutShort, EXPLAIN_HEADING, HEADING, REPORT_ROWS, TAPE_HEADING, assert_answers,
     assert_write_fault, line_of, text_of,
 };
-use program_words::{Command, Status};
+use program_words::{Command, Conversion, Status};
 use sale_matrix::Matrix;
 use std::alloc::AllocError;
 use std::io::ErrorKind;
@@ -134,8 +134,8 @@ fn a_journal_that_a_word_does_not_take_is_told(rt: HostRuntime) {
         (Command::Report(Some(Matrix::One), false), other),
         (Command::Verify(Some(Matrix::One)), other),
         (Command::Check, none),
-        (Command::Encode, none),
-        (Command::Decode, none),
+        (Command::Convert(Conversion::Encode), none),
+        (Command::Convert(Conversion::Decode), none),
         (line_of(b'N'), none),
     ] {
         assert_answers(

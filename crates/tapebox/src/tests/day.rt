@@ -1,4 +1,4 @@
-//! A day over sockets played in one process: the day, its follower, its participants, and a watch over all.
+//! Plays a day over sockets in one process: the day, its follower, its participants, and a watch over all.
 
 use crate::{FollowSockets, LiveSockets, Loss, NoSink, follow_over, live_over};
 use arbitration::Line;
@@ -22,15 +22,16 @@ pub const REPORTS: u8 = 20;
 /// The session of the day.
 pub const SESSION: u64 = 7;
 
-/// A request of session 8, and what it is answered.
+/// A request of session 8.
 const OTHER_SESSION: [u8; 14] = [0, 0, 0, 0, 0, 0, 0, 8, 0, 0, 0, 1, 0, 1];
 
+/// The byte that answers it.
 const IS_OTHER_SESSION: u8 = 71;
 
-/// How many turns of a hundredth of a second the day may take: some ten seconds less than a test may.
+/// How many turns of a hundredth of a second the day may take: some ten seconds less than a test may take.
 const TURNS_MOST: u32 = 5_000;
 
-/// How many turns of a millisecond a packet may take to go on its way: as long as the day.
+/// How many turns of a millisecond it may take until a packet is sent or lost: as long as the day.
 const PACKET_TURNS_MOST: u32 = 50_000;
 
 /// A report of 100 shares of AB at 10.00.
@@ -51,8 +52,8 @@ pub struct Plan<'a> {
     pub code: u8,
     /// The reports of each participant.
     pub reports: u8,
-    /// Counts the packets that went on their way, where each report waits for the one before it. Else the participants send
-    /// at once.
+    /// Counts the packets that were sent or lost, if each report waits for the one before it. If it is `None`, the participants
+    /// send at once.
     pub pace: Option<&'a AtomicU32>,
     /// How many connections are served.
     pub serves: u16,
@@ -88,8 +89,8 @@ impl Loss for Lossy {
     }
 }
 
-/// What became of a day: whether the participants' reports were sent and the connection of its own was answered, the statuses of
-/// the day and of its follower, and their reports.
+/// What became of a day: whether the participants' reports were sent and the connection of its own was answered, the statuses
+/// of the day and of its follower, and their reports.
 #[derive(Drop)]
 pub struct Played {
     pub is_sent: bool,
@@ -98,7 +99,7 @@ pub struct Played {
     pub followed: Vec<u8>,
 }
 
-/// The report of a participant under this number, at a price of its own.
+/// Returns the report of a participant under this number, at a price of its own.
 fn report(who: u8, number: u8, code: u8) -> [u8; 40] {
     let mut bytes = REPORT;
     bytes[3] = who;
@@ -108,7 +109,7 @@ fn report(who: u8, number: u8, code: u8) -> [u8; 40] {
     bytes
 }
 
-/// The symbols CD and AB, and the participants Q and N, neither in the order of letters.
+/// Returns the listing of the symbols CD and AB and the participants Q and N, neither in alphabetical order.
 fn names_of_two(alloc: Global) -> Option<Listing> {
     let symbols = [
         Symbol::try_new(*b"CD      ")?,
@@ -118,7 +119,7 @@ fn names_of_two(alloc: Global) -> Option<Listing> {
     Listing::new(alloc, &symbols, &participants).ok()
 }
 
-/// Their listing. Where there is none the test stops.
+/// Returns the same listing. If there is none, the test fails.
 pub fn listing_of_two<R: Abort>(rt: &R, alloc: Global) -> Listing {
     match names_of_two(alloc) {
         Some(listing) => listing,
@@ -126,7 +127,7 @@ pub fn listing_of_two<R: Abort>(rt: &R, alloc: Global) -> Listing {
     }
 }
 
-/// Sends the reports of a participant, and whether all were sent.
+/// Sends the reports of a participant, and returns whether all were sent.
 fn send_line<R: Net<Listener = TcpListener, Stream = TcpStream>>(
     rt: &R,
     port: u16,
@@ -144,7 +145,7 @@ fn send_line<R: Net<Listener = TcpListener, Stream = TcpStream>>(
     true
 }
 
-/// Waits until so many packets went on their way, and whether they did.
+/// Waits until `wanted` packets were sent or lost, and returns whether they were.
 fn is_reached<R: Clock>(rt: &R, packets: &AtomicU32, wanted: u32) -> bool {
     for _ in 0..PACKET_TURNS_MOST {
         if packets.load(Ordering::SeqCst) >= wanted {
@@ -155,7 +156,8 @@ fn is_reached<R: Clock>(rt: &R, packets: &AtomicU32, wanted: u32) -> bool {
     false
 }
 
-/// Sends the reports of both participants in turns, each once the one before went on its way, and whether all did.
+/// Sends the reports of both participants in turns, each once the packet of the one before was sent or lost, and returns
+/// whether all were sent.
 fn send_in_turns<R: Clock + Net<Listener = TcpListener, Stream = TcpStream>>(
     rt: &R,
     ports: [u16; 2],
@@ -181,7 +183,7 @@ fn send_in_turns<R: Clock + Net<Listener = TcpListener, Stream = TcpStream>>(
     true
 }
 
-/// Whether a request on a connection of its own is answered.
+/// Returns whether a request on a connection of its own is answered.
 fn is_answered<R: Net<Listener = TcpListener, Stream = TcpStream>>(rt: &R, port: u16) -> bool {
     let Ok(mut stream) = TcpStream::connect(rt, here(port)) else {
         return false;
@@ -192,7 +194,7 @@ fn is_answered<R: Net<Listener = TcpListener, Stream = TcpStream>>(rt: &R, port:
         && answer[0] == IS_OTHER_SESSION
 }
 
-/// Ends the test as failed where the day has not ended after its turns.
+/// Fails the test if the day has not ended after its turns.
 pub fn watch<R: Abort + Clock>(rt: &R, ended: &AtomicBool) {
     for _ in 0..TURNS_MOST {
         if ended.load(Ordering::SeqCst) {
@@ -211,7 +213,7 @@ pub struct Opened {
     pub ports: [u16; 2],
 }
 
-/// A listener at a port that is free, and its port. Where there is none the test stops.
+/// Returns a listener at a free port, and its port. If there is none, the test fails.
 fn listen<R: Abort + Net<Listener = TcpListener, Stream = TcpStream>>(
     rt: &R,
 ) -> (TcpListener, u16) {
@@ -224,7 +226,7 @@ fn listen<R: Abort + Net<Listener = TcpListener, Stream = TcpStream>>(
     (listener, address.port())
 }
 
-/// A socket at a port that is free, and its port. Where there is none the test stops.
+/// Returns a socket at a free port, and its port. If there is none, the test fails.
 fn open<R: Abort + Net<Listener = TcpListener, Stream = TcpStream>>(rt: &R) -> (UdpSocket, u16) {
     let Ok(socket) = UdpSocket::bind(rt, here(0)) else {
         panic!(rt; "no socket")
@@ -235,7 +237,7 @@ fn open<R: Abort + Net<Listener = TcpListener, Stream = TcpStream>>(rt: &R) -> (
     (socket, address.port())
 }
 
-/// Opens all sockets at ports that are free.
+/// Opens all sockets at free ports.
 pub fn open_all<R: Abort + Net<Listener = TcpListener, Stream = TcpStream>>(
     rt: &R,
     alloc: Global,
@@ -274,7 +276,7 @@ pub fn open_all<R: Abort + Net<Listener = TcpListener, Stream = TcpStream>>(
     }
 }
 
-/// The statuses of a day and of its follower, whose reports are appended to these texts.
+/// Runs a day and its follower, whose reports are appended to these texts, and returns their statuses.
 fn statuses<
     R: Threads + Wait + Clock + Net<Listener = TcpListener, Stream = TcpStream> + Sync,
     L: Loss + Sync,
@@ -320,7 +322,7 @@ fn statuses<
     )
 }
 
-/// Whether the reports of both participants were sent.
+/// Sends the reports of both participants, and returns whether all were sent.
 fn send_lines<R: Threads + Clock + Net<Listener = TcpListener, Stream = TcpStream> + Sync>(
     rt: &R,
     ports: [u16; 2],
@@ -337,7 +339,7 @@ fn send_lines<R: Threads + Clock + Net<Listener = TcpListener, Stream = TcpStrea
     first && second
 }
 
-/// Whether all was sent, and the connection of its own answered.
+/// Sends all, and returns whether it was sent, and the connection of its own answered.
 pub fn send_all<R: Threads + Clock + Net<Listener = TcpListener, Stream = TcpStream> + Sync>(
     rt: &R,
     ports: [u16; 2],
@@ -347,7 +349,7 @@ pub fn send_all<R: Threads + Clock + Net<Listener = TcpListener, Stream = TcpStr
     send_lines(rt, ports, plan) && (!plan.is_asked || is_answered(rt, asked_at))
 }
 
-/// Another handle of a listener. Where there is none the test stops.
+/// Returns another handle of a listener. If there is none, the test fails.
 fn handle_of<R: Abort>(rt: &R, listener: &TcpListener) -> TcpListener {
     match listener.try_clone() {
         Ok(handle) => handle,
@@ -355,8 +357,9 @@ fn handle_of<R: Abort>(rt: &R, listener: &TcpListener) -> TcpListener {
     }
 }
 
-/// Plays a day in one process, and fails where it does not end in its turns. The listener of the retransmission is held until then, so that a
-/// follower which the day does not await is not refused, however late it comes; what the lines brought waits for it in its sockets.
+/// Plays a day in one process, and fails if it does not end in its turns. The listener of the retransmission is held until
+/// then, so that a follower which the day does not wait for is not refused, however late it comes. What the lines brought waits
+/// for it in its sockets.
 pub fn play<
     R: Abort + Threads + Wait + Clock + Net<Listener = TcpListener, Stream = TcpStream> + Sync,
     L: Loss + Sync,

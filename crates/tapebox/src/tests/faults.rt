@@ -1,4 +1,4 @@
-//! That each fault can be printed. What it prints where that succeeds is proved; no clause says that it does.
+//! Tests that each fault can be printed. What it prints if that succeeds is proved; no clause says that it does.
 
 use crate::{BatchRefusal, HeaderFault};
 use arbitration::DeliverFault;
@@ -14,7 +14,7 @@ use tape_core::{Refusal, TapeFault};
 use tape_frames::{PacketFault, RequestFault};
 use tape_types::ListingFault;
 
-/// Whether a fault prints as this text. `None` where memory ran out or nothing was printed.
+/// Returns whether a fault prints as this text, or `None` if memory ran out or nothing was printed.
 fn prints<F: Display>(alloc: Global, fault: &F, text: &str) -> Option<bool> {
     let printed = format!(in alloc; "{fault}").ok()?;
     Some(printed.as_str() == text)

@@ -1,4 +1,4 @@
-//! What a day sends on its two lines, read from them once it is over.
+//! Tests what a day sends on its two lines, read from them once it is over.
 
 use super::day::{
     Lossy, Opened, Plan, REPORTS, SESSION, STRAIGHT, listing_of_two, open_all, send_all, watch,
@@ -19,7 +19,7 @@ use tape_frames::{LONGEST_PACKET, Packet, Version, decode_packet};
 /// How many packets are read from a line, at most.
 const PACKETS_MOST: usize = 100;
 
-/// Loses as `Lossy` does, and counts the packets that each line was asked about: of one entry each, in order.
+/// Loses as `Lossy` does, and counts the packets that it was asked about for each line: of one entry each, in order.
 #[derive(Drop)]
 struct Asked {
     a: AtomicU32,
@@ -28,7 +28,7 @@ struct Asked {
 }
 
 impl Asked {
-    /// Nothing was asked yet.
+    /// Returns the counts of no packet.
     fn new() -> Asked {
         Asked {
             a: AtomicU32::new(0),
@@ -37,7 +37,7 @@ impl Asked {
         }
     }
 
-    /// How many packets A and B were asked about, and whether another one than the next was asked about.
+    /// Returns how many packets the loss was asked about for A and for B, and whether one of them was not the next.
     fn counts(&self) -> (u32, u32, bool) {
         (
             self.a.load(Ordering::SeqCst),
@@ -61,7 +61,8 @@ impl Loss for Asked {
     }
 }
 
-/// What a day sent: whether the participants' reports were, its status, and the first numbers of the packets on A and on B.
+/// What a day sent: whether the participants' reports were sent, its status, and the first numbers of the packets on A and on
+/// B.
 #[derive(Drop)]
 struct Heard {
     is_sent: bool,
@@ -70,11 +71,11 @@ struct Heard {
     b: Vec<u32>,
 }
 
-/// What a packet is of.
+/// What a packet has.
 enum Kind {
     /// Entries in version 2, of which the first has this number.
     Data(u32),
-    /// A beat, of which a busy machine has one more or less.
+    /// A beat. A busy machine may send one more or one fewer.
     Beat,
     /// The day's end.
     End,
@@ -82,7 +83,7 @@ enum Kind {
     Other,
 }
 
-/// What a packet is of.
+/// Returns what a packet has.
 fn kind_of(bytes: &[u8]) -> Kind {
     let Ok(packet) = decode_packet(bytes) else {
         return Kind::Other;
@@ -95,7 +96,8 @@ fn kind_of(bytes: &[u8]) -> Kind {
     }
 }
 
-/// The first numbers of the packets of entries that came by a line before its end, and 0 for what is no packet of the day.
+/// Returns the first numbers of the packets of entries that came by a line before its end, with 0 for what is no packet of the
+/// day.
 fn firsts(alloc: Global, line: &UdpSocket) -> Result<Vec<u32>, AllocError> {
     let mut room = [0u8; LONGEST_PACKET];
     let mut firsts = Vec::new(alloc);
@@ -113,7 +115,7 @@ fn firsts(alloc: Global, line: &UdpSocket) -> Result<Vec<u32>, AllocError> {
     Ok(firsts)
 }
 
-/// Runs a day that nobody follows, and reads its lines then.
+/// Runs a day that nobody follows, and then reads its lines.
 fn hear_lines<
     R: Abort + Threads + Wait + Clock + Net<Listener = TcpListener, Stream = TcpStream> + Sync,
     L: Loss + Sync,
@@ -149,7 +151,7 @@ fn hear_lines<
     })
 }
 
-/// Does the same, and fails where it does not end in its turns.
+/// Does the same, and fails if it does not end in its turns.
 fn hear<
     R: Abort + Threads + Wait + Clock + Net<Listener = TcpListener, Stream = TcpStream> + Sync,
     L: Loss + Sync,

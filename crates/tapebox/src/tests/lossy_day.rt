@@ -1,5 +1,5 @@
-//! Days over sockets with their followers: what lines lose comes by retransmission, a follower starts again, and reports are
-//! equal.
+//! Tests days over sockets with their followers: what both lines lose comes by retransmission, a follower starts again, and the
+//! reports are equal.
 
 use super::day::{Lossy, Plan, Played, STRAIGHT, play};
 use super::rows_of;
@@ -19,10 +19,10 @@ const EMPTY_ROWS: &[u8] = b"\
 CD,ALL,,,,,,,,,0,0\n\
 AB,ALL,,,,,,,,,0,0\n";
 
-/// Loses as `Lossy` does, and counts how many packets went by each line, and how many by neither.
+/// Loses as `Lossy` does, and counts how many packets came by each line, and how many by neither.
 #[derive(Drop)]
 struct Counted {
-    /// The packets that line B, the second one, was asked about.
+    /// The packets that the loss was asked about for line B, the second one.
     packets: AtomicU32,
     by_a: AtomicU32,
     by_b: AtomicU32,
@@ -30,7 +30,7 @@ struct Counted {
 }
 
 impl Counted {
-    /// None went by yet.
+    /// Returns the counts of no packet.
     fn none() -> Counted {
         Counted {
             packets: AtomicU32::new(0),
@@ -40,7 +40,7 @@ impl Counted {
         }
     }
 
-    /// How many went by A, by B and by neither.
+    /// Returns how many packets came by A, by B and by neither.
     fn counts(&self) -> (u32, u32, u32) {
         (
             self.by_a.load(Ordering::SeqCst),
@@ -66,12 +66,12 @@ impl Loss for Counted {
     }
 }
 
-/// Whether a report has a row that ends with this volume and these trades.
+/// Returns whether a report has a row that ends with this volume and these trades.
 fn has_row(report: &[u8], end: &[u8; 9]) -> bool {
     report.windows(9).any(|text| text == end.as_slice())
 }
 
-/// Whether a report's row has the volume and the trades of all reports.
+/// Returns whether a report has a row with the volume and the trades of all reports.
 fn has_all(report: &[u8]) -> bool {
     has_row(report, b",4000,40\n")
 }
@@ -85,8 +85,8 @@ fn assert_whole<R: Abort>(rt: &R, played: &Played) {
     assert_eq!(rt; played.written.as_slice(), played.followed.as_slice());
 }
 
-/// Each report waits for the one before, and has a packet of its own: of the 40, 20 come by line A, 10 of these by B too, and 20 by the retransmission
-/// alone.
+/// Each report waits for the one before, and has a packet of its own: of the 40, 20 come by line A, 10 of these by B too, and
+/// 20 by the retransmission alone.
 #[test]
 fn lossy_day(rt: HostRuntime) {
     for (matrix, code) in [(Matrix::One, b' '), (Matrix::Two, b'2')] {
@@ -159,7 +159,7 @@ fn three_connections_are_served(rt: HostRuntime) {
     assert_whole(&rt, &play(&rt, rt.alloc(), &plan, &Lossy));
 }
 
-/// The day awaits the connection of the new start.
+/// The day waits for the connection of the new start.
 #[test]
 fn a_follower_of_an_empty_day_starts_again_before_it_ends(rt: HostRuntime) {
     let plan = Plan {

@@ -1,4 +1,4 @@
-//! The arguments of `live` and of `follow`: each number is the field of its place.
+//! Tests the arguments of `live` and of `follow`: each number is the field of its place.
 
 use crate::command::{Command, read_command};
 use feed_words::{FollowWords, LiveWords, WordsFault};
@@ -13,7 +13,7 @@ const LIVE: &[u8] = b"live\0AB,CD\0N,Q,P\09000\09101\09102\09203\05\077\0";
 /// The arguments for a tape that is followed, all numbers different.
 const FOLLOW: &[u8] = b"follow\0AB,CD\0N,Q,P\09101\09102\09203\077\0";
 
-/// How many symbols and how many participants a listing has.
+/// Returns how many symbols and how many participants a listing has.
 fn listed(listing: &Listing) -> [usize; 2] {
     [
         listing.symbols().as_slice().len(),
@@ -21,7 +21,7 @@ fn listed(listing: &Listing) -> [usize; 2] {
     ]
 }
 
-/// The port of a line that is sent to one port alone.
+/// Returns the port of a line that is sent to one port alone, or 0 if there are others.
 fn only_port(ports: &[u16]) -> u16 {
     match ports {
         [port] => *port,
@@ -29,7 +29,7 @@ fn only_port(ports: &[u16]) -> u16 {
     }
 }
 
-/// How many names are listed, and the numbers in the order of the arguments.
+/// Returns how many names are listed, and the numbers in the order of the arguments.
 fn numbers_of_live(live: &LiveWords) -> ([usize; 2], [u16; 5], u64) {
     let a = only_port(&live.a);
     let b = only_port(&live.b);
@@ -37,7 +37,7 @@ fn numbers_of_live(live: &LiveWords) -> ([usize; 2], [u16; 5], u64) {
     (listed(&live.listing), numbers, live.session)
 }
 
-/// The same of arguments that are those of `live`.
+/// Returns the same of arguments, if they are those of `live`.
 fn live_numbers(alloc: Global, words: &[u8]) -> Option<([usize; 2], [u16; 5], u64)> {
     match read_command(alloc, words) {
         Ok(Command::Live(live)) => Some(numbers_of_live(&live)),
@@ -45,14 +45,14 @@ fn live_numbers(alloc: Global, words: &[u8]) -> Option<([usize; 2], [u16; 5], u6
     }
 }
 
-/// How many names are listed, and the numbers in the order of the arguments.
+/// Returns how many names are listed, and the numbers in the order of the arguments.
 fn numbers_of_follow(follow: &FollowWords) -> ([usize; 2], [u16; 3], u64) {
     let [a, b] = follow.ports;
     let numbers = [a, b, follow.retransmission];
     (listed(&follow.listing), numbers, follow.session)
 }
 
-/// The same of arguments that are those of `follow`.
+/// Returns the same of arguments, if they are those of `follow`.
 fn follow_numbers(alloc: Global, words: &[u8]) -> Option<([usize; 2], [u16; 3], u64)> {
     match read_command(alloc, words) {
         Ok(Command::Follow(follow)) => Some(numbers_of_follow(&follow)),
@@ -82,7 +82,7 @@ fn the_greatest_numbers_are_taken(rt: HostRuntime) {
     assert!(rt; follow_numbers(rt.alloc(), follow) == wanted);
 }
 
-/// Whether arguments are those of `live`, with these ports of line A and of line B.
+/// Returns whether arguments are those of `live`, with these ports of line A and of line B.
 fn has_ports(alloc: Global, words: &[u8], a: &[u16], b: &[u16]) -> bool {
     match read_command(alloc, words) {
         Ok(Command::Live(live)) => live.a.as_slice() == a && live.b.as_slice() == b,
@@ -106,7 +106,7 @@ fn no_connection_need_be_served(rt: HostRuntime) {
     assert!(rt; live_numbers(rt.alloc(), live) == wanted);
 }
 
-/// The matrix that arguments ask for, if they are those of a command.
+/// Returns the matrix that arguments ask for, if they are those of a command.
 fn asked_matrix(alloc: Global, words: &[u8]) -> Option<Matrix> {
     match read_command(alloc, words) {
         Ok(Command::Batch(matrix)) => Some(matrix),
@@ -136,7 +136,7 @@ fn the_matrix_is_the_word_behind_the_session_or_one(rt: HostRuntime) {
     }
 }
 
-/// What stands behind the session, and what is asked for as the limit then.
+/// What stands behind the session, and the limit that it asks for.
 const LIMITS: [(&[u8], Result<u32, WordsFault>); 18] = [
     (b"", Ok(1_048_576)),
     (b"1\0", Ok(1_048_576)),
@@ -159,7 +159,7 @@ const LIMITS: [(&[u8], Result<u32, WordsFault>); 18] = [
     (b"5\0", Err(WordsFault::BadArguments)),
 ];
 
-/// The limit that arguments ask for.
+/// Returns the limit that arguments ask for.
 fn asked_limit(alloc: Global, words: &[u8]) -> Result<u32, WordsFault> {
     match read_command(alloc, words)? {
         Command::Live(live) => Ok(live.limit),
@@ -168,7 +168,7 @@ fn asked_limit(alloc: Global, words: &[u8]) -> Result<u32, WordsFault> {
     }
 }
 
-/// Arguments with more of them behind.
+/// Returns arguments with more of them behind.
 fn joined(alloc: Global, words: &[u8], more: &[u8]) -> Result<Vec<u8>, AllocError> {
     let mut all = Vec::from_slice(alloc, words)?;
     all.extend_from_slice(more)?;
@@ -186,7 +186,7 @@ fn the_limit_is_the_word_behind_the_matrix_or_1_048_576(rt: HostRuntime) -> Resu
     Ok(())
 }
 
-/// The three symbols and the two participants of a listing, in its order.
+/// Returns the three symbols and the two participants of a listing, in its order.
 fn names(listing: &Listing) -> Option<([[u8; 8]; 3], [u8; 2])> {
     let [first, second, third] = listing.symbols().as_slice() else {
         return None;
@@ -200,7 +200,7 @@ fn names(listing: &Listing) -> Option<([[u8; 8]; 3], [u8; 2])> {
     ))
 }
 
-/// The same of the names that arguments list.
+/// Returns the same of the names that arguments list.
 fn asked_names(alloc: Global, words: &[u8]) -> Option<([[u8; 8]; 3], [u8; 2])> {
     match read_command(alloc, words) {
         Ok(Command::Live(live)) => names(&live.listing),

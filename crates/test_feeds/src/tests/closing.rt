@@ -1,4 +1,4 @@
-//! A line that has ended lets go of its reader while another line runs.
+//! A line that has ended drops its reader while another line runs.
 ghost use Rattle.std.specs.Prelude.{◌≡◌};
 ghost use Rattle.line_ledger.specs.Days.{terms_of};
 
@@ -17,8 +17,8 @@ use std::thread::Threads;
 use std::{io, thread};
 use tape_types::Gate;
 
-/// Which of two readers were dropped. As a gate it holds the second line after each message until the first line's reader
-/// is dropped, and notes how often it saw that.
+/// Which of two readers were dropped. As a gate it holds the second line after each message until the first line's reader is
+/// dropped, and counts how often it saw that.
 #[derive(Drop)]
 struct Closings {
     first: AtomicBool,
@@ -41,7 +41,7 @@ impl Gate for Closings {
     }
 }
 
-/// A reader of these bytes that tells when it is dropped.
+/// A reader of these bytes that records when it is dropped.
 struct Telling<'a> {
     left: &'a [u8],
     is_dropped: &'a AtomicBool,
@@ -66,7 +66,7 @@ impl Read for Telling<'_> {
 /// The readers of two lines.
 type Readers<'a> = (BufReader<Telling<'a>>, BufReader<Telling<'a>>);
 
-/// A reader of these bytes that tells when it is dropped, with room before it.
+/// A reader of these bytes that records when it is dropped, with room before it.
 fn reader_of<'a>(
     alloc: Global,
     left: &'a [u8],
@@ -83,7 +83,7 @@ fn readers_of<'a>(alloc: Global, second: &'a [u8], closings: &'a Closings) -> Op
     Some((one, other))
 }
 
-/// The last of two seats or of one, and those that are left. A missing seat stops the test.
+/// Returns the last of two seats or of one, and the seats that are left. A missing seat stops the test.
 fn taken<D: DayName, A: Abort>(rt: &A, seats: Vec<LineSeat<D>>) -> (Vec<LineSeat<D>>, LineSeat<D>) {
     let mut seats = seats;
     let Some(seat) = seats.pop() else {
@@ -113,7 +113,7 @@ fn lines_of_two<'a, D: DayName, A: Abort>(
     lines
 }
 
-/// Runs two lines over their readers: the seats after it, and the lines' outcomes. Other seats stop the test.
+/// Runs two lines over their readers, and returns the seats after it and the lines' outcomes. Other seats stop the test.
 fn run_two<D: DayName + Send + Sync, T: Threads + Wait + Abort + Sync>(
     rt: &T,
     alloc: Global,
@@ -133,7 +133,7 @@ fn run_two<D: DayName + Send + Sync, T: Threads + Wait + Abort + Sync>(
 /// How many messages each of two lines was told of, and how many entries their day has.
 type Counts = (Option<(u32, u32)>, Option<usize>);
 
-/// The same of the lines of N and Q over these readers.
+/// Runs the lines of N and Q over these readers, and returns their counts.
 fn two_apart<D: DayName + Send + Sync, T: Threads + Wait + Abort + Sync>(
     rt: &T,
     alloc: Global,

@@ -1,4 +1,4 @@
-//! Days of the symbol AB and one, two or all participants, the bytes of their reports, and the end of a day.
+//! Days of the symbol AB and one, two or all participants, the bytes of their reports, and what an ended day confirms.
 ghost use Rattle.std.specs.Prelude.{◌≡◌, IfSome};
 ghost use Rattle.line_ledger.specs.Cells.{FirstTokens};
 
@@ -10,7 +10,7 @@ use summaries::IndexStore;
 use tape_core::Tape;
 use tape_types::{Listing, Participant, Symbol};
 
-/// How many turns a line or a reader waits for others at most: some seconds, in which each of them comes to run.
+/// How many turns a line or a reader waits for others at most: some seconds, in which each of them gets to run.
 pub(super) const TURNS: u32 = 10_000_000;
 
 /// N's report 1 of 100 shares of AB at 10.00, out of sequence.
@@ -20,7 +20,7 @@ pub(super) const REPORT: [u8; 40] = [
     0x00, 0x00, 0x00, 0x64, 0x40, 0x20, 0x5a, 0x20,
 ];
 
-/// The report under another participant and number.
+/// The report with another participant and number.
 pub(super) fn report(who: u8, number: u8) -> [u8; 40] {
     let mut bytes = REPORT;
     bytes[3] = who;
@@ -28,7 +28,7 @@ pub(super) fn report(who: u8, number: u8) -> [u8; 40] {
     bytes
 }
 
-/// The report under another participant and number, at no price.
+/// The report with another participant and number, at no price.
 pub(super) fn without_price(who: u8, number: u8) -> [u8; 40] {
     let mut bytes = report(who, number);
     bytes[29] = 0;
@@ -89,15 +89,15 @@ pub(super) fn ended_day<D: DayName, A: Abort>(
     }
 }
 
-/// How many entries an ended day has, how many its end found published, and how many that were seen it confirms.
+/// How many entries an ended day has, how many were published at its end, and how many of those that were seen it confirms.
 pub(super) type Confirmed = (usize, u32, usize);
 
-/// What the day confirms.
+/// Returns what the day confirms.
 pub(super) fn confirmed(day: &Day, tokens: &Vec<Sighting>) -> Confirmed
     requires { FirstTokens day.now.names tokens.now.items }
 {
     let mut many: usize = 0;
-    // There are no more than a tape has entries.
+    // There are at most as many as a tape has entries.
     let count = u32::try_from(tokens.len()).unwrap_or(0);
     for at in 0..count {
         if day.confirm_seen(at + 1, &tokens[at as usize]).is_ok() {
@@ -107,7 +107,7 @@ pub(super) fn confirmed(day: &Day, tokens: &Vec<Sighting>) -> Confirmed
     (day.tape().entries().len(), day.published(), many)
 }
 
-/// What the ended day confirms. A missing seat stops the test.
+/// Returns what the ended day confirms. A missing seat stops the test.
 pub(super) fn confirmed_at_end<D: DayName, A: Abort>(
     rt: &A,
     shared: SharedTape<D>,

@@ -1,4 +1,4 @@
-//! The ends of a line, and the turns that its gate is given.
+//! Tests how a line ends, and which turns its gate gets.
 ghost use Rattle.std.specs.Prelude.{◌≡◌};
 ghost use Rattle.line_ledger.specs.Days.{terms_of};
 
@@ -20,11 +20,10 @@ use tape_types::{Gate, NoGate};
 /// What a seat was told of: how many messages, their sizes, and the last number.
 type Told = (u32, u64, u32);
 
-/// How a line ended: how many frames were refused, why no more were done, what the seat was told of, and how many entries the
-/// day has.
+/// How a line ended: how many frames were refused, why it stopped, what the seat was told of, and how many entries the day has.
 type Figures = (u32, Ended, Told, usize);
 
-/// How a line ended, once its seat is back and the day has ended.
+/// Returns how a line ended, after its seat is back and the day has ended.
 fn figures_at_end<D: DayName, A: Abort>(
     rt: &A,
     shared: SharedTape<D>,
@@ -75,7 +74,7 @@ fn end_of<R: BufRead, G: Gate, W: Wait + Abort>(
     figures::<Brand, R, G, W>(rt, prepared, reader, gate)
 }
 
-/// How Q's line ends over these messages, in a day of N, P and Q of at most so many entries.
+/// How Q's line ends over these messages, in a day of N, P and Q of at most this many entries.
 fn end_of_sent<W: Wait + Abort>(
     rt: &W,
     alloc: Global,
@@ -110,13 +109,13 @@ fn end_of_frames<G: Gate, W: Wait + Abort>(
     end_of(rt, day_of_one(alloc)?, &mut reader, gate)
 }
 
-/// How N's line ends over the first so many bytes of two reports.
+/// How N's line ends over the first bytes of two reports, this many.
 fn end_of_front<W: Wait + Abort>(rt: &W, alloc: Global, len: usize) -> Option<Figures> {
     let bytes = joined(alloc, &[REPORT, REPORT])?;
     end_of_bytes(rt, alloc, bytes.get(..len)?)
 }
 
-/// A reader of these bytes that is interrupted before each read, fails once where they end, and has ended when it is asked again.
+/// A reader of these bytes that is interrupted before each read, fails once at their end, and has ended when it is read again.
 #[derive(Drop)]
 struct Failing<'a> {
     left: &'a [u8],
@@ -138,8 +137,8 @@ impl Read for Failing<'_> {
     }
 }
 
-/// How N's line ends over the first so many bytes of two reports and a read that fails, each read interrupted first, through a
-/// buffer of this size.
+/// How N's line ends over the first bytes of two reports, this many, and a read that fails, each read interrupted first,
+/// through a buffer of this size.
 fn end_of_failing<W: Wait + Abort>(
     rt: &W,
     alloc: Global,
@@ -167,7 +166,7 @@ fn a_refused_frame_is_counted_and_is_a_turn(rt: HostRuntime) {
     assert_eq!(rt; alone.noted(), (1, [0, 0, 3]));
 }
 
-/// Messages that the tape refuses behind a report of Q, with the number of the refusal.
+/// Messages that the tape refuses after a report of Q, with the number of the refusal.
 const REFUSED: [(u8, Sent); 7] = [
     (33, Report(b'P', 2, 100_000)),
     (35, Report(b'Q', 1, 100_000)),
@@ -244,7 +243,7 @@ fn an_input_ends_its_line(rt: HostRuntime) {
     assert_eq!(rt; ends, wanted);
 }
 
-// A buffer of 16 bytes has no frame whole, and one of 64 has one of two.
+// A buffer of 16 bytes has no whole frame, and one of 64 has one of two.
 #[test]
 fn a_read_that_is_interrupted_is_tried_again_and_one_that_fails_ends_its_line(rt: HostRuntime) {
     for len in 0..81 {

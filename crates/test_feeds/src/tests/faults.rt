@@ -1,5 +1,5 @@
-//! Engines whose reader or writer fails at its first call, at its second, and so on until a run meets no fault. One run is one
-//! function, which tells whether the call came, and a test runs it in turn.
+//! Tests engines whose reader or writer fails at its first call, at its second, and so on until a run meets no fault. One run
+//! is one function, which returns whether the call came, and a test calls it for each number in turn.
 
 mod batches;
 mod days;
@@ -27,7 +27,7 @@ fn text_of(alloc: Global, answers: &[u8], rows: &[u8]) -> Result<Vec<u8>, AllocE
     Ok(text)
 }
 
-/// The run of this number is the first that met no fault, and there were several before it.
+/// Asserts that the run of this number is the first that met no fault, and that there were several before it.
 fn met_faults<A: Abort + Print>(rt: &A, at: u32) -> Result<(), Fail> {
     assert!(rt; at > 2, "{at} runs");
     println!(rt; "{at} runs")?;

@@ -1,4 +1,4 @@
-//! Lines run at once over bytes, and the outcome of each.
+//! Runs lines at once over bytes, and returns the outcome of each.
 ghost use Rattle.std.specs.Prelude.{◌≡◌, ◌≤◌, [], vec_len};
 ghost use Rattle.std.specs.Vec.{vec_capacity};
 ghost use Rattle.line_ledger.specs.Days.{terms_of};
@@ -28,7 +28,7 @@ pub(super) struct LineFigures {
     pub(super) last: u32,
 }
 
-/// The seats with the bytes of their lines, put into a vector with room for them. A line without bytes has an empty input.
+/// Puts the seats with the bytes of their lines into a vector with room for them. A line without bytes has an empty input.
 fn seated_lines<'a, D: DayName>(
     seats: Vec<LineSeat<D>>,
     lines: Vec<Line<'a, D>>,
@@ -47,7 +47,7 @@ fn seated_lines<'a, D: DayName>(
     lines
 }
 
-/// The bytes of a line, none where it has no input.
+/// The bytes of a line, or none if it has no input.
 fn input_of(inputs: &[Vec<u8>], line: usize) -> &[u8] {
     match inputs.get(line) {
         Some(bytes) => bytes.as_slice(),
@@ -75,7 +75,7 @@ fn all_figures<D: DayName>(alloc: Global, ends: &[LineEnd<D>]) -> Option<Vec<Lin
     Some(figures)
 }
 
-/// Runs the lines at once: the seats after it, and the lines' outcomes.
+/// Runs the lines at once, and returns the seats after it and the lines' outcomes.
 pub(super) fn run_all<
     D: DayName + Send + Sync,
     R: BufRead + Send + Drop,
@@ -110,7 +110,7 @@ pub(super) fn run_all<
     }
 }
 
-/// Runs a line over each participant's bytes, all at once: the seats after it, and the lines' outcomes.
+/// Runs a line over each participant's bytes, all at once, and returns the seats after it and the lines' outcomes.
 pub(super) fn run_inputs<
     D: DayName + Send + Sync,
     G: Gate + Sync,
@@ -136,8 +136,8 @@ pub(super) fn run_inputs<
     run_all(rt, alloc, shared, lines, room, gate)
 }
 
-/// The same seats, taken back from lines that have no bytes and were not started. Without memory for the lines they are given back
-/// as they are.
+/// Returns the same seats, taken back from lines that have no bytes and were not started. If memory runs out for the lines,
+/// they are returned as they are.
 pub(super) fn seats_taken_back<D: DayName, A: Abort>(
     rt: &A,
     alloc: Global,
@@ -155,7 +155,7 @@ pub(super) fn seats_taken_back<D: DayName, A: Abort>(
     seats_of_lines(lines, room)
 }
 
-/// The outcomes of the lines of a day, and the day.
+/// Returns the outcomes of the lines of a day, and the day.
 fn day_after<D: DayName + Send + Sync, G: Gate + Sync, T: Threads + Wait + Abort + Sync>(
     rt: &T,
     alloc: Global,
@@ -174,8 +174,8 @@ fn day_after<D: DayName + Send + Sync, G: Gate + Sync, T: Threads + Wait + Abort
     figures.zip(ended_day(rt, shared, seats))
 }
 
-/// The outcomes of the lines of a day, one for each participant, in listing order and over these bytes, and the day that they
-/// made. More participants than inputs stop the test.
+/// Returns the outcomes of a day's lines, one for each participant, in listing order and over these bytes, and the day that
+/// they made. More participants than inputs stop the test.
 pub(super) fn day_of_lines<G: Gate + Sync, T: Threads + Wait + Abort + Sync>(
     rt: &T,
     alloc: Global,

@@ -1,4 +1,4 @@
-//! Two readers that take no lock, beside two lines that admit and publish.
+//! Tests two readers that take no lock, beside two lines that admit and publish.
 ghost use Rattle.std.specs.Prelude.{◌≡◌};
 ghost use Rattle.line_ledger.specs.Cells.{FirstTokens};
 ghost use Rattle.line_ledger.specs.Days.{terms_of};
@@ -28,7 +28,7 @@ struct Readers {
 }
 
 impl Readers {
-    /// Notes a reader that has found the first entries just now: it had so many before, and has so many now.
+    /// Counts a reader that has just found its first entries: it had `before` entries, and has `now`.
     fn note(&self, before: u32, now: u32) {
         if before == 0 && now > 0 {
             self.found.fetch_add(1, Ordering::SeqCst);
@@ -51,7 +51,7 @@ impl Gate for Readers {
     }
 }
 
-/// Looks for what is published, again and again until that is all that the lines send, and answers a token for each entry.
+/// Looks for published entries again and again until they are all that the lines send, and returns a token for each.
 fn read_all<D: DayName>(shared: &SharedTape<D>, readers: &Readers) -> Vec<Sighting>
     ensures { FirstTokens shared.now result.items }
 {

@@ -1,5 +1,5 @@
-//! A seeded day of eight lines at once, beside the same messages admitted one after the other in the day's order. All its
-//! entries are published, found and confirmed, and the lines' gate is given each turn.
+//! Tests a seeded day of eight lines at once against the same messages admitted one after the other in the day's order. All its
+//! entries are published, found and confirmed, and the lines' gate gets each turn.
 ghost use Rattle.std.specs.Prelude.{◌≡◌, ◌≤◌, ◌<◌};
 ghost use Rattle.line_ledger.specs.Cells.{FirstTokens};
 ghost use Rattle.line_ledger.specs.Days.{terms_of};
@@ -25,7 +25,7 @@ use tape_types::{Listing, MsgNumber, Participant, Price, Size, Symbol};
 /// How many lines the day has.
 const LINES: u32 = 8;
 
-/// How many messages each line brings.
+/// How many messages each line sends.
 const MESSAGES: u32 = 17_000;
 
 /// How many of the messages are admitted, whatever the lines' order.
@@ -47,7 +47,7 @@ struct Dice {
 }
 
 impl Dice {
-    /// A number below this one.
+    /// A number below `bound`.
     fn below(&mut self, bound: u32) -> u32
         requires { 1 ≤ bound }
         ensures { result < bound }
@@ -72,7 +72,7 @@ impl Dice {
     }
 
     /// The message of a participant in its turn: three in ten cancel, correct or reinstate one of its earlier messages, which
-    /// may be no report or none that stands so, and one in ten has the number of the turn before.
+    /// may not be a report or not be in a fitting state, and one in ten has the number of the turn before.
     fn message(&mut self, who: Participant, turn: u32) -> Option<Message>
         requires { 1 ≤ turn }
     {
@@ -96,7 +96,7 @@ impl Dice {
         }
     }
 
-    /// A report of a participant under a number.
+    /// A report of a participant with this number.
     fn report(&mut self, who: Participant, number: u32) -> Option<Message> {
         Some(Message::Report {
             header: header(who, number, number)?,
@@ -105,7 +105,7 @@ impl Dice {
     }
 }
 
-/// The symbol of a place in the listing, or of one as many symbols further on.
+/// The symbol at a place in the listing, or the one as many places further on.
 fn symbol(place: u32) -> Option<Symbol> {
     let mut name = *b"A       ";
     name[0] = b'A' + (place % SYMBOLS) as u8;
@@ -117,7 +117,7 @@ fn participant(line: u32) -> Option<Participant> {
     Participant::try_new(b'A' + (line % LINES) as u8)
 }
 
-/// The header of a message under a number, of the symbol that a report has under another.
+/// The header of a message with this number, of the symbol that a report has under another number.
 fn header(who: Participant, number: u32, report: u32) -> Option<Header> {
     Some(Header {
         participant: who,
@@ -201,7 +201,7 @@ fn takes_all(alloc: Global, tape: &mut Tape<IndexStore>, messages: &[Message]) -
     }
 }
 
-/// A tape by the messages of this one, one after the other. `None` where one of them is refused.
+/// A tape of the messages of this one, admitted one after the other. `None` if one of them is refused.
 fn tape_again(alloc: Global, tape: &Tape<IndexStore>) -> Option<Tape<IndexStore>> {
     let messages = messages(alloc, tape)?;
     let mut again = empty_tape(alloc)?;
@@ -241,7 +241,7 @@ fn is_line_of(tape: &Tape<IndexStore>, who: Participant, line: &LineFigures) -> 
         && tape.last_of(who) == line.last
 }
 
-/// Whether each line has the tape's figures of its participant.
+/// Whether each line has the tape's figures for its participant.
 fn are_all_lines_of(tape: &Tape<IndexStore>, lines: &[LineFigures]) -> Option<bool> {
     for line in 0..LINES {
         if !is_line_of(tape, participant(line)?, lines.get(line as usize)?) {
@@ -251,7 +251,7 @@ fn are_all_lines_of(tape: &Tape<IndexStore>, lines: &[LineFigures]) -> Option<bo
     Some(true)
 }
 
-/// How many entries were set by publications until one set none. `None` where one failed.
+/// How many entries were set by publications until one set none. `None` if one failed.
 fn publish_all<D: DayName, W: Wait>(rt: &W, shared: &SharedTape<D>) -> Option<u32> {
     let mut all: u32 = 0;
     for _ in 0..=LINES * MESSAGES {
@@ -275,10 +275,10 @@ fn shown<D: DayName, W: Wait>(
 }
 
 /// How many entries a view shows, how many were published, how many a source then finds at once, and whether the cell of the
-/// last entry and the one beyond it show one.
+/// last entry and the one after it show one.
 type Found = (Option<u32>, Option<u32>, u32, bool, bool);
 
-/// What is shown, published and found, and a token for each entry.
+/// Returns what is shown, published and found, and a token for each entry.
 fn found<D: DayName, W: Wait>(
     rt: &W,
     shared: &SharedTape<D>,
@@ -299,7 +299,7 @@ fn found<D: DayName, W: Wait>(
     )
 }
 
-/// The ended day, and what it confirms.
+/// Returns the ended day, and what it confirms.
 fn confirmed_day<D: DayName, A: Abort>(
     rt: &A,
     shared: SharedTape<D>,
@@ -316,7 +316,7 @@ fn confirmed_day<D: DayName, A: Abort>(
 /// What was published and found of a day, and the outcomes of its lines, with the day and what it confirms.
 type DayOfLines = (Found, Option<(Vec<LineFigures>, (Day, Confirmed))>);
 
-/// The same of lines over these bytes.
+/// Returns the same for lines over these bytes.
 fn lines_of_a_day<D: DayName + Send + Sync, T: Threads + Wait + Abort + Sync>(
     rt: &T,
     alloc: Global,
@@ -347,7 +347,7 @@ fn lines_of_prepared<T: Threads + Wait + Abort + Sync>(
     lines_of_a_day::<Brand, T>(rt, alloc, prepared, inputs, meeting)
 }
 
-/// The outcomes of eight lines at once, and the day that they made.
+/// Returns the outcomes of eight lines at once, and the day that they made.
 fn day_of_eight<T: Threads + Wait + Abort + Sync>(
     rt: &T,
     alloc: Global,
@@ -362,18 +362,18 @@ fn is_same(tape: &Tape<IndexStore>, other: &Tape<IndexStore>) -> bool {
     tape.entries() == other.entries() && has_all_summaries(tape, other)
 }
 
-/// Whether each line has the figures of its participant, whether the day's tape is the one that its messages make one after
-/// the other, and how many of all messages are on it.
+/// Whether each line has the figures of its participant, whether the day's tape is the one that its messages make one after the
+/// other, and how many of all messages are on it.
 type Compared = (Option<bool>, bool, usize);
 
-/// The lines' outcomes and the day's tape, compared with the tape that its messages make.
+/// Compares the lines' outcomes and the day's tape with the tape that its messages make.
 fn compared(alloc: Global, lines: &[LineFigures], tape: &Tape<IndexStore>) -> Option<Compared> {
     let again = tape_again(alloc, tape)?;
     let are_all = are_all_lines_of(&again, lines);
     Some((are_all, is_same(tape, &again), tape.entries().len()))
 }
 
-/// The same of eight lines at once, with what was published, found and confirmed.
+/// The same for eight lines at once, with what was published, found and confirmed.
 fn eight_lines<T: Threads + Wait + Abort + Sync>(
     rt: &T,
     alloc: Global,

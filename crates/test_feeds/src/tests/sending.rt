@@ -7,7 +7,7 @@ use std::thread;
 use std::thread::Threads;
 use tape_types::Gate;
 
-/// Sends so many reports on a line, and publishes at most so many entries after each. The gate is called after that.
+/// Sends `many` reports on a line, and publishes at most `most` entries after each. The gate is called after that.
 fn send<D: DayName, G: Gate, R: Wait>(
     rt: &R,
     shared: &SharedTape<D>,
@@ -26,8 +26,8 @@ fn send<D: DayName, G: Gate, R: Wait>(
     }
 }
 
-/// Sends so many reports on each line, each line in a thread, and publishes at most so many entries after each report, with
-/// the gate after that.
+/// Sends each line's count of reports, each line in a thread, and publishes at most `most` entries after each report, with the
+/// gate after that.
 pub(super) fn send_all<D: DayName + Send + Sync, G: Gate + Sync, R: Threads + Wait + Sync>(
     rt: &R,
     shared: &SharedTape<D>,

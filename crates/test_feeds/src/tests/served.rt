@@ -1,4 +1,4 @@
-//! A retransmission from the published entries of a day that is still open.
+//! Tests a retransmission from the published entries of a day that is still open.
 ghost use Rattle.std.specs.Prelude.{◌≡◌};
 ghost use Rattle.line_ledger.specs.Days.{terms_of};
 
@@ -17,13 +17,13 @@ const REQUEST: [u8; 14] = [
     0x00, 0x00, 0x00, 0x00, 0x00, 0x00, 0x00, 0x07, 0x00, 0x00, 0x00, 0x01, 0x00, 0x40,
 ];
 
-/// How the answer to it over five reports begins: a range, one packet, its length of 235.
+/// The front of its answer over five reports: a range, one packet, its length of 235.
 const FRONT: [u8; 4] = [0x00, 0x01, 0x00, 0xeb];
 
 /// How many entries each of three publications set.
 type Set = [Result<u32, PublishFault>; 3];
 
-/// The bytes that answer the request.
+/// The bytes of the answer to the request.
 fn answered<S: Source>(alloc: Global, source: &mut S) -> Vec<u8> {
     let mut reader = REQUEST.as_slice();
     let mut output = Vec::new(alloc);
@@ -69,7 +69,7 @@ fn admit_and_publish<D: DayName, W: Wait>(
     ]
 }
 
-/// What the request is answered from the ended day. A missing seat stops the test.
+/// The answer to the request from the ended day. A missing seat stops the test.
 fn answered_at_end<D: DayName, A: Abort>(
     rt: &A,
     alloc: Global,
@@ -80,8 +80,8 @@ fn answered_at_end<D: DayName, A: Abort>(
     Some(answered(alloc, &mut source_of(&day)))
 }
 
-/// How many of three reports of N and two of Q each publication set, what the request is answered from a source over the
-/// cells that was never refreshed, and what from the ended day.
+/// How many of three reports of N and two of Q each publication set, the answer to the request from a source over the cells
+/// that was never refreshed, and the answer from the ended day.
 fn served<D: DayName, W: Wait + Abort>(
     rt: &W,
     alloc: Global,
@@ -109,8 +109,8 @@ fn served_of<W: Wait + Abort>(
     served::<Brand, W>(rt, alloc, prepared)
 }
 
-/// How many entries each publication set, whether the answer from the cells begins as it has to and is the answer from the
-/// day, and how long it is.
+/// How many entries each publication set, whether the answer from the cells has the right front and is the answer from the day,
+/// and how long it is.
 fn served_of_a_day<W: Wait + Abort>(rt: &W, alloc: Global) -> Option<(Set, bool, bool, usize)> {
     let (set, from_cells, from_day) = served_of(rt, alloc, day_of_two(alloc)?)?;
     let begins = from_cells.as_slice().starts_with(&FRONT);

@@ -1,4 +1,4 @@
-//! A day of the symbols AB and CD and the participants N, P and Q, and what it is played with.
+//! A day of the symbols AB and CD and the participants N, P and Q, and its messages.
 use super::days::ended_day;
 use line_ledger::{DayName, LineSeat, Prepared, SharedTape, prepare};
 use reports::{Content, Header, LONGEST_MESSAGE, Message, Moment, encode_into};
@@ -15,18 +15,18 @@ pub(super) const CD: &[u8; 8] = b"CD      ";
 
 pub(super) const EF: &[u8; 8] = b"EF      ";
 
-/// A message of a participant under a number, of the symbol AB and a hundred shares where nothing else is said.
+/// A message of a participant with a number, of the symbol AB and a hundred shares if nothing else is said.
 #[derive(Clone, Copy)]
 pub(super) enum Sent {
     /// A regular report at a price.
     Report(u8, u32, u64),
-    /// A report under a sale condition, at a price, of so many shares.
+    /// A report with a sale condition, at a price, of this many shares.
     ReportAs(&'static [u8; 4], u8, u32, u64, u32),
     /// A regular report of another symbol.
     ReportOf(&'static [u8; 8], u8, u32),
     /// A cancel of a target.
     Cancel(u8, u32, u32),
-    /// A cancel of a target under another symbol.
+    /// A cancel of a target with another symbol.
     CancelUnder(&'static [u8; 8], u8, u32, u32),
     /// A correction of a target to a price.
     Correct(u8, u32, u32, u64),
@@ -132,12 +132,12 @@ pub(super) fn listing(alloc: Global) -> Option<Listing> {
     Listing::new(alloc, &symbols, &participants).ok()
 }
 
-/// An open tape of the day by a matrix, of at most so many entries.
+/// An open tape of the day by a matrix, of at most this many entries.
 pub(super) fn tape_of(alloc: Global, matrix: Matrix, limit: u32) -> Option<Tape<IndexStore>> {
     Tape::new(alloc, listing(alloc)?, limit, matrix).ok()
 }
 
-/// The day by a matrix, of at most so many entries, which is empty.
+/// The day by a matrix, of at most this many entries, which is empty.
 pub(super) fn prepared_of(alloc: Global, matrix: Matrix, limit: u32) -> Option<Prepared> {
     prepare(alloc, tape_of(alloc, matrix, limit)?).ok()
 }

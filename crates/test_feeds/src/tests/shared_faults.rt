@@ -1,4 +1,4 @@
-//! Where lists first differ, the limits of a tape, and what is no empty open tape.
+//! Tests where lists first differ, the limits of a tape, and tapes that are not empty and open.
 
 use super::shared_days::{Sent, listing, message, tape_of};
 use line_ledger::laws::first_difference;
@@ -75,7 +75,7 @@ fn lists_first_differ_where_one_has_another_or_none(rt: HostRuntime) {
     assert_eq!(rt; found, wanted);
 }
 
-/// What is answered to a tape's limit.
+/// Returns what a tape with this limit returns.
 fn limited(alloc: Global, limit: u32) -> Option<Result<(), TapeFault>> {
     match Tape::<IndexStore>::new(alloc, listing(alloc)?, limit, Matrix::One) {
         Ok(tape) => {
@@ -103,14 +103,14 @@ fn a_tape_has_a_limit_of_one_to_16777216_entries(rt: HostRuntime) {
     );
 }
 
-/// The price of the last report, once the tape has admitted this one.
+/// The price of the last report, after the tape has admitted this one.
 fn last_after(tape: &mut Tape<IndexStore>, report: Option<Message>) -> Option<Mark> {
     let report = report?;
     tape.admit(report).ok()?;
     tape.summary(report.header().symbol)?.last
 }
 
-/// What is answered to a tape that is closed first, or gets an entry first, or neither.
+/// Returns what `prepare` returns for a tape that is closed first, or gets an entry first, or neither.
 fn opened(alloc: Global, is_closed: bool, is_filled: bool) -> Option<Result<(), OpenFault>> {
     let mut tape = tape_of(alloc, Matrix::One, 10)?;
     if is_filled {

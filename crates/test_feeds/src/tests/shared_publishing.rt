@@ -1,4 +1,4 @@
-//! What lines publish, and what readers find that take no lock.
+//! Tests what lines publish, and what readers find that take no lock.
 ghost use Rattle.std.specs.Prelude.{◌≡◌, IfSome};
 ghost use Rattle.line_ledger.specs.Cells.{FirstTokens, IsTokenOf};
 ghost use Rattle.line_ledger.specs.Days.{terms_of};
@@ -30,7 +30,7 @@ type Set = (
 /// How many entries a publication in a row of cells set.
 type SetIn = Result<usize, PublishFault>;
 
-/// What was set, how many entries a source found after the first publication and after the last, and its tokens.
+/// Returns what was set, how many entries a source found after the first publication and after the last, and its tokens.
 fn publications<D: DayName, R: Wait>(
     rt: &R,
     shared: &SharedTape<D>,
@@ -47,8 +47,8 @@ fn publications<D: DayName, R: Wait>(
     (set, (found, all), published.into_sightings())
 }
 
-/// The numbers of the cells that show an entry, each with one more, so that a cell of number 0 would be seen, added up. The
-/// last that is looked at is the eleventh, which is one beyond the tape's limit.
+/// The sum of the numbers of the cells that show an entry, each plus one, so that a cell of number 0 would count. The last cell
+/// looked at is one after the tape's limit.
 fn numbers_shown<D: DayName>(shared: &SharedTape<D>) -> u32 {
     let mut sum: u32 = 0;
     for number in 0..12 {
@@ -135,7 +135,7 @@ fn five_published<D: DayName + Send + Sync, R: Threads + Wait + Abort + Sync>(
     Some((set, found, shown, is_same, confirmed))
 }
 
-/// Admits N's report of this number: the tape number that it gets.
+/// Admits N's report of this number, and returns its tape number.
 fn admit_one<D: DayName>(locked: &mut Locked<D>, seat: &mut LineSeat<D>, number: u32) -> Option<u32>
     ensures { seat.new.who ≡ seat.old.who }
 {
@@ -144,7 +144,7 @@ fn admit_one<D: DayName>(locked: &mut Locked<D>, seat: &mut LineSeat<D>, number:
     Some(receipt.number().value())
 }
 
-/// Admits N's report of this number on the first line: the tape number that it gets.
+/// Admits N's report of this number on the first line, and returns its tape number.
 #[tactic(auto, using(crate::proofs::KeptSeats::each_set))]
 fn admit_first<D: DayName>(
     locked: &mut Locked<D>,
@@ -160,7 +160,7 @@ fn admit_first<D: DayName>(
     admit_one(locked, &mut seats[0], number)
 }
 
-/// How many entries are set in a row of cells by a publication of at most so many.
+/// How many entries a publication of at most `most` sets in a row of cells.
 fn set_in<D: DayName>(locked: &mut Locked<D>, row: &CellRow, most: u32) -> SetIn {
     let tokens = locked.publish(row, most)?;
     Ok(tokens.len())
@@ -179,7 +179,8 @@ fn found_at_end<D: DayName>(locked: Locked<D>, row: CellRow, seats: Vec<LineSeat
 /// The tape numbers that three reports of a day get, what its three publications set, and how many entries its end finds.
 type Strayed = ([Option<u32>; 3], [SetIn; 3], u32);
 
-/// The same of three reports: the first goes to the day's own row, the next strays to another row, and the last goes to its own.
+/// The same of three reports: the first goes to the day's own row, the next strays to another row, and the last goes to its
+/// own.
 fn strayed<D: DayName>(prepared: Prepared, other: &CellRow) -> Option<Strayed>
     requires name { prepared.blank.name ≡ D.name }
     requires parts { prepared.blank.parts ≡ D.parts }
@@ -206,7 +207,7 @@ fn strayed<D: DayName>(prepared: Prepared, other: &CellRow) -> Option<Strayed>
 /// many entries its end finds.
 type StrayedTo = (Option<Strayed>, [SetIn; 2], Option<u32>);
 
-/// The same where the other day has the first two of the reports.
+/// The same if the other day has the first two of the reports.
 fn strayed_to<D: DayName>(alloc: Global, two: Prepared) -> Option<StrayedTo>
     requires name { two.blank.name ≡ D.name }
     requires parts { two.blank.parts ≡ D.parts }

@@ -1,4 +1,4 @@
-//! The worked rows of a tape, each through a shared one.
+//! Tests the worked rows of a tape, each through a shared one.
 ghost use Rattle.std.specs.Prelude.{◌≡◌};
 ghost use Rattle.line_ledger.specs.Days.{terms_of};
 
@@ -30,17 +30,17 @@ type Place = (u64, u32);
 /// A summary in plain figures: open, high, low, last, volume and trades.
 type Figures = (Place, Place, Place, Place, u64, u32);
 
-/// What a line is answered, each refusal by its number.
+/// The result of a line's step, a refusal by its number.
 #[derive(Clone, Copy, PartialEq, Eq)]
 enum Answer {
     /// The message has this tape number.
     Number(u32),
     Refused(u8),
-    /// The tape has so many entries, so many of them the line's own, and the symbol has this summary.
+    /// The tape has this many entries, this many of them the line's own, and the symbol has this summary.
     Shown(u32, u32, Figures),
 }
 
-/// How many steps are answered as they have to be, and how many entries the day has.
+/// How many steps have the right answer, and how many entries the day has.
 type Played = Option<(usize, usize)>;
 
 const NOTHING: Figures = ((0, 0), (0, 0), (0, 0), (0, 0), 0, 0);
@@ -192,7 +192,7 @@ const CODES_OF_MATRIX_TWO: [(usize, Step, Answer); 4] = [
     ),
 ];
 
-/// The same messages: the odd lot alone comes to the tape, and its shares count.
+/// The same messages: only the odd lot comes to the tape, and its shares count.
 const CODES_BEYOND_MATRIX_ONE: [(usize, Step, Answer); 4] = [
     (0, Admit(ReportAs(b"@  I", b'N', 1, 100_000, 50)), Number(1)),
     (
@@ -270,7 +270,7 @@ fn showing(answer: Result<View, ViewFault>) -> Answer {
     }
 }
 
-/// What the line is answered, `None` where the step is none.
+/// Returns the answer to the line's step, or `None` if the step is none.
 fn step_answer<D: DayName, R: Wait>(
     rt: &R,
     shared: &SharedTape<D>,
@@ -283,7 +283,7 @@ fn step_answer<D: DayName, R: Wait>(
     }
 }
 
-/// How many steps are answered as they have to be, up to the first that is not.
+/// How many steps have the right answer, up to the first that has not.
 fn answered<D: DayName, R: Wait>(
     rt: &R,
     shared: &SharedTape<D>,
@@ -299,7 +299,7 @@ fn answered<D: DayName, R: Wait>(
     steps.len()
 }
 
-/// What comes of the steps in this day.
+/// Plays the steps in this day.
 fn played<D: DayName, R: Wait + Abort>(
     rt: &R,
     prepared: Prepared,
@@ -316,7 +316,7 @@ fn played<D: DayName, R: Wait + Abort>(
     Some((many, ended_len(rt, shared, seats)?))
 }
 
-/// What comes of the steps in a day by this matrix.
+/// Plays the steps in a day by this matrix.
 fn row<R: Wait + Abort>(
     rt: &R,
     alloc: Global,

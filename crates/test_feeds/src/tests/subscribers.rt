@@ -1,5 +1,5 @@
-//! What scripts of rows can't play: readers, writers and sources that fail or are slow, the most requests, many full windows, and
-//! seeded schedules of packets.
+//! Tests what scripts of rows can't play: readers, writers and sources that fail or are slow, the most requests, many full
+//! windows, and seeded schedules of packets.
 
 mod failing;
 mod feed;

@@ -1,4 +1,4 @@
-//! Two lines at once, and what they publish; all participants' lines at once, and the turns that their gate is given.
+//! Tests two lines at once, and what they publish; all participants' lines at once, and the turns that their gate gets.
 ghost use Rattle.std.specs.Prelude.{◌≡◌};
 ghost use Rattle.line_ledger.specs.Cells.{FirstTokens};
 ghost use Rattle.line_ledger.specs.Days.{terms_of};
@@ -22,8 +22,8 @@ use std::thread::Threads;
 use tape_frames::Source;
 use tape_types::{Gate, Symbol};
 
-/// Holds each of so many lines after its first message until all have done theirs, and counts the turns that it is given for
-/// each of the first three lines.
+/// Holds each of this many lines after its first message until all have done theirs, and counts the turns that it gets for each
+/// of the first three lines.
 #[derive(Drop)]
 pub(super) struct Meeting {
     lines: u32,
@@ -33,7 +33,7 @@ pub(super) struct Meeting {
 }
 
 impl Meeting {
-    /// A meeting of so many lines, of which none has come.
+    /// A meeting of this many lines, none of which has come.
     pub(super) fn of(lines: u32) -> Meeting {
         Meeting {
             lines,
@@ -43,7 +43,7 @@ impl Meeting {
         }
     }
 
-    /// Counts a turn of a line, which is to be the next one. Where it is another, no turn is the next one from then on.
+    /// Counts a turn of a line, which must be the next one. After another turn, no turn is the next one.
     fn note(&self, line: usize, turn: u32) {
         let Some(turns) = self.turns.get(line) else {
             return;
@@ -53,7 +53,7 @@ impl Meeting {
         turns.store(count, Ordering::SeqCst);
     }
 
-    /// Holds a line that has done its first message until all lines have. One that waits in vain lets the others go.
+    /// Holds a line whose first message is done until all lines have done theirs. One that waits in vain lets the others go.
     fn meet(&self) {
         self.done.fetch_add(1, Ordering::SeqCst);
         for _ in 0..TURNS {
@@ -66,7 +66,7 @@ impl Meeting {
         self.done.fetch_add(self.lines, Ordering::SeqCst);
     }
 
-    /// How many lines found that all had come, and how many turns each of the first three lines had, from 1 and one by one.
+    /// How many lines found that all had come, and how many turns each of the first three lines had, one by one from 1.
     pub(super) fn noted(&self) -> (u32, [u32; 3]) {
         let turns = [
             self.turns[0].load(Ordering::SeqCst),
@@ -96,7 +96,7 @@ fn inputs(alloc: Global) -> Option<Vec<Vec<u8>>> {
     Some(inputs)
 }
 
-/// How many messages each of two lines was told of, where both ended with their input and nothing was refused.
+/// How many messages each of two lines was told of, if both ended with their input and nothing was refused.
 fn counts(figures: &[LineFigures]) -> Option<(u32, u32)> {
     let [first, second] = figures else {
         return None;
@@ -123,7 +123,7 @@ type Whole = (
     Option<Confirmed>,
 );
 
-/// How many entries the view of a line shows of it, where it was told of as many.
+/// How many entries a line's view shows of it, if it was told of as many.
 fn shown<D: DayName, W: Wait>(rt: &W, shared: &SharedTape<D>, seat: &LineSeat<D>) -> Option<u32> {
     let symbol = Symbol::try_new(*b"AB      ")?;
     let view = shared.view(rt, seat, symbol).ok()?;
@@ -142,7 +142,7 @@ fn views<D: DayName, W: Wait>(
     Some((shown(rt, shared, first)?, shown(rt, shared, second)?))
 }
 
-/// What is published, and a token for each entry that was found.
+/// Returns what is published, and a token for each entry that was found.
 fn publications<D: DayName, W: Wait>(
     rt: &W,
     shared: &SharedTape<D>,
@@ -184,7 +184,7 @@ fn refused_end<D: DayName, A: Abort>(
     (code, shared, seats)
 }
 
-/// The number of the fault of an end without the last seat, and what the day then confirms that ends with all.
+/// The number of the fault of an end without the last seat, and what the day confirms that then ends with all seats.
 fn late_end<D: DayName, A: Abort>(
     rt: &A,
     shared: SharedTape<D>,
@@ -203,7 +203,7 @@ fn late_end<D: DayName, A: Abort>(
     (code, confirmed_at_end(rt, shared, seats, tokens))
 }
 
-/// What is seen of the day of N's and Q's lines.
+/// Returns what is seen of the day of N's and Q's lines.
 fn two_lines<D: DayName + Send + Sync, T: Threads + Wait + Abort + Sync>(
     rt: &T,
     alloc: Global,
@@ -275,12 +275,12 @@ fn inputs_of_all(alloc: Global) -> Option<Vec<Vec<u8>>> {
     Some(inputs)
 }
 
-/// Whether a line ended with its input, with so many frames refused and so many messages told.
+/// Whether a line ended with its input, with this many frames refused and this many messages told.
 fn is_end(line: &LineFigures, refused: u32, count: u32) -> bool {
     line.ended == Ended::Clean && line.refused == refused && line.count == count
 }
 
-/// How many lines ended as they have to.
+/// How many lines ended as they must.
 fn many_ended(lines: &[LineFigures]) -> usize {
     let mut many: usize = 0;
     for at in 0..lines.len() {
@@ -296,7 +296,7 @@ fn many_ended(lines: &[LineFigures]) -> usize {
     many
 }
 
-/// How many of all participants' lines at once ended as they have to, and how many entries their day has.
+/// How many of all participants' lines at once ended as they must, and how many entries their day has.
 fn all_lines<T: Threads + Wait + Abort + Sync>(
     rt: &T,
     alloc: Global,

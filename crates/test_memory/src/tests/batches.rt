@@ -1,4 +1,4 @@
-//! Batches that run out of memory.
+//! Tests batches that run out of memory.
 
 use batch::{BatchEnd, ReadInput, batch_kept};
 use sale_matrix::Matrix;
@@ -7,10 +7,10 @@ use std::process::Abort;
 use std::test::Fail;
 use std::thread::Threads;
 
-/// The line of an answer out of memory.
+/// The line of a refusal for lack of memory.
 const REFUSED: &[u8] = b"refused 40 OutOfMemory\n";
 
-/// Where the report begins.
+/// The beginning of the report.
 const REPORT: &[u8] = b"symbol,";
 
 /// A batch of forty reports.
@@ -29,12 +29,12 @@ fn input(alloc: Global) -> Result<String, Fail> {
 #[derive(Clone, Copy, Debug)]
 struct Ended {
     end: BatchEnd,
-    /// Whether the day that it gave back is one at whose last answer memory ran out.
+    /// Whether memory ran out at the last answer of the day that was returned.
     is_stopped: bool,
 }
 
-/// What a batch that ended so has written, beside what it writes where memory is ample; none where that is not as it must be. A refusal
-/// 40 is written where the day says that it stopped there, and only there.
+/// Returns what a batch that ended so has written, compared with what it writes with ample memory, or `None` if that is not as
+/// it must be. A refusal 40 is written only if the day stopped there.
 fn kind_of(ended: Ended, written: &[u8], whole: &[u8], answers: &[u8]) -> Option<&'static str> {
     match ended.end {
         BatchEnd::Done if ended.is_stopped => None,
@@ -50,7 +50,7 @@ fn kind_of(ended: Ended, written: &[u8], whole: &[u8], answers: &[u8]) -> Option
     }
 }
 
-/// The answers of a whole batch: what stands before its report.
+/// The answers of a whole batch: what comes before its report.
 fn answers_of(whole: &[u8]) -> Option<&[u8]> {
     let report = whole
         .windows(REPORT.len())
@@ -58,7 +58,7 @@ fn answers_of(whole: &[u8]) -> Option<&[u8]> {
     whole.get(..report)
 }
 
-/// What two batches that ended so have written. One of them has written all.
+/// Returns what two batches that ended so have written. One of them has written everything.
 fn kinds_of(ends: [Ended; 2], first: &[u8], second: &[u8]) -> Option<(&'static str, &'static str)> {
     let whole = if ends[0].end == BatchEnd::Done {
         first
@@ -83,7 +83,7 @@ fn end_of<T: Threads + Sync>(rt: &T, alloc: Global, input: &[u8], output: &mut V
     Ended { end, is_stopped }
 }
 
-/// Ends a batch twice, of which one has memory where the other was refused it.
+/// Runs a batch to its end twice, once with memory where the other was refused it.
 fn ends_twice<T: Threads + Abort + Print + Sync>(rt: &T, alloc: Global) -> Result<(), Fail> {
     let input = input(alloc)?;
     let mut first = Vec::with_capacity(alloc, 4_096)?;

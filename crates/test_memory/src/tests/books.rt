@@ -1,4 +1,4 @@
-//! A book alone, whose reports are added and given another content.
+//! Tests a book alone, to which reports are added and then given other content.
 ghost use Rattle.std.specs.Prelude.{◌≡◌, true, IsTrue, IsSome};
 ghost use Rattle.std.specs.FinMap as map;
 ghost use Rattle.sale_matrix.specs.Matrix.{is_within};
@@ -47,7 +47,7 @@ impl<S: Store> Rising<S> {
         }
     }
 
-    /// Adds a report above all others. It is not added where memory is refused, or where the place is not above them or the
+    /// Adds a report above all others. It is not added if memory is refused, if the place is not above them, or if the
     /// condition is none of Matrix One.
     fn add(&mut self, place: TapeNumber, who: Participant, content: &Content) -> bool
         ensures added { IsTrue result → IsSome (map.get self.new.trades place) }
@@ -79,7 +79,7 @@ fn shown<S: Store>(book: &Book<S>, who: Participant) -> [Summary; 2] {
     [book.consolidated(), book.of(who)]
 }
 
-/// Adds a report, again where memory was refused, which changes no summary. It tells whether memory was refused.
+/// Adds a report, again if memory was refused, which changes no summary. Returns whether memory was refused.
 fn add<S: Store, A: Abort>(
     rt: &A,
     rising: &mut Rising<S>,
@@ -101,7 +101,7 @@ fn add<S: Store, A: Abort>(
     true
 }
 
-/// Gives a report another content, again where memory was refused, which changes no summary. It tells whether memory was refused.
+/// Gives a report other content, again if memory was refused, which changes no summary. Returns whether memory was refused.
 fn replace<S: Store, A: Abort>(
     rt: &A,
     book: &mut Book<S>,
@@ -128,19 +128,19 @@ fn replace<S: Store, A: Abort>(
     true
 }
 
-/// The participant of a number's report.
+/// The participant of the report with this number.
 fn participant(number: u32) -> Option<Participant> {
     Participant::try_new(if number % 3 == 0 { b'Q' } else { b'N' })
 }
 
-/// Adds the report of a number: whether memory was refused for it.
+/// Adds the report with this number, and returns whether memory was refused for it.
 fn add_next<S: Store, A: Abort>(rt: &A, rising: &mut Rising<S>, number: u32) -> Option<bool> {
     let place = TapeNumber::try_new(number)?;
     let content = days::content(number)?;
     Some(add(rt, rising, place, participant(number)?, &content))
 }
 
-/// Adds the report of a number and gives it the content of the next one: whether memory was refused for that.
+/// Adds the report with this number and gives it the content of the next one, and returns whether memory was refused for that.
 fn replace_last<S: Store, A: Abort>(rt: &A, rising: Rising<S>, number: u32) -> Option<bool> {
     let mut rising = rising;
     let place = TapeNumber::try_new(number)?;
@@ -155,7 +155,7 @@ fn replace_last<S: Store, A: Abort>(rt: &A, rising: Rising<S>, number: u32) -> O
     Some(replace(rt, &mut book, place, who, &other))
 }
 
-/// Adds so many reports, gives the last another content, and prints what was done again.
+/// Adds this many reports, gives the last other content, and prints what was done again.
 fn take_all<S: Store, A: Abort + Print>(
     rt: &A,
     alloc: Global,

@@ -44,7 +44,7 @@ pub(super) fn content(number: u32) -> Option<Content> {
     })
 }
 
-/// N's report of AB under a number.
+/// N's report of AB with this number.
 pub(super) fn report(number: u32) -> Option<Message> {
     Some(Message::Report {
         header: header(b'N', number, AB)?,
@@ -52,7 +52,7 @@ pub(super) fn report(number: u32) -> Option<Message> {
     })
 }
 
-/// The message at an index of the day. Of five that follow one another the first two are reports, the third corrects the first, the
+/// The message at an index of the day. Of each five in a row the first two are reports, the third corrects the first, the
 /// fourth cancels the second, and the fifth reinstates it. So a list of entries that grows at 4, 8, 16 and 32 does so at a
 /// reinstatement, a cancel, a report and a correction. N and Q, and AB and CD, take turns by fives.
 pub(super) fn message(index: u32) -> Option<Message> {
@@ -81,7 +81,7 @@ pub(super) fn message(index: u32) -> Option<Message> {
     })
 }
 
-/// Admits the day's messages, and tells whether the tape took them all.
+/// Admits the day's messages, and returns whether the tape took them all.
 fn admits_all(tape: &mut Tape<IndexStore>) -> bool {
     for index in 0..MESSAGES {
         let Some(message) = message(index) else {

@@ -1,4 +1,5 @@
-//! A subscriber whose drains run out of memory: nothing is lost, and the next drain gives the rest of what was ready, as a clause says.
+//! Tests a subscriber whose drains run out of memory: nothing is lost, and the next drain returns the rest of what was ready,
+//! as a clause states.
 ghost use Rattle.std.specs.Prelude.{◌≡◌, ◌+◌, IfSome, length};
 ghost use Rattle.arbitration.specs.Windows.{ready_entries};
 
@@ -17,8 +18,8 @@ use tape_types::Symbol;
 
 const SESSION: u64 = 7;
 
-/// How many entries a drain gives, and where it is out of memory how many the next one gives: between them all that was
-/// ready, and as many are held more.
+/// Returns how many entries a drain returns, and how many the next one returns if it is out of memory: together all that was
+/// ready, and as many more are held.
 #[tactic(auto, using(crate::proofs::Ready::ready_of_one, crate::proofs::Ready::ready_of_two))]
 fn drained_in_two(subscriber: &mut Subscriber) -> Option<(u32, u32)>
     ensures ready { IfSome result (λ drained. length (ready_entries subscriber.old.window.slots) ≡ drained.0 + drained.1) }
@@ -39,7 +40,7 @@ fn drained_in_two(subscriber: &mut Subscriber) -> Option<(u32, u32)>
     }
 }
 
-/// What the tape's messages are.
+/// The kinds of the tape's messages.
 #[derive(Clone, Copy)]
 enum Sent {
     /// Reports of N in AB alone.
@@ -56,7 +57,7 @@ impl Sent {
         }
     }
 
-    /// Admits the messages from an index on, so many, and tells whether the tape took them.
+    /// Admits `many` messages from an index on, and returns whether the tape took them.
     fn admits(self, tape: &mut Tape<IndexStore>, first: u32, many: u32) -> bool {
         for index in first..first.saturating_add(many) {
             let Some(message) = self.message(index) else {
@@ -82,7 +83,7 @@ fn packet(alloc: Global, tape: &Tape<IndexStore>, from: u32) -> Option<Vec<u8>> 
     Some(text)
 }
 
-/// Brings the tape's entries from a number on, as a packet. How many of them are fresh.
+/// Brings the tape's entries from a number on, as a packet, and returns how many of them are fresh.
 fn bring(
     alloc: Global,
     tape: &Tape<IndexStore>,
@@ -107,7 +108,7 @@ fn holds(subscriber: &Subscriber, tape: &Tape<IndexStore>) -> bool {
     is_shown && subscriber.held() == tape.entries()
 }
 
-/// A subscriber, made again where memory was refused for it. None where memory was refused for its listing.
+/// A subscriber, made again if memory was refused for it. `None` if memory was refused for its listing.
 fn subscriber<A: Abort>(rt: &A, alloc: Global) -> Option<Subscriber> {
     for _ in 0..2 {
         let listing = days::listing(alloc)?;
@@ -119,7 +120,7 @@ fn subscriber<A: Abort>(rt: &A, alloc: Global) -> Option<Subscriber> {
     panic!(rt; "memory was refused twice")
 }
 
-/// Drains so many entries that are ready, and prints what two drains gave where the first was out of memory.
+/// Drains this many entries that are ready, and prints how many two drains returned if the first was out of memory.
 fn drain<A: Abort + Print>(rt: &A, subscriber: &mut Subscriber, ready: u32) {
     let Some((first, second)) = drained_in_two(subscriber) else {
         panic!(rt; "a drain stops where memory is there")
@@ -130,7 +131,7 @@ fn drain<A: Abort + Print>(rt: &A, subscriber: &mut Subscriber, ready: u32) {
     }
 }
 
-/// Sends so many messages in one packet, and drains it. None where memory was refused that only prepares the drain.
+/// Sends `many` messages in one packet, and drains it. `None` if memory was refused that only prepares the drain.
 fn turn<A: Abort + Print>(
     rt: &A,
     alloc: Global,
@@ -151,7 +152,7 @@ fn turn<A: Abort + Print>(
     Some(())
 }
 
-/// So many turns.
+/// Takes this many turns.
 fn turns<A: Abort + Print>(
     rt: &A,
     alloc: Global,
@@ -188,7 +189,7 @@ fn turns_of_new<A: Abort + Print>(
     turns(rt, alloc, tape, &mut subscriber, sent, many, times)
 }
 
-/// The same of a new tape.
+/// The same with a new tape.
 fn drains_in_turns<A: Abort + Print>(
     rt: &A,
     alloc: Global,
@@ -201,7 +202,7 @@ fn drains_in_turns<A: Abort + Print>(
     Ok(())
 }
 
-// Of the three that are ready in the second turn, the second takes memory, the others take none.
+// Of the three that are ready in the second turn, only the second allocates.
 #[test]
 fn a_drain_out_of_memory_goes_on_where_it_stopped(rt: HostRuntime) -> Result<(), Fail> {
     drains_in_turns(&rt, rt.alloc(), Sent::Reports, 3, 2)

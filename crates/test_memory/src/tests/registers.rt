@@ -1,4 +1,4 @@
-//! Reports that are recorded, corrected, cancelled and reinstated.
+//! Tests reports that are recorded, corrected, cancelled and reinstated.
 
 use super::days;
 use corrections::{Content, Register, TargetFault};
@@ -48,7 +48,7 @@ fn reports_are_recorded_again(rt: HostRuntime) -> Result<(), Fail> {
     Ok(())
 }
 
-/// What becomes of N's report under a number.
+/// What is done to N's report with a number.
 #[derive(Clone, Copy)]
 enum Kind {
     /// It is recorded, at a place and with a price.
@@ -61,10 +61,10 @@ enum Kind {
     Reinstate,
 }
 
-/// Where the report is found then, with its latest price where it is cancelled; or why the target is refused.
+/// Where the report is then found, with its latest price if it is cancelled; or why the target is refused.
 type Found = Result<(u32, Option<u64>), TargetFault>;
 
-/// The number of the report, the symbol of the message that names it, what becomes of it, and what is found.
+/// The number of the report, the symbol of the message that names it, what is done to it, and what is found.
 type Step = (u32, [u8; 8], Kind, Found);
 
 /// A report is corrected and cancelled, with targets that are refused.
@@ -142,7 +142,7 @@ fn content(price: u64) -> Option<Content> {
     })
 }
 
-/// Does what a step says, and tells what is found.
+/// Takes a step, and returns what is found.
 fn take<A: Abort>(rt: &A, register: &mut Register, step: &Step) -> Option<Found> {
     let (number, symbol, kind, _) = *step;
     let who = Participant::try_new(b'N')?;
@@ -160,7 +160,7 @@ fn take<A: Abort>(rt: &A, register: &mut Register, step: &Step) -> Option<Found>
     })
 }
 
-/// Takes the steps on a new register, each of which has to find what it says.
+/// Takes the steps on a new register. Each must find what it states.
 fn take_all<A: Abort>(rt: &A, alloc: Global, steps: &[Step]) -> Result<(), Fail> {
     let mut register = Register::new(alloc);
     for (at, step) in steps.iter().enumerate() {

@@ -1,4 +1,4 @@
-//! The rows of a report, made by one worker and by three, and its text.
+//! Tests the rows of a report, made by one worker and by three, and its text.
 
 use super::days;
 use day_report::{ReportFault, Row, rows, write_report};

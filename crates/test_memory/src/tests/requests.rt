@@ -1,4 +1,4 @@
-//! Packets that are written, a window that is made, and requests that are served and asked.
+//! Tests packets that are written, a window that is made, and requests that are served and asked.
 
 use super::days;
 use arbitration::Window;
@@ -81,7 +81,7 @@ fn served(alloc: Global, tape: &Tape<IndexStore>, input: &[u8], output: &mut Vec
     )
 }
 
-/// Serves the requests behind so many that were answered, and tells whether all are answered then.
+/// Serves the requests after those that were answered, and returns whether all are then answered.
 fn serves_rest(
     alloc: Global,
     tape: &Tape<IndexStore>,
@@ -97,7 +97,8 @@ fn serves_rest(
     end.ended == Ended::Clean && end.served.wrapping_add(answered) == 3
 }
 
-/// Serves the requests, those behind the answered ones again where memory was refused, and tells how many were answered before that.
+/// Serves the requests, those after the answered ones again if memory was refused, and returns how many were answered before
+/// that.
 fn serve_twice<A: Abort>(
     rt: &A,
     alloc: Global,
@@ -118,7 +119,7 @@ fn serve_twice<A: Abort>(
     Some(answered)
 }
 
-/// Serves the requests over the tape twice, of which one has memory throughout: both have written the same.
+/// Serves the requests over the tape twice, once with memory throughout: both must write the same.
 fn serves_again<A: Abort + Print>(
     rt: &A,
     alloc: Global,
@@ -144,14 +145,14 @@ fn a_request_whose_answer_found_no_memory_is_served_again(rt: HostRuntime) -> Re
     Ok(())
 }
 
-/// What answers a request.
+/// The answer to a request.
 fn answer(alloc: Global, tape: &Tape<IndexStore>, asked: &Request) -> Option<Vec<u8>> {
     let mut answer = Vec::with_capacity(alloc, 10_000).ok()?;
     let end = served(alloc, tape, &write_request(asked), &mut answer);
     (end.ended == Ended::Clean).then_some(answer)
 }
 
-/// How many packets the answer to a request has: none where memory was refused, and then the request was written.
+/// How many packets the answer to a request has, or `None` if memory was refused, and then the request was written.
 fn asks<A: Abort>(
     rt: &A,
     alloc: Global,
@@ -170,7 +171,7 @@ fn asks<A: Abort>(
     }
 }
 
-/// Asks, again where memory was refused.
+/// Asks, again if memory was refused.
 fn asks_again<A: Abort>(rt: &A, alloc: Global, asked: &Request, answer: &[u8]) -> Option<usize> {
     let mut sent = Vec::with_capacity(alloc, 64).ok()?;
     if let Some(packets) = asks(rt, alloc, asked, answer, &mut sent) {

@@ -1,4 +1,4 @@
-//! The same of shared tapes and of the lines that admit to them.
+//! Tests shared tapes and the lines that admit to them.
 
 mod days;
 mod lines;

@@ -1,4 +1,4 @@
-//! A tape that is made, and that admits and replays messages of each kind.
+//! Tests how a tape is made, and how it admits and replays messages of each kind.
 
 use super::days::{self, MESSAGES};
 use reports::Message;
@@ -52,8 +52,8 @@ fn give<S: Store>(tape: &mut Tape<S>, by: By, message: &Message) -> Result<Entry
     }
 }
 
-/// Gives the tape a message: its entry, and whether memory was refused for it first. A refusal leaves the tape with the entries
-/// that it held and the summaries that it showed, and the same message is taken next.
+/// Gives the tape a message, and returns its entry and whether memory was first refused for it. A refusal leaves the tape with
+/// the entries that it held and the summaries that it showed, and the same message is taken next.
 fn take<S: Store, A: Abort>(
     rt: &A,
     tape: &mut Tape<S>,
@@ -73,7 +73,7 @@ fn take<S: Store, A: Abort>(
     }
 }
 
-/// A tape, made again where memory was refused for it.
+/// A tape, made again if memory was refused for it.
 fn tape<S: Store, A: Abort>(rt: &A, alloc: Global) -> Result<Tape<S>, Fail> {
     for _ in 0..2 {
         let listing = days::listing(alloc).ok_or("a listing")?;
@@ -94,7 +94,7 @@ fn kind(message: &Message) -> &'static str {
     }
 }
 
-/// How a message came.
+/// The name of the way by which a message came.
 fn way(by: By) -> &'static str {
     match by {
         By::Admission => "admitted",
@@ -144,7 +144,7 @@ fn messages(alloc: Global) -> Result<Vec<Message>, Fail> {
     Ok(messages)
 }
 
-/// How many of these answers are entries, and how many are refusals out of memory.
+/// How many of these answers are entries, and how many are refusals for lack of memory.
 fn answer_counts(answers: &[Result<Entry, Refusal>]) -> (usize, usize) {
     let mut entries: usize = 0;
     let mut refused: usize = 0;
@@ -158,7 +158,7 @@ fn answer_counts(answers: &[Result<Entry, Refusal>]) -> (usize, usize) {
     (entries, refused)
 }
 
-/// The answers of a run, which is made again where memory was refused for them.
+/// The answers of a run, which is made again if memory was refused for them.
 fn answers_of<A: Abort>(
     rt: &A,
     alloc: Global,

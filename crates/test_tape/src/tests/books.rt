@@ -1,4 +1,4 @@
-//! A book alone, over each store: a report is added, replaced and removed. A tape corrects its books by another call.
+//! Tests a book alone, over each store: a report is added, replaced and removed. A tape corrects its books by another call.
 ghost use Rattle.std.specs.Prelude.{◌≡◌, ◌≢◌, true, IfSome};
 ghost use Rattle.sale_matrix.specs.Matrix.{is_within};
 ghost use Rattle.sale_matrix.specs.declared.matrix.Matrix.TheVariants.{One};
@@ -13,7 +13,7 @@ use tape_types::{Participant, TapeNumber};
 /// The consolidated summary, N's own and Q's own.
 type Shown = [Figures; 3];
 
-/// Q's report finds a last one of another participant, and so does not become it.
+/// Q's report finds that the last is another participant's, so it does not become the last.
 const ADDED: Figures = Figures {
     opening: Some(Point(100_000, 1, b'N')),
     high: Some(Point(100_500, 2, b'Q')),
@@ -73,7 +73,7 @@ const EMPTY: Figures = Figures {
     trades: 0,
 };
 
-/// What is shown after both reports are added, after N's has another content, and after it is gone.
+/// What is shown after both reports are added, after N's has another content, and after N's is removed.
 const SHOWN: [Shown; 3] = [
     [ADDED, OF_N_ADDED, OF_Q_ALONE],
     [CORRECTED, OF_N_ALONE, OF_Q_ALONE],
@@ -88,7 +88,7 @@ fn shown<S: Store>(book: &Book<S>, n: Participant, q: Participant) -> Shown {
     ]
 }
 
-/// Adds N's report and Q's at two places, gives N's another content and removes it, and tells what is shown after each.
+/// Adds N's report and Q's at two places, changes N's content and removes it, and returns what is shown after each.
 fn changed<S: Store>(
     alloc: Global,
     first: TapeNumber,
@@ -114,7 +114,7 @@ fn changed<S: Store>(
     Ok([added, replaced, shown(&book, n, q)])
 }
 
-/// The content, where its condition is one of Matrix One.
+/// Returns the content, if its condition is one of Matrix One.
 fn of_matrix_one(content: Content) -> Option<Content>
     ensures { IfSome result (λ c. is_within One c.condition ≡ true) }
 {
@@ -125,7 +125,7 @@ fn of_matrix_one(content: Content) -> Option<Content>
     }
 }
 
-/// The same at places 1 and 2, with the contents of the row.
+/// Returns the same at places 1 and 2, with the contents of the row.
 fn shown_in_turn<S: Store>(alloc: Global) -> Option<[Shown; 3]> {
     let of_n = of_matrix_one(content(b"@   ", 100_000, 100)?)?;
     let of_q = of_matrix_one(content(b"@ L ", 100_500, 100)?)?;

@@ -1,7 +1,7 @@
-//! Numbers that look random, and come in the same order in each run.
+//! Makes numbers that look random and come in the same order in each run.
 ghost use Rattle.std.specs.Prelude.{◌<◌};
 
-/// A row of numbers that its seed decides.
+/// A sequence of numbers that its seed determines.
 #[derive(Drop)]
 pub(super) struct Dice {
     state: u32,
@@ -12,7 +12,7 @@ impl Dice {
         Dice { state: seed }
     }
 
-    /// A number below `sides`.
+    /// Returns a number below `sides`.
     pub(super) fn roll(&mut self, sides: u32) -> u32
         requires { 0 < sides }
         ensures { result < sides }
@@ -25,7 +25,7 @@ impl Dice {
     }
 }
 
-/// The letter of the n-th of three participants.
+/// Returns the letter of the n-th of three participants.
 pub(super) fn letter(n: u32) -> u8 {
     match n % 3 {
         0 => b'N',

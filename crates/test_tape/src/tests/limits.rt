@@ -1,4 +1,4 @@
-//! The greatest listing, and a tape that is filled to a limit beyond the numbers of version 1's packets.
+//! Tests the greatest listing, and a tape that is filled to a limit beyond the numbers of version 1's packets.
 
 use super::steps::Kind::{Cancel, Correct, Reinstate, Report};
 use super::steps::Step::{Consolidated, Sends};
@@ -12,7 +12,7 @@ use tape_types::{Listing, ListingFault, Symbol};
 
 const LETTERS: &[u8; 26] = b"ABCDEFGHIJKLMNOPQRSTUVWXYZ";
 
-/// The symbol of three letters that is the one after `at` others in the order of the alphabet.
+/// Returns the symbol of three letters that `at` others precede in alphabetical order.
 fn symbol_at(at: usize) -> Option<Symbol> {
     let first = *LETTERS.get(at / 676)?;
     let second = *LETTERS.get(at / 26 % 26)?;
@@ -28,7 +28,7 @@ fn symbols(alloc: Global, count: usize) -> Option<Vec<Symbol>> {
     Some(symbols)
 }
 
-/// The listing of as many symbols and of every participant, or why there is none.
+/// Returns the listing of `count` symbols and every participant, or why there is none.
 fn listed(alloc: Global, count: usize) -> Option<Result<Listing, ListingFault>> {
     let symbols = symbols(alloc, count)?;
     let participants = participants(alloc, LETTERS)?;
@@ -39,17 +39,18 @@ fn listing(alloc: Global, count: usize) -> Option<Listing> {
     listed(alloc, count)?.ok()
 }
 
-/// Why there is no listing of so many symbols.
+/// Returns why there is no listing of `count` symbols.
 fn fault_of_many(alloc: Global, count: usize) -> Option<ListingFault> {
     listed(alloc, count)?.err()
 }
 
-/// A tape of as many symbols and of every participant, over the indexes.
+/// Returns a tape of `count` symbols and every participant, over the indexes.
 fn tape(alloc: Global, count: usize) -> Option<Tape<IndexStore>> {
     Tape::new(alloc, listing(alloc, count)?, 10, Matrix::One).ok()
 }
 
-/// Where the symbol after `at` others stands in a tape's listing, and how many symbols and participants that has.
+/// Returns where the symbol that `at` others precede stands in a tape's listing, and how many symbols and participants that
+/// has.
 fn sizes(tape: &Tape<IndexStore>, at: usize) -> Option<(usize, usize, usize)> {
     let listing = tape.listing();
     let position = listing.position(symbol_at(at)?)?;
@@ -60,7 +61,7 @@ fn sizes(tape: &Tape<IndexStore>, at: usize) -> Option<(usize, usize, usize)> {
     ))
 }
 
-/// The same of a new tape.
+/// Returns the same for a new tape.
 fn sizes_of_new(alloc: Global, count: usize, at: usize) -> Option<(usize, usize, usize)> {
     sizes(&tape(alloc, count)?, at)
 }
@@ -75,14 +76,14 @@ fn the_greatest_listing_makes_a_tape(rt: HostRuntime) {
     assert_eq!(rt; one_more, Some(ListingFault::TooMany));
 }
 
-/// How many reports stand on the tape before its first and its last one are corrected. The last ones have tape numbers that no packet
-/// of version 1 has.
+/// The number of reports that stand on the tape before its first and its last one are corrected. The last ones have tape
+/// numbers that no packet of version 1 has.
 const REPORTS: u32 = 1_048_580;
 
-/// The most entries of the tape: the reports, and what comes after them.
+/// The limit of the tape in entries: the reports, and what comes after them.
 const LIMIT: u32 = 1_048_587;
 
-/// The first report has the lowest price from now on, and the last one the highest, with two hundred shares more.
+/// After the corrections, the first report has the lowest price, and the last one the highest, with two hundred more shares.
 const CORRECTED: Figures = Figures {
     opening: Some(Point(90_000, 1, b'N')),
     high: Some(Point(110_000, REPORTS, b'N')),
@@ -92,7 +93,7 @@ const CORRECTED: Figures = Figures {
     trades: REPORTS,
 };
 
-/// Without the first and the last one.
+/// After the first and the last report are cancelled.
 const CANCELLED: Figures = Figures {
     opening: Some(Point(100_000, 2, b'N')),
     high: Some(Point(100_000, 2, b'N')),
@@ -135,13 +136,14 @@ const TO_THE_LIMIT: [(Step, Told); 11] = [
     ),
 ];
 
-/// How many reports a tape takes, each by its own number, and how many of the steps after them it answers as it has to.
+/// Returns how many reports a tape takes, each with its own number, and how many of the steps after them it answers as
+/// expected.
 fn filled(tape: &mut Tape<IndexStore>) -> (u32, usize) {
     let taken = fills(tape, REPORTS);
     (taken, told_so(tape, &TO_THE_LIMIT))
 }
 
-/// The same of a new tape whose limit is the last step's place.
+/// Returns the same for a new tape whose limit is the last step's place.
 fn filled_anew(alloc: Global) -> Option<(u32, usize)> {
     let listing = listing_of(alloc, &[AB], b"N")?;
     let mut tape = Tape::new(alloc, listing, LIMIT, Matrix::One).ok()?;

@@ -1,5 +1,5 @@
-//! What no clause says: that rows are made where there is memory, by workers that run at once, when the gate is called, and
-//! the printed text.
+//! Tests what no clause states: that rows are made if there is memory, by workers that run at once, when the gate is called,
+//! and the printed text.
 
 use super::steps::Kind::Report;
 use super::steps::Step::Sends;
@@ -29,7 +29,7 @@ GH,Q,40000,4,40000,4,40000,4,40000,4,100,1\n\
 IJ,ALL,50000,5,50000,5,50000,5,50000,5,100,1\n\
 IJ,Q,50000,5,50000,5,50000,5,50000,5,100,1\n";
 
-/// A report by Q in each of five symbols, at as many dollars as its number.
+/// A report by Q in each of five symbols, priced at as many dollars as its number.
 const REPORTS: [(Step, Told); 5] = [
     (
         Sends(b'Q', 1, b"AB      ", Report(b"@   ", 10_000)),
@@ -53,7 +53,7 @@ const REPORTS: [(Step, Told); 5] = [
     ),
 ];
 
-/// Five symbols and two participants.
+/// Returns a listing of five symbols and two participants.
 fn listing(alloc: Global) -> Option<Listing> {
     listing_of(
         alloc,
@@ -68,12 +68,12 @@ fn listing(alloc: Global) -> Option<Listing> {
     )
 }
 
-/// A tape of five symbols without a report.
+/// Returns a tape of five symbols without a report.
 fn empty(alloc: Global) -> Option<Tape<ScratchStore>> {
     Tape::new(alloc, listing(alloc)?, 10, Matrix::One).ok()
 }
 
-/// The rows of a tape that takes the five reports, made by so many workers past a gate.
+/// Sends the five reports to a tape and returns its rows, which `workers` workers make with a gate.
 fn made_of<R: Threads + Sync, G: Gate + Sync>(
     rt: &R,
     alloc: Global,
@@ -87,7 +87,7 @@ fn made_of<R: Threads + Sync, G: Gate + Sync>(
     Some(rows(rt, alloc, tape, workers, gate))
 }
 
-/// The same of a new tape.
+/// Returns the same for a new tape.
 fn made<R: Threads + Sync, G: Gate + Sync>(
     rt: &R,
     alloc: Global,
@@ -97,13 +97,13 @@ fn made<R: Threads + Sync, G: Gate + Sync>(
     made_of(rt, alloc, &mut empty(alloc)?, workers, gate)
 }
 
-/// Whether the text of the rows is this.
+/// Returns whether the text of the rows is `wanted`.
 fn is_spelled(alloc: Global, rows: &[Row], wanted: &[u8]) -> bool {
     let mut text = Vec::new(alloc);
     write_report(alloc, rows, &mut text).is_ok() && text.as_slice() == wanted
 }
 
-/// Whether so many workers make the report's text.
+/// Returns whether `workers` workers make the report's text.
 fn is_text_made<R: Threads + Sync>(rt: &R, alloc: Global, workers: usize) -> bool {
     match made(rt, alloc, workers, &NoGate) {
         Some(Ok(rows)) => is_spelled(alloc, rows.as_slice(), FIVE),
@@ -118,7 +118,7 @@ fn every_number_of_workers_makes_the_same_bytes(rt: HostRuntime) {
     }
 }
 
-/// The fault of so many workers.
+/// Returns the fault of making the rows with `workers` workers.
 fn fault<R: Threads + Sync>(rt: &R, alloc: Global, workers: usize) -> Option<ReportFault> {
     made(rt, alloc, workers, &NoGate)?.err()
 }
@@ -131,7 +131,7 @@ fn no_worker_and_one_too_many_are_refused(rt: HostRuntime) {
     }
 }
 
-/// How many turns a worker waits at most.
+/// The greatest number of turns that a worker waits.
 const TURNS: u32 = 100_000_000;
 
 /// Holds each of the first two or three workers after its first symbol until the others' first symbols are done.
@@ -143,7 +143,7 @@ struct Meeting {
 }
 
 impl Meeting {
-    /// A meeting of so many workers where none is yet.
+    /// Makes a meeting of `workers` workers, none of which has arrived.
     fn of(workers: usize) -> Self {
         Meeting {
             workers,
@@ -152,7 +152,7 @@ impl Meeting {
         }
     }
 
-    /// Whether the first symbol of this worker is done, or the worker is not awaited.
+    /// Returns whether the first symbol of this worker is done, or the worker is not awaited.
     fn is_done(&self, worker: usize) -> bool {
         match self.done.get(worker) {
             Some(done) if worker < self.workers => done.load(Ordering::SeqCst) == 1,
@@ -177,7 +177,7 @@ impl Gate for Meeting {
     }
 }
 
-/// How many of so many workers met, and how many rows they made.
+/// Returns how many of `workers` workers met, and how many rows they made.
 fn meeting_of<R: Threads + Sync>(rt: &R, alloc: Global, workers: usize) -> (u32, usize) {
     let meeting = Meeting::of(workers);
     match made(rt, alloc, workers, &meeting) {
@@ -192,7 +192,7 @@ fn workers_run_at_once(rt: HostRuntime) {
     assert_eq!(rt; meeting_of(&rt, rt.alloc(), 3), (3, 10));
 }
 
-/// A gate that counts its calls, and those of workers beside the first, and adds up the turns that it is told.
+/// A gate that counts its calls and those of workers other than the first, and adds up the turns that it is told.
 #[derive(Drop)]
 struct Count {
     calls: AtomicU32,
@@ -210,9 +210,9 @@ impl Gate for Count {
     }
 }
 
-/// How often so many workers called the gate while they made the rows of a tape, and how many rows they made. `None` where
-/// the turns do not add up as those of two workers that each count their own symbols from 1, or where one worker alone gave another
-/// number than 0.
+/// Returns how often `workers` workers called the gate while they made the rows of a tape, and how many rows they made, or
+/// `None` if the turns do not add up as those of two workers that each count their own symbols from 1, or if a single worker
+/// had another number than 0.
 fn calls<R: Threads + Sync>(
     rt: &R,
     alloc: Global,
@@ -234,12 +234,12 @@ fn calls<R: Threads + Sync>(
     Some((calls, rows.len()))
 }
 
-/// The sum of the numbers from 1 to this one.
+/// Returns the sum of the numbers from 1 to `most`.
 fn up_to(most: u32) -> u32 {
     most.saturating_mul(most.saturating_add(1)) / 2
 }
 
-/// A tape of a hundred symbols, `A0` to `J9`, without a report.
+/// Returns a tape of a hundred symbols, `A0` to `J9`, without a report.
 fn hundred(alloc: Global) -> Option<Tape<ScratchStore>> {
     let mut symbols = Vec::new(alloc);
     for index in 0..100u8 {
@@ -252,12 +252,12 @@ fn hundred(alloc: Global) -> Option<Tape<ScratchStore>> {
     Tape::new(alloc, listing, 1, Matrix::One).ok()
 }
 
-/// What `calls` tells of the tape of five symbols.
+/// Returns `calls` of the tape of five symbols.
 fn calls_of_five<R: Threads + Sync>(rt: &R, alloc: Global, workers: usize) -> Option<(u32, usize)> {
     calls(rt, alloc, &empty(alloc)?, workers)
 }
 
-/// What `calls` tells of the tape of a hundred symbols, of which two workers have more than one in a piece.
+/// Returns `calls` of the tape of a hundred symbols, of which two workers have more than one in a piece.
 fn calls_of_hundred<R: Threads + Sync>(
     rt: &R,
     alloc: Global,
@@ -282,7 +282,7 @@ fn the_gate_is_called_after_each_symbol(rt: HostRuntime) {
     }
 }
 
-/// A writer that takes nothing.
+/// A writer whose every write fails.
 #[derive(Drop)]
 struct Full;
 

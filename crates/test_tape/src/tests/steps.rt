@@ -1,4 +1,4 @@
-//! The steps of a row: what a tape is sent or asked, and what it answers.
+//! Runs the steps of a row: what a tape is sent or asked, and what it answers.
 
 use reports::{Content, Header, Message, Moment};
 use sale_matrix::Condition;
@@ -17,16 +17,16 @@ pub(super) enum Kind {
     Report(&'static [u8; 4], u64),
     /// A cancel of a message number.
     Cancel(u32),
-    /// A correction of a message number: the condition, the price and the shares that it has from now on.
+    /// A correction of a message number: its new condition, price and shares.
     Correct(u32, &'static [u8; 4], u64, u32),
     /// A reinstatement of a message number.
     Reinstate(u32),
 }
 
-/// What is done next. What is asked is asked of AB.
+/// The next step. Summaries are asked of AB.
 #[derive(Clone, Copy)]
 pub(super) enum Step {
-    /// A message of a participant's letter, its number and a symbol.
+    /// A message, by its participant's letter, its number and its symbol.
     Sends(u8, u32, &'static [u8; 8], Kind),
     /// The consolidated summary.
     Consolidated,
@@ -39,7 +39,7 @@ pub(super) enum Told {
     Number(u32),
     /// A summary.
     Shows(Figures),
-    /// Nothing to tell.
+    /// There is no answer.
     Nothing,
 }
 
@@ -137,12 +137,12 @@ fn consolidated<S: Store>(tape: &Tape<S>) -> Option<Summary> {
     tape.summary(Symbol::try_new(*AB)?)
 }
 
-/// The message that a step sends.
+/// Returns the message that a step sends.
 fn sent(who: u8, number: u32, symbol: &[u8; 8], kind: Kind) -> Option<Message> {
     message(header(who, number, symbol)?, kind)
 }
 
-/// Sends a step's message or asks for what it shows, and tells the answer.
+/// Sends a step's message or asks for what it shows, and returns the answer.
 fn take<S: Store>(tape: &mut Tape<S>, step: Step) -> Told {
     match step {
         Step::Sends(who, number, symbol, kind) => admits(tape, sent(who, number, symbol, kind)),
@@ -161,7 +161,7 @@ pub(super) fn told_so<S: Store>(tape: &mut Tape<S>, steps: &[(Step, Told)]) -> u
     steps.len()
 }
 
-/// Sends equal reports of N in AB, numbered from 1, until one is not answered by its own number, and tells how many were.
+/// Sends equal reports of N in AB, numbered from 1, until one is not answered by its own number, and returns how many were.
 pub(super) fn fills<S: Store>(tape: &mut Tape<S>, count: u32) -> u32 {
     for before in 0..count {
         let number = before + 1;
@@ -181,7 +181,7 @@ fn symbols(alloc: Global, names: &[&[u8; 8]]) -> Option<Vec<Symbol>> {
     Some(symbols)
 }
 
-/// The participants of these letters.
+/// Returns the participants of these letters.
 pub(super) fn participants(alloc: Global, letters: &[u8]) -> Option<Vec<Participant>> {
     let mut participants = Vec::new(alloc);
     for letter in letters {
@@ -190,7 +190,7 @@ pub(super) fn participants(alloc: Global, letters: &[u8]) -> Option<Vec<Particip
     Some(participants)
 }
 
-/// The listing of these symbols and of the participants of these letters.
+/// Returns the listing of these symbols and of the participants of these letters.
 pub(super) fn listing_of(alloc: Global, names: &[&[u8; 8]], letters: &[u8]) -> Option<Listing> {
     let symbols = symbols(alloc, names)?;
     let participants = participants(alloc, letters)?;

@@ -1,4 +1,4 @@
-//! What stores answer through the trait, beside worked summaries and beside each other.
+//! Tests what stores return through the trait, against worked summaries and against each other.
 ghost use Rattle.std.specs.Prelude.{◌≡◌, None};
 ghost use Rattle.std.specs.FinMap as map;
 
@@ -14,7 +14,7 @@ mod agreement;
 mod front;
 mod rows;
 
-/// An effect of a hundred shares that counts for the high, the low and the volume.
+/// Returns an effect of a hundred shares that counts for the high, the low and the volume.
 fn effect(who: u8, last: LastRule, price: u64) -> Option<Effect> {
     Some(Effect {
         price: Price::try_new(price)?,
@@ -26,28 +26,28 @@ fn effect(who: u8, last: LastRule, price: u64) -> Option<Effect> {
     })
 }
 
-/// Whether a call made as few searches as it is promised.
+/// Returns whether a call made as few searches as promised.
 fn is_few(searches: &Searches) -> bool {
     searches.made() <= 24
 }
 
-/// What is done at a place.
+/// A change at a place.
 #[derive(Clone, Copy)]
 enum Kind {
-    /// An effect is put where there is none.
+    /// An effect is put at a place that has none.
     Put,
     /// The effect is replaced.
     Swap,
-    /// The same in two steps.
+    /// The effect is replaced in two steps.
     Commit,
-    /// Another effect is staged and given up.
+    /// Another effect is staged and dropped.
     Abort,
     /// The effect is taken.
     Take,
 }
 
-/// A store with nothing staged. Each change is told to be well where the place was as it has to be, there was room and each call
-/// made at most 24 searches.
+/// A store with nothing staged. A change went well if the place was as expected, there was room and each call made at most 24
+/// searches.
 #[derive(Drop)]
 struct Settled<S: Store> {
     store: S,
@@ -74,7 +74,7 @@ impl<S: Store> Settled<S> {
         self.store.get(place, &mut Searches::new())
     }
 
-    /// Whether a look at a place takes few searches.
+    /// Returns whether a look at a place takes few searches.
     fn is_found_soon(&self, place: TapeNumber) -> bool {
         let mut searches = Searches::new();
         let _effect = self.store.get(place, &mut searches);
@@ -85,7 +85,7 @@ impl<S: Store> Settled<S> {
         self.store.summary(&mut Searches::new())
     }
 
-    /// Whether a summary takes few searches.
+    /// Returns whether a summary takes few searches.
     fn is_summed_soon(&self) -> bool {
         let mut searches = Searches::new();
         let _summary = self.store.summary(&mut searches);
@@ -126,7 +126,7 @@ impl<S: Store> Settled<S> {
         is_hidden && is_few(&staging) && is_few(&making)
     }
 
-    /// Stages a change and gives it up.
+    /// Stages a change and drops it.
     fn abort(&mut self, place: TapeNumber, effect: Effect) -> bool {
         if self.get(place).is_none() {
             return false;

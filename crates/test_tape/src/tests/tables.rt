@@ -1,6 +1,6 @@
-//! Tables in the forms that they come in, how each fault prints, and a read and a write that fail.
+//! Tests tables in the forms that they come in, how each fault prints, and a read and a write that fail.
 
-use day_tables::{TableFault, TableWriteFault, read_table, write_table};
+use csv_messages::{TableFault, TableWriteFault, read_table, write_table};
 use reports::Message;
 use std::alloc::Global;
 use std::io;
@@ -17,8 +17,8 @@ cancel,N,3,8,AB,2,,,
 reinstate,Q,7,9,BRK.B,4294967295,,,
 ";
 
-/// Those messages as a spreadsheet may write them: a byte order mark, its own order of columns and remarks among them, CRLF, quotes,
-/// blank lines, letters for kinds, and numbers and prices with zeros.
+/// Those messages as a spreadsheet may write them: a byte order mark, its own order of columns with remarks among them, CRLF,
+/// quotes, blank lines, letters for kinds, and numbers and prices with zeros.
 const SPREADSHEET: &[u8] = b"\xef\xbb\xbf\
 #desk,symbol,target,\"condition\",price,size,moment,number,participant,kind,#desk\r
 \r
@@ -29,7 +29,7 @@ const SPREADSHEET: &[u8] = b"\xef\xbb\xbf\
 ,AB,2,,,,8,3,N,X,\r
 ,BRK.B,4294967295,,,,9,7,Q,S,";
 
-/// The messages of a table that is read.
+/// Returns the messages of a table that is read.
 fn read<A: Abort>(rt: &A, alloc: Global, table: &[u8]) -> Vec<Message> {
     match read_table(alloc, table) {
         Ok(messages) => messages,
@@ -37,7 +37,7 @@ fn read<A: Abort>(rt: &A, alloc: Global, table: &[u8]) -> Vec<Message> {
     }
 }
 
-/// Whether messages are written as this table.
+/// Returns whether messages are written as this table.
 fn is_written(alloc: Global, messages: &[Message], table: &[u8]) -> bool {
     let mut text = Vec::new(alloc);
     write_table(alloc, messages, &mut text).is_ok() && text.as_slice() == table
@@ -102,7 +102,7 @@ fn a_header_rows_fault_names_the_column(rt: HostRuntime) {
     assert_fault(&rt, alloc, alone, "the table has no row");
 }
 
-/// Asserts what the fault of a row prints, the third of a table of reports.
+/// Asserts what the fault of a row prints that is the third of a table of reports.
 fn assert_row_fault<A: Abort>(rt: &A, alloc: Global, row: &[u8], printed: &str) {
     let mut table = Vec::new(alloc);
     let rows = [

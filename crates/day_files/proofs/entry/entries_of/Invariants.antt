@@ -4,7 +4,7 @@ use Rattle.day_files.specs.Entries.{each_entry, entries_at}
 use Rattle.day_files.proofs.Fronts.{with_front}
 use Rattle.day_files.proofs.entry.entries_of.Given as goal
 
--- the entries so far, and those of the values that are left, are the list's
+-- the entries so far and those of the values that are left are those of the list
 abbrev pub invariant-loop-item : goal.invariant-loop-item
 invariant-loop-item g l =
     with_front l.entries.items (each_entry g.E.Entry.entry l.fn.key (length l.entries.items + 1) (items_view (drop l.item-index l.item-items)))

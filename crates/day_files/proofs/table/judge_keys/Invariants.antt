@@ -4,7 +4,7 @@ use Rattle.day_files.specs.Tables.{known_keys}
 use Rattle.day_files.proofs.TableLemmas.{known_names}
 use Rattle.day_files.proofs.table.judge_keys.Given as goal
 
--- the names that are left decide
+-- the names so far are keys, so those that are left decide
 abbrev pub invariant-loop-name : goal.invariant-loop-name
 invariant-loop-name l = record {
   can : (goal.iterator-loop-name).can_next l.name-iterator;

@@ -1,4 +1,4 @@
-use Rattle.table_texts.specs.declared.text_end.TextEnd.TheVariants.{OutOfMemory, WriteFault}
+use Rattle.message_texts.specs.declared.text_end.TextEnd.TheVariants.{OutOfMemory, WriteFault}
 use Rattle.desk_words.proofs.RunLemmas.{part_decoded, silent_else}
 use Rattle.desk_words.proofs.program.run_decode.Goals as goal
 

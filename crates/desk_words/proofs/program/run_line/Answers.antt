@@ -1,4 +1,4 @@
-use Rattle.table_days.specs.declared.table_end.TableEnd.TheVariants.{OutOfMemory, WriteFault}
+use Rattle.csv_days.specs.declared.table_end.TableEnd.TheVariants.{OutOfMemory, WriteFault}
 use Rattle.desk_words.proofs.RunLemmas.{part_known, silent_else}
 use Rattle.desk_words.proofs.program.run_line.Goals as goal
 

@@ -1,4 +1,4 @@
-use Rattle.row_reads.specs.Lemmas.WriteLemmas.{WritesUpTo-none}
+use Rattle.whole_io.specs.Lemmas.WriteLemmas.{WritesUpTo-none}
 use Rattle.desk_words.proofs.telling.say_open_fault.Goals as goal
 
 -- nothing is said

@@ -1,4 +1,4 @@
-use Rattle.row_reads.specs.Lemmas.WriteLemmas.{WritesUpTo-none}
+use Rattle.whole_io.specs.Lemmas.WriteLemmas.{WritesUpTo-none}
 use Rattle.desk_words.proofs.telling.say_told.Goals as goal
 
 -- nothing is said

@@ -6,6 +6,6 @@ use Rattle.feed_words.proofs.arguments.ended_words.Given as goal
 
 abbrev pub invariant-loop-word : goal.invariant-loop-word
 invariant-loop-word l = record {
-  -- the text so far, and that of the words that are left, are those after the first
+  -- the text so far and that of the words that are left make the text of all words after the first
   text : l.text.items ++ flat_map ended_word (into_iter_items l.word-iterator) ≡ flat_map ended_word (drop 1 (into_iter_items l.fn.words));
 }

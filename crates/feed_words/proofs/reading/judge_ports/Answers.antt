@@ -9,7 +9,7 @@ overflow_add-rest c =
     let within = position_within _ rest c.in-Some.end c.in-Some.ensures in
     omega arith
 
--- the first of what is left is no port, so the text lists none
+-- the first of what is left is no port, so the text lists no ports
 pub returns-in_err-port_of-clause-ports : goal.returns-in_err-port_of-clause-ports
 returns-in_err-port_of-clause-ports c = (
   search rules,
@@ -18,7 +18,7 @@ returns-in_err-port_of-clause-ports c = (
       absurd (cc (c.in_err-port_of.ensures.each first.0 first.1)),
 )
 
--- the port that was judged stands before those of what is left
+-- the port that was checked stands before those of what is left
 pub loop-end-preserved : goal.loop-end-preserved
 loop-end-preserved c =
     let rest = c.loop-end.rest.now in

@@ -9,7 +9,7 @@ overflow_add-rest c =
     let within = position_within _ rest c.in-Some.end c.in-Some.ensures in
     omega arith
 
--- the ports behind the one that was taken follow it
+-- the ports behind the one that was added follow it
 pub loop-end-preserved : goal.loop-end-preserved
 loop-end-preserved c =
     let rest = c.loop-end.rest.now in

@@ -2,7 +2,7 @@ use Rattle.std.proofs.Common.{◌++◌, ◌≤◌, ℕ, List, length}
 use Rattle.feed_words.specs.Values.{ListPorts}
 use Rattle.feed_words.proofs.reading.ports_of.Given as goal
 
--- the ports so far, and those of what is left, are the text's
+-- the ports so far and those of what is left are those of the text
 abbrev pub invariant-loop-end : goal.invariant-loop-end
 invariant-loop-end l = record {
   short : length l.rest ≤ length l.fn.text;

@@ -1,7 +1,7 @@
 use Rattle.std.proofs.Common.{◌≡◌, ◌+◌, ◌-◌, [], arith, suc}
 use Rattle.program_words.proofs.arguments.argument_at.Goals as goal
 
--- past the last argument there is none
+-- past the last argument there is no argument
 pub returns-in-None : goal.returns-in-None
 returns-in-None c =
     let at = c.loop.invariant (c.args.place - c.loop.counter) in

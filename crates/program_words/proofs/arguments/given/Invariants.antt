@@ -3,7 +3,7 @@ use Rattle.feed_words.specs.Words.{words_of}
 use Rattle.program_words.specs.Given.{given_with, nothing_given}
 use Rattle.program_words.proofs.arguments.given.Given as goal
 
--- what all arguments give is what is left gives after what is given
+-- what all arguments give is what those that are left give after those so far
 abbrev pub invariant-loop-argument : goal.invariant-loop-argument
 invariant-loop-argument l = record {
   same : given_with l.word nothing_given 0 (words_of l.fn.bytes) ≡ given_with l.word l.given l.place (words_of l.rest);

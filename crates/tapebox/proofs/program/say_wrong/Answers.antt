@@ -1,7 +1,7 @@
 use Rattle.std.proofs.Common.{ℕ, List, subst}
 use Rattle.program_words.specs.WrongTexts.{wrong_text}
-use Rattle.row_reads.specs.Lemmas.WriteLemmas.{WritesUpTo-none}
-use Rattle.row_reads.specs.Writing.{WritesPrefix}
+use Rattle.whole_io.specs.Lemmas.WriteLemmas.{WritesUpTo-none}
+use Rattle.whole_io.specs.Writing.{WritesPrefix}
 use Rattle.tapebox.proofs.program.say_wrong.Goals as goal
 
 pub returns-in-Ok-clause-said : goal.returns-in-Ok-clause-said

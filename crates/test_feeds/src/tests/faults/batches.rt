@@ -1,4 +1,4 @@
-//! A batch whose reader or writer fails.
+//! Tests a batch whose reader or writer fails.
 
 use super::fails_at::FailsAt;
 use super::{MOST, met_faults, text_of};
@@ -24,7 +24,7 @@ fn input(alloc: Global) -> Result<String, Fail> {
     Ok(text)
 }
 
-/// How many messages a day has answered, each by the number of its entry; none where it is not so.
+/// Returns how many messages a day has answered, each by the number of its entry, or `None` if an answer is another.
 fn answered(day: &Day) -> Option<usize> {
     let mut count: usize = 0;
     for answer in &day.answers {
@@ -37,7 +37,8 @@ fn answered(day: &Day) -> Option<usize> {
     (day.tape.entries().len() == count && !day.is_stopped).then_some(count)
 }
 
-/// How many messages are answered in what a batch gives back, where it has a day; none where its answers are not as they must be.
+/// Returns how many messages are answered in what a batch returned, if it has a day, or `None` if its answers are not as they
+/// must be.
 fn kept_answers(kept: &Option<ReadInput>) -> Option<usize> {
     match kept {
         Some(ReadInput::Answered(day)) => answered(day),
@@ -46,8 +47,8 @@ fn kept_answers(kept: &Option<ReadInput>) -> Option<usize> {
     }
 }
 
-/// Whether the read of this number failed, of a batch that wrote nothing then and gives back the day as far as it was read, and else was
-/// done and gives back the whole day.
+/// Whether the read of this number failed: if so, the batch wrote nothing and returned the day as far as it was read; if not,
+/// it was done and returned the whole day.
 fn fails_at_read<T: Threads + Abort + Sync>(rt: &T, alloc: Global, input: &[u8], at: u32) -> bool {
     let mut reader = FailsAt::new(input, 100, at);
     let mut output = Vec::new(alloc);
@@ -75,7 +76,7 @@ fn a_batch_ends_at_each_failed_read_with_nothing_written(rt: HostRuntime) -> Res
     Err("no run met no fault".into())
 }
 
-/// What the batch has to answer: the numbers of the reports' entries.
+/// The batch's answers: the numbers of the reports' entries.
 const ANSWERS: &[u8] = b"1\n2\n3\n4\n5\n6\n7\n8\n9\n10\n11\n12\n13\n14\n15\n16\n17\n18\n19\n20\n\
 21\n22\n23\n24\n25\n26\n27\n28\n29\n30\n31\n32\n33\n34\n35\n36\n37\n38\n39\n40\n";
 
@@ -85,8 +86,8 @@ AB,ALL,100000,1,100000,1,100000,1,100000,40,4000,40\n\
 AB,N,100000,1,100000,1,100000,1,100000,40,4000,40\n\
 CD,ALL,,,,,,,,,0,0\n";
 
-/// Whether the write or the flush of this number failed, of a batch that had written a prefix of the whole text then, and else
-/// all of it.
+/// Whether the write or the flush of this number failed: if so, the batch had written a prefix of the whole text; if not, all
+/// of it.
 fn fails_at_write<T: Threads + Abort + Sync>(
     rt: &T,
     alloc: Global,

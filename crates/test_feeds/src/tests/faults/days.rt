@@ -1,4 +1,4 @@
-//! Reports of Q in AB, the bytes of its line, and a tape.
+//! Reports of Q in AB, the bytes of its line, and a tape of them.
 
 use reports::decode;
 use sale_matrix::Matrix;
@@ -13,7 +13,7 @@ pub(super) const LENGTH: usize = 40;
 /// How many reports a line and a tape have.
 pub(super) const REPORTS: u8 = 12;
 
-/// Q's report under a number.
+/// Q's report with this number.
 pub(super) fn report(number: u8) -> [u8; LENGTH] {
     let mut bytes = [
         0x00, 0x26, 0x52, 0x51, 0x00, 0x00, 0x00, 0x01, 0x00, 0x00, 0x00, 0x00, 0x00, 0x00, 0x00,
@@ -41,7 +41,7 @@ pub(super) fn empty_tape(alloc: Global) -> Option<Tape<IndexStore>> {
     Tape::new(alloc, listing, 100, Matrix::One).ok()
 }
 
-/// Admits Q's report under a number, and tells whether the tape took it.
+/// Admits Q's report with this number, and returns whether the tape took it.
 fn admits(tape: &mut Tape<IndexStore>, number: u8) -> bool {
     match decode(&report(number)) {
         Ok((message, _)) => tape.admit(message).is_ok(),

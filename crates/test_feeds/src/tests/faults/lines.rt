@@ -1,4 +1,4 @@
-//! A line whose reader fails.
+//! Tests a line whose reader fails.
 ghost use Rattle.std.specs.Prelude.{◌≡◌};
 ghost use Rattle.line_ledger.specs.Days.{terms_of};
 
@@ -15,13 +15,13 @@ use std::sync::Wait;
 use std::test::Fail;
 use tape_types::NoGate;
 
-/// How many bytes a read gives at most.
+/// How many bytes a read returns at most.
 const PIECE: usize = 7;
 
-/// How a line ended: how, of how many messages its seat was told, and whether the read that fails came.
+/// How a line ended: why, of how many messages its seat was told, and whether the failing read came.
 type Outcome = (Ended, u32, bool);
 
-/// The day ends Ok, and has as many entries as the seat was told of.
+/// Asserts that the day ends without a fault, with as many entries as the seat was told of.
 fn end_day<D: DayName, A: Abort>(
     rt: &A,
     shared: SharedTape<D>,

@@ -1,4 +1,4 @@
-//! A report whose writer fails.
+//! Tests a report whose writer fails.
 
 use super::fails_at::FailsAt;
 use super::{MOST, days, met_faults, text_of};
@@ -13,7 +13,7 @@ const ROWS: &[u8] = b"\
 AB,ALL,100000,1,100000,1,100000,1,100000,12,1200,12\n\
 AB,Q,100000,1,100000,1,100000,1,100000,12,1200,12\n";
 
-/// Whether the write of this number failed, of a report that had written a prefix of the whole text then, and else all of it.
+/// Whether the write of this number failed: if so, the report had written a prefix of the whole text; if not, all of it.
 fn fails_at_write<A: Abort>(rt: &A, alloc: Global, rows: &[Row], text: &[u8], at: u32) -> bool {
     let mut writer = FailsAt::new(Vec::new(alloc), 7, at);
     let end = write_report(alloc, rows, &mut writer);

@@ -1,4 +1,4 @@
-//! Requests whose reader or writer fails, as they are served and as they are asked.
+//! Tests requests whose reader or writer fails, on the side that serves and on the side that asks.
 
 use super::fails_at::FailsAt;
 use super::{MOST, days, met_faults};
@@ -23,7 +23,7 @@ const REQUESTS: [u8; 3 * REQUEST] = [
     0x00, 0x00, 0x00, 0x00, 0x00, 0x00, 0x00, 0x07, 0x00, 0x00, 0x00, 0x01, 0x00, 0x03,
 ];
 
-/// How many bytes the answers to the first requests have: to none, to one, to two and to all three.
+/// How many bytes the answers to the first none, one, two and three requests have.
 const ANSWERED: [usize; 4] = [0, 476, 477, 628];
 
 /// The first request.
@@ -35,7 +35,7 @@ fn request() -> Option<Request> {
     })
 }
 
-/// Puts a packet of version 1 to the text, of so many entries from a number on, which are Q's reports.
+/// Appends a packet of version 1 to `text`, with this many entries from a number on, which are Q's reports.
 fn put_packet(text: &mut Vec<u8>, from: u8, count: u8) -> Option<()> {
     text.extend_from_slice(&[1, b'D', 0, 0, 0, 0, 0, 0, 0, 7, 0, 0, 0, from, count])
         .ok()?;
@@ -58,7 +58,7 @@ fn text(alloc: Global) -> Option<Vec<u8>> {
     Some(text)
 }
 
-/// The answers to the first so many of the requests.
+/// The answers to the first `many` requests.
 fn answers(text: &[u8], many: u32) -> &[u8] {
     match ANSWERED.get(many as usize) {
         Some(length) => text.get(..*length).unwrap_or(text),
@@ -77,7 +77,7 @@ fn served<R: Read, W: Write>(
     serve(alloc, &mut source, SESSION, Version::One, reader, writer)
 }
 
-/// Whether the read of this number failed. Written are the answers to the served requests and nothing else.
+/// Whether the read of this number failed. Only the answers to the served requests were written.
 fn serving_fails_at_read<A: Abort>(
     rt: &A,
     alloc: Global,
@@ -113,8 +113,8 @@ fn serving_ends_at_each_failed_read_with_whole_answers_written(
     Err("no run met no fault".into())
 }
 
-/// Whether the write or the flush of this number failed. Written are the answers to the served requests then, and of the next one
-/// a prefix.
+/// Whether the write or the flush of this number failed. If so, the answers to the served requests were written, and a prefix
+/// of the next one.
 fn serving_fails_at_write<A: Abort>(
     rt: &A,
     alloc: Global,
@@ -153,7 +153,7 @@ fn serving_ends_at_each_failed_write_within_the_next_answer(rt: HostRuntime) -> 
     Err("no run met no fault".into())
 }
 
-/// Whether the read of this number failed. The request is written whole.
+/// Whether the read of this number failed. The request was written whole.
 fn asking_fails_at_read<A: Abort>(
     rt: &A,
     alloc: Global,
@@ -186,7 +186,7 @@ fn asking_ends_at_each_failed_read_with_its_request_written(rt: HostRuntime) -> 
     Err("no run met no fault".into())
 }
 
-/// Whether the write or the flush of this number failed. Written is a prefix of the request then, and nothing is read.
+/// Whether the write or the flush of this number failed. If so, a prefix of the request was written, and nothing was read.
 fn asking_fails_at_write<A: Abort>(
     rt: &A,
     alloc: Global,

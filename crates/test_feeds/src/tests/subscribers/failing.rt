@@ -1,4 +1,4 @@
-//! Readers and writers that fail, are slow, are interrupted or take nothing, and sources that grow or fail.
+//! Tests readers and writers that fail, are slow, are interrupted or take nothing, and sources that grow or fail.
 ghost use Rattle.std.specs.Prelude.{take};
 
 use super::feed::{SESSION, equal_reports};
@@ -10,7 +10,7 @@ use std::io::{ErrorKind, Read, Write};
 use tape_core::Entry;
 use tape_frames::{SliceSource, Source, Version};
 
-/// A reader that gives one byte at a time, is interrupted before each, and fails once it gave a number of them.
+/// A reader that returns one byte at a time, is interrupted before each, and fails after a number of them.
 #[derive(Drop)]
 struct SlowReads<'a> {
     left: &'a [u8],
@@ -33,7 +33,7 @@ impl Read for SlowReads<'_> {
     }
 }
 
-/// A reader of these bytes that fails once it gave this many of them.
+/// A reader of these bytes that fails after this many of them.
 fn slow(left: &[u8], until_fault: u32) -> SlowReads<'_> {
     SlowReads {
         left,
@@ -42,8 +42,8 @@ fn slow(left: &[u8], until_fault: u32) -> SlowReads<'_> {
     }
 }
 
-/// A writer that takes one byte at a time, is interrupted before each, and fails at its call of this number or later.
-/// It counts its other calls.
+/// A writer that takes one byte at a time, is interrupted before each, and fails at its call of this number or later. It counts
+/// its other calls.
 #[derive(Drop)]
 struct SlowWrites {
     taken: u32,
@@ -53,7 +53,7 @@ struct SlowWrites {
 }
 
 impl SlowWrites {
-    /// A writer that fails after so many calls.
+    /// A writer that fails after this many calls.
     fn new(until_fault: u32) -> Self {
         SlowWrites {
             taken: 0,
@@ -111,7 +111,7 @@ impl Write for TimesOut {
     }
 }
 
-/// A writer that takes nothing, though no call of it fails.
+/// A writer that takes nothing, though none of its calls fails.
 #[derive(Drop)]
 struct TakesNothing;
 
@@ -125,7 +125,7 @@ impl Write for TakesNothing {
     }
 }
 
-/// A writer that takes all, and counts its calls and their bytes.
+/// A writer that takes everything, and counts its calls and their bytes.
 #[derive(Drop)]
 pub(super) struct Calls {
     pub(super) writes: u32,
@@ -134,7 +134,7 @@ pub(super) struct Calls {
 }
 
 impl Calls {
-    /// A writer that was not called yet.
+    /// A writer without calls so far.
     pub(super) fn new() -> Self {
         Calls {
             writes: 0,
@@ -185,7 +185,7 @@ impl Source for Growing<'_> {
     }
 }
 
-/// A source each of whose refreshes is out of memory.
+/// A source whose every refresh is out of memory.
 #[derive(Drop)]
 struct Exhausted<'a> {
     source: &'a SliceSource<'a>,
@@ -207,7 +207,7 @@ impl Source for Exhausted<'_> {
     }
 }
 
-/// How serving two requests of zeros ends, where the reader fails once it gave this many bytes, and how many are answered.
+/// How serving two requests of zeros ends if the reader fails after this many bytes, and how many are answered.
 fn end_of_reads(alloc: Global, until_fault: u32) -> (Option<ServeEnd>, usize) {
     let mut reader = slow(&[0; 28], until_fault);
     let mut output = Vec::new(alloc);
@@ -215,7 +215,7 @@ fn end_of_reads(alloc: Global, until_fault: u32) -> (Option<ServeEnd>, usize) {
     (end, output.len())
 }
 
-/// How serving two requests of zeros ends, by a writer that fails after so many calls, and how many bytes and flushes it
+/// How serving two requests of zeros ends with a writer that fails after this many calls, and how many bytes and flushes it
 /// took.
 fn end_of_writes(alloc: Global, until_fault: u32) -> (Option<ServeEnd>, u32, u32) {
     let mut reader = [0; 28].as_slice();
@@ -232,7 +232,7 @@ fn end_of_calls(alloc: Global, input: &[u8]) -> (Option<ServeEnd>, u32, u32) {
     (end, writer.writes, writer.flushes)
 }
 
-/// How serving these requests ends, over a source that shows one of the entries more at each refresh.
+/// How serving these requests ends over a source that shows one more entry at each refresh.
 fn serve_growing(
     alloc: Global,
     entries: &SliceSource<'_>,
@@ -260,13 +260,13 @@ fn end_of_growing(alloc: Global, input: &[u8], output: &mut Vec<u8>) -> Option<S
     Some(serve_growing(alloc, &source_of(&tape), input, output))
 }
 
-/// What asking for 64 entries from 3 tells, by this reader.
+/// The result of asking for 64 entries from 3 through this reader.
 fn told_by<R: Read>(alloc: Global, reader: &mut R) -> Option<Result<usize, AskFault>> {
     let mut sent = Vec::new(alloc);
     told(alloc, reader, &mut sent)
 }
 
-/// Whether just this is told by the reader.
+/// Whether the result through this reader is the wanted one.
 fn is_told_by<R: Read>(alloc: Global, reader: &mut R, wanted: Result<usize, AskFault>) -> bool {
     told_by(alloc, reader) == Some(wanted)
 }
@@ -276,12 +276,12 @@ fn are_between_refusals(answers: &[u8], len: usize) -> bool {
     answers.len() == len && answers.first() == Some(&0x48) && answers.last() == Some(&0x48)
 }
 
-/// Whether requests for one entry each are answered over what is published when they come.
+/// Whether requests for one entry each are answered from what is published when they come.
 fn is_answered_as_published(alloc: Global) -> Option<bool> {
     let input = requests(alloc, &[(7, 2, 1), (7, 2, 1), (7, 3, 1), (7, 4, 1)])?;
     let mut output = Vec::new(alloc);
     let is_end = end_of_growing(alloc, &input, &mut output) == end(4, Ended::Clean);
-    // Refused, a packet of 59 bytes after its four, another one, refused.
+    // A refusal, a packet of 59 bytes after its four, another one, a refusal.
     Some(is_end && are_between_refusals(&output, 1 + 63 + 63 + 1))
 }
 
@@ -303,7 +303,7 @@ fn a_slow_reader_is_read_to_its_end(rt: HostRuntime) {
     assert_eq!(rt; end_of_reads(rt.alloc(), 29), (end(2, Ended::Clean), 2));
 }
 
-/// Whether so many requests are answered by a writer that fails after so many calls, and it took so many bytes.
+/// Whether this many requests are answered by a writer that fails after this many calls, and it took this many bytes.
 fn ends_so(alloc: Global, calls: u32, served: u32, taken: u32) -> bool {
     end_of_writes(alloc, calls) == (end(served, Ended::WriteFault), taken, served)
 }
@@ -344,7 +344,7 @@ fn a_reader_that_fails_within_an_answer_is_a_read_fault(rt: HostRuntime) {
     }
 }
 
-/// Whether the reader tells of one packet, and then of another session.
+/// Whether this reader leads to one packet, and then to one of another session.
 fn is_told_in_turn<R: Read>(alloc: Global, reader: &mut R) -> bool {
     let other_session = Err(AskFault::Refused(Refusal::OtherSession));
     is_told_by(alloc, reader, Ok(1)) && is_told_by(alloc, reader, other_session)
@@ -357,8 +357,8 @@ fn an_answer_is_read_to_its_end_and_no_further(rt: HostRuntime) {
     assert_eq!(rt; reader.left.len(), 1);
 }
 
-/// What asking for 64 entries from 3 tells, by a writer that fails after so many calls, how many bytes that took, and how
-/// many are left to be read.
+/// The result of asking for 64 entries from 3 through a writer that fails after this many calls, how many bytes it took, and
+/// how many are left to read.
 fn told_of_writes(alloc: Global, calls: u32) -> (Option<Result<usize, AskFault>>, u32, usize) {
     let mut reader = REQUEST.as_slice();
     let mut writer = SlowWrites::new(calls);
@@ -412,19 +412,19 @@ fn a_refresh_without_memory_ends_the_serving_and_nothing_is_answered(rt: HostRun
     assert_eq!(rt; end_without_memory(rt.alloc()), wanted);
 }
 
-/// How serving one request of zeros ends by this reader. The answer is discarded.
+/// How serving one request of zeros ends with this reader. The answer is discarded.
 fn end_by_reader<R: Read>(alloc: Global, reader: &mut R) -> Option<ServeEnd> {
     let mut output = Vec::new(alloc);
     served(alloc, 0, reader, &mut output)
 }
 
-/// How serving one request of zeros ends by this writer.
+/// How serving one request of zeros ends with this writer.
 fn end_by_writer<W: Write>(alloc: Global, writer: &mut W) -> Option<ServeEnd> {
     let mut reader = [0; 14].as_slice();
     served(alloc, 0, &mut reader, writer)
 }
 
-/// What asking for 64 entries from 3 tells by this writer.
+/// The result of asking for 64 entries from 3 through this writer.
 fn told_by_writer<W: Write>(alloc: Global, writer: &mut W) -> Option<Result<usize, AskFault>> {
     let mut reader = REQUEST.as_slice();
     told(alloc, &mut reader, writer)
@@ -469,7 +469,7 @@ fn a_read_that_times_out_is_a_read_fault(rt: HostRuntime) {
     );
 }
 
-/// How serving the request over four entries ends by a slow writer that never fails, and how many bytes and flushes it took.
+/// How serving the request over four entries ends with a slow writer that never fails, and how many bytes and flushes it took.
 fn end_of_a_slow_answer(alloc: Global) -> (Option<ServeEnd>, u32, u32) {
     let mut reader = REQUEST.as_slice();
     let mut writer = SlowWrites::new(1_000);
@@ -477,7 +477,7 @@ fn end_of_a_slow_answer(alloc: Global) -> (Option<ServeEnd>, u32, u32) {
     (end, writer.taken, writer.flushes)
 }
 
-/// What asking for 64 entries from 3 tells by a slow reader of the answer's vector.
+/// The result of asking for 64 entries from 3 through a slow reader of the answer.
 fn told_of_a_slow_answer(alloc: Global) -> Option<Result<usize, AskFault>> {
     let mut reader = slow(&ANSWER, 107);
     told_by(alloc, &mut reader)

@@ -80,7 +80,7 @@ pub(super) fn feed(alloc: Global, limit: u32) -> Option<Feed> {
     Tape::new(alloc, listing(alloc)?, limit, Matrix::One).ok()
 }
 
-/// Admits a message, and tells whether the tape took it.
+/// Admits a message, and returns whether the tape took it.
 pub(super) fn admits(tape: &mut Feed, message: Option<Message>) -> bool {
     match message {
         Some(message) => tape.admit(message).is_ok(),
@@ -88,7 +88,7 @@ pub(super) fn admits(tape: &mut Feed, message: Option<Message>) -> bool {
     }
 }
 
-/// Admits reports up to a number, each at so many hundredths of a cent more than the one before.
+/// Admits reports up to a number, each `rise` hundredths of a cent above the one before.
 fn admits_reports(tape: &mut Feed, count: u32, price: u64, rise: u64) -> bool {
     for number in 1..=count {
         let price = price.wrapping_add(rise.wrapping_mul(u64::from(number)));
@@ -111,7 +111,7 @@ pub(super) fn equal_reports(alloc: Global, count: u32) -> Option<Feed> {
     admits_reports(&mut tape, count, 100_000, 0).then_some(tape)
 }
 
-/// Admits corrections of report 1 up to message number 72, each at a hundredth of a cent more than the one before.
+/// Admits corrections of report 1 up to message number 72, each a hundredth of a cent above the one before.
 fn admits_corrections(tape: &mut Feed) -> bool {
     for number in 2..=72_u32 {
         let price = 100_000 + u64::from(number);
@@ -133,7 +133,7 @@ fn bytes_of(alloc: Global, packet: &Packet) -> Option<Vec<u8>> {
     write_packet(packet, &mut text).is_ok().then_some(text)
 }
 
-/// The bytes of the packet of a version that is cut from the tape from a number on.
+/// The bytes of the packet of this version that is cut from the tape from a number on.
 pub(super) fn packet(
     alloc: Global,
     version: Version,
@@ -147,13 +147,13 @@ pub(super) fn packet(
     bytes_of(alloc, &cut(version, session, from, &SliceSource::of(tape)))
 }
 
-/// The bytes of a beat that gives a number.
+/// The bytes of a beat with this number.
 pub(super) fn beat(alloc: Global, version: Version, session: u64, last: u32) -> Option<Vec<u8>> {
     let last = EntryCount::try_new(version, last)?;
     bytes_of(alloc, &Packet::Beat { session, last })
 }
 
-/// The bytes of an end that gives a number.
+/// The bytes of an end with this number.
 pub(super) fn end(alloc: Global, version: Version, session: u64, count: u32) -> Option<Vec<u8>> {
     let count = EntryCount::try_new(version, count)?;
     bytes_of(alloc, &Packet::End { session, count })

@@ -1,4 +1,4 @@
-//! How the longest answer leaves, and a feed of many full windows.
+//! Tests how the longest answer is written, and a feed of many full windows.
 
 use super::failing::Calls;
 use super::feed::{self, Feed, SESSION};
@@ -49,7 +49,7 @@ fn calls_over(
     (is_answered, writer.writes, writer.flushes, writer.bytes)
 }
 
-/// The same of the most entries, each of which is a correction.
+/// The same for the most entries, each of which is a correction.
 fn calls_of_the_longest(alloc: Global, version: Version) -> Option<(bool, u32, u32, usize)> {
     let asked = most_asked()?;
     let tape = feed::corrected_often(alloc)?;
@@ -73,13 +73,13 @@ const FRESH: Taken = Taken {
     beyond: 0,
 };
 
-/// Whether A brings sixteen entries of the tape from a number on, and all are fresh.
+/// Whether line A brings sixteen entries of the tape from a number on, and all are fresh.
 fn comes(alloc: Global, subscriber: &mut Subscriber, tape: &Feed, from: u32) -> Option<bool> {
     let text = feed::packet(alloc, Version::Two, tape, SESSION, from)?;
     Some(subscriber.deliver(Line::A, &text) == Ok(FRESH))
 }
 
-/// Whether A brings as many entries of the tape above a number as a window has slots, and all are fresh.
+/// Whether line A brings as many entries of the tape above a number as a window has slots, and all are fresh.
 fn fills(alloc: Global, subscriber: &mut Subscriber, tape: &Feed, base: u32) -> bool {
     for place in 0..64_u32 {
         let from = base.wrapping_add(place.wrapping_mul(16)).wrapping_add(1);
@@ -90,7 +90,7 @@ fn fills(alloc: Global, subscriber: &mut Subscriber, tape: &Feed, base: u32) -> 
     true
 }
 
-/// Whether A fills the window above a number, and one drain gives all of it.
+/// Whether line A fills the window above a number, and one drain returns all of it.
 fn is_drained(alloc: Global, subscriber: &mut Subscriber, tape: &Feed, base: u32) -> bool {
     fills(alloc, subscriber, tape, base) && subscriber.drain() == Ok(1_024)
 }
@@ -105,14 +105,14 @@ fn drained(alloc: Global, subscriber: &mut Subscriber, tape: &Feed, windows: u32
     windows
 }
 
-/// How many of this many full windows a new subscriber drains, and whether it holds the whole tape then.
+/// How many of this many full windows a new subscriber drains, and whether it then holds the whole tape.
 fn drained_anew(alloc: Global, tape: &Feed, windows: u32) -> Option<(u32, bool)> {
     let mut subscriber = subscriber(alloc, 200_000)?;
     let drained = drained(alloc, &mut subscriber, tape, windows);
     Some((drained, holds(&subscriber, tape)?))
 }
 
-/// The same of a tape of so many reports.
+/// The same for a tape of this many reports.
 fn full_windows(alloc: Global, windows: u32) -> Option<(u32, bool)> {
     let tape = feed::reports(alloc, windows.wrapping_mul(1_024), 100_000)?;
     drained_anew(alloc, &tape, windows)

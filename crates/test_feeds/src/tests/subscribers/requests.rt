@@ -1,4 +1,4 @@
-//! Requests that are served and asked by any reader and writer, and the most that are served.
+//! Tests requests that are served and asked through any reader and writer, and the most that are served.
 
 use super::feed::{Feed, SESSION, equal_reports};
 use retransmit::{AskFault, Ended, ServeEnd, ask, serve};
@@ -52,7 +52,7 @@ fn put_request(text: &mut Vec<u8>, session: u64, from: u32, count: u16) -> Resul
     text.extend_from_slice(&count.to_be_bytes())
 }
 
-/// Appends the bytes of these requests, and tells whether memory sufficed.
+/// Appends the bytes of these requests, and returns whether memory sufficed.
 fn put_requests(text: &mut Vec<u8>, asked: &[(u64, u32, u16)]) -> bool {
     for (session, from, count) in asked.iter().copied() {
         if put_request(text, session, from, count).is_err() {
@@ -68,7 +68,7 @@ pub(super) fn requests(alloc: Global, asked: &[(u64, u32, u16)]) -> Option<Vec<u
     put_requests(&mut text, asked).then_some(text)
 }
 
-/// An end of the serving.
+/// How the serving of requests ended.
 pub(super) fn end(served: u32, ended: Ended) -> Option<ServeEnd> {
     Some(ServeEnd { served, ended })
 }
@@ -85,7 +85,7 @@ pub(super) fn served<R: Read, W: Write>(
     Some(serve(alloc, &mut source, SESSION, Version::One, reader, writer))
 }
 
-/// How many packets asking for 64 entries from 3 brings, or the fault that it tells.
+/// How many packets asking for 64 entries from 3 brings, or its fault.
 pub(super) fn told<R: Read, W: Write>(
     alloc: Global,
     reader: &mut R,
@@ -97,7 +97,8 @@ pub(super) fn told<R: Read, W: Write>(
     }
 }
 
-/// How serving one request of zeros more than the most ends, and how many bytes are answered if each says that the count is none.
+/// How serving one request of zeros more than the most ends, and how many bytes are answered if each answer is that the count
+/// is none.
 fn most_served(alloc: Global) -> (Option<ServeEnd>, Option<usize>) {
     let mut reader = io::repeat(0).take(14 * 65_537);
     let mut output = Vec::new(alloc);

@@ -1,5 +1,5 @@
-//! Seeded schedules of messages of every kind, in which packets are lost, duplicated, reordered and cut short, and the subscriber
-//! restarts.
+//! Tests seeded schedules of messages of every kind, in which packets are lost, duplicated, reordered and cut short, and the
+//! subscriber restarts.
 ghost use Rattle.std.specs.Prelude.{◌≤◌, ◌<◌};
 ghost use Rattle.tape_types.specs.Ranges.{TAPE_MOST};
 
@@ -15,7 +15,7 @@ use tape_frames::{PacketFault, Version};
 /// How many entries the tape of a schedule has at most.
 const LIMIT: u32 = 60;
 
-/// The version of a packet that tells of a number: the versions take turns.
+/// The version of a packet with this number: the versions take turns.
 fn version_of(number: u32) -> Version {
     if number % 2 == 0 {
         Version::Two
@@ -43,7 +43,7 @@ impl Dice {
         (self.state / 8_589_934_592 % u64::from(bound)) as u32
     }
 
-    /// The line that a packet comes by.
+    /// The line that a packet comes on.
     fn line(&mut self) -> Line {
         match self.below(3) {
             0 => Line::A,
@@ -52,7 +52,7 @@ impl Dice {
         }
     }
 
-    /// What is sent to the tape under a number: one in two messages is a report, and each other cancels, corrects or reinstates
+    /// The message sent to the tape under a number: one in two is a report, and each other one cancels, corrects or reinstates
     /// one of the first eight messages, so that a report is often changed again.
     fn message(&mut self, number: u32) -> Option<Message> {
         let price = 100_000 + u64::from(self.below(50));
@@ -82,7 +82,7 @@ fn figures_of(tape: &Feed) -> Option<Figures> {
     })
 }
 
-/// Admits the messages of the first entries of another tape, and answers whether all were admitted.
+/// Admits the messages of the first entries of another tape, and returns whether all were admitted.
 fn fill(front: &mut Feed, tape: &Feed, len: usize) -> bool {
     let mut is_filled = true;
     for entry in tape.entries().iter().take(len) {
@@ -91,7 +91,7 @@ fn fill(front: &mut Feed, tape: &Feed, len: usize) -> bool {
     is_filled
 }
 
-/// The figures of a tape to which another's first entries are admitted.
+/// The figures of a tape after another's first entries are admitted to it.
 fn figures_filled(front: &mut Feed, tape: &Feed, len: usize) -> Option<Figures> {
     if fill(front, tape, len) {
         figures_of(front)
@@ -100,19 +100,19 @@ fn figures_filled(front: &mut Feed, tape: &Feed, len: usize) -> Option<Figures> 
     }
 }
 
-/// The figures of a new tape to which another's first entries are admitted.
+/// The figures of a new tape after another's first entries are admitted to it.
 fn front_figures(alloc: Global, tape: &Feed, len: usize) -> Option<Figures> {
     let mut front = feed::feed(alloc, LIMIT)?;
     figures_filled(&mut front, tape, len)
 }
 
-/// A subscriber restarts.
+/// Restarts a subscriber.
 fn restart(old: &mut Subscriber, alloc: Global) -> Option<()> {
     *old = subscriber(alloc, LIMIT)?;
     Some(())
 }
 
-/// A tape and a subscriber in the middle of a schedule. Each step answers `None` where something is not as it has to be.
+/// A tape and a subscriber in the middle of a schedule. Each step returns `None` if something is not as it must be.
 #[derive(Drop)]
 struct Schedule {
     tape: Feed,
@@ -136,7 +136,7 @@ impl Schedule {
         })
     }
 
-    /// The tape is sent a message, which it may refuse.
+    /// Sends the tape a message, which it may refuse.
     fn admits(&mut self) -> Option<()> {
         let message = self.dice.message(self.next);
         self.next = self.next.saturating_add(1);
@@ -150,7 +150,7 @@ impl Schedule {
         self.is_taken_by(line, text)
     }
 
-    /// A packet comes by this line.
+    /// A packet comes on this line.
     fn is_taken_by(&mut self, line: Line, text: &[u8]) -> bool {
         self.subscriber.deliver(line, text).is_ok()
     }
@@ -199,7 +199,7 @@ impl Schedule {
         self.comes(text.as_slice())
     }
 
-    /// A beat comes, as the tape gave it at some time.
+    /// A beat comes, as the tape had it at some time.
     fn beats(&mut self, alloc: Global) -> Option<()> {
         let length = self.length();
         let last = self.dice.below(length + 1);
@@ -228,7 +228,7 @@ impl Schedule {
         restart(&mut self.subscriber, alloc)
     }
 
-    /// Whatever comes next.
+    /// The next event of any kind.
     fn goes_on(&mut self, alloc: Global) -> Option<()> {
         match self.dice.below(12) {
             0..=2 => self.admits(),
@@ -239,7 +239,7 @@ impl Schedule {
         }
     }
 
-    /// What is missing comes by retransmission. Answers whether something was missing.
+    /// Fetches what is missing by retransmission. Returns whether something was missing.
     fn fills(&mut self, alloc: Global) -> Option<bool> {
         let asked = match self.subscriber.missing() {
             None => return Some(false),
@@ -270,7 +270,7 @@ impl Schedule {
         self.drains(alloc)
     }
 
-    /// What is missing is asked for until all is held.
+    /// Asks for what is missing until all is held.
     fn catches_up(&mut self, alloc: Global) -> Option<bool> {
         for _turn in 0..LIMIT {
             if !self.fills(alloc)? {
@@ -280,7 +280,7 @@ impl Schedule {
         Some(holds(&self.subscriber, &self.tape)? && !self.subscriber.open_gap())
     }
 
-    /// This many events, the tape's end, and what is then missing.
+    /// Runs this many events, the tape's end, and the retransmission of what is then missing.
     fn runs(&mut self, alloc: Global, events: u32) -> Option<bool> {
         for _event in 0..events {
             self.goes_on(alloc)?;
@@ -304,13 +304,14 @@ fn has_every_kind(tape: &Feed) -> bool {
     kinds == [true; 4]
 }
 
-/// How many entries the tape has after 300 events, if some are of each kind and the subscriber holds all of them at its end.
+/// How many entries the tape has after 300 events, if there are some of each kind and the subscriber holds all of them at its
+/// end.
 fn entries_of(schedule: &mut Schedule, alloc: Global) -> Option<u32> {
     let holds_all = schedule.runs(alloc, 300) == Some(true);
     (holds_all && has_every_kind(&schedule.tape)).then_some(schedule.length())
 }
 
-/// The same of the schedule of a seed.
+/// The same for the schedule of a seed.
 fn entries_after(alloc: Global, seed: u32) -> Option<u32> {
     let mut schedule = Schedule::new(alloc, seed)?;
     entries_of(&mut schedule, alloc)

@@ -18,7 +18,7 @@ pub(super) const SYMBOLS: [[u8; 8]; 2] = [*b"AB      ", *b"CD      "];
 /// How many bytes a report has.
 pub(super) const LENGTH: usize = 40;
 
-/// A report of a participant, under a number.
+/// A report of a participant with this number.
 pub(super) fn report(who: u8, number: u8) -> [u8; LENGTH] {
     let mut bytes = [
         0x00, 0x26, 0x52, 0x4e, 0x00, 0x00, 0x00, 0x01, 0x00, 0x00, 0x00, 0x00, 0x00, 0x00, 0x00,
@@ -47,7 +47,7 @@ fn tape(alloc: Global) -> Option<Tape<IndexStore>> {
     Tape::new(alloc, listing, 100, Matrix::One).ok()
 }
 
-/// The day, prepared again where memory was refused for it.
+/// The day, prepared again if memory was refused for it.
 pub(super) fn day<A: Abort>(rt: &A, alloc: Global) -> Result<Prepared, Fail> {
     for _ in 0..2 {
         let tape = tape(alloc).ok_or("a tape")?;
@@ -59,7 +59,8 @@ pub(super) fn day<A: Abort>(rt: &A, alloc: Global) -> Result<Prepared, Fail> {
     panic!(rt; "memory was refused twice")
 }
 
-/// How many entries the ended day has, and how many of them its end found published. Both seats are there, and its end is Ok.
+/// How many entries the ended day has, and how many of them were found published at its end. Both seats are there, and it ends
+/// without a fault.
 pub(super) fn ended<D: DayName, A: Abort>(
     rt: &A,
     shared: SharedTape<D>,

@@ -1,4 +1,4 @@
-//! Lines that run out of memory, or are not started for want of it.
+//! Tests lines that run out of memory, or are not started for lack of it.
 ghost use Rattle.std.specs.Prelude.{◌≡◌, ◌≤◌, [], vec_len};
 ghost use Rattle.std.specs.Vec.{vec_capacity};
 ghost use Rattle.line_ledger.specs.Days.{terms_of};
@@ -16,7 +16,7 @@ use std::test::Fail;
 use std::thread::Threads;
 use tape_types::NoGate;
 
-/// The seats with their bytes, put into a vector with room for them.
+/// Puts the seats with their bytes into a vector with room for them.
 fn seated<'a, D: DayName>(
     seats: Vec<LineSeat<D>>,
     lines: Vec<(LineSeat<D>, &'a [u8])>,
@@ -72,7 +72,7 @@ fn run_all<D: DayName + Send + Sync, T: Threads + Wait + Print + Sync>(
     }
 }
 
-/// Runs the lines that the seats have, with room for them. Without memory for that the seats come back as they are.
+/// Runs the lines of the seats, with room for them. If memory runs out for that, the seats come back as they are.
 fn run_seats<D: DayName + Send + Sync, T: Threads + Wait + Abort + Print + Sync>(
     rt: &T,
     alloc: Global,
@@ -93,8 +93,8 @@ fn run_seats<D: DayName + Send + Sync, T: Threads + Wait + Abort + Print + Sync>
     run_all(rt, alloc, shared, lines, room)
 }
 
-/// Runs the lines of a day, and ends it: how many messages its seats were told of, none where the day could not be opened. The
-/// day has as many entries.
+/// Runs the lines of a day, ends it, and returns how many messages its seats were told of, 0 if the day could not be opened.
+/// The day has as many entries.
 fn run_day<D: DayName + Send + Sync, T: Threads + Wait + Abort + Print + Sync>(
     rt: &T,
     alloc: Global,
@@ -140,7 +140,8 @@ fn each_seat_comes_back_where_memory_is_refused(rt: HostRuntime) -> Result<(), F
     Ok(())
 }
 
-/// Runs a line, and goes on with the frame at which memory was refused: the seat, and of how many messages it was told before.
+/// Runs a line, goes on with the frame at which memory was refused, and returns the seat and how many messages it was told of
+/// before.
 fn run_again<D: DayName, W: Wait + Abort>(
     rt: &W,
     shared: &SharedTape<D>,
@@ -171,8 +172,8 @@ fn run_again<D: DayName, W: Wait + Abort>(
     (seat, told)
 }
 
-/// Runs Q's line in a day, and ends it: of how many messages the seat was told before memory was refused, none where the day could
-/// not be opened.
+/// Runs Q's line in a day, ends it, and returns how many messages the seat was told of before memory was refused, or `None` if
+/// the day could not be opened.
 fn run_line_in<D: DayName, W: Wait + Abort>(rt: &W, prepared: Prepared, bytes: &[u8]) -> Option<u32>
     requires name { prepared.blank.name ≡ D.name }
     requires parts { prepared.blank.parts ≡ D.parts }

@@ -1,4 +1,4 @@
-//! A day that is opened, and entries that are admitted by a seat, published and found.
+//! Tests a day that is opened, and entries that are admitted by a seat, published and found.
 ghost use Rattle.std.specs.Prelude.{◌≡◌};
 ghost use Rattle.line_ledger.specs.Days.{terms_of};
 
@@ -43,7 +43,7 @@ fn shown<D: DayName, W: Wait>(
     ]
 }
 
-/// Whether this was told of Q's report of the number, which is the tape's entry of the same number.
+/// Whether this is what was told of Q's report with this number, which is the tape's entry of the same number.
 fn is_report(told: &Told, number: u8) -> bool {
     match decode(&report(b'Q', number)) {
         Ok((message, _)) => told.message == message && told.number.value() == u32::from(number),
@@ -51,7 +51,7 @@ fn is_report(told: &Told, number: u8) -> bool {
     }
 }
 
-/// Whether the seat was told of Q's first so many reports, in order, and has their sizes and their last number.
+/// Whether the seat was told of Q's first `many` reports, in order, and has their sizes and their last number.
 fn is_told<D: DayName>(seat: &LineSeat<D>, many: u8) -> bool {
     for (told, number) in seat.told().iter().zip(1..=REPORTS) {
         if !is_report(told, number) {
@@ -63,8 +63,8 @@ fn is_told<D: DayName>(seat: &LineSeat<D>, many: u8) -> bool {
         && seat.last() == u32::from(many)
 }
 
-/// Admits Q's report of a number by its seat, again where memory was refused. That tells the seat nothing, and each symbol is as it
-/// was.
+/// Admits Q's report with this number by its seat, again if memory was refused, which leaves the seat and each symbol as they
+/// were.
 fn admit<D: DayName, W: Wait + Abort + Print>(
     rt: &W,
     shared: &SharedTape<D>,
@@ -91,7 +91,7 @@ fn admit<D: DayName, W: Wait + Abort + Print>(
     panic!(rt; "memory was refused twice")
 }
 
-/// Publishes all that waits, again where memory was refused.
+/// Publishes all that waits, again if memory was refused.
 fn publish<D: DayName, W: Wait + Abort + Print>(rt: &W, shared: &SharedTape<D>) {
     for _ in 0..2 {
         match shared.publish(rt, 64) {
@@ -105,7 +105,7 @@ fn publish<D: DayName, W: Wait + Abort + Print>(rt: &W, shared: &SharedTape<D>) 
     panic!(rt; "memory was refused twice")
 }
 
-/// How many entries a source finds, which looks again where memory was refused and has then what it had.
+/// Returns how many entries a source finds, which looks again if memory was refused and then has what it had.
 fn found<D: DayName, A: Abort + Print>(rt: &A, published: &mut Published<'_, D>) -> u32 {
     let before = published.published();
     for _ in 0..2 {
@@ -118,7 +118,7 @@ fn found<D: DayName, A: Abort + Print>(rt: &A, published: &mut Published<'_, D>)
     panic!(rt; "memory was refused twice")
 }
 
-/// Admits Q's reports by its seat, and after each fourth one publishes and looks.
+/// Admits Q's reports by its seat, and publishes and looks after each fourth one.
 fn play<D: DayName, W: Wait + Abort + Print>(
     rt: &W,
     shared: &SharedTape<D>,
@@ -138,7 +138,7 @@ fn play<D: DayName, W: Wait + Abort + Print>(
     }
 }
 
-/// Plays a day with Q's seat, and ends it: whether it was opened. All its entries are published.
+/// Plays a day with Q's seat, ends it, and returns whether it was opened. All its entries are published.
 fn publish_in<D: DayName, W: Wait + Abort + Print>(rt: &W, prepared: Prepared) -> bool
     requires name { prepared.blank.name ≡ D.name }
     requires parts { prepared.blank.parts ≡ D.parts }

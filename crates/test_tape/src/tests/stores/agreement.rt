@@ -1,4 +1,4 @@
-//! Both stores are told the same, and come to the same summary after each change.
+//! Tests that both stores have the same summary after each of the same changes.
 ghost use Rattle.std.specs.Prelude.{◌<◌};
 
 use super::super::dice::{Dice, letter};
@@ -24,13 +24,13 @@ impl Both {
         }
     }
 
-    /// Whether both have the same effect at a place and the same summary.
+    /// Returns whether both have the same effect at a place and the same summary.
     fn agree(&self, place: TapeNumber) -> bool {
         self.plain.get(place) == self.indexed.get(place)
             && self.plain.summary() == self.indexed.summary()
     }
 
-    /// Whether both find the effect at a place, and the summary, by few searches.
+    /// Returns whether both find the effect at a place, and the summary, by few searches.
     fn are_soon(&self, place: TapeNumber) -> bool {
         self.plain.is_found_soon(place)
             && self.indexed.is_found_soon(place)
@@ -38,7 +38,7 @@ impl Both {
             && self.indexed.is_summed_soon()
     }
 
-    /// Changes both, and tells whether all is well and they agree.
+    /// Changes both, and returns whether all went well and they agree.
     fn change(&mut self, kind: Kind, place: TapeNumber, effect: &Effect) -> bool {
         self.plain.change(kind, place, effect)
             && self.indexed.change(kind, place, effect)
@@ -54,7 +54,7 @@ impl Both {
         Some(self.change(Kind::Put, place, &effect_of(n)?))
     }
 
-    /// Puts the 508 effects, each at a place of its own, and tells how many went well.
+    /// Puts the 508 effects, each at a place of its own, and returns how many went well.
     fn put_the_508(&mut self) -> u32 {
         let mut count = 0_u32;
         for n in 1..=508_u32 {
@@ -72,7 +72,7 @@ impl Both {
         Some(self.change(Kind::Take, place, &effect))
     }
 
-    /// Takes the effects at every third place, and tells how many went well.
+    /// Takes the effects at every third place, and returns how many went well.
     fn take_each_third(&mut self) -> u32 {
         let mut count = 0_u32;
         for third in 1..=169_u32 {
@@ -93,7 +93,7 @@ impl Both {
         Some(self.change(kind, place, &effect))
     }
 
-    /// Makes `count` changes at places up to `last`, and tells how many went well.
+    /// Makes `count` changes at places up to `last`, and returns how many went well.
     fn follow_dice(&mut self, count: u32, last: u32) -> u32
         requires { 0 < last }
     {
@@ -107,7 +107,7 @@ impl Both {
         well
     }
 
-    /// Takes the effects of the first places, up to `last`, one after another, and tells whether the summary is then of nothing.
+    /// Takes the effects of the first places, up to `last`, one after another, and returns whether the summary is then empty.
     fn empty_to(&mut self, last: u32) -> bool {
         for number in 1..=last {
             if self.take(number) == Some(false) {
@@ -118,7 +118,7 @@ impl Both {
     }
 }
 
-/// The n-th of the four rules.
+/// Returns the n-th of the four rules.
 fn rule(n: u32) -> LastRule {
     match n % 4 {
         0 => LastRule::Always,
@@ -128,14 +128,14 @@ fn rule(n: u32) -> LastRule {
     }
 }
 
-/// The n-th effect of 508.
+/// Returns the n-th of the 508 effects.
 fn effect_of(n: u32) -> Option<Effect>
     requires { n < 509 }
 {
     effect(letter(n), rule(n), 100_000 + u64::from(n * n % 97))
 }
 
-/// How many of the 508 effects were put well, how many of each third taken well, and how many are left.
+/// Returns how many of the 508 effects were put well, how many of each third were taken well, and how many are left.
 fn counts_of_508(alloc: Global) -> [u32; 3] {
     let mut both = Both::empty(alloc);
     [
@@ -151,7 +151,7 @@ fn both_stores_agree_while_508_effects_come_and_each_third_goes(rt: HostRuntime)
 }
 
 impl Dice {
-    /// An effect whose size is not yet the one that it is to have.
+    /// Returns an effect that does not have its final size yet.
     fn part(&mut self) -> Option<Effect> {
         let who = letter(self.roll(3));
         let last = rule(self.roll(4));
@@ -166,7 +166,7 @@ impl Dice {
         Some(effect)
     }
 
-    /// What is done at a place, one of the changes that can be made there.
+    /// Returns one of the changes that can be made at a place.
     fn kind(&mut self, stands: bool) -> Kind {
         if !stands {
             return Kind::Put;
@@ -180,7 +180,8 @@ impl Dice {
     }
 }
 
-/// Whether ten thousand changes went well, more than two thousand effects stood after them, and the stores were emptied.
+/// Returns whether ten thousand changes went well, more than two thousand effects stood after them, and the stores were
+/// emptied.
 fn go_well_over_ten_thousand(alloc: Global) -> bool {
     let mut both = Both::empty(alloc);
     both.follow_dice(10_000, 3_000) == 10_000

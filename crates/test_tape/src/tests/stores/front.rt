@@ -1,4 +1,4 @@
-//! A large store that loses its effects from the front.
+//! Tests a large store that loses its effects from the front.
 ghost use Rattle.std.specs.Prelude.{◌≤◌};
 
 use super::{Settled, effect};
@@ -9,7 +9,7 @@ use tape_types::TapeNumber;
 
 const LAST: u32 = 100_000;
 
-/// The effect at a place: each always sets the last, at a price that rises with the place.
+/// Returns the effect at a place. Each always sets the last, at a price that rises with the place.
 fn effect_at(number: u32) -> Option<Effect> {
     effect(b'N', LastRule::Always, 1_000_000 + u64::from(number))
 }
@@ -23,7 +23,7 @@ fn mark_at(number: u32) -> Option<Mark> {
     })
 }
 
-/// The summary of the effects from a place on.
+/// Returns the summary of the effects from a place on.
 fn summary_from(first: u32) -> Summary
     requires { first ≤ 100000 }
 {
@@ -42,7 +42,7 @@ fn put(store: &mut Settled<IndexStore>, number: u32) -> Option<bool> {
     Some(store.put(TapeNumber::try_new(number)?, effect_at(number)?))
 }
 
-/// Fills a store from the front, and tells whether it could.
+/// Fills a store from the front, and returns whether that went well.
 fn fills(store: &mut Settled<IndexStore>) -> bool {
     for number in 1..=LAST {
         if put(store, number) != Some(true) {
@@ -52,7 +52,7 @@ fn fills(store: &mut Settled<IndexStore>) -> bool {
     true
 }
 
-/// Whether the summary is of the effects from a place on, and the first of them is taken.
+/// Returns whether the summary is of the effects from a place on and the first of them was taken.
 fn take(store: &mut Settled<IndexStore>, number: u32) -> Option<bool>
     requires { number ≤ 100000 }
 {
@@ -60,7 +60,7 @@ fn take(store: &mut Settled<IndexStore>, number: u32) -> Option<bool>
     Some(is_so && store.take(TapeNumber::try_new(number)?))
 }
 
-/// Empties a store from the front, and tells whether each summary was as it has to be.
+/// Empties a store from the front, and returns whether each summary was as expected.
 fn empties(store: &mut Settled<IndexStore>) -> bool {
     for number in 1..=LAST {
         if take(store, number) != Some(true) {

@@ -1,4 +1,4 @@
-//! A worked row, whose summaries were found by hand, on each store. The rows of a tape run over both stores too.
+//! Tests each store by a worked row, whose summaries were found by hand. The rows of a tape run over both stores too.
 
 use super::super::steps::{Figures, Point, figures_of};
 use super::Kind::{self, Abort, Commit, Put, Swap, Take};
@@ -13,7 +13,7 @@ use tape_types::TapeNumber;
 #[derive(Clone, Copy)]
 struct Report(u32, u8, LastRule, u64);
 
-/// What is done next, or what the summary has to be.
+/// The next change, or the summary that is expected.
 #[derive(Clone, Copy)]
 enum Step {
     /// A change at the report's place.
@@ -90,7 +90,7 @@ fn is_so<S: Store>(store: &mut Settled<S>, step: Step) -> bool {
     }
 }
 
-/// Takes the steps until one is not as it has to be, and tells how many were.
+/// Takes the steps until one is not as expected, and returns how many were.
 fn played<S: Store>(store: &mut Settled<S>, steps: &[Step]) -> usize {
     for at in 0..steps.len() {
         if !is_so(store, steps[at]) {
@@ -100,7 +100,7 @@ fn played<S: Store>(store: &mut Settled<S>, steps: &[Step]) -> usize {
     steps.len()
 }
 
-/// How many steps are as they have to be on the plain store and on the one over indexes.
+/// Returns how many steps are as expected on the plain store and on the one over indexes.
 fn played_on_both(alloc: Global, steps: &[Step]) -> (usize, usize) {
     let plain = played(&mut Settled::<ScratchStore>::empty(alloc), steps);
     let indexed = played(&mut Settled::<IndexStore>::empty(alloc), steps);

@@ -1,4 +1,4 @@
--- `end` takes apart one that owns nothing.
+-- `end` takes apart an `Inside` that owns nothing.
 use Rattle.std.proofs.Common.{◌≡◌, List, [], ◌∷◌, ◌++◌, refl, sym, subst}
 use mir.Val.{Val, vunit}
 use base.Logic.{SProp, ent, id⊢}

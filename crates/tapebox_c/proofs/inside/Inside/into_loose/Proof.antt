@@ -1,4 +1,4 @@
--- `into_loose` moves two fields, and what a full one owns goes with them.
+-- `into_loose` moves two fields, and what a full `Inside` owns goes with them.
 use mathlib.Core.Path.{◌≡◌, refl, sym, subst}
 use mathlib.Core.List.{List, [], ◌∷◌, ◌++◌}
 use seplogic.Ra.Ura.{Ura}

@@ -5,7 +5,7 @@ use Rattle.symbol_book.specs.BookState.{BookState}
 use Rattle.test_tape.proofs.Kept.{has-put, other-kept, has-replaced}
 use Rattle.test_tape.proofs.tests.books.changed.Goals as goal
 
--- books that are one have the same trades
+-- equal books have the same trades
 trades-same : {a b : BookState} → a ≡ b → a.trades ≡ b.trades
 trades-same is = ap (λ (b : BookState). b.trades) is
 

@@ -4,7 +4,7 @@ use Rattle.symbol_book.specs.BookState.{BookState}
 use Rattle.test_memory.proofs.Vacant.{has_put, vacant_above}
 use Rattle.test_memory.proofs.tests.books.Rising.add.Goals as goal
 
--- books that are one have the same trades
+-- equal books have the same trades
 trades_same : {a b : BookState} → a ≡ b → a.trades ≡ b.trades
 trades_same is = ap (λ (b : BookState). b.trades) is
 
