@@ -100,6 +100,11 @@ int fdatasync(int file) {
     return failed("fdatasync", &calls) ? -1 : ((syncing *)dlsym(NEXT, "fdatasync"))(file);
 }
 
+int fsync(int file) {
+    static unsigned long calls;
+    return failed("fsync", &calls) ? -1 : ((syncing *)dlsym(NEXT, "fsync"))(file);
+}
+
 int ftruncate(int file, long size) {
     static unsigned long calls;
     return failed("ftruncate", &calls) ? -1 : ((cutting *)dlsym(NEXT, "ftruncate"))(file, size);

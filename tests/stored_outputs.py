@@ -116,7 +116,7 @@ def pictures():
 def outputs():
     """Each stored output of a program or a tool, with what it is made anew to."""
     if shutil.which("cargo"):
-        import test_twin
+        from cases import test_twin
 
         crate = CRATES / "decode_lines"
         yield crate / "stdout", test_twin.plain_run("read_lines", given=(crate / "stdin").read_bytes()).written
@@ -130,7 +130,7 @@ def outputs():
 def tables():
     """The tables beside the captures, with what they are made anew to."""
     if shutil.which("tshark"):
-        import test_dissector
+        from cases import test_dissector
 
         for table in sorted((TESTS / "captures").glob("*.txt")):
             yield table, "".join("|".join(row) + "\n" for row in test_dissector.fields(table.with_suffix(".pcap"), *test_dissector.COLUMNS)).encode()

@@ -137,7 +137,7 @@ class GoneReaders(Rising):
     def texts(self):
         """Each word for a table, as it is asked for, on what it is given."""
         table = self.table(self.ROWS)
-        for word in (*WORDS, "check", "encode"):
+        for word in (*WORDS, "check", "encode", "verify"):
             yield [word], table
         yield ["decode"], desk("encode", given=table).written
         yield ["line", "N"], table

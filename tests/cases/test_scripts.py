@@ -10,7 +10,7 @@ from support import BENCH, ROOT, SAMPLES, TAPEBOX, TESTS, TOOLS, Case, report_ro
 
 MISSING = "no-such-file"
 # What works without words and is not to be run here: it builds, installs, writes a page, measures or runs a day.
-WITHOUT_WORDS = {"run", "gate", "build", "set_up", "mark_built.py", "cases.py", "definitions.py", "promises.py", "page_parts.py", "lossy_day.sh", "package.sh", "stored_outputs.py"}
+WITHOUT_WORDS = {"run", "gate", "build", "set_up", "mark_built.py", "run_cases.py", "definitions.py", "promises.py", "page_parts.py", "lossy_day.sh", "package.sh", "stored_outputs.py"}
 WITHOUT_WORDS |= {"picture", "all.py", "journals.py", "latency.py", "live_load.py", "long_day.py", "measure.py", "readers.py", "tables.py"}
 READS_INPUT = {"plot_day.py"}
 # Scripts that read a table, by the words after its path.

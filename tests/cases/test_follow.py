@@ -22,7 +22,7 @@ from support import DISAGREES, HOST, LIMIT, READ_FAULT, SAMPLES, TAPEBOX, WRITE_
 from support import connect, ended, message, ports, report, report_row, report_rows, reports, run, started, tried, wait_bound, wait_connected, wait_for, wait_read
 
 SESSION = 7
-LOSSY_DAY = Path(__file__).resolve().with_name("lossy_day.sh")
+LOSSY_DAY = Path(__file__).resolve().parent.parent / "lossy_day.sh"
 LOSSY_RELAY = LOSSY_DAY.with_name("lossy_relay.py")
 # The spelling of a request: its session, the first number asked for, and how many.
 REQUEST = struct.Struct(">QIH")

@@ -12,10 +12,10 @@ from pathlib import Path
 
 import wire
 from support import ROOT, Case, transcripts
-from test_twin import plain_run
+from cases.test_twin import plain_run
 
 SCRIPT = ROOT / "tools" / "tapebox.lua"
-CAPTURES = Path(__file__).resolve().parent / "captures"
+CAPTURES = Path(__file__).resolve().parent.parent / "captures"
 A, B, LINE, RETRANSMISSION = 22_010, 22_011, 22_000, 22_012
 # A relay's ports among them.
 PORTS = ["feed.a_ports:22010,22020", "feed.b_ports:22011,22021", "retransmission.ports:22012", "line.ports:22000-22001"]

@@ -4,7 +4,7 @@ import re
 
 import plain_table
 from support import HEADINGS, SAMPLES, STORED_DAYS, Case, desk
-from test_tables import SeededDay
+from cases.test_tables import SeededDay
 
 HEADER_LINES = 2
 

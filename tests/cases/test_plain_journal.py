@@ -8,7 +8,7 @@ from pathlib import Path
 
 from plain_journal import Damaged, NoHeader, Torn, read_front
 from support import LIMIT, Case, ended, listens, reports, run
-from test_operated_day import Day, sent
+from cases.test_operated_day import Day, sent
 
 # How many messages of N there are at each start of the day: each brings a group at least.
 STARTS = (3, 20, 41)

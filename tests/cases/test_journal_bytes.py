@@ -14,8 +14,8 @@ import plain_journal
 from journaled_day import went_on_text
 from plain_journal import Damaged, NoHeader
 from support import LIMIT, Case, connect, ended, message, ports, reports, wait_for
-from test_journal import batch_report, kept_in
-from test_operated_day import Day
+from cases.test_journal import batch_report, kept_in
+from cases.test_operated_day import Day
 
 # Set in the environment, it has all bytes tried, and else so many of them, besides those around each field.
 ALL_BYTES, STEP = "JOURNAL_BYTES", 7

@@ -11,7 +11,7 @@ import time
 import unittest
 from pathlib import Path
 
-import test_tables
+from cases import test_tables
 from support import HOST, LIMIT, TAPEBOX, TOOLS, Case, connect, desk, ended, message, ports, report, run, started, table_of, wait_bound
 
 PYTHON = "/usr/bin/python3"

@@ -14,7 +14,7 @@ import plain_journal
 from preloaded import CALL_FAILED, EVER, failing
 from storm_day import Ears
 from support import HEADINGS, Case, Ended, connect, ended, listens, report, reports, run, started, wait_for
-from test_operated_day import Day, sent
+from cases.test_operated_day import Day, sent
 
 # How many entries of a first run `live` has kept when it is killed, of N's and Q's messages.
 FIRST = {"N": 40, "Q": 25}
@@ -367,6 +367,19 @@ class Journals(Case):
         over = run(["live", self.day.path], env=env)
         self.assertEqual((over.status, over.written), (4, b""))
         self.assertEqual(over.said, CALL_FAILED + self.line("write fault"))
+
+    def test_the_folder_of_a_journal(self):
+        """OPERATING, "A day that survives a crash": the folder of a journal that is begun is synced, and no harm is done if that fails; not that of one
+        that goes on, or is kept without a sync."""
+        env = os.environ | failing(("fsync", 1, EVER, errno.EIO))
+        for more, wanted in (("", (1, 0)), ("journal_sync = false\n", (0, 0))):
+            self.path.unlink(missing_ok=True)
+            self.day.path = self.day.write("day.toml", journal="day.journal")
+            self.day.path.write_text(self.day.path.read_text() + more)
+            for synced in wanted:
+                with self.subTest(more, synced=synced), self.day.live(env=env) as live:
+                    over = self.finish(live, ALL)
+                    self.assertEqual((over.status, over.said.count(CALL_FAILED)), (0, synced))
 
     def test_a_journal_that_is_not_synced(self):
         """FORMATS, "A day's file": `journal_sync = false` keeps the journal without a sync."""

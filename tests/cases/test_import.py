@@ -16,7 +16,7 @@ import plain_table
 import plain_tape
 import stored_outputs
 from support import MARKS, ROOT, SAMPLES, TAPEBOX, TOOLS, Case, desk, report_rows, run, transcripts
-from test_reports import OWN_PYTHON, has_pandas
+from cases.test_reports import OWN_PYTHON, has_pandas
 
 SCRIPT = TOOLS / "from_taq.py"
 COLUMNS = ["#row", *plain_table.COLUMNS]

@@ -13,8 +13,8 @@ import plain_journal
 import plain_table
 from refused import MOST, run_refused
 from support import HEADINGS, OUT_OF_MEMORY, SAMPLES, WRITE_FAULT, Case, Ended, desk, ended, report, reports, run, wait_for
-from test_operated_day import Day, sent
-from test_tables import SeededDay, report_in
+from cases.test_operated_day import Day, sent
+from cases.test_tables import SeededDay, report_in
 
 WORDS = ("report", "tape", "explain")
 TORN = "tapebox: a group is cut off behind byte {}, and left out\n"

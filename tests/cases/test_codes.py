@@ -140,7 +140,7 @@ def explained(matrix, conditions):
 
 def made():
     """The lists of conditions that days are made of: for each its file's and its own name, and its conditions."""
-    files = [path for folder in (TESTS, BENCH, TOOLS) for path in sorted(folder.glob("*.py"))] + sorted(BENCH.glob("src/**/*.rs"))
+    files = [path for folder in (TESTS, TESTS / "cases", BENCH, TOOLS) for path in sorted(folder.glob("*.py"))] + sorted(BENCH.glob("src/**/*.rs"))
     files += [*sorted(BENCH.glob("tests/*.rs")), *sorted((ROOT / "clib" / "fuzz").glob("*.c")), *sorted(CRATES.glob("*/src/**/*.rt"))]
     for path in files:
         for name, listed in MADE.findall(text_of(path)):

@@ -8,7 +8,7 @@ import time
 from pathlib import Path
 
 from support import DISAGREES, HOST, LIMIT, READ_FAULT, WRITE_FAULT, Case, ended, ports, report_rows, started, wait_read
-from test_follow import SESSION, Follower, answer_of, entries, packet, row_of
+from cases.test_follow import SESSION, Follower, answer_of, entries, packet, row_of
 
 DAY = """\
 symbols = ["AB"]

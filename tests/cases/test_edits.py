@@ -89,6 +89,35 @@ class Edits(Case):
         return has_edits
 
     @unittest.skipUnless(shutil.which("git"), "no git")
+    def test_a_run_tries_what_it_has_time_for(self):
+        """Of more edits than a run has time for some wait, and the next run begins with others. A comment makes no edit due."""
+        names = ["first", "lower", "second"]
+        self.write("crates.txt", "".join(f"{name}:\n" for name in names))
+        for name in names:
+            for place in range(40):
+                self.write(f"crates/{name}/must-fail/{place}.edit", REFUSED)
+        begun = []
+        for _ in names:
+            self.commit()
+            copy, lines = self.copied()
+            tried = [name for name in names if (copy / "crates" / name / "must-fail").is_dir()]
+            waiting = [name for name in names if name not in tried]
+            self.assertEqual(lines[:2], [f"ci: edits tried: {' '.join(tried)}", f"ci: edits that wait for another run: {' '.join(waiting)}"])
+            self.assertEqual(len(tried), 1)
+            begun += tried
+        self.assertEqual(sorted(begun), names)
+        before = self.sums()
+        self.write("crates/lower/src/lib.rt", SOURCE.replace("/// The lower of", "/// The lesser of"))
+        self.assertEqual(self.sums(), before)
+        self.write("crates/lower/src/lib.rt", SOURCE.replace("a < b", "a <= b"))
+        self.assertNotEqual(self.sums(), before)
+
+    def sums(self):
+        """The checksums of the crates, as text."""
+        asking = "import sys; sys.path.insert(0, 'tools'); import edits; print(edits.checksums(edits.ROOT))"
+        return subprocess.run(["python3", "-B", "-c", asking], cwd=self.root, capture_output=True, check=True).stdout
+
+    @unittest.skipUnless(shutil.which("git"), "no git")
     def test_what_is_recorded_is_not_tried(self):
         """A crate is recorded once its edits are refused. What changes of it makes them due, and so does its eighth."""
         self.commit()

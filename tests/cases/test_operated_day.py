@@ -1,6 +1,7 @@
 """A day that is given by a file and operated: who is missing, how it is ended, and what is said of it."""
 
 import contextlib
+import errno
 import os
 import re
 import socket
@@ -11,6 +12,7 @@ import time
 import unittest
 from pathlib import Path
 
+from preloaded import CALL_FAILED, EVER, failing
 from support import DISAGREES, HOST, READ_FAULT, WRITE_FAULT, Case
 from support import connect, ended, ports, report, reports, run, started, traded, wait_bound, wait_for, wait_read
 
@@ -179,6 +181,72 @@ class Ends(Case):
 
 class Missing(Case):
     """Who is missing, and what can't be opened."""
+
+    # Errors of `accept4` that may be gone at the next call.
+    FOR_NOW = (errno.ECONNABORTED, errno.EMFILE, errno.ENFILE, errno.ENOBUFS, errno.ENOMEM)
+
+    def assert_traded(self, written, trades):
+        """It is a report in which N's only symbol has so many trades."""
+        self.assertEqual(traded(written), (trades, 100 * trades))
+
+    def test_connections_that_are_not_accepted_for_now(self):
+        """OPERATING, "What `live` does", 2: a participant's connection that can't be accepted for now is tried again, and so is an operator's."""
+        for error in self.FOR_NOW:
+            failed = failing(("accept4", 1, 40, error))
+            with self.subTest(errno.errorcode[error]), day() as it, it.live(env=os.environ | failed) as live:
+                it.wait_status(live, "Q: not connected")
+                for port, data in [(it.port, reports("N", 3)), (it.next_port, b"")]:
+                    sent(port, data).close()
+                over = ended(live)
+                self.assertEqual((over.status, over.said.count(CALL_FAILED)), (0, 40))
+                self.assert_traded(over.written, 3)
+
+    def test_a_participant_s_listener_that_is_gone(self):
+        """OPERATING, "Statuses", 3: a participant's connection that can't be accepted at all is a read fault, though more seconds are left."""
+        with day(control=None) as it:
+            over = run(["live", it.path], env=os.environ | failing(("accept4", 1, EVER, errno.EBADF)))
+        self.assertEqual((over.status, over.written), (READ_FAULT[0], b""))
+
+    def test_no_thread_for_the_control_socket(self):
+        """OPERATING, "How a day is operated": if no thread can be started for the control socket, the day runs without it."""
+        with day() as it, it.live(env=os.environ | failing(("pthread_create", 1, 1, errno.EAGAIN))) as live:
+            for port, data in [(it.port, reports("N", 3)), (it.next_port, b"")]:
+                sent(port, data).close()
+            over = ended(live)
+        self.assertEqual(over.status, 0)
+        self.assertIn(CALL_FAILED, over.said)
+        self.assert_traded(over.written, 3)
+
+    def test_a_day_that_does_not_answer(self):
+        """OPERATING: an answer that does not come whole, within ten seconds or before the connection ends, is told, and nothing is written."""
+        for answer, is_closed in ((b"", False), (b"since 1 s\n", False), (b"since 1 s\n", True)):
+            with self.subTest(answer, closed=is_closed), day() as it, socket.socket(socket.AF_UNIX, socket.SOCK_STREAM) as server:
+                server.bind(str(it.folder / "day.control"))
+                server.listen()
+                server.settimeout(10)
+                with started(["status", it.path]) as asked, server.accept()[0] as peer:
+                    self.assertEqual(peer.recv(100), b"status\n")
+                    peer.sendall(answer)
+                    if is_closed:
+                        peer.shutdown(socket.SHUT_WR)
+                    over = ended(asked, 20)
+                self.assertEqual((over.status, over.written), (READ_FAULT[0], b""))
+                self.assertEqual(over.said.decode(), f"tapebox: control {it.folder}/day.control: answer cut off\n")
+
+    def test_an_answer_of_the_greatest_length(self):
+        """OPERATING: an answer of up to 1,048,576 bytes with its empty line is written, and a longer one is cut off."""
+        for length, wanted in ((1_048_576, 0), (1_048_577, READ_FAULT[0])):
+            answer = b"a" * (length - 2) + b"\n\n"
+            with self.subTest(length), day() as it, socket.socket(socket.AF_UNIX, socket.SOCK_STREAM) as server:
+                server.bind(str(it.folder / "day.control"))
+                server.listen()
+                server.settimeout(10)
+                with started(["status", it.path]) as asked, server.accept()[0] as peer:
+                    self.assertEqual(peer.recv(100), b"status\n")
+                    with contextlib.suppress(OSError):
+                        peer.sendall(answer)
+                    over = ended(asked, 20)
+                self.assertEqual((over.status, over.written), (wanted, answer[:-1] if wanted == 0 else b""))
 
     def test_a_participant_that_never_connects(self):
         """FORMATS, `connect_within`: a participant that does not connect in time is given up and named."""

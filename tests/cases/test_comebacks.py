@@ -3,9 +3,9 @@
 import time
 
 from support import DISAGREES, READ_FAULT, Case, ended, report, report_rows, wait_connected, wait_read
-from test_follow import answer_of, entries, packet, row_of
-from test_follow_day import day as own_day
-from test_operated_day import day, sent
+from cases.test_follow import answer_of, entries, packet, row_of
+from cases.test_follow_day import day as own_day
+from cases.test_operated_day import day, sent
 
 
 class Comebacks(Case):

@@ -1,5 +1,5 @@
 #!/usr/bin/env python3
-"""cases.py: runs all cases, and names at the end each that was skipped, and why, and which programs were drafts.
+"""run_cases.py: runs all cases, and names at the end each that was skipped, and why, and which programs were drafts.
 
 The programs are those that ./run takes: the proved ones, or drafts, which it compiles here if there are none of this tree. Cases of a
 program that is only built with its proofs are skipped where the programs are drafts.

@@ -7,7 +7,7 @@ from pathlib import Path
 
 import plain_table
 from support import READ_FAULT, SAMPLES, TAPE_COLUMNS, WRITE_FAULT, Case, Ended, desk, table_of
-from test_tables import SeededDay
+from cases.test_tables import SeededDay
 
 ALL = b"all as recorded"
 OTHER_FIELDS = "has other fields than a readable tape's"

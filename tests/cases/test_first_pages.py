@@ -5,7 +5,7 @@ import re
 import subprocess
 
 from support import ROOT, SAMPLES, TAPEBOX, TESTS, TOOLS, desk, report_rows, transcripts
-from test_reports import LIMIT, PageCase
+from cases.test_reports import LIMIT, PageCase
 
 README = "../README.md"
 # What the script of a lossy day says in each run; its counts differ a little from run to run.

@@ -11,7 +11,7 @@ import tempfile
 import unittest
 from pathlib import Path
 
-import test_tables
+from cases import test_tables
 from browser import PAGE, Browser, PageCase
 from plain_reasons import Reasons
 from support import HOST, LIMIT, ROOT, SAMPLES, Case, desk, run, table_of, tried

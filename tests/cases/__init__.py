@@ -1,0 +1,1 @@
+"""Cases of the built programs, by subject."""
