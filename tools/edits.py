@@ -5,7 +5,7 @@ An edit is tried on the functions that it changes, then on their modules, and on
 by themselves. The libraries below are proved first if they are not. Several edits are tried at a time, as processors and memory allow (RT_JOBS=N: so many).
 
 The record is .ci/refused.txt, a line for each crate: its name, and a checksum of its files, its line of crates.txt and the logic of the kit.
-The gate need not try the edits of a crate whose line is right. Nothing but this script writes it.
+Lines that are comments don't count. The gate need not try the edits of a crate whose line is right. Nothing but this script writes it.
 
 Statuses: 0 if the prover refused each edit; 1 if it did not, and then those crates are not recorded; 2 for bad words, or a kit whose rt can't be
 driven so.
@@ -68,12 +68,19 @@ def has_edits(root, name):
     return any((root / "crates" / name / "must-fail").glob("*.edit"))
 
 
+def judged(path):
+    """What of a file can change what the prover says: all but the lines that are comments."""
+    content = path.read_bytes()
+    mark = {".rt": b"//", ".antt": b"--"}.get(path.suffix)
+    return b"".join(line for line in content.splitlines(keepends=True) if mark is None or not line.lstrip().startswith(mark))
+
+
 def checksum(root, name, line, kit_logic):
     """The checksum of a crate: what the prover says of its edits can change only if this does, or a contract below."""
     folder = root / "crates" / name
     total = hashlib.sha256(f"{kit_logic}\n{line}\n".encode())
     for path in sorted(path for part in PARTS for path in (folder / part).rglob("*") if path.is_file()):
-        content = path.read_bytes()
+        content = judged(path)
         total.update(f"{path.relative_to(folder).as_posix()} {len(content)}\n".encode())
         total.update(content)
     return total.hexdigest()

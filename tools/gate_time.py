@@ -34,7 +34,7 @@ def say(text):
 
 def kind_of(words, folder):
     """The crate and the kind that a process works for, by its words and its folder, and whether its ended children count too. None if for neither."""
-    if words and words[-1].endswith("tests/cases.py"):
+    if words and words[-1].endswith("tests/run_cases.py"):
         return REST, "cases", True
     ran = next(filter(None, map(RUN_FOLDER.search, words)), None)
     if ran and words[0].endswith("rattle-test"):
