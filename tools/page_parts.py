@@ -1,7 +1,7 @@
 #!/usr/bin/env python3
 """page_parts.py: writes the parts of pages that come from the tree: the counts in docs/TESTED.md, and the lines to which docs/MESSAGE.md links.
 
-Run it where tests/test_pages.py says so, as after a function moved or a test was added. Everything is read from the files as they stand; nothing
+Run it where tests/cases/test_pages.py says so, as after a function moved or a test was added. Everything is read from the files as they stand; nothing
 is proved or run.
 
 Statuses: 0 if both are written; 1 if a page has no marks, or links to a function that is not in the file; 2 if there are words.
@@ -72,20 +72,20 @@ def proofs():
 def tests():
     """The same of the tests."""
     worked = texts(ROOT / "rows", "*.rows")
-    planted = re.search(r"^PLANTED = \[(.*?)^\]", (ROOT / "tests" / "test_rows.py").read_text(encoding="utf-8"), re.MULTILINE | re.DOTALL)[1]
+    planted = re.search(r"^PLANTED = \[(.*?)^\]", (ROOT / "tests" / "cases" / "test_rows.py").read_text(encoding="utf-8"), re.MULTILINE | re.DOTALL)[1]
     fuzzed = re.search(r"NAMES\[CALLS\] = \{(.*?)\};", (ROOT / "clib" / "fuzz" / "calls.c").read_text(encoding="utf-8"), re.DOTALL)[1]
     failing = (ROOT / "tests" / "failing_calls.c").read_text(encoding="utf-8")
     plain = texts(ROOT / "bench", "tests/*.rs") + texts(ROOT / "bench", "src/**/*.rs")
     return [
         ("worked rows, and their answers", (found(r"^row ", worked), found(r"^[^#\n]*->", worked)), "[`rows/`](../rows/README.md)"),
-        ("faults planted in the plain rules, each seen by a row", found(r"^    \(", [planted]), "`tests/test_rows.py`"),
+        ("faults planted in the plain rules, each seen by a row", found(r"^    \(", [planted]), "`tests/cases/test_rows.py`"),
         ("tests in the crates", found(r"^ *#\[test\]", texts(CRATES, "*/src/**/*.rt")), "`crates/*/src/`"),
         ("tests of the plain programs", found(r"^ *#\[test\]", plain), "`bench/`"),
-        ("cases of the built programs, the pages and the scripts", found(r"^    def test_", texts(ROOT / "tests", "test_*.py")), "`tests/`"),
+        ("cases of the built programs, the pages and the scripts", found(r"^    def test_", texts(ROOT / "tests" / "cases", "test_*.py")), "`tests/cases/`"),
         ("cases of the Python package", found(r"^    def test_", texts(ROOT / "python", "test_*.py")), "`python/`"),
         (
             "whole days in which a seed decides what goes wrong, without and with a journal",
-            (range_of("tests/test_storm.py", "SEEDS"), range_of("tests/test_storm.py", "JOURNAL_SEEDS")),
+            (range_of("tests/cases/test_storm.py", "SEEDS"), range_of("tests/cases/test_storm.py", "JOURNAL_SEEDS")),
             "`tests/storm.py`",
         ),
         ("calls of the system that are made to fail", found(r"^(?:int|ssize_t) \w+\([^;]*\) \{$", [failing]), "`tests/failing_calls.c`"),
