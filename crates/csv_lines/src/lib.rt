@@ -5,4 +5,4 @@ mod fields;
 mod lines;
 
 pub use fields::push_number;
-pub use lines::{into_text, lines_in, put_line};
+pub use lines::{into_text, line_of, lines_in, put_line};

@@ -1,11 +1,13 @@
 //! The errors of a report, each with its number and its name.
-ghost use Rattle.std.specs.Prelude.{◌≡◌, Some};
+ghost use Rattle.std.specs.Prelude.{◌≡◌, ◌≢◌, Some};
 ghost use Rattle.day_report.specs.ReportFaults.{report_fault_code, report_fault_name};
-ghost use Rattle.day_report.specs.declared.report_fault.ReportFault.TheVariants.{OutOfMemory};
+ghost use Rattle.day_report.specs.declared.report_fault.ReportFault.TheVariants.{OutOfMemory, WriteFault as FailedWrite};
+ghost use Rattle.whole_io.specs.declared.writing_fault.WritingFault.TheVariants.{OutOfMemory as NoMemory, WriteFault as FailedText};
 
 use std::alloc::AllocError;
 use std::fmt;
 use thiserror::Error;
+use whole_io::{WriteFault, WritingFault};
 
 /// Why the rows of a report were not made, or its text was not written. It is printed as its name.
 #[derive(Clone, Copy, Debug, PartialEq, Eq, Error)]
@@ -56,5 +58,31 @@ impl From<AllocError> for ReportFault {
 
     fn from(_error: AllocError) -> ReportFault {
         ReportFault::OutOfMemory
+    }
+}
+
+impl From<WriteFault> for ReportFault {
+    ghost use Rattle.std.specs.Prelude.{◌≡◌};
+
+    ghost from_gives = { λ _ fault. fault ≡ FailedWrite };
+
+    fn from(_fault: WriteFault) -> ReportFault {
+        ReportFault::WriteFault
+    }
+}
+
+impl From<ReportFault> for WritingFault {
+    ghost use Rattle.std.specs.Prelude.{◌≡◌, ◌≢◌};
+
+    ghost from_gives = { λ fault written. (fault ≡ FailedWrite → written ≡ FailedText) × (fault ≢ FailedWrite → written ≡ NoMemory) };
+
+    fn from(fault: ReportFault) -> WritingFault {
+        match fault {
+            ReportFault::WriteFault => WritingFault::WriteFault,
+            // A report by one worker starts no thread.
+            ReportFault::BadWorkers | ReportFault::Unstarted | ReportFault::OutOfMemory => {
+                WritingFault::OutOfMemory
+            }
+        }
     }
 }

@@ -120,8 +120,6 @@ pub fn write_report<W: Write>(
     ensures faults { IfErr result (λ fault. (fault ≡ OutOfMemory) ⊎ (fault ≡ WriteFault)) }
 {
     let text = text_of(alloc, rows)?;
-    match write_text(writer, &text) {
-        Ok(()) => Ok(()),
-        Err(_) => Err(ReportFault::WriteFault),
-    }
+    write_text(writer, &text)?;
+    Ok(())
 }

@@ -10,12 +10,12 @@ use summaries::Store;
 use tape_types::TapeNumber;
 
 /// The answer to a message: its tape number, or why the tape refused it, which is never `OutOfMemory`.
-pub type Answer = Result<TapeNumber, Refusal>;
+pub type TapeAnswer = Result<TapeNumber, Refusal>;
 
 impl<S: Store> Tape<S> {
     /// Admits a message as `admit` does and returns its tape number, or its refusal, which leaves the tape unchanged.
     /// `AllocError` if memory runs out for a message that no rule refuses, and then the tape is unchanged too.
-    pub fn answer(&mut self, message: Message) -> Result<Answer, AllocError>
+    pub fn answer(&mut self, message: Message) -> Result<TapeAnswer, AllocError>
         ensures tape { OnOk result (self.new ≡ tape_after self.old message) }
         ensures answer { IfOk result (λ answered. answered ≡ answer self.old message) }
         ensures kept { OnErr result (self.new ≡ self.old) }

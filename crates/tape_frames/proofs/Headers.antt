@@ -15,7 +15,7 @@ use Rattle.tape_frames.specs.declared.packet_fault.PacketFault.{PacketFault}
 use Rattle.tape_frames.specs.declared.packet_fault.PacketFault.TheVariants.{Short}
 use Rattle.tape_frames.specs.declared.version.Version.{Version}
 use Rattle.tape_frames.specs.Headers.{header_at, header_number_of, last_entry_of}
-use Rattle.tape_frames.specs.declared.header.Header.{Header}
+use Rattle.tape_frames.specs.declared.header.PacketHeader.{PacketHeader}
 
 -- a spelled header is read
 header_again : (version : Version) (kind session number count : ℕ) (bytes : List ℕ) → kind < 2 ^ 8 → session < 2 ^ 64 → number < 2 ^ 32 → count < 2 ^ 8
@@ -36,7 +36,7 @@ header_again version kind session number count bytes kind_fits session_fits numb
     ap header_at regrouped ∙ rw (first, second, third, fourth, fifth) refl
 
 -- the kind of a packet, its session, its number and its count
-abbrev pub header_of : Packet → Header
+abbrev pub header_of : Packet → PacketHeader
 header_of (Data session row) = record { kind = DATA; session = session; number = first_number row.entries; count = length row.entries }
 header_of (Beat session last) = record { kind = BEAT; session = session; number = last.count; count = 0 }
 header_of (End session count) = record { kind = END; session = session; number = count.count; count = 0 }
@@ -62,15 +62,15 @@ of_text (End session count) valid = (
 )
 
 -- a header that was read is the one that was spelled
-same_header : (r : Result (Header × List ℕ) PacketFault) (a b : Header) (x y : List ℕ) → r ≡ Ok (a, x) → r ≡ Ok (b, y) → a ≡ b
-same_header r a b x y one other = ap (λ (p : Header × List ℕ). p.0) (ok_is Short (a, x) (b, y) (sym one ∙ other))
+same_header : (r : Result (PacketHeader × List ℕ) PacketFault) (a b : PacketHeader) (x y : List ℕ) → r ≡ Ok (a, x) → r ≡ Ok (b, y) → a ≡ b
+same_header r a b x y one other = ap (λ (p : PacketHeader × List ℕ). p.0) (ok_is Short (a, x) (b, y) (sym one ∙ other))
 
 -- a spelled header is not too short
-not_short : (r : Result (Header × List ℕ) PacketFault) (fault : PacketFault) (a : Header) (x : List ℕ) → r ≡ Err fault → r ≡ Ok (a, x) → ⊥
+not_short : (r : Result (PacketHeader × List ℕ) PacketFault) (fault : PacketFault) (a : PacketHeader) (x : List ℕ) → r ≡ Err fault → r ≡ Ok (a, x) → ⊥
 not_short r fault a x one other = absurd cc
 
 -- the header that is read from a packet's bytes is the packet's
-pub read_is : (bytes : List ℕ) (packet : Packet) (header : Header) (rest : List ℕ) → Spells bytes packet → header_at bytes ≡ Ok (header, rest)
+pub read_is : (bytes : List ℕ) (packet : Packet) (header : PacketHeader) (rest : List ℕ) → Spells bytes packet → header_at bytes ≡ Ok (header, rest)
     → header ≡ header_of packet
 read_is bytes packet header rest spelled read =
     let text = of_text packet spelled.0 in

@@ -3,14 +3,14 @@ use Rattle.std.specs.Prelude.{ℕ, ◌==◌, if◌then◌else◌, List, Option, 
 use Rattle.std.specs.Int.{w8, w32, w64}
 use Rattle.reports.specs.Fields.{◌>>=◌, number_at}
 use Rattle.tape_frames.specs.EntryRows.{first_number, last_number}
-use Rattle.tape_frames.specs.declared.header.Header.{Header}
+use Rattle.tape_frames.specs.declared.header.PacketHeader.{PacketHeader}
 use Rattle.tape_frames.specs.declared.packet.Packet.{Packet}
 use Rattle.tape_frames.specs.declared.packet.Packet.TheVariants.{Data, Beat, End}
 use Rattle.tape_frames.specs.declared.packet_fault.PacketFault.{PacketFault}
 use Rattle.tape_frames.specs.declared.packet_fault.PacketFault.TheVariants.{Short}
 
 -- a header, whatever its version, with its kind, its session, its number and its count
-unfoldable pub header_at : List ℕ → Result (Header × List ℕ) PacketFault
+unfoldable pub header_at : List ℕ → Result (PacketHeader × List ℕ) PacketFault
 header_at bytes = do
   version ← number_at Short w8 bytes
   kind ← number_at Short w8 version.1

@@ -11,7 +11,7 @@ use reports::Unread;
 
 /// What a header says about the entries that follow it.
 #[derive(Clone, Copy)]
-struct Header {
+struct PacketHeader {
     /// The kind of the packet.
     kind: u8,
     /// The session that it is sent under.
@@ -24,7 +24,7 @@ struct Header {
 
 /// The header at the front, whatever its version.
 #[tactic(auto, unfolding(crate::specs::Headers::header_at))]
-fn read_header(unread: &mut Unread<'_>) -> Result<Header, PacketFault>
+fn read_header(unread: &mut Unread<'_>) -> Result<PacketHeader, PacketFault>
     ensures { Reads result unread.new.rest.now (header_at unread.old.rest.now) }
 {
     let _version = unread.u8(PacketFault::Short)?;
@@ -32,7 +32,7 @@ fn read_header(unread: &mut Unread<'_>) -> Result<Header, PacketFault>
     let session = unread.u64(PacketFault::Short)?;
     let number = unread.u32(PacketFault::Short)?;
     let count = unread.u8(PacketFault::Short)?;
-    Ok(Header {
+    Ok(PacketHeader {
         kind,
         session,
         number,
@@ -46,7 +46,7 @@ fn read_header(unread: &mut Unread<'_>) -> Result<Header, PacketFault>
 pub fn header_number(bytes: &[u8]) -> Option<u32>
     ensures number { (packet : Packet) → Spells bytes.now packet → result ≡ Some (header_number_of packet) }
 {
-    let mut unread = Unread { rest: bytes };
+    let mut unread = Unread::of(bytes);
     match read_header(&mut unread) {
         Ok(header) => Some(header.number),
         Err(_) => None,
@@ -58,7 +58,7 @@ pub fn header_number(bytes: &[u8]) -> Option<u32>
 pub fn last_entry(session: u64, bytes: &[u8]) -> Option<u64>
     ensures last { (packet : Packet) → Spells bytes.now packet → result ≡ last_entry_of session packet }
 {
-    let mut unread = Unread { rest: bytes };
+    let mut unread = Unread::of(bytes);
     let Ok(header) = read_header(&mut unread) else {
         return None;
     };

@@ -1,4 +1,5 @@
-//! Reads a row of bytes whole from a reader and writes a text whole to a writer, and says what a failed call leaves.
+//! Reads a row of bytes, or all that is left, from a reader and writes a text whole to a writer, and says what a failed call
+//! leaves.
 #![tactic(auto)]
 
 ghost use Rattle.std.specs.Prelude.{◌≤◌, ◌<◌, IfNone, IfSome, take, length};
@@ -6,11 +7,15 @@ ghost use Rattle.std.specs.Io.KnownBytes.{Consumes, IsAtEnd};
 ghost use Rattle.whole_io.specs.FailedReads.{ReadsFewer};
 
 mod number_text;
+mod reading;
 mod writing;
+mod writing_fault;
 
-pub use number_text::{push_number, push_wide_number};
+pub use number_text::{push_counted, push_number, push_wide_number};
+pub use reading::{ReadFault, read_all};
 use std::io::{ErrorKind, Read};
-pub use writing::{WriteFault, write_text};
+pub use writing::{WriteFault, flush, send, write_text};
+pub use writing_fault::{WritingFault, write_part};
 
 /// Reads until the row is full or the input ends, and returns the number of bytes read, or `None` if a read failed, after fewer
 /// bytes than the row has. An interrupted read is tried again. No byte is read beyond the row.

@@ -1,11 +1,11 @@
-//! Writes a text whole to a writer, by as many writes as it takes.
-ghost use Rattle.std.specs.Prelude.{OnOk};
-ghost use Rattle.std.specs.Io.KnownBytes.{Appends};
+//! Writes a text whole to a writer, by as many writes as it takes, and flushes it.
+ghost use Rattle.std.specs.Prelude.{IsTrue, OnOk};
+ghost use Rattle.std.specs.Io.KnownBytes.{Appends, Keeps};
 ghost use Rattle.whole_io.specs.Writing.{WritesPrefix};
 
 use std::io::{ErrorKind, Write};
 
-/// A write failed, or took no byte.
+/// A write failed or took no byte, or a flush failed.
 #[derive(Clone, Copy, Debug, PartialEq, Eq)]
 pub struct WriteFault;
 
@@ -29,4 +29,22 @@ pub fn write_text<W: Write>(writer: &mut W, text: &[u8]) -> Result<(), WriteFaul
         }
     }
     Err(WriteFault)
+}
+
+/// Flushes what was written.
+pub fn flush<W: Write>(writer: &mut W) -> Result<(), WriteFault>
+    ensures kept { Keeps (W.contents writer.old) (W.contents writer.new) }
+{
+    match writer.flush() {
+        Ok(()) => Ok(()),
+        Err(_) => Err(WriteFault),
+    }
+}
+
+/// Writes all of a text and flushes the writer. Returns whether no write and no flush failed.
+pub fn send<W: Write>(writer: &mut W, text: &[u8]) -> bool
+    ensures sent { IsTrue result → Appends (W.contents writer.old) (W.contents writer.new) text.now }
+    ensures part { WritesPrefix text.now (W.contents writer.old) (W.contents writer.new) }
+{
+    write_text(writer, text).is_ok() && writer.flush().is_ok()
 }
