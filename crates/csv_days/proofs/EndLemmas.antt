@@ -88,3 +88,7 @@ messages_end (Some input) messages (Err end) table is = by end is
     by (Listing fault) is = (messages, table, is)
     by OutOfMemory is = tt
     by WriteFault is = tt
+
+-- results that are the same error have the same end
+pub same_end : (one other : TableEnd) → ◌≡◌ {A = Result Refusals TableEnd} (Err one) (Err other) → one ≡ other
+same_end one other is = cc is

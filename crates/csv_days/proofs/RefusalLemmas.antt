@@ -16,7 +16,7 @@ use Rattle.tape_core.specs.declared.refusal.Refusal.{Refusal}
 use Rattle.csv_messages.specs.Tables.{FIRST_ROW}
 use Rattle.csv_days.specs.Refusals.{AreRefusals, RefusesNone, is_refusal, one_more, refused_for, refused_rows}
 use Rattle.csv_days.specs.declared.refusals.Refusals.{Refusals}
-use Rattle.csv_days.specs.declared.refusals.Refused.{Refused}
+use Rattle.csv_days.specs.declared.refusals.RefusedRows.{RefusedRows}
 
 -- the position of a refusal is one of thirteen
 position_range : (r : Refusal) → refusal_position r < 13
@@ -80,7 +80,7 @@ count_by-fails p xs x fails = sum_by_push (λ x. cond (p x) 1 0) xs x ∙ rw fai
 -- ## Rows
 
 -- rows by how many they are, if there is a first
-abbrev counted : ℕ → Option ℕ → Option Refused
+abbrev counted : ℕ → Option ℕ → Option RefusedRows
 counted count first = option_map (λ row. record { count = count; first = row }) first
 
 -- another answer changes nothing
@@ -131,7 +131,7 @@ if_some-weaker P Q (Some a) f h = f a h
 pub AreRefusals-none : (refusals : Refusals) → refusals.reasons ≡ replicate 13 None → AreRefusals [] refusals
 unfolding refused_rows
 AreRefusals-none refusals none reason =
-    ap (λ (l : List (Option Refused)). slice_index_or l (refusal_position reason) None) none
+    ap (λ (l : List (Option RefusedRows)). slice_index_or l (refusal_position reason) None) none
     ∙ get_or-replicate 13 (refusal_position reason) None None (position_range reason)
 
 -- an answer that is a tape number is no refusal
@@ -140,7 +140,7 @@ pub AreRefusals-admitted : (refusals : Refusals) (answers : List (Result ℕ Ref
 AreRefusals-admitted refusals answers number had reason = had reason ∙ sym (refused_rows-same reason answers (Ok number) refl)
 
 -- a refusal more is counted for its reason
-pub AreRefusals-refused : (old new : Refusals) (refused : Refusal) (place row : ℕ) (more : Refused) (answers : List (Result ℕ Refusal))
+pub AreRefusals-refused : (old new : Refusals) (refused : Refusal) (place row : ℕ) (more : RefusedRows) (answers : List (Result ℕ Refusal))
     → length old.reasons ≡ 13 → place ≡ refusal_position refused → new.reasons ≡ slice_set old.reasons place (Some more)
     → (IfSome (slice_index_or old.reasons place None) (λ refused. refused.count + 1 < 2 ^ 64)
     → more ≡ one_more (slice_index_or old.reasons place None) row)
@@ -153,18 +153,18 @@ AreRefusals-refused old new refused place row more answers size at set is fits c
           let had_here : slice_index_or old.reasons place None ≡ refused_rows reason answers =
           ap (λ (n : ℕ). slice_index_or old.reasons n None) (sym here) ∙ had reason in
           let few : IfSome (slice_index_or old.reasons place None) (λ refused. refused.count + 1 < 2 ^ 64) =
-          subst (λ (o : Option Refused). IfSome o (λ refused. refused.count + 1 < 2 ^ 64)) (sym had_here)
+          subst (λ (o : Option RefusedRows). IfSome o (λ refused. refused.count + 1 < 2 ^ 64)) (sym had_here)
           (if_some-weaker (λ refused. refused.count ≤ length answers) (λ refused. refused.count + 1 < 2 ^ 64) (refused_rows reason answers)
           (λ refused le. omega (arith, le, fits, counted)) (refused_rows-few reason answers)) in
-          ap (λ (l : List (Option Refused)). slice_index_or l (refusal_position reason) None) set
+          ap (λ (l : List (Option RefusedRows)). slice_index_or l (refusal_position reason) None) set
           ∙ ap (λ (n : ℕ). slice_index_or (slice_set old.reasons place (Some more)) n None) here
           ∙ get_or-set_same old.reasons place (Some more) None (omega (arith, size, at, position_range refused))
-          ∙ ap (λ (r : Refused). Some r) (is few ∙ ap (λ (o : Option Refused). one_more o row) had_here
+          ∙ ap (λ (r : RefusedRows). Some r) (is few ∙ ap (λ (o : Option RefusedRows). one_more o row) had_here
           ∙ ap (one_more (refused_rows reason answers)) counted)
           ∙ sym (refused_rows-more reason answers (Err refused) same)
       | inr other ↦
           let apart : refusal_position reason ≢ place = λ e. cc (eq-eqb (refusal_code refused) (refusal_code reason) (same_number refused reason (e ∙ at)), other) in
-          ap (λ (l : List (Option Refused)). slice_index_or l (refusal_position reason) None) set
+          ap (λ (l : List (Option RefusedRows)). slice_index_or l (refusal_position reason) None) set
           ∙ get_or-set_other old.reasons place (refusal_position reason) (Some more) None apart
           ∙ had reason ∙ sym (refused_rows-same reason answers (Err refused) other)
     ]
@@ -172,7 +172,7 @@ AreRefusals-refused old new refused place row more answers size at set is fits c
 -- they are those of the same answers if nothing but the first stale row changes
 pub AreRefusals-kept : (old new : Refusals) (answers : List (Result ℕ Refusal)) → new.reasons ≡ old.reasons → AreRefusals answers old
     → AreRefusals answers new
-AreRefusals-kept old new answers same had reason = ap (λ (l : List (Option Refused)). slice_index_or l (refusal_position reason) None) same ∙ had reason
+AreRefusals-kept old new answers same had reason = ap (λ (l : List (Option RefusedRows)). slice_index_or l (refusal_position reason) None) same ∙ had reason
 
 -- ## All refusals
 
@@ -184,13 +184,13 @@ has_none refusals reason = is_none (refused_for refusals reason)
 pub RefusesNone-all : (refusals : Refusals) → list_all (has_none refusals) all_refusals ≡ true → RefusesNone refusals
 RefusesNone-all refusals all reason = cases (refused_for refusals reason) refl
   where
-    cases : (o : Option Refused) → refused_for refusals reason ≡ o → o ≡ None
+    cases : (o : Option RefusedRows) → refused_for refusals reason ≡ o → o ≡ None
     cases None is = refl
     cases (Some refused) is =
         let at : slice_index_or all_refusals (refusal_position reason) reason ≡ reason =
         get_or_from_slice_get all_refusals (refusal_position reason) reason reason (position_known reason) in
         let fails : has_none refusals (slice_index_or all_refusals (refusal_position reason) reason) ≡ false =
-        ap (has_none refusals) at ∙ ap (λ (o : Option Refused). is_none o) is in
+        ap (has_none refusals) at ∙ ap (λ (o : Option RefusedRows). is_none o) is in
         absurd (cc (all, list_all_at (has_none refusals) all_refusals (refusal_position reason) reason (position_range reason) fails))
 
 -- if no refusal has a row, none of all reasons has

@@ -18,7 +18,7 @@ use Rattle.csv_days.specs.StaleRows.{first_stale}
 use Rattle.csv_days.specs.Strict.{IsListed, IsToldOf, admits_all, strictly}
 use Rattle.csv_days.specs.TableEnds.{WritesTable}
 use Rattle.csv_days.specs.declared.refusals.Refusals.{Refusals}
-use Rattle.csv_days.specs.declared.refusals.Refused.{Refused}
+use Rattle.csv_days.specs.declared.refusals.RefusedRows.{RefusedRows}
 use Rattle.csv_days.specs.declared.table_end.TableEnd.{TableEnd}
 use Rattle.csv_days.proofs.EndLemmas.{table_written}
 
@@ -27,7 +27,7 @@ is_refusal-itself : (refused : Refusal) → is_refusal refused (Err refused) ≡
 is_refusal-itself refused = grind (arith, nat_tests)
 
 -- so many rows that were refused, and the first
-abbrev first_of : ℕ → ℕ → Refused
+abbrev first_of : ℕ → ℕ → RefusedRows
 first_of count row = record { count = count; first = row }
 
 -- a reason with no first row

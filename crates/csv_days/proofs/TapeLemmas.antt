@@ -13,8 +13,8 @@ use Rattle.csv_days.specs.Days.{AnswersMore, HasAnswered, lists_all, symbol_of}
 use Rattle.csv_days.specs.Refusals.{AreRefusals}
 use Rattle.csv_days.specs.StaleRows.{first_stale}
 use Rattle.csv_messages.specs.Tables.{FIRST_ROW}
-use Rattle.csv_days.specs.TapeRows.{TapeRow, column_names, row_line, rows_text, tape_row, tape_rows, text_from}
-use Rattle.csv_days.specs.declared.day.Day.{Day}
+use Rattle.csv_days.specs.TapeRows.{TapeRow, tape_columns, row_line, rows_text, tape_row, tape_rows, text_from}
+use Rattle.csv_days.specs.declared.day.TableDay.{TableDay}
 use Rattle.csv_days.proofs.ListingLemmas.{all-parts, part-listed}
 
 -- ## Rows
@@ -64,16 +64,16 @@ rows_text-more t now messages i m old new within is tape so_far written =
 -- ## Texts
 
 -- the text of the columns' names alone
-text_from-none : (t : TapeState) → text_from t [] ≡ row_text default_writer column_names
+text_from-none : (t : TapeState) → text_from t [] ≡ row_text default_writer tape_columns
 unfolding text_from rows_text tape_rows
-text_from-none t = append-nil (row_text default_writer column_names)
+text_from-none t = append-nil (row_text default_writer tape_columns)
 
 -- the text of messages, and of more
 text_from-append : (t : TapeState) (before messages : List Message)
     → text_from t (before ++ messages) ≡ text_from t before ++ rows_text (tape_rows (fold tape_after t before) messages)
 unfolding text_from
 text_from-append t before messages =
-    let head = row_text default_writer column_names in
+    let head = row_text default_writer tape_columns in
     ap (λ (l : List TapeRow). head ++ rows_text l) (tape_rows-append t before messages)
     ∙ ap (λ (l : List ℕ). head ++ l) (rows_text-append (tape_rows t before) (tape_rows (fold tape_after t before) messages))
     ∙ sym (append_assoc head (rows_text (tape_rows t before)) (rows_text (tape_rows (fold tape_after t before) messages)))
@@ -89,15 +89,15 @@ pub two_parts : (n : ℕ) (rest next behind : List Message) → next ≡ take n 
 two_parts n rest next behind front back = rw (front, back) (sym (take-append-drop n rest))
 
 -- of messages that a day answers, these are left, and the text of those before is written up to this part of it
-pub record WrittenSome (t : TapeState) (now : Day) (messages rest : List Message) (text : List ℕ) (known_old known_now : Option (List ℕ)) : Type 0 where
+pub record WrittenSome (t : TapeState) (now : TableDay) (messages rest : List Message) (text : List ℕ) (known_old known_now : Option (List ℕ)) : Type 0 where
   pub done : List Message
   pub split : messages ≡ done ++ rest
   pub answered : HasAnswered t done now
   pub pending : WritesUpTo (text_from t done) text known_old known_now
 
 -- before the first message
-pub WrittenSome-none : (t : TapeState) (day : Day) (messages : List Message) (text : List ℕ) (known : Option (List ℕ))
-    → text ≡ row_text default_writer column_names → HasAnswered t [] day → WrittenSome t day messages messages text known known
+pub WrittenSome-none : (t : TapeState) (day : TableDay) (messages : List Message) (text : List ℕ) (known : Option (List ℕ))
+    → text ≡ row_text default_writer tape_columns → HasAnswered t [] day → WrittenSome t day messages messages text known known
 WrittenSome-none t day messages text known is fresh = record {
   done = [];
   split = refl;
@@ -106,7 +106,7 @@ WrittenSome-none t day messages text known is fresh = record {
 }
 
 -- the part that was left is written
-written_all : (t : TapeState) (now : Day) (messages rest : List Message) (text : List ℕ) (known_old known_now known_new : Option (List ℕ))
+written_all : (t : TapeState) (now : TableDay) (messages rest : List Message) (text : List ℕ) (known_old known_now known_new : Option (List ℕ))
     → (so_far : WrittenSome t now messages rest text known_old known_now) → Appends known_now known_new text
     → WritesUpTo (text_from t so_far.done) [] known_old known_new
 written_all t now messages rest text known_old known_now known_new so_far written =
@@ -120,7 +120,7 @@ prefix_of_all t messages done rest known_old known_new split prefix =
     (WritesPrefix-longer (text_from t done) (rows_text (tape_rows (fold tape_after t done) rest)) known_old known_new prefix)
 
 -- the part that was left is written, and the next messages are answered
-pub WrittenSome-next : (t : TapeState) (now new : Day) (messages rest next behind : List Message) (text lines : List ℕ)
+pub WrittenSome-next : (t : TapeState) (now new : TableDay) (messages rest next behind : List Message) (text lines : List ℕ)
     (known_old known_now known_new : Option (List ℕ)) → rest ≡ next ++ behind → lines ≡ rows_text (tape_rows now.tape next)
     → AnswersMore now new next → Appends known_now known_new text → WrittenSome t now messages rest text known_old known_now
     → WrittenSome t new messages behind lines known_old known_new
@@ -136,7 +136,7 @@ WrittenSome-next t now new messages rest next behind text lines known_old known_
 }
 
 -- the part that was left was written in part
-pub WrittenSome-fault : (t : TapeState) (now : Day) (messages rest : List Message) (text : List ℕ) (known_old known_now known_new : Option (List ℕ))
+pub WrittenSome-fault : (t : TapeState) (now : TableDay) (messages rest : List Message) (text : List ℕ) (known_old known_now known_new : Option (List ℕ))
     → WrittenSome t now messages rest text known_old known_now → WritesPrefix text known_now known_new
     → WritesPrefix (text_from t messages) known_old known_new
 WrittenSome-fault t now messages rest text known_old known_now known_new so_far prefix =
@@ -148,7 +148,7 @@ done_all : (messages done rest : List Message) → messages ≡ done ++ rest →
 done_all messages done rest split none = sym (split ∙ ap (λ (l : List Message). done ++ l) none ∙ append-nil done)
 
 -- the last part is written
-pub WrittenSome-whole : (t : TapeState) (now : Day) (messages rest : List Message) (text : List ℕ) (known_old known_now known_new : Option (List ℕ))
+pub WrittenSome-whole : (t : TapeState) (now : TableDay) (messages rest : List Message) (text : List ℕ) (known_old known_now known_new : Option (List ℕ))
     → rest ≡ [] → WrittenSome t now messages rest text known_old known_now → Appends known_now known_new text
     → Appends known_old known_new (text_from t messages)
 WrittenSome-whole t now messages rest text known_old known_now known_new none so_far written =
@@ -157,19 +157,19 @@ WrittenSome-whole t now messages rest text known_old known_now known_new none so
     (written_all t now messages rest text known_old known_now known_new so_far written))
 
 -- all messages are answered
-pub WrittenSome-answered : (t : TapeState) (now : Day) (messages rest : List Message) (text : List ℕ) (known_old known_now : Option (List ℕ))
+pub WrittenSome-answered : (t : TapeState) (now : TableDay) (messages rest : List Message) (text : List ℕ) (known_old known_now : Option (List ℕ))
     → rest ≡ [] → WrittenSome t now messages rest text known_old known_now → AreRefusals (answers t messages) now.refusals
 WrittenSome-answered t now messages rest text known_old known_now none so_far =
     subst (λ (l : List Message). AreRefusals (answers t l) now.refusals) (done_all messages so_far.done rest so_far.split none) so_far.answered.refusals
 
 -- and this is the first of them that was refused as stale
-pub WrittenSome-stale : (t : TapeState) (now : Day) (messages rest : List Message) (text : List ℕ) (known_old known_now : Option (List ℕ))
+pub WrittenSome-stale : (t : TapeState) (now : TableDay) (messages rest : List Message) (text : List ℕ) (known_old known_now : Option (List ℕ))
     → rest ≡ [] → WrittenSome t now messages rest text known_old known_now → now.refusals.stale ≡ first_stale t messages
 WrittenSome-stale t now messages rest text known_old known_now none so_far =
     so_far.answered.stale ∙ ap (first_stale t) (done_all messages so_far.done rest so_far.split none)
 
 -- the next messages have numbers
-pub WrittenSome-few : (t : TapeState) (now : Day) (messages rest next behind : List Message) (text : List ℕ) (known_old known_now : Option (List ℕ))
+pub WrittenSome-few : (t : TapeState) (now : TableDay) (messages rest next behind : List Message) (text : List ℕ) (known_old known_now : Option (List ℕ))
     → rest ≡ next ++ behind → WrittenSome t now messages rest text known_old known_now → now.row + length next ≤ length messages + FIRST_ROW
 WrittenSome-few t now messages rest next behind text known_old known_now cut so_far =
     omega (arith, so_far.answered.row, ap length so_far.split, length-append so_far.done rest, ap length cut, length-append next behind)
@@ -184,7 +184,7 @@ pub nothing_written : (text : List ℕ) (known : Option (List ℕ)) → WritesPr
 nothing_written text known = (text, WritesUpTo-none text known)
 
 -- the tape lists the symbols of the next messages
-pub WrittenSome-listed : (t : TapeState) (now : Day) (messages rest next behind : List Message) (text : List ℕ) (known_old known_now : Option (List ℕ))
+pub WrittenSome-listed : (t : TapeState) (now : TableDay) (messages rest next behind : List Message) (text : List ℕ) (known_old known_now : Option (List ℕ))
     → rest ≡ next ++ behind → lists_all t messages ≡ true → WrittenSome t now messages rest text known_old known_now → lists_all now.tape next ≡ true
 WrittenSome-listed t now messages rest next behind text known_old known_now cut listed so_far =
     (all-parts (λ m. lists_symbol now.tape.listing (symbol_of m)) rest next behind cut

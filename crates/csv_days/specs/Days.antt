@@ -16,7 +16,7 @@ use Rattle.tape_core.specs.Answers.{answers, tape_after}
 use Rattle.csv_days.specs.Refusals.{AreRefusals}
 use Rattle.csv_days.specs.StaleRows.{first_stale}
 use Rattle.csv_messages.specs.Tables.{FIRST_ROW}
-use Rattle.csv_days.specs.declared.day.Day.{Day}
+use Rattle.csv_days.specs.declared.day.TableDay.{TableDay}
 
 -- the symbol of a message
 abbrev pub symbol_of : Message → List ℕ
@@ -60,13 +60,13 @@ abbrev pub day_text : Matrix → List Message → List ℕ
 day_text matrix messages = report_text (report_rows (tape_of matrix messages))
 
 -- a day began with this tape, and has answered these messages
-pub record HasAnswered (t : TapeState) (messages : List Message) (day : Day) : Type 0 where
+pub record HasAnswered (t : TapeState) (messages : List Message) (day : TableDay) : Type 0 where
   pub tape : day.tape ≡ fold tape_after t messages
   pub refusals : AreRefusals (answers t messages) day.refusals
   pub stale : day.refusals.stale ≡ first_stale t messages
   pub row : day.row ≡ length messages + FIRST_ROW
 
 -- a day answered these messages more
-abbrev pub AnswersMore : Day → Day → List Message → Type 0
+abbrev pub AnswersMore : TableDay → TableDay → List Message → Type 0
 AnswersMore old new messages =
     (t : TapeState) (before : List Message) → HasAnswered t before old → HasAnswered t (before ++ messages) new

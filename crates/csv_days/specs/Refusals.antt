@@ -6,7 +6,7 @@ use Rattle.tape_core.specs.Refusals.{refusal_code, refusal_position}
 use Rattle.csv_messages.specs.Tables.{FIRST_ROW}
 use Rattle.tape_core.specs.declared.refusal.Refusal.{Refusal}
 use Rattle.csv_days.specs.declared.refusals.Refusals.{Refusals}
-use Rattle.csv_days.specs.declared.refusals.Refused.{Refused}
+use Rattle.csv_days.specs.declared.refusals.RefusedRows.{RefusedRows}
 
 -- whether an answer is this refusal
 abbrev pub is_refusal : Refusal → Result ℕ Refusal → Bool
@@ -14,12 +14,12 @@ is_refusal reason (Ok number) = false
 is_refusal reason (Err refused) = refusal_code refused == refusal_code reason
 
 -- the rows of these answers that were refused for this reason, if any: how many, and the number of the first
-unfoldable pub refused_rows : Refusal → List (Result ℕ Refusal) → Option Refused
+unfoldable pub refused_rows : Refusal → List (Result ℕ Refusal) → Option RefusedRows
 refused_rows reason answers =
     option_map (λ row. record { count = count_by (is_refusal reason) answers; first = row }) (position_from (is_refusal reason) FIRST_ROW answers)
 
 -- the rows that were counted for this reason
-abbrev pub refused_for : Refusals → Refusal → Option Refused
+abbrev pub refused_for : Refusals → Refusal → Option RefusedRows
 refused_for refusals reason = slice_index_or refusals.reasons (refusal_position reason) None
 
 -- these are the refusals of these answers, for every reason
@@ -27,7 +27,7 @@ abbrev pub AreRefusals : List (Result ℕ Refusal) → Refusals → Type 0
 AreRefusals answers refusals = (reason : Refusal) → refused_for refusals reason ≡ refused_rows reason answers
 
 -- the rows refused for a reason, with one more
-abbrev pub one_more : Option Refused → ℕ → Refused
+abbrev pub one_more : Option RefusedRows → ℕ → RefusedRows
 one_more None row = record { count = 1; first = row }
 one_more (Some refused) row = record { count = refused.count + 1; first = refused.first }
 

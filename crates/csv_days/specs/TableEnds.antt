@@ -12,8 +12,11 @@ use Rattle.csv_days.specs.StaleRows.{first_stale}
 use Rattle.csv_days.specs.declared.refusals.Refusals.{Refusals}
 use Rattle.csv_days.specs.declared.table_end.TableEnd.{TableEnd}
 use Rattle.csv_days.specs.declared.table_end.TableEnd.TheVariants.{Table, Listing, OutOfMemory, WriteFault}
-use Rattle.csv_days.specs.declared.writing.WritingFault.{WritingFault}
-use Rattle.csv_days.specs.declared.writing.WritingFault.TheVariants as fault
+use Rattle.csv_messages.specs.declared.table_fault.TableFault.TheVariants.{ReadFault as Unreadable}
+use Rattle.whole_io.specs.declared.reading.ReadFault.{ReadFault}
+use Rattle.whole_io.specs.declared.reading.ReadFault.TheVariants as read
+use Rattle.whole_io.specs.declared.writing_fault.WritingFault.{WritingFault}
+use Rattle.whole_io.specs.declared.writing_fault.WritingFault.TheVariants as fault
 
 -- a text of a whole table was written, and these are the rows that its tape refused, with the first stale one
 pub record WritesTable (text : Matrix → List Message → List ℕ) (matrix : Matrix) (input : List ℕ) (refusals : Refusals)
@@ -34,6 +37,11 @@ pub record WritesTablePart (text : Matrix → List Message → List ℕ) (matrix
 abbrev pub write_end : WritingFault → TableEnd
 write_end fault.OutOfMemory = OutOfMemory
 write_end fault.WriteFault = WriteFault
+
+-- the end of a table that could not be read whole
+abbrev pub read_end : ReadFault → TableEnd
+read_end read.Failed = Table Unreadable
+read_end read.OutOfMemory = OutOfMemory
 
 -- why messages have no text: their names make no listing; or memory ran out, or a write failed
 abbrev pub IsMessagesEnd : List Message → TableEnd → Type 0

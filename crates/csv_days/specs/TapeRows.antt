@@ -10,7 +10,7 @@ use Rattle.tape_core.specs.Tape.{TapeState, row_figures}
 use Rattle.tape_core.specs.declared.entry.Entry.{Entry}
 use Rattle.tape_core.specs.declared.refusal.Refusal.{Refusal}
 use Rattle.tape_core.specs.declared.row_figures.RowFigures.{RowFigures}
-use Rattle.csv_messages.specs.TableTexts.{column_names as table_names}
+use Rattle.csv_messages.specs.TableTexts.{column_names}
 use Rattle.csv_messages.specs.TapeColumns.{answer_names, figure_names}
 use Rattle.csv_messages.specs.Writing.{price_text, row_fields, row_of}
 use Rattle.tape_core.specs.Answers.{answer, tape_after}
@@ -50,8 +50,8 @@ entry_rows matrix before (e ∷ es) =
 -- ## Fields
 
 -- the names of the columns: those of the answer, of the message and of the figures
-abbrev pub column_names : List (List ℕ)
-column_names = answer_names ++ (table_names ++ figure_names)
+abbrev pub tape_columns : List (List ℕ)
+tape_columns = answer_names ++ (column_names ++ figure_names)
 
 -- a refusal by number and name
 abbrev pub refusal_text : Refusal → List ℕ
@@ -85,7 +85,7 @@ row_line row = row_text default_writer (tape_fields row)
 
 -- the line of the columns' names
 abbrev pub head_line : List ℕ
-head_line = row_text default_writer column_names
+head_line = row_text default_writer tape_columns
 
 -- the lines of rows
 unfoldable pub rows_text : List TapeRow → List ℕ

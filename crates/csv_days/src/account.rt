@@ -13,7 +13,7 @@ ghost use Rattle.csv_days.specs.Accounts.{AreChanges, AreOwn, IsAccount};
 ghost use Rattle.csv_days.specs.TableEnds.{IsMessagesEnd};
 ghost use Rattle.csv_days.specs.declared.table_end.TableEnd.TheVariants.{WriteFault};
 
-use crate::day::Day;
+use crate::day::TableDay;
 use crate::explained::Explained;
 use crate::tape_row::figures_of;
 use crate::{TableEnd, TableTape};
@@ -21,14 +21,14 @@ use reports::Message;
 use sale_matrix::{Matrix, cells};
 use scratch_fold::{Mark, Summary};
 use std::alloc::{AllocError, Global};
-use tape_core::{Answer, Entry};
+use tape_core::{Entry, TapeAnswer};
 use tape_types::{PARTICIPANTS_MOST, Participant};
 
 /// A day that has answered its messages, and what the rows of its reports need besides.
 #[derive(Drop)]
 pub struct Account {
     /// The day.
-    pub day: Day,
+    pub day: TableDay,
     /// For each entry of the tape, its row in the table.
     pub rows: Vec<u64>,
     /// For each entry of the tape, the tape number of the last message that changed it as a report, 0 for none.
@@ -39,7 +39,7 @@ pub struct Account {
 
 /// Notes the number of a row if its message is admitted.
 #[tactic(auto, unfolding(crate::specs::Explained::admitted_rows))]
-fn note_row(rows: &mut Vec<u64>, row: u64, answered: &Answer) -> Result<(), AllocError>
+fn note_row(rows: &mut Vec<u64>, row: u64, answered: &TapeAnswer) -> Result<(), AllocError>
     ensures { OnOk result (rows.new.items ≡ rows.old.items ++ admitted_rows row (answered.now ∷ [])) }
 {
     if answered.is_ok() {
@@ -49,7 +49,11 @@ fn note_row(rows: &mut Vec<u64>, row: u64, answered: &Answer) -> Result<(), Allo
 }
 
 /// Answers the messages of a day's next rows, in order, and returns the number of each row whose message is admitted.
-fn admitted_rows(alloc: Global, day: &mut Day, messages: &[Message]) -> Result<Vec<u64>, AllocError>
+fn admitted_rows(
+    alloc: Global,
+    day: &mut TableDay,
+    messages: &[Message],
+) -> Result<Vec<u64>, AllocError>
     requires { day.old.row + length messages.now < 2 ^ 64 }
     ensures rows { IfOk result (λ rows. rows.items ≡ admitted_rows day.old.row (answers day.old.tape messages.now)) }
     ensures more { OnOk result (AnswersMore day.old day.new messages.now) }
@@ -146,7 +150,7 @@ impl Account {
         ensures account { IfOk result IsAccount }
         ensures end { IfErr result (λ end. (end ≢ WriteFault) × IsMessagesEnd messages.now end) }
     {
-        let mut day = Day::of_names(alloc, matrix, messages)?;
+        let mut day = TableDay::of_names(alloc, matrix, messages)?;
         let rows = admitted_rows(alloc, &mut day, messages)?;
         let changes = changes_of(alloc, &day.tape)?;
         let own = own_summaries(alloc, &day.tape)?;

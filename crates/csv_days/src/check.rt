@@ -9,11 +9,11 @@ use crate::TableEnd;
 use crate::fault_counts::FaultCounts;
 use crate::fault_kind::{FAULT_KINDS, FaultKind};
 use crate::table_check::TableCheck;
-use crate::writing::{flush, write_part};
 use csv_messages::Column;
 use std::alloc::{AllocError, Global};
 use std::io::{Read, Write};
 use tape_types::ListingFault;
+use whole_io::{flush, write_part};
 
 /// All kinds of faults, in the order of their lines.
 const ALL_KINDS: [FaultKind; FAULT_KINDS] = [

@@ -12,7 +12,7 @@ use reports::Message;
 use sale_matrix::Matrix;
 use std::alloc::{AllocError, Global};
 use summaries::IndexStore;
-use tape_core::{Answer, Tape};
+use tape_core::{Tape, TapeAnswer};
 use tape_types::TAPE_MOST;
 
 /// The tape of a table, over ordered indexes.
@@ -20,7 +20,7 @@ pub type TableTape = Tape<IndexStore>;
 
 /// A table's tape while its rows are answered, and what it has refused.
 #[derive(Drop)]
-pub struct Day {
+pub struct TableDay {
     /// The allocator for the text of a refusal.
     pub alloc: Global,
     /// The tape.
@@ -31,20 +31,21 @@ pub struct Day {
     pub row: u64,
 }
 
-impl Day {
+impl TableDay {
     ghost use Rattle.csv_days.specs.Days.{AnswersMore, HasAnswered};
 
     /// Creates a day whose tape lists the names in messages, and has answered no row.
-    pub fn of_names(alloc: Global, matrix: Matrix, messages: &[Message]) -> Result<Day, TableEnd>
+    pub fn of_names(
+        alloc: Global,
+        matrix: Matrix,
+        messages: &[Message],
+    ) -> Result<TableDay, TableEnd>
         ensures day { IfOk result (HasAnswered (first_tape matrix messages.now) []) }
         ensures end { IfErr result (λ end. (end ≢ WriteFault) × IsMessagesEnd messages.now end) }
     {
-        let listing = match listing_of(alloc, messages) {
-            Ok(listing) => listing,
-            Err(fault) => return Err(TableEnd::Listing(fault)),
-        };
+        let listing = listing_of(alloc, messages)?;
         match Tape::new(alloc, listing, TAPE_MOST, matrix) {
-            Ok(tape) => Ok(Day {
+            Ok(tape) => Ok(TableDay {
                 alloc,
                 tape,
                 refusals: Refusals::none(),
@@ -55,7 +56,7 @@ impl Day {
     }
 
     /// Answers the next row's message.
-    pub fn answer(&mut self, message: Message) -> Result<Answer, AllocError>
+    pub fn answer(&mut self, message: Message) -> Result<TapeAnswer, AllocError>
         requires { self.old.row + 1 < 2 ^ 64 }
         ensures answer { IfOk result (λ answered. answered ≡ answer self.old.tape message) }
         ensures tape { OnOk result (self.new.tape ≡ tape_after self.old.tape message) }

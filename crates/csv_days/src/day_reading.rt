@@ -26,13 +26,8 @@ fn answer_rows<R: Read + Drop>(
     ensures end { IfErr result (λ end. (end ≢ WriteFault) × EndsWith R.remaining rows.old end) }
 {
     for _ in 0..u64::MAX {
-        let piece = match rows.piece(alloc, PIECE_ROWS) {
-            Ok(piece) => piece,
-            Err(fault) => return Err(TableEnd::Table(fault)),
-        };
-        let Ok(()) = day.answer_all(&piece.messages) else {
-            return Err(TableEnd::OutOfMemory);
-        };
+        let piece = rows.piece(alloc, PIECE_ROWS)?;
+        day.answer_all(&piece.messages)?;
         if piece.last {
             return Ok(());
         }
@@ -49,13 +44,8 @@ pub fn read_day<R: Read + Drop>(
     ensures day { IfOk result (ReadsDay (R.remaining reader) matrix) }
     ensures end { IfErr result (λ end. (end ≢ WriteFault) × StopsDay (R.remaining reader) end) }
 {
-    let mut rows = match TableRows::new(alloc, reader) {
-        Ok(rows) => rows,
-        Err(fault) => return Err(TableEnd::Table(fault)),
-    };
+    let mut rows = TableRows::new(alloc, reader)?;
     let mut day = EndDay::new(alloc, matrix);
-    match answer_rows(alloc, &mut rows, &mut day) {
-        Ok(()) => Ok(day),
-        Err(end) => Err(end),
-    }
+    answer_rows(alloc, &mut rows, &mut day)?;
+    Ok(day)
 }

@@ -11,7 +11,7 @@ use csv_messages::FIRST_ROW;
 use reports::Message;
 use sale_matrix::Matrix;
 use std::alloc::{AllocError, Global};
-use tape_core::{Answer, EndTape};
+use tape_core::{EndTape, TapeAnswer};
 
 /// A table's day of which only the end is asked: what is kept of its tape, the names in the rows so far, and what the tape has
 /// refused.
@@ -30,7 +30,7 @@ pub struct EndDay {
 }
 
 /// Answers a message: it is admitted, or it is refused and the tape is as it was.
-fn answer(tape: &mut EndTape, message: Message) -> Result<Answer, AllocError>
+fn answer(tape: &mut EndTape, message: Message) -> Result<TapeAnswer, AllocError>
     requires kept { IsKeptFor tape.old message }
     ensures tape { OnOk result ((t : TapeState) → KeepsEnd t tape.old → ListsNames t.listing message → KeepsEnd (tape_after t message) tape.new) }
     ensures answer { IfOk result (λ answered. (t : TapeState) → KeepsEnd t tape.old → ListsNames t.listing message → answered ≡ answer t message) }

@@ -1,20 +1,19 @@
 //! Writes the rows of the readable tape for the entries of any tape, one at a time.
 ghost use Rattle.std.specs.Prelude.{◌≡◌, Err, OnErr, OnOk};
 ghost use Rattle.std.specs.Io.KnownBytes.{Appends};
-ghost use Rattle.csv_days.specs.declared.writing.WritingFault.TheVariants.{OutOfMemory, WriteFault};
+ghost use Rattle.whole_io.specs.declared.writing_fault.WritingFault.TheVariants.{OutOfMemory, WriteFault};
 ghost use Rattle.whole_io.specs.Writing.{WritesPrefix};
 ghost use Rattle.csv_days.specs.Laws.{RowsOfEntries};
 ghost use Rattle.csv_days.specs.TapeRows.{entry_row, head_line, row_line};
 
-use crate::WritingFault;
 use crate::tape_row::{head_text, put_row};
-use crate::writing::write_part;
 use csv::ByteRecord;
 use csv_lines::{into_text, lines_in};
 use std::alloc::{AllocError, Global};
 use std::io::Write;
 use std::mem;
 use tape_core::{Entry, RowFigures};
+use whole_io::{WritingFault, write_part};
 
 /// Writes the line of the columns' names, with which a readable tape begins.
 ///

@@ -7,19 +7,19 @@ ghost use Rattle.whole_io.specs.Writing.{WritesPrefix};
 ghost use Rattle.csv_messages.specs.Tables.{FIRST_ROW};
 ghost use Rattle.tape_core.specs.Answers.{answers};
 ghost use Rattle.csv_days.specs.Days.{first_tape};
-ghost use Rattle.csv_days.specs.Explained.{entry_line, explain_text, explained_at, explained_names, explained_rows, explained_text, explained_to};
+ghost use Rattle.csv_days.specs.Explained.{entry_line, explain_text, explained_at, explained_head, explained_names, explained_rows, explained_text, explained_to};
 ghost use Rattle.csv_days.specs.Accounts.{IsAccount};
 ghost use Rattle.csv_days.specs.ExplainedLaws.{CancelledSetNothing, RowsAddUp, RowsOfFigures, RowsOfOwnFigures, RowsOfReports};
 ghost use Rattle.csv_days.specs.Refusals.{AreRefusals};
 ghost use Rattle.csv_days.specs.StaleRows.{first_stale};
 ghost use Rattle.csv_days.specs.TableEnds.{IsMessagesEnd, IsTableEnd, WritesTable, WritesTablePart};
 ghost use Rattle.csv_days.specs.declared.table_end.TableEnd.TheVariants.{OutOfMemory, WriteFault};
+ghost use Rattle.whole_io.specs.declared.writing_fault.WritingFault.TheVariants.{OutOfMemory as NoMemory};
 
 use crate::account::Account;
 use crate::explained::{explained_head, put_explained};
 use crate::table_end::flushed;
-use crate::writing::write_part;
-use crate::{Refusals, TableEnd, WritingFault};
+use crate::{Refusals, TableEnd};
 use csv::{ByteRecord, Writer};
 use csv_lines::{into_text, lines_in};
 use csv_messages::read_table;
@@ -27,6 +27,7 @@ use reports::Message;
 use sale_matrix::Matrix;
 use std::alloc::{AllocError, Global};
 use std::io::{Read, Write};
+use whole_io::{WritingFault, write_part};
 
 /// How many entries are written at once.
 const ENTRIES_AT_ONCE: usize = 512;
@@ -117,6 +118,19 @@ fn write_rows<W: Write>(
         from = to;
     }
     write_part(writer, &text)
+}
+
+/// Writes the line of the columns' names, with which an explanation of reports begins.
+///
+/// Errors: `OutOfMemory` before anything is written, and `WriteFault` if a write fails or takes no byte; then a prefix of the
+/// line has been written and nothing else. The writer is not flushed.
+pub fn write_explained_head<W: Write>(alloc: Global, writer: &mut W) -> Result<(), WritingFault>
+    ensures written { OnOk result (Appends (W.contents writer.old) (W.contents writer.new) explained_head) }
+    ensures memory { result ≡ Err NoMemory → writer.new ≡ writer.old }
+    ensures prefix { OnErr result (WritesPrefix explained_head (W.contents writer.old) (W.contents writer.new)) }
+{
+    let head = explained_head(alloc)?;
+    write_part(writer, &head)
 }
 
 /// Answers messages in order by a tape of the names in them, in the order in which they first appear, and explains each report

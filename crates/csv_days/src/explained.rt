@@ -7,13 +7,35 @@ ghost use Rattle.csv_days.specs.Explained.{change_text, counts_text, explained_l
 
 use corrections::{Standing, Target};
 use csv::{ByteRecord, Writer};
-use csv_lines::{into_text, lines_in, push_number, put_line};
+use csv_lines::{line_of, push_number, put_line};
 use csv_messages::push_content;
 use reports::Header;
 use sale_matrix::{Cells, LastRule};
 use scratch_fold::{Mark, Summary};
 use std::alloc::{AllocError, Global};
 use tape_types::TapeNumber;
+
+/// The names of the columns in their order.
+const EXPLAINED_COLUMNS: [&[u8]; 18] = [
+    b"symbol",
+    b"tape",
+    b"row",
+    b"participant",
+    b"number",
+    b"moment",
+    b"price",
+    b"size",
+    b"condition",
+    b"state",
+    b"changed",
+    b"high_low",
+    b"last",
+    b"volume",
+    b"sets",
+    b"own_high_low",
+    b"own_last",
+    b"own_sets",
+];
 
 /// A report that the tape admitted, with what became of it by the end of its day.
 #[derive(Clone, Copy)]
@@ -34,42 +56,11 @@ pub struct Explained {
     pub own: Summary,
 }
 
-/// Returns the names of the columns.
-fn explained_names(alloc: Global) -> Result<ByteRecord, AllocError>
-    ensures { IfOk result (λ fields. fields_of fields ≡ explained_names) }
-{
-    ByteRecord::from_fields(
-        alloc,
-        &[
-            b"symbol",
-            b"tape",
-            b"row",
-            b"participant",
-            b"number",
-            b"moment",
-            b"price",
-            b"size",
-            b"condition",
-            b"state",
-            b"changed",
-            b"high_low",
-            b"last",
-            b"volume",
-            b"sets",
-            b"own_high_low",
-            b"own_last",
-            b"own_sets",
-        ],
-    )
-}
-
 /// Returns the line of the columns' names.
 pub fn explained_head(alloc: Global) -> Result<Vec<u8>, AllocError>
     ensures { IfOk result (λ text. text.items ≡ row_text default_writer explained_names) }
 {
-    let mut writer = lines_in(Vec::new(alloc));
-    put_line(&mut writer, &explained_names(alloc)?)?;
-    into_text(writer)
+    line_of(alloc, &EXPLAINED_COLUMNS)
 }
 
 /// Returns whether a report stands, as a word.

@@ -6,7 +6,7 @@ ghost use Rattle.tape_core.specs.Answers.{answer, tape_after};
 ghost use Rattle.csv_days.specs.StaleRows.{AreLastNumbers, last_at};
 
 use reports::Message;
-use tape_core::Answer;
+use tape_core::TapeAnswer;
 use tape_types::{MsgNumber, PARTICIPANTS_MOST, Participant};
 
 /// The last message number of each participant, of the messages that were admitted.
@@ -42,7 +42,7 @@ impl LastNumbers {
     }
 
     /// Notes a message and its answer: if it was admitted, its number becomes its participant's last.
-    pub fn note(&mut self, answered: &Answer, message: &Message)
+    pub fn note(&mut self, answered: &TapeAnswer, message: &Message)
         ensures { (t : TapeState) → answered.now ≡ answer t message.now → AreLastNumbers t self.old → AreLastNumbers (tape_after t message.now) self.new }
     {
         match answered {

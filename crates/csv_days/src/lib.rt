@@ -25,19 +25,20 @@ mod table_end;
 mod tape;
 mod tape_row;
 mod told_fault;
-mod writing;
 
 pub use check::check_over;
 pub use day::TableTape;
 pub use entry_rows::{EntryRows, rows_of_entries, write_head};
-pub use explain::{explain_over, rows_add_up, rows_of_figures, rows_of_reports, write_explained};
+pub use explain::{
+    explain_over, rows_add_up, rows_of_figures, rows_of_reports, write_explained,
+    write_explained_head,
+};
 pub use messages_report::write_messages_report;
 pub use naming::listing_of;
-pub use refusals::{Refusals, Refused};
+pub use refusals::{Refusals, RefusedRows};
 pub use report::report_over;
 pub use stale_row::StaleRow;
 pub use strict::{explain_strict_over, report_strict_over, tape_strict_over};
 pub use table_end::TableEnd;
 pub use tape::{tape_over, write_tape};
 pub use tape_row::refusal_text;
-pub use writing::{WritingFault, flush, write_part};

@@ -33,8 +33,6 @@ pub fn write_messages_report<W: Write>(
     ensures prefix { result ≡ Err TableWriteFault → WritesPrefix (day_text matrix messages.now) (W.contents writer.old) (W.contents writer.new) }
 {
     let mut day = EndDay::new(alloc, matrix);
-    match day.answer_all(messages) {
-        Ok(()) => write_report_of(alloc, &day, writer),
-        Err(_) => Err(TableEnd::OutOfMemory),
-    }
+    day.answer_all(messages)?;
+    write_report_of(alloc, &day, writer)
 }

@@ -8,11 +8,11 @@ ghost use Rattle.csv_days.specs.StaleRows.{stale_after, stale_row};
 
 use crate::stale_row::StaleRow;
 use reports::Message;
-use tape_core::{ALL_REFUSALS, Answer, Refusal};
+use tape_core::{ALL_REFUSALS, Refusal, TapeAnswer};
 
 /// The rows that a tape refused for one reason.
 #[derive(Clone, Copy, Debug, PartialEq, Eq)]
-pub struct Refused {
+pub struct RefusedRows {
     /// How many there are, 1 or more.
     pub count: u64,
     /// The row of the first of them; the header row is row 1.
@@ -22,7 +22,7 @@ pub struct Refused {
 /// What a tape refused: for each reason how many rows, and the first of them; and the numbers of the first stale row.
 #[derive(Clone, Copy, Debug, PartialEq, Eq)]
 pub struct Refusals {
-    reasons: [Option<Refused>; ALL_REFUSALS.len()],
+    reasons: [Option<RefusedRows>; ALL_REFUSALS.len()],
     stale: Option<StaleRow>,
 }
 
@@ -34,15 +34,15 @@ fn is_stale(refusal: Refusal) -> bool
 }
 
 /// Counts one row more that is refused for a reason.
-fn one_more(refused: Option<Refused>, row: u64) -> Refused
+fn one_more(refused: Option<RefusedRows>, row: u64) -> RefusedRows
     ensures { IfSome refused (λ refused. refused.count + 1 < 2 ^ 64) → result ≡ one_more refused row }
 {
     match refused {
-        Some(refused) => Refused {
+        Some(refused) => RefusedRows {
             count: refused.count.saturating_add(1),
             first: refused.first,
         },
-        None => Refused {
+        None => RefusedRows {
             count: 1,
             first: row,
         },
@@ -65,7 +65,7 @@ impl Refusals {
     }
 
     /// Returns the rows that were refused for this reason, or `None` if none was.
-    pub fn of(&self, refusal: Refusal) -> Option<Refused>
+    pub fn of(&self, refusal: Refusal) -> Option<RefusedRows>
         ensures refused { result ≡ refused_for self.now refusal }
     {
         self.reasons[refusal.position()]
@@ -125,7 +125,7 @@ impl Refusals {
 
     /// Counts the answer to the row of this number, if it is a refusal. `greatest` is the participant's greatest message number
     /// on the tape before the row.
-    pub(crate) fn count(&mut self, answer: &Answer, row: u64, message: &Message, greatest: u32)
+    pub(crate) fn count(&mut self, answer: &TapeAnswer, row: u64, message: &Message, greatest: u32)
         ensures stale { self.new.stale ≡ stale_after self.old.stale answer.now (stale_row message.now greatest) }
         ensures counts { (answers : List (Result ℕ Reason)) → row ≡ length answers + FIRST_ROW
             → AreRefusals answers self.old → AreRefusals (answers ++ answer.now ∷ []) self.new }

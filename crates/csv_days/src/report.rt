@@ -20,7 +20,7 @@ use crate::day_reading::read_day;
 use crate::end_day::EndDay;
 use crate::table_end::flushed;
 use crate::{Refusals, TableEnd};
-use day_report::{ReportFault, end_rows, write_report};
+use day_report::{end_rows, write_report};
 use sale_matrix::Matrix;
 use std::alloc::Global;
 use std::io::{Read, Write};
@@ -28,7 +28,7 @@ use tape_core::EndTape;
 use tape_types::Listing;
 
 /// Writes the report of a tape of which only the end is asked, by its listing.
-fn write_day<W: Write>(
+fn write_end_report<W: Write>(
     alloc: Global,
     tape: &EndTape,
     listing: &Listing,
@@ -42,14 +42,9 @@ fn write_day<W: Write>(
         → WritesPrefix (report_text (report_rows t)) (W.contents writer.old) (W.contents writer.new) }
     ensures ends { IfErr result (λ end. (end ≡ OutOfMemory) ⊎ (end ≡ TableWriteFault)) }
 {
-    let Ok(rows) = end_rows(alloc, tape, listing) else {
-        return Err(TableEnd::OutOfMemory);
-    };
-    match write_report(alloc, &rows, writer) {
-        Ok(()) => Ok(()),
-        Err(ReportFault::WriteFault) => Err(TableEnd::WriteFault),
-        Err(_) => Err(TableEnd::OutOfMemory),
-    }
+    let rows = end_rows(alloc, tape, listing)?;
+    write_report(alloc, &rows, writer)?;
+    Ok(())
 }
 
 /// Writes the report of a day, and returns what its tape refused.
@@ -70,14 +65,9 @@ pub fn write_report_of<W: Write>(
     ensures prefix { result ≡ Err TableWriteFault → (matrix : Columns) (messages : List Sent) → HasEnded matrix messages day.now
         → WritesPrefix (day_text matrix messages) (W.contents writer.old) (W.contents writer.new) }
 {
-    let listing = match day.names.listing(alloc) {
-        Ok(listing) => listing,
-        Err(fault) => return Err(TableEnd::Listing(fault)),
-    };
-    match write_day(alloc, &day.tape, &listing, writer) {
-        Ok(()) => flushed(writer, &day.refusals),
-        Err(end) => Err(end),
-    }
+    let listing = day.names.listing(alloc)?;
+    write_end_report(alloc, &day.tape, &listing, writer)?;
+    flushed(writer, &day.refusals)
 }
 
 /// Reads a table whole, answers its messages in order by a tape of the names in it, in the order in which they first appear,
@@ -100,8 +90,6 @@ pub fn report_over<R: Read + Drop, W: Write>(
     ensures prefix { result ≡ Err TableWriteFault
         → IfSome (R.remaining reader) (λ input. WritesTablePart day_text matrix input (W.contents writer.old) (W.contents writer.new)) }
 {
-    match read_day(alloc, matrix, reader) {
-        Ok(day) => write_report_of(alloc, &day, writer),
-        Err(end) => Err(end),
-    }
+    let day = read_day(alloc, matrix, reader)?;
+    write_report_of(alloc, &day, writer)
 }

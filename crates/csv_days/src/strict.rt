@@ -5,11 +5,13 @@ ghost use Rattle.csv_messages.specs.Tables.{FIRST_ROW};
 ghost use Rattle.reports.specs.declared.message.Message.{Message as Sent};
 ghost use Rattle.whole_io.specs.Writing.{WritesPrefix};
 ghost use Rattle.sale_matrix.specs.declared.matrix.Matrix.{Matrix as Columns};
-ghost use Rattle.csv_days.specs.Days.{day_text};
+ghost use Rattle.tape_core.specs.Answers.{answers};
+ghost use Rattle.csv_days.specs.Days.{day_text, first_tape};
 ghost use Rattle.csv_days.specs.EndDays.{HasEnded, IsEnding};
 ghost use Rattle.csv_days.specs.Explained.{explain_text};
-ghost use Rattle.csv_days.specs.Refusals.{RefusesNone};
-ghost use Rattle.csv_days.specs.Strict.{IsListed, IsToldOf, strictly};
+ghost use Rattle.csv_days.specs.Refusals.{AreRefusals, RefusesNone};
+ghost use Rattle.csv_days.specs.StaleRows.{first_stale};
+ghost use Rattle.csv_days.specs.Strict.{IsListed, IsToldOf, strict_text, strictly};
 ghost use Rattle.csv_days.specs.TableEnds.{IsMessagesEnd, IsTableEnd, WritesTable, WritesTablePart};
 ghost use Rattle.csv_days.specs.TapeRows.{tape_text};
 ghost use Rattle.csv_days.specs.declared.table_end.TableEnd.TheVariants.{OutOfMemory, WriteFault as TableWriteFault};
@@ -31,10 +33,8 @@ fn refusals_of_day(alloc: Global, day: &EndDay) -> Result<Refusals, TableEnd>
     ensures end { (matrix : Columns) (messages : List Sent) → HasEnded matrix messages day.now → IfErr result (IsMessagesEnd messages) }
     ensures unwritten { IfErr result (λ end. end ≢ TableWriteFault) }
 {
-    match day.names.listing(alloc) {
-        Ok(_) => Ok(day.refusals),
-        Err(fault) => Err(TableEnd::Listing(fault)),
-    }
+    day.names.listing(alloc)?;
+    Ok(day.refusals)
 }
 
 /// Returns what a tape refuses of messages, if their names make a listing.
@@ -44,10 +44,8 @@ fn refusals_of(alloc: Global, matrix: Matrix, messages: &[Message]) -> Result<Re
     ensures unwritten { IfErr result (λ end. end ≢ TableWriteFault) }
 {
     let mut day = EndDay::new(alloc, matrix);
-    match day.answer_all(messages) {
-        Ok(()) => refusals_of_day(alloc, &day),
-        Err(_) => Err(TableEnd::OutOfMemory),
-    }
+    day.answer_all(messages)?;
+    refusals_of_day(alloc, &day)
 }
 
 /// Writes the report of a day if its tape refused nothing, and returns what it refused.
@@ -66,10 +64,7 @@ fn write_report_if_admitted<W: Write>(
     ensures prefix { result ≡ Err TableWriteFault → (matrix : Columns) (messages : List Sent) → HasEnded matrix messages day.now
         → WritesPrefix (strictly day_text matrix messages) (W.contents writer.old) (W.contents writer.new) }
 {
-    let refusals = match refusals_of_day(alloc, day) {
-        Ok(refusals) => refusals,
-        Err(end) => return Err(end),
-    };
+    let refusals = refusals_of_day(alloc, day)?;
     if refusals.is_empty() {
         write_report_of(alloc, day, writer)
     } else {
@@ -77,32 +72,41 @@ fn write_report_if_admitted<W: Write>(
     }
 }
 
-/// Writes the readable tape of messages if it refuses none of them, and returns what it refuses.
-fn write_tape_if_admitted<W: Write>(
+/// A text of a table's messages that is written while they are answered once more.
+#[derive(Clone, Copy)]
+enum RowsText {
+    /// The readable tape.
+    Tape,
+    /// The explanation of the reports.
+    Explained,
+}
+
+/// Writes a text of messages, and returns what their tape refuses.
+fn write_rows_text<W: Write>(
+    text: RowsText,
     alloc: Global,
     matrix: Matrix,
     messages: &[Message],
     writer: &mut W,
 ) -> Result<Refusals, TableEnd>
     requires few { length messages.now + FIRST_ROW < 2 ^ 64 }
-    ensures told { IfOk result (IsToldOf matrix messages.now) }
-    ensures written { OnOk result (Appends (W.contents writer.old) (W.contents writer.new) (strictly tape_text matrix messages.now)) }
-    ensures unwritten { IfOk result (λ refusals. RefusesNone refusals ⊎ (writer.new ≡ writer.old)) }
+    ensures refused { IfOk result (AreRefusals (answers (first_tape matrix messages.now) messages.now)) }
+    ensures stale { IfOk result (λ refusals. refusals.stale ≡ first_stale (first_tape matrix messages.now) messages.now) }
+    ensures written { OnOk result (Appends (W.contents writer.old) (W.contents writer.new) (strict_text text matrix messages.now)) }
     ensures end { IfErr result (IsMessagesEnd messages.now) }
     ensures silent { result ≢ Err TableWriteFault → result ≢ Err OutOfMemory → OnErr result (writer.new ≡ writer.old) }
     ensures prefix { (result ≡ Err TableWriteFault) ⊎ (result ≡ Err OutOfMemory)
-        → WritesPrefix (strictly tape_text matrix messages.now) (W.contents writer.old) (W.contents writer.new) }
+        → WritesPrefix (strict_text text matrix messages.now) (W.contents writer.old) (W.contents writer.new) }
 {
-    let refused = refusals_of(alloc, matrix, messages)?;
-    if refused.is_empty() {
-        write_tape(alloc, matrix, messages, writer)
-    } else {
-        Ok(refused)
+    match text {
+        RowsText::Tape => write_tape(alloc, matrix, messages, writer),
+        RowsText::Explained => write_explained(alloc, matrix, messages, writer),
     }
 }
 
-/// Writes the explanation of the reports of messages if their tape refuses none of them, and returns what it refuses.
-fn write_explained_if_admitted<W: Write>(
+/// Writes a text of messages if their tape refuses none of them, and returns what it refuses.
+fn write_if_admitted<W: Write>(
+    text: RowsText,
     alloc: Global,
     matrix: Matrix,
     messages: &[Message],
@@ -110,19 +114,40 @@ fn write_explained_if_admitted<W: Write>(
 ) -> Result<Refusals, TableEnd>
     requires few { length messages.now + FIRST_ROW < 2 ^ 64 }
     ensures told { IfOk result (IsToldOf matrix messages.now) }
-    ensures written { OnOk result (Appends (W.contents writer.old) (W.contents writer.new) (strictly explain_text matrix messages.now)) }
+    ensures written { OnOk result (Appends (W.contents writer.old) (W.contents writer.new) (strictly (strict_text text) matrix messages.now)) }
     ensures unwritten { IfOk result (λ refusals. RefusesNone refusals ⊎ (writer.new ≡ writer.old)) }
     ensures end { IfErr result (IsMessagesEnd messages.now) }
     ensures silent { result ≢ Err TableWriteFault → result ≢ Err OutOfMemory → OnErr result (writer.new ≡ writer.old) }
     ensures prefix { (result ≡ Err TableWriteFault) ⊎ (result ≡ Err OutOfMemory)
-        → WritesPrefix (strictly explain_text matrix messages.now) (W.contents writer.old) (W.contents writer.new) }
+        → WritesPrefix (strictly (strict_text text) matrix messages.now) (W.contents writer.old) (W.contents writer.new) }
 {
     let told = refusals_of(alloc, matrix, messages)?;
     if told.is_empty() {
-        write_explained(alloc, matrix, messages, writer)
+        write_rows_text(text, alloc, matrix, messages, writer)
     } else {
         Ok(told)
     }
+}
+
+/// Reads a table whole, and writes a text of its messages if their tape refuses none of them.
+fn strict_over<R: Read + Drop, W: Write>(
+    text: RowsText,
+    alloc: Global,
+    matrix: Matrix,
+    reader: R,
+    writer: &mut W,
+) -> Result<Refusals, TableEnd>
+    ensures written { IfSome (R.remaining reader) (λ input. IfOk result (λ refusals.
+        WritesTable (strictly (strict_text text)) matrix input refusals (W.contents writer.old) (W.contents writer.new))) }
+    ensures listed { IfSome (R.remaining reader) (λ input. OnOk result (IsListed input)) }
+    ensures end { IfSome (R.remaining reader) (λ input. IfErr result (IsTableEnd input)) }
+    ensures unwritten { IfOk result (λ refusals. RefusesNone refusals ⊎ (writer.new ≡ writer.old)) }
+    ensures silent { result ≢ Err TableWriteFault → result ≢ Err OutOfMemory → OnErr result (writer.new ≡ writer.old) }
+    ensures prefix { (result ≡ Err TableWriteFault) ⊎ (result ≡ Err OutOfMemory)
+        → IfSome (R.remaining reader) (λ input. WritesTablePart (strictly (strict_text text)) matrix input (W.contents writer.old) (W.contents writer.new)) }
+{
+    let messages = read_table(alloc, reader)?;
+    write_if_admitted(text, alloc, matrix, &messages, writer)
 }
 
 /// Does what `report_over` does if the tape refuses no row of the table. If it refuses one, nothing is written, and what it
@@ -144,10 +169,8 @@ pub fn report_strict_over<R: Read + Drop, W: Write>(
     ensures prefix { result ≡ Err TableWriteFault
         → IfSome (R.remaining reader) (λ input. WritesTablePart (strictly day_text) matrix input (W.contents writer.old) (W.contents writer.new)) }
 {
-    match read_day(alloc, matrix, reader) {
-        Ok(day) => write_report_if_admitted(alloc, &day, writer),
-        Err(end) => Err(end),
-    }
+    let day = read_day(alloc, matrix, reader)?;
+    write_report_if_admitted(alloc, &day, writer)
 }
 
 /// Does what `tape_over` does if the tape refuses no row of the table. If it refuses one, nothing is written, and what it
@@ -169,8 +192,7 @@ pub fn tape_strict_over<R: Read + Drop, W: Write>(
     ensures prefix { (result ≡ Err TableWriteFault) ⊎ (result ≡ Err OutOfMemory)
         → IfSome (R.remaining reader) (λ input. WritesTablePart (strictly tape_text) matrix input (W.contents writer.old) (W.contents writer.new)) }
 {
-    let messages = read_table(alloc, reader)?;
-    write_tape_if_admitted(alloc, matrix, &messages, writer)
+    strict_over(RowsText::Tape, alloc, matrix, reader, writer)
 }
 
 /// Does what `explain_over` does if the tape refuses no row of the table. If it refuses one, nothing is written, and what it
@@ -193,6 +215,5 @@ pub fn explain_strict_over<R: Read + Drop, W: Write>(
     ensures prefix { (result ≡ Err TableWriteFault) ⊎ (result ≡ Err OutOfMemory)
         → IfSome (R.remaining reader) (λ input. WritesTablePart (strictly explain_text) matrix input (W.contents writer.old) (W.contents writer.new)) }
 {
-    let messages = read_table(alloc, reader)?;
-    write_explained_if_admitted(alloc, matrix, &messages, writer)
+    strict_over(RowsText::Explained, alloc, matrix, reader, writer)
 }

@@ -1,16 +1,18 @@
 //! Why a table's text was not written whole, and the status that the program then ends with.
 ghost use Rattle.csv_days.specs.EndTexts.{end_status, listing_fault_status, table_fault_status};
-ghost use Rattle.csv_days.specs.TableEnds.{write_end};
+ghost use Rattle.csv_days.specs.TableEnds.{read_end, write_end};
 ghost use Rattle.std.specs.Io.KnownBytes.{Keeps};
 ghost use Rattle.std.specs.Prelude.{◌≡◌, Err, IfErr, IfOk};
-ghost use Rattle.csv_days.specs.declared.table_end.TableEnd.TheVariants.{OutOfMemory, Table, WriteFault};
+ghost use Rattle.csv_days.specs.declared.table_end.TableEnd.TheVariants.{Listing, OutOfMemory, Table, WriteFault as FailedWrite};
+ghost use Rattle.day_report.specs.declared.report_fault.ReportFault.TheVariants.{WriteFault as FailedReport};
 
-use crate::writing::flush;
-use crate::{Refusals, WritingFault};
+use crate::Refusals;
 use csv_messages::TableFault;
+use day_report::ReportFault;
 use std::alloc::AllocError;
 use std::io::Write;
 use tape_types::ListingFault;
+use whole_io::{ReadFault, WriteFault, WritingFault, flush};
 
 /// Why a table has no report, no readable tape or no explanation.
 #[derive(Clone, Copy, Debug, PartialEq, Eq)]
@@ -80,6 +82,16 @@ impl From<TableFault> for TableEnd {
     }
 }
 
+impl From<ListingFault> for TableEnd {
+    ghost use Rattle.std.specs.Prelude.{◌≡◌};
+
+    ghost from_gives = { λ fault end. end ≡ Listing fault };
+
+    fn from(fault: ListingFault) -> TableEnd {
+        TableEnd::Listing(fault)
+    }
+}
+
 impl From<WritingFault> for TableEnd {
     ghost use Rattle.std.specs.Prelude.{◌≡◌};
 
@@ -93,11 +105,44 @@ impl From<WritingFault> for TableEnd {
     }
 }
 
+impl From<ReportFault> for TableEnd {
+    ghost use Rattle.std.specs.Prelude.{◌≡◌, ◌≢◌};
+
+    ghost from_gives = { λ fault end. (fault ≡ FailedReport → end ≡ FailedWrite) × (fault ≢ FailedReport → end ≡ OutOfMemory) };
+
+    fn from(fault: ReportFault) -> TableEnd {
+        TableEnd::from(WritingFault::from(fault))
+    }
+}
+
+impl From<ReadFault> for TableEnd {
+    ghost use Rattle.std.specs.Prelude.{◌≡◌};
+
+    ghost from_gives = { λ fault end. end ≡ read_end fault };
+
+    fn from(fault: ReadFault) -> TableEnd {
+        match fault {
+            ReadFault::Failed => TableEnd::Table(TableFault::ReadFault),
+            ReadFault::OutOfMemory => TableEnd::OutOfMemory,
+        }
+    }
+}
+
+impl From<WriteFault> for TableEnd {
+    ghost use Rattle.std.specs.Prelude.{◌≡◌};
+
+    ghost from_gives = { λ _ end. end ≡ FailedWrite };
+
+    fn from(_fault: WriteFault) -> TableEnd {
+        TableEnd::WriteFault
+    }
+}
+
 /// Flushes what was written, and then returns what was refused.
 pub fn flushed<W: Write>(writer: &mut W, refusals: &Refusals) -> Result<Refusals, TableEnd>
     ensures kept { Keeps (W.contents writer.old) (W.contents writer.new) }
     ensures ok { IfOk result (λ flushed. flushed ≡ refusals.now) }
-    ensures err { IfErr result (λ end. end ≡ WriteFault) }
+    ensures err { IfErr result (λ end. end ≡ FailedWrite) }
 {
     flush(writer)?;
     Ok(*refusals)

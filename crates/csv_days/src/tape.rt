@@ -9,14 +9,13 @@ ghost use Rattle.csv_messages.specs.Tables.{FIRST_ROW};
 ghost use Rattle.csv_days.specs.Refusals.{AreRefusals};
 ghost use Rattle.csv_days.specs.StaleRows.{first_stale};
 ghost use Rattle.csv_days.specs.TableEnds.{IsMessagesEnd, IsTableEnd, WritesTable, WritesTablePart};
-ghost use Rattle.csv_days.specs.TapeRows.{column_names, rows_text, tape_rows, tape_text, text_from};
+ghost use Rattle.csv_days.specs.TapeRows.{tape_columns, rows_text, tape_rows, tape_text, text_from};
 ghost use Rattle.csv_days.specs.declared.table_end.TableEnd.TheVariants.{OutOfMemory, WriteFault};
 
-use crate::day::Day;
+use crate::day::TableDay;
 use crate::table_end::flushed;
 use crate::tape_row::{head_text, put_next};
-use crate::writing::write_part;
-use crate::{Refusals, TableEnd, WritingFault};
+use crate::{Refusals, TableEnd};
 use csv::ByteRecord;
 use csv_lines::{into_text, lines_in};
 use csv_messages::read_table;
@@ -24,13 +23,14 @@ use reports::Message;
 use sale_matrix::Matrix;
 use std::alloc::{AllocError, Global};
 use std::io::{Read, Write};
+use whole_io::{WritingFault, write_part};
 
 /// How many rows are written at once.
 const ROWS_AT_ONCE: usize = 512;
 
 /// Makes the lines of a day's next rows in the memory of a text that is used again.
 fn lines_of(
-    day: &mut Day,
+    day: &mut TableDay,
     fields: &mut ByteRecord,
     text: Vec<u8>,
     messages: &[Message],
@@ -50,7 +50,7 @@ fn lines_of(
 /// Writes a part of the text, and makes the lines of a day's next rows in its memory.
 #[tactic(auto, using(crate::proofs::TapeLemmas::written_prefix))]
 fn next_lines<W: Write>(
-    day: &mut Day,
+    day: &mut TableDay,
     fields: &mut ByteRecord,
     text: Vec<u8>,
     messages: &[Message],
@@ -70,12 +70,12 @@ fn next_lines<W: Write>(
 /// Writes the line of the columns' names, and then the rows of messages as a day answers them, many at once.
 fn write_rows<W: Write>(
     alloc: Global,
-    day: &mut Day,
+    day: &mut TableDay,
     head: Vec<u8>,
     messages: &[Message],
     writer: &mut W,
 ) -> Result<(), WritingFault>
-    requires head { head.items ≡ row_text default_writer column_names }
+    requires head { head.items ≡ row_text default_writer tape_columns }
     requires fresh { HasAnswered day.old.tape [] day.old }
     requires listed { lists_all day.old.tape messages.now ≡ true }
     requires few { length messages.now + FIRST_ROW < 2 ^ 64 }
@@ -115,7 +115,7 @@ pub fn write_tape<W: Write>(
     ensures prefix { (result ≡ Err WriteFault) ⊎ (result ≡ Err OutOfMemory)
         → WritesPrefix (tape_text matrix messages.now) (W.contents writer.old) (W.contents writer.new) }
 {
-    let mut day = Day::of_names(alloc, matrix, messages)?;
+    let mut day = TableDay::of_names(alloc, matrix, messages)?;
     let head = head_text(alloc)?;
     write_rows(alloc, &mut day, head, messages, writer)?;
     flushed(writer, &day.refusals)

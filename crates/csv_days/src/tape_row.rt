@@ -6,53 +6,23 @@ ghost use Rattle.csv.specs.Writing.{default_writer, row_text};
 ghost use Rattle.csv_lines.specs.Lines.{IsAtLineStart, lines_text};
 ghost use Rattle.tape_core.specs.Answers.{answer, tape_after};
 ghost use Rattle.csv_days.specs.Days.{AnswersMore, symbol_of};
-ghost use Rattle.csv_days.specs.TapeRows.{answer_fields, column_names, figures_after, figures_fields, mark_field, refusal_text, tape_fields, tape_row};
+ghost use Rattle.csv_days.specs.TapeRows.{answer_fields, tape_columns, figures_after, figures_fields, mark_field, refusal_text, tape_fields, tape_row};
 
 use crate::TableTape;
-use crate::day::Day;
+use crate::day::TableDay;
 use csv::{ByteRecord, Writer};
-use csv_lines::{into_text, lines_in, push_number, put_line};
-use csv_messages::{push_price, push_row};
+use csv_lines::{line_of, push_number, put_line};
+use csv_messages::{TAPE_COLUMNS, push_price, push_row};
 use reports::Message;
 use scratch_fold::Mark;
 use std::alloc::{AllocError, Global};
-use tape_core::{Answer, Refusal, RowFigures};
-
-/// Returns the names of the columns.
-fn column_names(alloc: Global) -> Result<ByteRecord, AllocError>
-    ensures { IfOk result (λ fields. fields_of fields ≡ column_names) }
-{
-    ByteRecord::from_fields(
-        alloc,
-        &[
-            b"tape",
-            b"refused",
-            b"kind",
-            b"participant",
-            b"number",
-            b"moment",
-            b"symbol",
-            b"target",
-            b"price",
-            b"size",
-            b"condition",
-            b"open",
-            b"high",
-            b"low",
-            b"last",
-            b"volume",
-            b"trades",
-        ],
-    )
-}
+use tape_core::{Refusal, RowFigures, TapeAnswer};
 
 /// Returns the line of the columns' names.
 pub fn head_text(alloc: Global) -> Result<Vec<u8>, AllocError>
-    ensures { IfOk result (λ text. text.items ≡ row_text default_writer column_names) }
+    ensures { IfOk result (λ text. text.items ≡ row_text default_writer tape_columns) }
 {
-    let mut writer = lines_in(Vec::new(alloc));
-    put_line(&mut writer, &column_names(alloc)?)?;
-    into_text(writer)
+    line_of(alloc, &TAPE_COLUMNS)
 }
 
 /// Returns a refusal as its number and its name, with a space between them.
@@ -67,7 +37,11 @@ pub fn refusal_text(alloc: Global, refusal: Refusal) -> Result<String, AllocErro
 }
 
 /// Adds the tape number and the refusal, one of them empty.
-fn push_answer(alloc: Global, fields: &mut ByteRecord, answer: &Answer) -> Result<(), AllocError>
+fn push_answer(
+    alloc: Global,
+    fields: &mut ByteRecord,
+    answer: &TapeAnswer,
+) -> Result<(), AllocError>
     requires { partial_of fields.old ≡ [] }
     ensures fields { OnOk result (fields_of fields.new ≡ fields_of fields.old ++ answer_fields answer.now) }
     ensures partial { OnOk result (partial_of fields.new ≡ []) }
@@ -117,7 +91,7 @@ pub fn put_row(
     alloc: Global,
     writer: &mut Writer<Vec<u8>>,
     fields: &mut ByteRecord,
-    answer: &Answer,
+    answer: &TapeAnswer,
     message: &Message,
     figures: &RowFigures,
 ) -> Result<(), AllocError>
@@ -147,7 +121,7 @@ pub fn figures_of(tape: &TableTape, message: &Message) -> RowFigures
 /// Answers a day's next message, and adds its row as a line, by a record that is used again for each.
 #[tactic(auto, unfolding(crate::specs::TapeRows::tape_row))]
 pub fn put_next(
-    day: &mut Day,
+    day: &mut TableDay,
     message: Message,
     writer: &mut Writer<Vec<u8>>,
     fields: &mut ByteRecord,

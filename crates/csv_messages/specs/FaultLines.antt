@@ -7,8 +7,6 @@ use Rattle.csv_messages.specs.declared.row_fault.RowFault.{RowFault}
 use Rattle.csv_messages.specs.declared.row_fault.RowFault.TheVariants.{Fields, Bad, Unused}
 use Rattle.csv_messages.specs.declared.table_fault.TableFault.{TableFault}
 use Rattle.csv_messages.specs.declared.table_fault.TableFault.TheVariants.{Header, NoRow, Row, ReadFault, OutOfMemory}
-use Rattle.csv_messages.specs.declared.table_write_fault.TableWriteFault.{TableWriteFault}
-use Rattle.csv_messages.specs.declared.table_write_fault.TableWriteFault.TheVariants as write
 use Rattle.csv_messages.specs.FaultTexts.{bad_code_text, separator_text, shown}
 use Rattle.csv_messages.specs.declared.column.Column.{Column}
 use Rattle.csv_messages.specs.declared.column.Column.TheVariants as column
@@ -44,8 +42,3 @@ table_fault_text NoRow = codes "the table has no row"
 table_fault_text (Row number fault) = codes "row " ++ (decimal number ++ (codes ": " ++ row_fault_text fault))
 table_fault_text ReadFault = codes "a read failed"
 table_fault_text OutOfMemory = codes "out of memory"
-
--- what a fault of writing a table is printed as
-abbrev pub table_write_fault_text : TableWriteFault → List ℕ
-table_write_fault_text write.OutOfMemory = codes "out of memory"
-table_write_fault_text write.WriteFault = codes "a write failed"

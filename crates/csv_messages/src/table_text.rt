@@ -7,18 +7,19 @@ ghost use Rattle.whole_io.specs.Writing.{WritesPrefix};
 ghost use Rattle.csv_messages.specs.Laws.{TableRoundTrip};
 ghost use Rattle.csv_lines.specs.Lines.{IsAtLineStart, lines_text};
 ghost use Rattle.csv_messages.specs.TableTexts.{message_fields, table_text};
-ghost use Rattle.csv_messages.specs.declared.table_write_fault.TableWriteFault.TheVariants.{OutOfMemory, WriteFault};
+ghost use Rattle.whole_io.specs.declared.writing_fault.WritingFault.TheVariants.{OutOfMemory, WriteFault};
 
-use crate::{TableWriteFault, write_row};
+use crate::tape_column::TAPE_COLUMNS;
+use crate::write_row;
 use csv::{ByteRecord, Writer};
 use csv_lines::{into_text, lines_in, put_line};
 use reports::Message;
 use std::alloc::{AllocError, Global};
 use std::io::Write;
-use whole_io::write_text;
+use whole_io::{WritingFault, write_part};
 
-/// Adds the row of a message, by a record that is used again for each.
-fn put_row(
+/// Adds the row of a message as a line, by a record that is used again for each. `AllocError` if memory runs out.
+pub fn put_message(
     writer: &mut Writer<Vec<u8>>,
     line: &mut ByteRecord,
     message: &Message,
@@ -36,23 +37,10 @@ fn text_of(alloc: Global, messages: &[Message]) -> Result<Vec<u8>, AllocError>
     ensures { IfOk result (λ text. text.items ≡ table_text messages.now) }
 {
     let mut writer = lines_in(Vec::new(alloc));
-    let mut line = ByteRecord::from_fields(
-        alloc,
-        &[
-            b"kind",
-            b"participant",
-            b"number",
-            b"moment",
-            b"symbol",
-            b"target",
-            b"price",
-            b"size",
-            b"condition",
-        ],
-    )?;
+    let mut line = ByteRecord::from_fields(alloc, &TAPE_COLUMNS[2..11])?;
     put_line(&mut writer, &line)?;
     for message in messages {
-        put_row(&mut writer, &mut line, message)?;
+        put_message(&mut writer, &mut line, message)?;
     }
     into_text(writer)
 }
@@ -66,14 +54,13 @@ pub fn write_table<W: Write>(
     alloc: Global,
     messages: &[Message],
     writer: &mut W,
-) -> Result<(), TableWriteFault>
+) -> Result<(), WritingFault>
     ensures written { OnOk result (Appends (W.contents writer.old) (W.contents writer.new) (table_text messages.now)) }
     ensures memory { result ≡ Err OutOfMemory → writer.new ≡ writer.old }
     ensures prefix { result ≡ Err WriteFault → WritesPrefix (table_text messages.now) (W.contents writer.old) (W.contents writer.new) }
 {
     let text = text_of(alloc, messages)?;
-    write_text(writer, &text)?;
-    Ok(())
+    write_part(writer, &text)
 }
 
 /// The text of every table of messages reads back as those messages.

@@ -1,25 +1,24 @@
 -- Builds the day of a journal from its header and the replay of all its groups.
-use Rattle.std.proofs.Common.{◌≡◌, ◌≢◌, ℕ, ◌+◌, ◌-◌, List, length, drop, Option, Some, None, IfSome, Result, Ok, Err, refl, sym, ap, subst, ◌∙◌, inl, inr}
-use Rattle.std.specs.Prelude.{◌⊎◌, IfErr, IfOk}
+use Rattle.std.proofs.Common.{◌≡◌, ◌≢◌, ℕ, ◌+◌, ◌-◌, List, length, drop, Option, Some, None, IfSome, Result, Ok, Err, sym, ap, subst, ◌∙◌, inl, inr}
+use Rattle.std.specs.Prelude.{IfErr, IfOk}
 use Rattle.std.proofs.lemmas.List.{length-drop}
 use Rattle.sale_matrix.specs.declared.matrix.Matrix.{Matrix}
 use Rattle.tape_core.specs.Tape.{IsTape, TapeState}
-use Rattle.tape_core.specs.declared.entry.Entry.{Entry}
 use Rattle.day_journal.specs.Headers.{ReadHeader, header_at}
-use Rattle.day_journal.specs.Journals.{Journal, ReaderState, all_groups, groups_at, reader_at}
+use Rattle.day_journal.specs.Journals.{Journal, ReaderState, all_groups, groups_at}
 use Rattle.day_journal.specs.Replays.{with_entries}
-use Rattle.day_journal.specs.declared.header_fault.HeaderFault.{HeaderFault}
-use Rattle.day_journal.specs.declared.header_fault.HeaderFault.TheVariants as header
+use Rattle.day_journal.specs.declared.header_fault.JournalHeaderFault.{JournalHeaderFault}
+use Rattle.day_journal.specs.declared.header_fault.JournalHeaderFault.TheVariants as header
 use Rattle.day_journal.specs.declared.journal_end.JournalEnd.{JournalEnd}
 use Rattle.day_journal.specs.declared.journal_end.JournalEnd.TheVariants as end
-use Rattle.journal_days.specs.Days.{EndsDay, IsDay, IsFault, IsHeaderFault, StopsAt, StopsEntries, behind_header, end_of, entries_of, groups_of, header_tape, journal_tape}
-use Rattle.journal_days.specs.Verdicts.{IsVerdict, Stands, standing_verdict}
+use Rattle.journal_days.specs.Days.{EndsDay, IsDay, IsFault, IsHeaderFault, StopsAt, StopsEntries, end_of, entries_of, groups_of, header_tape, journal_tape}
+use Rattle.journal_days.specs.Verdicts.{IsVerdict, standing_verdict}
 use Rattle.journal_days.specs.declared.journal_day.JournalDay.{JournalDay}
 use Rattle.journal_days.specs.declared.journal_fault.JournalFault.{JournalFault}
 use Rattle.journal_days.specs.declared.journal_fault.JournalFault.TheVariants.{Header, OtherMatrix, Entry as OfEntry, Damaged, OutOfMemory}
 
 -- a header that is not read
-pub no_header : (asked : Option Matrix) (bytes : List ℕ) (f : HeaderFault) (fault : JournalFault) → (f ≢ header.OutOfMemory → header_at bytes ≡ Err f)
+pub no_header : (asked : Option Matrix) (bytes : List ℕ) (f : JournalHeaderFault) (fault : JournalFault) → (f ≢ header.OutOfMemory → header_at bytes ≡ Err f)
     → IsHeaderFault f fault → IsFault asked bytes fault
 no_header asked bytes f fault is (inl (none, full)) = subst (IsFault asked bytes) (sym full) tt
 no_header asked bytes f fault is (inr (known, why)) = subst (IsFault asked bytes) (sym why) (is known)

@@ -1,12 +1,11 @@
 -- Replays the groups of a journal one after the other.
-use Rattle.std.proofs.Common.{◌≡◌, ℕ, zero, suc, ◌+◌, ◌-◌, ◌<◌, ◌≤◌, ◌==◌, Bool, false, List, [], ◌∷◌, ◌++◌, length, take, slice_get, get_or, Option, Some, None}
-use Rattle.std.proofs.Common.{Result, Ok, Err, append-nil, append_assoc, length-append, refl, sym, ap, subst, ◌∙◌, arith}
+use Rattle.std.proofs.Common.{◌≡◌, ℕ, suc, ◌+◌, ◌-◌, ◌<◌, ◌≤◌, ◌==◌, false, List, [], ◌∷◌, ◌++◌, length, take, slice_get, Some, None}
+use Rattle.std.proofs.Common.{Ok, Err, append-nil, append_assoc, length-append, refl, sym, ap, subst, ◌∙◌, arith}
 use Rattle.std.proofs.lemmas.Bool.{ne_eqb}
 use Rattle.std.proofs.lemmas.List.{get_or_append_left, get_or-append-add, take-append-le}
 use Rattle.std.proofs.lemmas.Option.{get_or_from_slice_get, slice_get-get_or, slice_get_within}
 use Rattle.tape_core.specs.declared.entry.Entry.{Entry}
-use Rattle.tape_core.specs.declared.refusal.Refusal.TheVariants.{OutOfMemory}
-use Rattle.tape_core.specs.Tape.{TapeState, next_entry, replay_refusal, with_message}
+use Rattle.tape_core.specs.Tape.{TapeState, next_entry, with_message}
 use Rattle.day_journal.specs.declared.group_fault.GroupFault.{GroupFault}
 use Rattle.day_journal.specs.declared.group_fault.GroupFault.TheVariants as fault
 use Rattle.day_journal.specs.declared.group_reader.Next.TheVariants.{End}
@@ -15,8 +14,8 @@ use Rattle.day_journal.specs.declared.journal_end.JournalEnd.TheVariants.{Whole,
 use Rattle.day_journal.specs.declared.replaying.ReplayFault.{ReplayFault}
 use Rattle.day_journal.specs.declared.replaying.ReplayFault.TheVariants.{Refused, Differs}
 use Rattle.day_journal.specs.GroupReading.{Read, group_at, packets_at}
-use Rattle.day_journal.specs.Journals.{IsRead, Journal, ReaderState, Reads, after_group, end_at, groups_at, read_next, with_group}
-use Rattle.day_journal.specs.Replays.{IsAt, StopsReplay, with_entries}
+use Rattle.day_journal.specs.Journals.{IsRead, Journal, ReaderState, Reads, end_at, groups_at, read_next, with_group}
+use Rattle.day_journal.specs.Replays.{StopsReplay, with_entries}
 use Rattle.journal_days.specs.Days.{StopsAt, StopsEntries, StopsNext, TakesNext, entries_of}
 use Rattle.journal_days.specs.declared.journal_fault.JournalFault.{JournalFault}
 use Rattle.journal_days.specs.declared.journal_fault.JournalFault.TheVariants.{Header, OtherMatrix, Entry as OfEntry, Damaged as DamagedGroup, OutOfMemory as NoMemory}

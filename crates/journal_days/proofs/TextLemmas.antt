@@ -1,23 +1,22 @@
 -- Follows texts that are written whole, in part, or not at all; and the texts of no message.
-use Rattle.std.proofs.Common.{◌≡◌, ◌≢◌, ℕ, List, [], ◌++◌, append-nil, inl, inr, refl, Option, Some, None, Result, Ok, Err, sym, ap, ◌∙◌}
-use Rattle.std.specs.Prelude.{◌⊎◌, IsOk, OnErr, OnOk, codes}
+use Rattle.std.proofs.Common.{◌≡◌, ◌≢◌, ℕ, List, append-nil, inl, inr, refl, Option, Some, None, Result, Ok, Err, sym, ap, ◌∙◌}
+use Rattle.std.specs.Prelude.{◌⊎◌, IsOk, OnErr, OnOk}
 use Rattle.std.proofs.Common.{◌==◌, length, true}
 use Rattle.std.proofs.lemmas.Bool.{false≢true}
 use Rattle.std.proofs.lemmas.Bool.{eqb-true}
 use Rattle.std.proofs.lemmas.List.{nil_from_length}
-use Rattle.csv.specs.Writing.{fields_text, is_blank}
 use Rattle.std.specs.Io.KnownBytes.{Appends, Keeps}
 use Rattle.day_report.specs.declared.report_fault.ReportFault.{ReportFault}
 use Rattle.day_report.specs.declared.report_fault.ReportFault.TheVariants as report
 use Rattle.whole_io.specs.Lemmas.WriteLemmas.{WritesUpTo-none}
 use Rattle.whole_io.specs.Writing.{WritesPrefix}
 use Rattle.sale_matrix.specs.declared.matrix.Matrix.{Matrix}
-use Rattle.csv_days.specs.Explained.{explain_text, explained_text}
+use Rattle.csv_days.specs.Explained.{explain_text, explained_head, explained_text}
 use Rattle.csv_days.specs.TapeRows.{head_line, rows_text, tape_rows, tape_text, text_from}
 use Rattle.csv_days.specs.declared.refusals.Refusals.{Refusals}
 use Rattle.csv_days.specs.declared.table_end.TableEnd.{TableEnd}
 use Rattle.csv_days.specs.declared.table_end.TableEnd.TheVariants.{Table, Listing, OutOfMemory, WriteFault}
-use Rattle.csv_days.specs.declared.writing.WritingFault.{WritingFault}
+use Rattle.whole_io.specs.declared.writing_fault.WritingFault.{WritingFault}
 use Rattle.tape_core.specs.declared.entry.Entry.{Entry}
 use Rattle.journal_days.specs.Texts.{messages_in}
 
@@ -71,12 +70,7 @@ pub tape_of_none : (matrix : Matrix) (es : List Entry) → (length es == 0) ≡ 
 unfolding text_from tape_rows rows_text
 tape_of_none matrix es none = rw (nil_from_length es (eqb-true _ _ none)) (sym (append-nil head_line))
 
--- the explained text of no report
-pub explained_of_none : (matrix : Matrix) (es : List Entry) → (length es == 0) ≡ true → explained_text [] ≡ explain_text matrix (messages_in es)
-explained_of_none matrix es none = rw (nil_from_length es (eqb-true _ _ none)) refl
-
--- the column names of the explained text
-pub explained_head_is : codes "symbol,tape,row,participant,number,moment,price,size,condition,state,changed,high_low,last,volume,sets,own_high_low,own_last,own_sets\n"
-    ≡ explained_text []
-unfolding explained_text fields_text is_blank
-explained_head_is = refl
+-- the explained text of no report is the line of its columns' names
+pub explained_head_of_none : (matrix : Matrix) (es : List Entry) → (length es == 0) ≡ true → explained_head ≡ explain_text matrix (messages_in es)
+unfolding explained_text
+explained_head_of_none matrix es none = rw (nil_from_length es (eqb-true _ _ none)) (sym (append-nil explained_head))

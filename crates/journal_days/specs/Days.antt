@@ -10,8 +10,8 @@ use Rattle.day_journal.specs.Headers.{MAGIC, ReadHeader, Terms, header_at}
 use Rattle.day_journal.specs.Journals.{IsRead, Journal, ReaderState, Reads, all_groups, reader_at}
 use Rattle.day_journal.specs.Replays.{StopsReplay, with_entries}
 use Rattle.day_journal.specs.declared.group_reader.Next.TheVariants.{End}
-use Rattle.day_journal.specs.declared.header_fault.HeaderFault.{HeaderFault}
-use Rattle.day_journal.specs.declared.header_fault.HeaderFault.TheVariants as header
+use Rattle.day_journal.specs.declared.header_fault.JournalHeaderFault.{JournalHeaderFault}
+use Rattle.day_journal.specs.declared.header_fault.JournalHeaderFault.TheVariants as header
 use Rattle.day_journal.specs.declared.journal_end.JournalEnd.{JournalEnd}
 use Rattle.day_journal.specs.declared.journal_end.JournalEnd.TheVariants as end
 use Rattle.day_journal.specs.declared.replaying.ReplayFault.{ReplayFault}
@@ -100,7 +100,7 @@ IsFault asked bytes OutOfMemory = Unit {0}
 -- ## The parts of the replay
 
 -- the fault for one of a header, or of an entry: the same, or that memory ran out if it did there
-abbrev pub IsHeaderFault : HeaderFault → JournalFault → Type 0
+abbrev pub IsHeaderFault : JournalHeaderFault → JournalFault → Type 0
 IsHeaderFault f fault = ((f ≡ header.OutOfMemory) × (fault ≡ OutOfMemory)) ⊎ ((f ≢ header.OutOfMemory) × (fault ≡ Header f))
 
 abbrev pub IsEntryFault : ReplayFault → JournalFault → Type 0

@@ -1,7 +1,7 @@
 -- Defines the texts that are written of a journal.
 use Rattle.std.specs.Prelude.{◌==◌, ◌++◌, ℕ, List, codes, decimal, map, Option, Some, None, if◌then◌else◌}
-use Rattle.day_journal.specs.declared.header_fault.HeaderFault.{HeaderFault}
-use Rattle.day_journal.specs.declared.header_fault.HeaderFault.TheVariants as header
+use Rattle.day_journal.specs.declared.header_fault.JournalHeaderFault.{JournalHeaderFault}
+use Rattle.day_journal.specs.declared.header_fault.JournalHeaderFault.TheVariants as header
 use Rattle.day_journal.specs.declared.replaying.ReplayFault.{ReplayFault}
 use Rattle.day_journal.specs.declared.replaying.ReplayFault.TheVariants as replay
 use Rattle.reports.specs.declared.message.Message.{Message}
@@ -20,7 +20,7 @@ abbrev pub messages_in : List Entry → List Message
 messages_in es = map (λ e. e.message) es
 
 -- the text of a header's fault
-abbrev pub header_text : HeaderFault → List ℕ
+abbrev pub header_text : JournalHeaderFault → List ℕ
 header_text header.NoJournal = codes "this is no journal"
 header_text header.OtherVersion = codes "the journal is of another version"
 header_text header.Short = codes "the journal ends within its header"

@@ -1,5 +1,5 @@
 -- Defines the verdict on a journal.
-use Rattle.std.specs.Prelude.{◌≡◌, ℕ, List, length, Option, Some, None, Result, Ok, Err}
+use Rattle.std.specs.Prelude.{◌≡◌, ℕ, List, length, Option, Some, None, Ok}
 use Rattle.tape_core.specs.Tape.{IsTape}
 use Rattle.day_journal.specs.Headers.{ReadHeader, header_at}
 use Rattle.day_journal.specs.declared.journal_end.JournalEnd.{JournalEnd}

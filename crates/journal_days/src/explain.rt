@@ -1,23 +1,17 @@
 //! Writes what became of the reports of a journal.
-ghost use Rattle.std.specs.Prelude.{◌≡◌, [], OnErr, OnOk};
+ghost use Rattle.std.specs.Prelude.{OnErr, OnOk};
 ghost use Rattle.std.specs.Io.KnownBytes.{Appends};
 ghost use Rattle.whole_io.specs.Writing.{WritesPrefix};
-ghost use Rattle.csv_days.specs.Explained.{explain_text, explained_text};
+ghost use Rattle.csv_days.specs.Explained.{explain_text};
 ghost use Rattle.journal_days.specs.Texts.{messages_in};
 
 use crate::JournalDay;
 use crate::messages::messages_in;
 use crate::tape::written;
-use csv_days::{WritingFault, flush, write_explained, write_part};
+use csv_days::{write_explained, write_explained_head};
 use std::alloc::Global;
 use std::io::Write;
-
-/// Returns the line of the column names, which is the whole text of no report.
-fn head_line() -> &'static [u8]
-    ensures { result.now ≡ explained_text [] }
-{
-    b"symbol,tape,row,participant,number,moment,price,size,condition,state,changed,high_low,last,volume,sets,own_high_low,own_last,own_sets\n"
-}
+use whole_io::{WritingFault, flush};
 
 /// Writes what became of the reports of a journal, as `explain` writes it for the table of the entries' messages, in which each
 /// entry is in the row after its tape number; if there is no entry, only the column names. What was written is flushed at the
@@ -36,8 +30,8 @@ pub fn write_journal_explained<W: Write>(
 {
     let entries = day.tape.entries();
     if entries.is_empty() {
-        write_part(writer, head_line())?;
-        return flush(writer);
+        write_explained_head(alloc, writer)?;
+        return Ok(flush(writer)?);
     }
     let messages = messages_in(alloc, entries)?;
     written(write_explained(alloc, day.tape.matrix(), &messages, writer))

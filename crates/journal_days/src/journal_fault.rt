@@ -1,13 +1,13 @@
 //! The reasons why a journal has no day.
 
-use day_journal::{HeaderFault, ReplayFault};
+use day_journal::{JournalHeaderFault, ReplayFault};
 use sale_matrix::Matrix;
 
 /// Why a journal has no day: the first reason from its front.
 #[derive(Clone, Copy, Debug, PartialEq, Eq)]
 pub enum JournalFault {
     /// It does not begin with the header of a journal.
-    Header(HeaderFault),
+    Header(JournalHeaderFault),
     /// It has this matrix, and another one was asked for.
     OtherMatrix(Matrix),
     /// An entry is not the tape's next one: it is refused, or has other figures than the tape's.

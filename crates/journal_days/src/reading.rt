@@ -6,7 +6,7 @@ ghost use Rattle.journal_days.specs.Days.{EndsDay, IsDay, IsEntryFault, IsFault,
 
 use crate::{JournalDay, JournalFault, JournalTape};
 use day_journal::{
-    GroupReader, HeaderFault, JournalEnd, Next, ReplayFault, read_header, replay_entries,
+    GroupReader, JournalEnd, JournalHeaderFault, Next, ReplayFault, read_header, replay_entries,
 };
 use sale_matrix::Matrix;
 use std::alloc::Global;
@@ -25,11 +25,11 @@ pub fn is_journal(bytes: &[u8]) -> bool
 }
 
 /// The fault of a journal for a fault of its header.
-fn header_fault(fault: HeaderFault) -> JournalFault
+fn header_fault(fault: JournalHeaderFault) -> JournalFault
     ensures { IsHeaderFault fault result }
 {
     match fault {
-        HeaderFault::OutOfMemory => JournalFault::OutOfMemory,
+        JournalHeaderFault::OutOfMemory => JournalFault::OutOfMemory,
         fault => JournalFault::Header(fault),
     }
 }
@@ -145,8 +145,6 @@ pub fn read_day(
         // A header's limit is always one that a tape may have.
         return Err(JournalFault::OutOfMemory);
     };
-    match replay_groups(alloc, &mut groups, turns, &mut tape) {
-        Ok(end) => day_of(tape, end),
-        Err(fault) => Err(fault),
-    }
+    let end = replay_groups(alloc, &mut groups, turns, &mut tape)?;
+    day_of(tape, end)
 }

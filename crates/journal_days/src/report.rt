@@ -4,17 +4,16 @@ ghost use Rattle.std.specs.Io.KnownBytes.{Appends};
 ghost use Rattle.day_report.specs.ReportText.{report_text};
 ghost use Rattle.day_report.specs.Rows.{report_rows};
 ghost use Rattle.whole_io.specs.Writing.{WritesPrefix};
-ghost use Rattle.csv_days.specs.declared.writing.WritingFault.TheVariants.{OutOfMemory, WriteFault as FailedWrite};
-ghost use Rattle.day_report.specs.declared.report_fault.ReportFault.TheVariants.{WriteFault as FailedReport};
+ghost use Rattle.whole_io.specs.declared.writing_fault.WritingFault.TheVariants.{OutOfMemory};
 ghost use Rattle.tape_core.specs.Ending.{KeepsEnd};
 ghost use Rattle.journal_days.specs.Days.{unlimited};
 
 use crate::{JournalDay, JournalTape};
-use csv_days::{WritingFault, flush};
-use day_report::{ReportFault, end_rows, write_report};
+use day_report::{end_rows, write_report};
 use std::alloc::{AllocError, Global};
 use std::io::Write;
 use tape_core::EndTape;
+use whole_io::{WritingFault, flush};
 
 /// Returns what a report needs of a tape, from the messages of its entries.
 fn end_of(alloc: Global, tape: &JournalTape) -> Result<EndTape, AllocError>
@@ -28,19 +27,6 @@ fn end_of(alloc: Global, tape: &JournalTape) -> Result<EndTape, AllocError>
         };
     }
     Ok(end)
-}
-
-/// Why the text of a report was not written.
-fn writing_fault(fault: ReportFault) -> WritingFault
-    ensures write { fault ≡ FailedReport → result ≡ FailedWrite }
-    ensures memory { fault ≢ FailedReport → result ≡ OutOfMemory }
-{
-    match fault {
-        ReportFault::WriteFault => WritingFault::WriteFault,
-        ReportFault::BadWorkers | ReportFault::Unstarted | ReportFault::OutOfMemory => {
-            WritingFault::OutOfMemory
-        }
-    }
 }
 
 /// Writes the report of a journal's day, by its own matrix: the bytes that `live` writes at the end of the same day. All
@@ -59,8 +45,6 @@ pub fn write_journal_report<W: Write>(
 {
     let end = end_of(alloc, &day.tape)?;
     let rows = end_rows(alloc, &end, day.tape.listing())?;
-    match write_report(alloc, &rows, writer) {
-        Ok(()) => flush(writer),
-        Err(fault) => Err(writing_fault(fault)),
-    }
+    write_report(alloc, &rows, writer)?;
+    Ok(flush(writer)?)
 }

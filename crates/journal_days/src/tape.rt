@@ -4,14 +4,15 @@ ghost use Rattle.std.specs.Io.KnownBytes.{Appends};
 ghost use Rattle.whole_io.specs.Writing.{WritesPrefix};
 ghost use Rattle.csv_days.specs.TapeRows.{tape_text};
 ghost use Rattle.csv_days.specs.declared.table_end.TableEnd.TheVariants.{WriteFault as FailedEnd};
-ghost use Rattle.csv_days.specs.declared.writing.WritingFault.TheVariants.{WriteFault};
+ghost use Rattle.whole_io.specs.declared.writing_fault.WritingFault.TheVariants.{WriteFault};
 ghost use Rattle.journal_days.specs.Texts.{messages_in};
 
 use crate::JournalDay;
 use crate::messages::messages_in;
-use csv_days::{Refusals, TableEnd, WritingFault, flush, write_head, write_tape};
+use csv_days::{Refusals, TableEnd, write_head, write_tape};
 use std::alloc::Global;
 use std::io::Write;
+use whole_io::{WritingFault, flush};
 
 /// Returns how the text of a tape's messages was written, without the refusals, of which there are none.
 pub(crate) fn written(run: Result<Refusals, TableEnd>) -> Result<(), WritingFault>
@@ -42,7 +43,7 @@ pub fn write_journal_tape<W: Write>(
     let entries = day.tape.entries();
     if entries.is_empty() {
         write_head(alloc, writer)?;
-        return flush(writer);
+        return Ok(flush(writer)?);
     }
     let messages = messages_in(alloc, entries)?;
     written(write_tape(alloc, day.tape.matrix(), &messages, writer))

@@ -5,7 +5,6 @@ use crate::{
     JournalDay, fault_text, is_journal, read_day, verdict_text, verify_journal,
     write_journal_explained, write_journal_report, write_journal_tape,
 };
-use csv_days::WritingFault;
 use day_journal::{GroupWriter, put_header};
 use reports::{Content, Header, Message, Moment};
 use sale_matrix::{Condition, Matrix};
@@ -17,6 +16,7 @@ use summaries::IndexStore;
 use tape_core::Tape;
 use tape_frames::SliceSource;
 use tape_types::{Listing, MsgNumber, Participant, Price, Size, Symbol};
+use whole_io::WritingFault;
 
 /// The session of the day.
 const SESSION: u64 = 7;

@@ -4,21 +4,21 @@ ghost use Rattle.journal_days.specs.Texts.{counted_group_text, cut_text, damage_
 
 use crate::{JournalFault, JournalVerdict};
 use csv_days::refusal_text;
-use day_journal::{HeaderFault, ReplayFault};
+use day_journal::{JournalHeaderFault, ReplayFault};
 use sale_matrix::Matrix;
 use std::alloc::{AllocError, Global};
 use tape_core::Refusal;
 
 /// The text of a header's fault.
-fn header_text(fault: HeaderFault) -> &'static str
+fn header_text(fault: JournalHeaderFault) -> &'static str
     ensures { result.now ≡ header_text fault }
 {
     match fault {
-        HeaderFault::NoJournal => "this is no journal",
-        HeaderFault::OtherVersion => "the journal is of another version",
-        HeaderFault::Short => "the journal ends within its header",
-        HeaderFault::Damaged => "the journal's header is damaged",
-        HeaderFault::OutOfMemory => "memory ran out",
+        JournalHeaderFault::NoJournal => "this is no journal",
+        JournalHeaderFault::OtherVersion => "the journal is of another version",
+        JournalHeaderFault::Short => "the journal ends within its header",
+        JournalHeaderFault::Damaged => "the journal's header is damaged",
+        JournalHeaderFault::OutOfMemory => "memory ran out",
     }
 }
 

@@ -1,5 +1,5 @@
 -- Shows that the text of messages reads back as those messages.
-use Rattle.std.proofs.Common.{◌≡◌, ◌<◌, ◌≤◌, ◌+◌, ◌-◌, ◌*◌, ◌/◌, ◌%◌, ◌==◌, ◌||◌, nat_le, nat_lt, nat_eq, ◌∷◌, ◌++◌, ◌∙◌, [], ℕ, List, Bool, true, false, All, Some, None, Result, Ok}
+use Rattle.std.proofs.Common.{◌≡◌, ◌<◌, ◌≤◌, ◌+◌, ◌*◌, ◌/◌, ◌%◌, ◌==◌, ◌||◌, nat_le, nat_lt, nat_eq, ◌∷◌, ◌++◌, ◌∙◌, [], ℕ, List, Bool, true, false, All, Some, None, Result, Ok}
 use Rattle.std.proofs.Common.{ap, append-nil, append_assoc, arith, fold, inl, inr, length, length-append, map, refl, slice_index, sym}
 use Rattle.std.proofs.lemmas.Bool.{cases_Bool, ne_eqb}
 use Rattle.std.proofs.lemmas.Bool.Decides.{nat_tests}

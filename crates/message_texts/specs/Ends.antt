@@ -1,15 +1,15 @@
 -- Defines what was written of a whole input, and why it was not.
 use Rattle.std.specs.Prelude.{ℕ, List, Option}
 use Rattle.std.specs.Io.KnownBytes.{Appends}
-use Rattle.batch.specs.declared.line_reading.LineReadFault.{LineReadFault}
-use Rattle.batch.specs.declared.line_reading.LineReadFault.TheVariants as line
+use Rattle.whole_io.specs.declared.reading.ReadFault.{ReadFault}
+use Rattle.whole_io.specs.declared.reading.ReadFault.TheVariants as line
 use Rattle.csv_messages.specs.Tables.{IsTableFault}
 use Rattle.reports.specs.declared.message.Message.{Message}
 use Rattle.whole_io.specs.Writing.{WritesPrefix}
 use Rattle.csv_days.specs.declared.table_end.TableEnd.{TableEnd}
 use Rattle.csv_days.specs.declared.table_end.TableEnd.TheVariants.{Table, Listing, OutOfMemory, WriteFault}
-use Rattle.csv_days.specs.declared.writing.WritingFault.{WritingFault}
-use Rattle.csv_days.specs.declared.writing.WritingFault.TheVariants as fault
+use Rattle.whole_io.specs.declared.writing_fault.WritingFault.{WritingFault}
+use Rattle.whole_io.specs.declared.writing_fault.WritingFault.TheVariants as fault
 use Rattle.message_texts.specs.declared.text_end.TextEnd.{TextEnd}
 use Rattle.message_texts.specs.declared.text_end.TextEnd.TheVariants as text_end
 
@@ -26,7 +26,7 @@ pub record WritesTextPart (Are : List Message → Type 0) (text : List Message �
   pub written : WritesPrefix (text messages) old new
 
 -- the end of decoding if a line could not be taken
-abbrev pub line_end : LineReadFault → TextEnd
+abbrev pub line_end : ReadFault → TextEnd
 line_end line.Failed = text_end.ReadFault
 line_end line.OutOfMemory = text_end.OutOfMemory
 

@@ -4,5 +4,4 @@ pub mod EndTexts
 pub mod Ends
 pub mod Laws
 pub mod OwnBytes
-pub mod TableLines
 pub mod TextLines

@@ -2,25 +2,21 @@
 ghost use Rattle.std.specs.Prelude.{◌≡◌, ◌≢◌, ◌⊎◌, Err, IfErr, IfOk, IfSome, Ok, OnErr, OnOk};
 ghost use Rattle.std.specs.Io.KnownBytes.{Appends, Keeps};
 ghost use Rattle.batch.specs.Lines.{lines_of};
-ghost use Rattle.csv.specs.Records.{fields_of};
-ghost use Rattle.csv.specs.Writing.{default_writer, row_text};
-ghost use Rattle.csv_messages.specs.TableTexts.{column_names, table_text};
+ghost use Rattle.csv_messages.specs.TableTexts.{table_text};
 ghost use Rattle.whole_io.specs.Writing.{WritesPrefix};
 ghost use Rattle.message_texts.specs.DecodedTexts.{IsLinesEnd, IsText, IsTextEnd, line_read, lines_messages};
 ghost use Rattle.message_texts.specs.Ends.{WritesText, WritesTextPart};
 ghost use Rattle.message_texts.specs.declared.text_end.TextEnd.TheVariants.{OutOfMemory, WriteFault};
 
-use crate::form::TableRows;
 use crate::header::check_header;
 use crate::text_lines::next_line;
-use crate::writing::write_messages;
 use crate::{LineFault, TextEnd};
 use batch::read_message;
-use csv::ByteRecord;
-use csv_lines::{into_text, lines_in, put_line};
+use csv_messages::write_table;
 use reports::Message;
-use std::alloc::{AllocError, Global};
+use std::alloc::Global;
 use std::io::{BufRead, BufReader, Read, Write};
+use whole_io::flush;
 
 /// How many bytes are read at once.
 const READ_PIECE: usize = 65_536;
@@ -87,57 +83,30 @@ fn read_text<R: Read + Drop>(alloc: Global, reader: R) -> Result<Vec<Message>, T
     text_messages(alloc, &mut reader)
 }
 
-/// The names of the columns.
-fn column_names(alloc: Global) -> Result<ByteRecord, AllocError>
-    ensures { IfOk result (λ names. fields_of names ≡ column_names) }
-{
-    ByteRecord::from_fields(
-        alloc,
-        &[
-            b"kind",
-            b"participant",
-            b"number",
-            b"moment",
-            b"symbol",
-            b"target",
-            b"price",
-            b"size",
-            b"condition",
-        ],
-    )
-}
-
-/// The line of the columns' names.
-fn head_text(alloc: Global) -> Result<Vec<u8>, AllocError>
-    ensures { IfOk result (λ text. text.items ≡ row_text default_writer column_names) }
-{
-    let mut writer = lines_in(Vec::new(alloc));
-    put_line(&mut writer, &column_names(alloc)?)?;
-    into_text(writer)
-}
-
-/// Writes messages as a table.
-#[tactic(auto, unfolding(csv_messages::specs::TableTexts::table_text, csv_messages::specs::TableTexts::message_lines))]
-fn write_table<W: Write>(alloc: Global, messages: &[Message], writer: &mut W) -> Result<(), TextEnd>
+/// Writes messages as a table, and flushes it.
+fn write_flushed<W: Write>(
+    alloc: Global,
+    messages: &[Message],
+    writer: &mut W,
+) -> Result<(), TextEnd>
     ensures written { OnOk result (Appends (W.contents writer.old) (W.contents writer.new) (table_text messages.now)) }
     ensures end { IfErr result (λ end. (end ≡ OutOfMemory) ⊎ (end ≡ WriteFault)) }
     ensures prefix { WritesPrefix (table_text messages.now) (W.contents writer.old) (W.contents writer.new) }
+    ensures kept { result ≡ Err OutOfMemory → writer.new ≡ writer.old }
 {
-    let Ok(head) = head_text(alloc) else {
-        return Err(TextEnd::OutOfMemory);
-    };
-    write_messages(&TableRows { alloc }, head, messages, writer)?;
+    write_table(alloc, messages, writer)?;
+    flush(writer)?;
     Ok(())
 }
 
 /// Reads the text of a batch whole, and writes its messages as a table: the names of the nine columns, and the canonical row of
 /// each message with its moment, in order. A message whose symbol or participant is not in the header is kept, since the tape
-/// refuses it. The rows are written as they are made, many at once, and flushed at the end.
+/// refuses it. The table is made before its first byte is written, and flushed at the end.
 ///
 /// The error says why the table was not written whole. `Line` is the first line that is wrong: a header line that is empty, has
 /// too many or repeated names, or is not names with single spaces between them; or another line that has no message of the
-/// participant whose letter it begins with. After `WriteFault` a prefix of the table was written, after `OutOfMemory` such a
-/// prefix or nothing, and after every other error nothing.
+/// participant whose letter it begins with. After `WriteFault` a prefix of the table was written, and after every other error
+/// nothing.
 pub fn decode_over<R: Read + Drop, W: Write>(
     alloc: Global,
     reader: R,
@@ -151,12 +120,11 @@ pub fn decode_over<R: Read + Drop, W: Write>(
     ensures silent { result ≢ Err WriteFault → result ≢ Err OutOfMemory → OnErr result (writer.new ≡ writer.old) }
     ensures prefix { result ≡ Err WriteFault → IfSome (R.remaining reader) (λ input.
         WritesTextPart (IsText input) table_text (W.contents writer.old) (W.contents writer.new)) }
+    ensures kept { result ≡ Err OutOfMemory → writer.new ≡ writer.old }
     ensures memory { result ≡ Err OutOfMemory → IfSome (R.remaining reader) (λ input.
         Keeps (W.contents writer.old) (W.contents writer.new)
         ⊎ WritesTextPart (IsText input) table_text (W.contents writer.old) (W.contents writer.new)) }
 {
-    match read_text(alloc, reader) {
-        Ok(messages) => write_table(alloc, &messages, writer),
-        Err(end) => Err(end),
-    }
+    let messages = read_text(alloc, reader)?;
+    write_flushed(alloc, &messages, writer)
 }

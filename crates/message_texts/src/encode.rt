@@ -29,13 +29,8 @@ fn write_encoded<W: Write>(
     ensures silent { result ≢ Err WriteFault → result ≢ Err OutOfMemory → OnErr result (writer.new ≡ writer.old) }
     ensures prefix { WritesPrefix (encoded_text messages.now) (W.contents writer.old) (W.contents writer.new) }
 {
-    let listing = match listing_of(alloc, messages) {
-        Ok(listing) => listing,
-        Err(fault) => return Err(TableEnd::Listing(fault)),
-    };
-    let Ok(head) = header_text(alloc, &listing) else {
-        return Err(TableEnd::OutOfMemory);
-    };
+    let listing = listing_of(alloc, messages)?;
+    let head = header_text(alloc, &listing)?;
     write_messages(&BatchLines, head, messages, writer)?;
     Ok(())
 }

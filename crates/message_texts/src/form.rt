@@ -1,20 +1,15 @@
-//! Writes messages in each of three forms: lines of a batch, bytes of one participant, and rows of a table.
+//! Writes messages in each of two forms: lines of a batch, and bytes of one participant.
 ghost use Rattle.std.specs.Prelude.{◌≡◌, ◌++◌, ◌+◌, ◌*◌, ◌≤◌, List, ℕ, IfOk, OnOk, length, take};
 ghost use Rattle.std.specs.List.{flat_map};
-ghost use Rattle.csv_lines.specs.Lines.{IsAtLineStart, lines_text};
 ghost use Rattle.hex.specs.Hex.{encode_lower};
 ghost use Rattle.reports.specs.Spelling.{spelling};
 ghost use Rattle.reports.specs.declared.message.Message.{Message};
 ghost use Rattle.message_texts.specs.EncodedTexts.{message_line};
 ghost use Rattle.message_texts.specs.OwnBytes.{own_bytes};
-ghost use Rattle.message_texts.specs.TableLines.{table_line};
 
-use csv::{ByteRecord, Writer};
-use csv_lines::{into_text, lines_in, put_line};
-use csv_messages::write_row;
 use hex::encode_to_slice;
 use reports::{LONGEST_MESSAGE, Message, encode_into};
-use std::alloc::{AllocError, Global};
+use std::alloc::AllocError;
 use tape_types::Participant;
 
 /// A form in which messages are written one after another, each alone.
@@ -108,39 +103,5 @@ impl Form for OwnBytes {
             push_own(&mut bytes, self.participant, message)?;
         }
         Ok(bytes)
-    }
-}
-
-/// The rows of a table.
-#[derive(Clone, Copy)]
-pub struct TableRows {
-    /// The allocator of a row's fields, which are kept while it is written.
-    pub alloc: Global,
-}
-
-/// Writes a message's row, through a record that is used again for each.
-fn put_row(
-    writer: &mut Writer<Vec<u8>>,
-    fields: &mut ByteRecord,
-    message: &Message,
-) -> Result<(), AllocError>
-    requires { IsAtLineStart writer.old }
-    ensures start { OnOk result (IsAtLineStart writer.new) }
-    ensures text { OnOk result (lines_text writer.new ≡ lines_text writer.old ++ table_line message.now) }
-{
-    write_row(message, fields)?;
-    put_line(writer, fields)
-}
-
-impl Form for TableRows {
-    ghost text = { λ _ m. table_line m };
-
-    fn text_of(&self, memory: Vec<u8>, messages: &[Message]) -> Result<Vec<u8>, AllocError> {
-        let mut fields = ByteRecord::new(self.alloc);
-        let mut writer = lines_in(memory);
-        for message in messages {
-            put_row(&mut writer, &mut fields, message)?;
-        }
-        into_text(writer)
     }
 }

@@ -2,12 +2,12 @@
 ghost use Rattle.std.specs.Prelude.{◌≡◌, Some};
 ghost use Rattle.message_texts.specs.EndTexts.{end_status, end_text};
 ghost use Rattle.message_texts.specs.Ends.{line_end, write_end};
+ghost use Rattle.message_texts.specs.declared.text_end.TextEnd.TheVariants.{WriteFault as FailedWrite};
 
 use crate::LineFault;
-use batch::LineReadFault;
-use csv_days::WritingFault;
 use std::fmt;
 use thiserror::Error;
+use whole_io::{ReadFault, WriteFault, WritingFault};
 
 /// Why a batch's text was not written as a table.
 #[derive(Clone, Copy, Debug, PartialEq, Eq, Error)]
@@ -49,15 +49,25 @@ impl From<WritingFault> for TextEnd {
     }
 }
 
-impl From<LineReadFault> for TextEnd {
+impl From<WriteFault> for TextEnd {
+    ghost use Rattle.std.specs.Prelude.{◌≡◌};
+
+    ghost from_gives = { λ _ end. end ≡ FailedWrite };
+
+    fn from(_fault: WriteFault) -> TextEnd {
+        TextEnd::WriteFault
+    }
+}
+
+impl From<ReadFault> for TextEnd {
     ghost use Rattle.std.specs.Prelude.{◌≡◌};
 
     ghost from_gives = { λ fault end. end ≡ line_end fault };
 
-    fn from(fault: LineReadFault) -> TextEnd {
+    fn from(fault: ReadFault) -> TextEnd {
         match fault {
-            LineReadFault::Failed => TextEnd::ReadFault,
-            LineReadFault::OutOfMemory => TextEnd::OutOfMemory,
+            ReadFault::Failed => TextEnd::ReadFault,
+            ReadFault::OutOfMemory => TextEnd::OutOfMemory,
         }
     }
 }

@@ -5,9 +5,9 @@ ghost use Rattle.std.specs.List.{flat_map};
 ghost use Rattle.whole_io.specs.Writing.{WritesPrefix};
 
 use crate::form::Form;
-use csv_days::{WritingFault, flush, write_part};
 use reports::Message;
 use std::io::Write;
+use whole_io::{WritingFault, flush, write_part};
 
 /// How many messages are written at once.
 const MESSAGES_AT_ONCE: usize = 512;
@@ -59,5 +59,5 @@ pub fn write_messages<F: Form, W: Write>(
     ensures prefix { WritesPrefix (head.items ++ flat_map (F.text form.now) messages.now) (W.contents writer.old) (W.contents writer.new) }
 {
     write_pieces(form, head, messages, writer)?;
-    flush(writer)
+    Ok(flush(writer)?)
 }

@@ -1,17 +1,13 @@
 -- Shows that the readable tape of messages reads back as those messages.
-use Rattle.std.proofs.Common.{◌≡◌, ◌++◌, ◌∙◌, ◌∷◌, [], ℕ, List, Result, Ok, Err, Some, None, refl, sym, ap, append_assoc, append-nil, map, codes, decimal}
-use Rattle.std.specs.List.{AllByRecursion, flat_map, fold}
+use Rattle.std.proofs.Common.{◌≡◌, ◌++◌, ◌∙◌, ◌∷◌, [], ℕ, List, Result, Ok, Err, Some, refl, sym, ap, append_assoc, append-nil, map, codes, decimal}
+use Rattle.std.specs.List.{AllByRecursion, fold}
 use Rattle.std.proofs.lemmas.List.Elements.{recursion_from_All}
 use Rattle.csv.specs.Machine.{next_record}
-use Rattle.csv.specs.Reading.{AreRecords, Reached, default_config, strip_bom}
+use Rattle.csv.specs.Reading.{Reached, default_config, strip_bom}
 use Rattle.csv.specs.Records.{field_at}
 use Rattle.csv.specs.Writing.{default_writer, escaped, fields_text, is_blank, row_text}
-use Rattle.csv.specs.declared.parser.Config.{Config}
-use Rattle.csv.specs.declared.parser.State.{State}
 use Rattle.csv.specs.declared.parser.State.TheVariants as st
 use Rattle.csv.proofs.RoundTrip.{read-write-many}
-use Rattle.sale_matrix.specs.declared.matrix.Matrix.{Matrix}
-use Rattle.scratch_fold.specs.declared.summary.Summary.{Summary}
 use Rattle.reports.specs.Spelling.{IsMessage}
 use Rattle.reports.specs.declared.message.Message.{Message}
 use Rattle.tape_core.specs.Tape.{TapeState}
@@ -19,13 +15,13 @@ use Rattle.tape_core.specs.declared.refusal.Refusal.{Refusal}
 use Rattle.csv_messages.specs.ColumnNames.{column_named}
 use Rattle.csv_messages.specs.Columns.{fault_from, header_columns, name_fault, place_of}
 use Rattle.csv_messages.specs.Laws.{RowRoundTrip}
-use Rattle.csv_messages.specs.Tables.{IsTable, fields_message, record_message, records_messages, rows_messages, table_messages, with_record}
+use Rattle.csv_messages.specs.Tables.{fields_message, record_message, records_messages, rows_messages, table_messages, with_record}
 use Rattle.csv_messages.specs.TapeColumns.{is_tape_column}
 use Rattle.csv_messages.specs.Writing.{row_fields, row_of}
 use Rattle.csv_messages.specs.declared.columns.Columns.{Columns}
 use Rattle.tape_core.specs.Answers.{tape_after}
 use Rattle.csv_days.specs.Days.{first_tape}
-use Rattle.csv_days.specs.TapeRows.{TapeRow, answer_fields, column_names, figures_fields, head_line, refusal_text, row_line, rows_text, tape_fields, tape_row, tape_rows, tape_text, text_from}
+use Rattle.csv_days.specs.TapeRows.{TapeRow, answer_fields, tape_columns, figures_fields, refusal_text, row_line, rows_text, tape_fields, tape_row, tape_rows, text_from}
 use Rattle.recorded_tapes.specs.Laws.{TapeRoundTrip}
 
 -- ## The records of the text
@@ -50,10 +46,10 @@ rows-reached (row ∷ rows) = ((tape_fields row, st.StartRecord, rows_text rows)
 
 -- the records of the whole text
 text-reached : (t : TapeState) (messages : List Message)
-    → Reached default_config st.StartRecord (text_from t messages) (column_names ∷ map tape_fields (tape_rows t messages)) st.StartRecord []
+    → Reached default_config st.StartRecord (text_from t messages) (tape_columns ∷ map tape_fields (tape_rows t messages)) st.StartRecord []
 unfolding Reached text_from
 text-reached t messages = (
-  (column_names, st.StartRecord, rows_text (tape_rows t messages)),
+  (tape_columns, st.StartRecord, rows_text (tape_rows t messages)),
   read-write-many (codes "tape") (codes "refused")
       (codes "kind" ∷ codes "participant" ∷ codes "number" ∷ codes "moment" ∷ codes "symbol" ∷ codes "target" ∷ codes "price" ∷ codes "size"
       ∷ codes "condition" ∷ codes "open" ∷ codes "high" ∷ codes "low" ∷ codes "last" ∷ codes "volume" ∷ codes "trades" ∷ [])
@@ -85,7 +81,7 @@ in_order = record {
 }
 
 -- the names are those of the columns
-names-columns : header_columns column_names ≡ Ok in_order
+names-columns : header_columns tape_columns ≡ Ok in_order
 unfolding header_columns fault_from name_fault column_named place_of in_order is_tape_column
 names-columns = refl
 
@@ -122,7 +118,7 @@ module _ (row_back : RowRoundTrip) where
       let t : TapeState = first_tape matrix (m ∷ ms) in
       let rows : records_messages in_order (map tape_fields (tape_rows t (m ∷ ms))) ≡ Ok (m ∷ ms) =
       rows-back t [] (m ∷ ms) (recursion_from_All IsMessage (m ∷ ms) all) in (
-        column_names ∷ map tape_fields (tape_rows t (m ∷ ms)),
+        tape_columns ∷ map tape_fields (tape_rows t (m ∷ ms)),
         (st.StartRecord, [], rw (no_mark t (m ∷ ms)) (text-reached t (m ∷ ms)), refl),
         rw (names-columns, rows) refl,
       )

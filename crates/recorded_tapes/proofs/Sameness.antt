@@ -1,8 +1,8 @@
 -- Shows that a text is a table of at most one list of messages, and that a readable tape is found to be as recorded.
-use Rattle.std.proofs.Common.{◌≡◌, ◌≢◌, ◌+◌, ◌-◌, ◌++◌, ◌∙◌, ◌∷◌, [], ℕ, List, All, Ok, Some, None, refl, sym, ap, append_assoc, append-nil, arith, get_or, length, length-append, subst, if◌then◌else◌}
+use Rattle.std.proofs.Common.{◌≡◌, ◌≢◌, ◌+◌, ◌-◌, ◌++◌, ◌∙◌, ◌∷◌, [], ℕ, List, All, Some, None, refl, sym, ap, append_assoc, append-nil, arith, get_or, length, length-append, subst, if◌then◌else◌}
 use Rattle.std.proofs.lemmas.List.{append_cancel_left, get_or-append_right, get_or_push, length_push}
 use Rattle.std.proofs.lemmas.List.Elements.{All-get_or}
-use Rattle.csv.specs.Machine.{Read, next_record}
+use Rattle.csv.specs.Machine.{Read}
 use Rattle.csv.specs.Reading.{AreRecords, Reached}
 use Rattle.csv.specs.Writing.{default_writer, is_blank, row_body, row_text}
 use Rattle.csv.specs.declared.parser.Config.{Config}
@@ -10,9 +10,9 @@ use Rattle.csv.specs.declared.parser.State.{State}
 use Rattle.sale_matrix.specs.declared.matrix.Matrix.{Matrix}
 use Rattle.reports.specs.declared.message.Message.{Message}
 use Rattle.tape_core.specs.Tape.{TapeState}
-use Rattle.csv_messages.specs.Tables.{IsTable, table_messages}
+use Rattle.csv_messages.specs.Tables.{IsTable}
 use Rattle.csv_days.specs.Days.{first_tape}
-use Rattle.csv_days.specs.TapeRows.{TapeRow, column_names, rows_text, tape_fields, tape_rows, tape_text, text_from}
+use Rattle.csv_days.specs.TapeRows.{TapeRow, tape_columns, rows_text, tape_fields, tape_rows, tape_text, text_from}
 use Rattle.recorded_tapes.specs.Differences.{AreApart, IsDifference}
 use Rattle.recorded_tapes.specs.Laws.{TapeRoundTrip, TapesAreRecorded}
 use Rattle.recorded_tapes.specs.Verdicts.{AreLines, IsVerdict}
@@ -85,7 +85,7 @@ rows-end front (row ∷ rows) =
 text-ends : (t : TapeState) (messages : List Message) → (before : List ℕ) × (text_from t messages ≡ before ++ 10 ∷ [])
 unfolding text_from
 text-ends t messages =
-    let (head, is) = line-ends column_names in
+    let (head, is) = line-ends tape_columns in
     let (before, ends) = rows-end head (tape_rows t messages) in
     (before, ap (λ (l : List ℕ). l ++ rows_text (tape_rows t messages)) is ∙ ends)
 

@@ -1,5 +1,5 @@
 -- Defines the laws of recorded tapes.
-use Rattle.std.specs.Prelude.{◌≡◌, ℕ, List, ◌∷◌, All}
+use Rattle.std.specs.Prelude.{◌≡◌, List, ◌∷◌, All}
 use Rattle.sale_matrix.specs.declared.matrix.Matrix.{Matrix}
 use Rattle.reports.specs.Spelling.{IsMessage}
 use Rattle.reports.specs.declared.message.Message.{Message}

@@ -7,6 +7,7 @@ use Rattle.csv_messages.specs.declared.table_fault.TableFault.TheVariants.{ReadF
 use Rattle.tape_core.specs.Answers.{answers}
 use Rattle.csv_days.specs.Days.{first_tape}
 use Rattle.csv_days.specs.Refusals.{AreRefusals}
+use Rattle.csv_days.specs.StaleRows.{first_stale}
 use Rattle.csv_days.specs.TableEnds.{IsTableEnd}
 use Rattle.csv_days.specs.TapeRows.{tape_text}
 use Rattle.csv_days.specs.declared.table_end.TableEnd.{TableEnd}
@@ -28,10 +29,11 @@ pub record AreLines (text lines cut : List ℕ) : Type 0 where
 abbrev pub IsRecorded : Matrix → List ℕ → List Message → Type 0
 IsRecorded matrix text messages = IsTable text messages × (text ≡ tape_text matrix messages)
 
--- how many rows there are, and which of them the tape refuses
+-- how many rows there are, which of them the tape refuses, and the first stale one
 pub record AreRows (matrix : Matrix) (messages : List Message) (rows : Rows) : Type 0 where
   pub count : rows.count ≡ length messages
   pub refused : AreRefusals (answers (first_tape matrix messages) messages) rows.refusals
+  pub stale : rows.refusals.stale ≡ first_stale (first_tape matrix messages) messages
 
 -- lines are the readable tape of the messages in them, or differ from it
 abbrev pub IsReplay : Matrix → List ℕ → Result Rows Difference → Type 0

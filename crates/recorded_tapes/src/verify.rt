@@ -1,49 +1,24 @@
 //! Reads a recorded tape, writes the readable tape of its messages beside it, and finds whether the two are the same.
-ghost use Rattle.std.specs.Prelude.{◌≡◌, ◌≢◌, ◌⊎◌, List, IfErr, IfOk, IfSome};
-ghost use Rattle.std.specs.IoError.{error_kind};
+ghost use Rattle.std.specs.Prelude.{◌≡◌, ◌≢◌, List, IfErr, IfOk, IfSome};
 ghost use Rattle.sale_matrix.specs.declared.matrix.Matrix.{Matrix};
 ghost use Rattle.reports.specs.declared.message.Message.{Message};
 ghost use Rattle.csv_messages.specs.Tables.{IsTable};
-ghost use Rattle.csv_messages.specs.declared.table_fault.TableFault.TheVariants.{ReadFault};
 ghost use Rattle.csv_days.specs.TapeRows.{tape_text};
 ghost use Rattle.recorded_tapes.specs.Beside.{beside_text};
 ghost use Rattle.recorded_tapes.specs.Verdicts.{AreRows, IsReplay, IsVerdict, IsVerifyEnd};
 ghost use Rattle.csv_days.specs.TableEnds.{IsTableEnd};
-ghost use Rattle.csv_days.specs.declared.table_end.TableEnd.TheVariants.{OutOfMemory, Table};
+ghost use Rattle.csv_days.specs.declared.table_end.TableEnd.TheVariants.{OutOfMemory, WriteFault};
 
 use crate::beside::Beside;
 use crate::lines::split_lines;
 use crate::place::TextPlace;
 use crate::{Difference, Rows, Verdict};
 use csv_days::{TableEnd, write_tape};
-use csv_messages::{TableFault, read_table};
+use csv_messages::read_table;
 use sale_matrix::Matrix;
 use std::alloc::Global;
-use std::io::{Error, ErrorKind, Read};
-
-/// Returns the end for a failed read: `OutOfMemory` if memory ran out, else `ReadFault`.
-fn failed_read(error: &Error) -> TableEnd
-    ensures one { (result ≡ OutOfMemory) ⊎ (result ≡ Table ReadFault) }
-    ensures memory { error_kind error.now ≡ ErrorKind.OutOfMemory → result ≡ OutOfMemory }
-    ensures fault { error_kind error.now ≢ ErrorKind.OutOfMemory → result ≡ Table ReadFault }
-{
-    match error.kind() {
-        ErrorKind::OutOfMemory => TableEnd::OutOfMemory,
-        _ => TableEnd::Table(TableFault::ReadFault),
-    }
-}
-
-/// Reads all that a reader has left.
-fn read_all<R: Read>(alloc: Global, reader: &mut R) -> Result<Vec<u8>, TableEnd>
-    ensures text { IfSome (R.remaining reader.old) (λ input. IfOk result (λ text. text.items ≡ input)) }
-    ensures end { IfErr result (λ end. (end ≡ Table ReadFault) ⊎ (end ≡ OutOfMemory)) }
-{
-    let mut text = Vec::new(alloc);
-    match reader.read_to_end(&mut text) {
-        Ok(_) => Ok(text),
-        Err(error) => Err(failed_read(&error)),
-    }
-}
+use std::io::Read;
+use whole_io::read_all;
 
 /// Returns the rows if lines are the text that was written beside them, or the first place where they differ from it.
 fn compare(alloc: Global, beside: &Beside, rows: Rows) -> Result<Result<Rows, Difference>, TableEnd>
@@ -64,6 +39,7 @@ fn compare(alloc: Global, beside: &Beside, rows: Rows) -> Result<Result<Rows, Di
 fn replay(alloc: Global, matrix: Matrix, lines: &[u8]) -> Result<Result<Rows, Difference>, TableEnd>
     ensures replay { IfOk result (IsReplay matrix lines.now) }
     ensures end { IfErr result (IsTableEnd lines.now) }
+    ensures read { IfErr result (λ end. end ≢ WriteFault) }
 {
     let messages = read_table(alloc, lines)?;
     let mut beside = Beside::new(alloc, lines);
@@ -83,6 +59,7 @@ fn replay(alloc: Global, matrix: Matrix, lines: &[u8]) -> Result<Result<Rows, Di
 fn verdict_on(alloc: Global, matrix: Matrix, text: &[u8]) -> Result<Verdict, TableEnd>
     ensures verdict { IfOk result (IsVerdict matrix text.now) }
     ensures end { IfErr result (IsVerifyEnd text.now) }
+    ensures read { IfErr result (λ end. end ≢ WriteFault) }
 {
     let (lines, cut) = split_lines(text);
     match replay(alloc, matrix, lines) {
@@ -106,6 +83,7 @@ pub fn verify_over<R: Read + Drop>(
 ) -> Result<Verdict, TableEnd>
     ensures verdict { IfSome (R.remaining reader) (λ input. IfOk result (IsVerdict matrix input)) }
     ensures end { IfSome (R.remaining reader) (λ input. IfErr result (IsVerifyEnd input)) }
+    ensures read { IfErr result (λ end. end ≢ WriteFault) }
 {
     let text = read_all(alloc, &mut reader)?;
     verdict_on(alloc, matrix, &text)

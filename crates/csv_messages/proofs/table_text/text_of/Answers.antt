@@ -9,7 +9,7 @@ loop-message-init c =
 
 pub loop-message-preserved : goal.loop-message-preserved
 loop-message-preserved c = record {
-  start = c.in_ok-put_row.ensures.start;
+  start = c.in_ok-put_message.ensures.start;
   text = table_text-more c.args.messages.now c.loop-message.message-index c.message-item.result _ _ c.loop-message-test.true
-      (sym c.message-item.is) c.loop-message.invariant.text c.in_ok-put_row.ensures.text;
+      (sym c.message-item.is) c.loop-message.invariant.text c.in_ok-put_message.ensures.text;
 }

@@ -1,10 +1,34 @@
-use Rattle.std.proofs.Common.{◌≡◌, ◌∙◌, ap, refl, subst}
+use Rattle.std.proofs.Common.{◌≡◌, ◌∙◌, ◌==◌, ap, length, refl, rules, subst, true}
+use Rattle.std.specs.Io.KnownBytes.{Appends}
 use Rattle.std.specs.Prelude.{List, ℕ}
+use Rattle.whole_io.specs.Lemmas.WriteLemmas.{WritesPrefix-kept, WritesPrefix-whole}
 use Rattle.whole_io.specs.Writing.{WritesPrefix}
 use Rattle.csv_days.specs.Explained.{explain_text}
 use Rattle.journal_days.specs.Texts.{messages_in}
-use Rattle.journal_days.proofs.TextLemmas.{nothing_written, on_err, text_failed}
+use Rattle.journal_days.proofs.TextLemmas.{explained_head_of_none, nothing_written, on_err, text_failed, written_kept}
 use Rattle.journal_days.proofs.explain.write_journal_explained.Goals as goal
+
+pub returns-in_err-write_explained_head-clause-prefix : goal.returns-in_err-write_explained_head-clause-prefix
+returns-in_err-write_explained_head-clause-prefix g c =
+    let none : (length c.args.day.now.tape.entries == 0) ≡ true = search rules in
+    on_err _ _
+    (subst (λ (text : List ℕ). WritesPrefix text (g.W.Write.contents c.args.writer.now) (g.W.Write.contents c.write_explained_head.new.writer))
+    (explained_head_of_none c.args.day.now.tape.matrix c.args.day.now.tape.entries none) c.in_err-write_explained_head.ensures.prefix)
+
+pub returns-then-is_empty-clause-written : goal.returns-then-is_empty-clause-written
+returns-then-is_empty-clause-written g c =
+    let none : (length c.args.day.now.tape.entries == 0) ≡ true = search rules in
+    subst (λ (text : List ℕ). Appends (g.W.Write.contents c.args.writer.now) (g.W.Write.contents c.flush.new.writer) text)
+    (explained_head_of_none c.args.day.now.tape.matrix c.args.day.now.tape.entries none)
+    (written_kept _ _ _ _ c.in_ok-write_explained_head.ensures.written c.flush.ensures.kept)
+
+pub returns-in_err-flush-clause-prefix : goal.returns-in_err-flush-clause-prefix
+returns-in_err-flush-clause-prefix g c =
+    let none : (length c.args.day.now.tape.entries == 0) ≡ true = search rules in
+    on_err _ _
+    (subst (λ (text : List ℕ). WritesPrefix text (g.W.Write.contents c.args.writer.now) (g.W.Write.contents c.flush.new.writer))
+    (explained_head_of_none c.args.day.now.tape.matrix c.args.day.now.tape.entries none)
+    (WritesPrefix-kept _ _ _ _ (WritesPrefix-whole _ _ _ c.in_ok-write_explained_head.ensures.written) c.flush.ensures.kept))
 
 pub returns-in_err-messages-clause-prefix : goal.returns-in_err-messages-clause-prefix
 returns-in_err-messages-clause-prefix g c = on_err _ _ (nothing_written _ _ _ refl)

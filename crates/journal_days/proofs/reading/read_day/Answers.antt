@@ -1,4 +1,5 @@
-use Rattle.std.proofs.Common.{◌≡◌, ℕ, ◌∙◌, ap, drop}
+use Rattle.std.proofs.Common.{ℕ, ◌∙◌, ap, drop}
+use Rattle.std.proofs.lemmas.Result.{err_from_is_err_and}
 use Rattle.day_journal.specs.Journals.{ReaderState, all_groups, reader_at}
 use Rattle.journal_days.proofs.DayLemmas.{all_turns, damage_made, day_made, no_header, stop_made}
 use Rattle.journal_days.proofs.reading.read_day.Goals as goal
@@ -6,32 +7,33 @@ use Rattle.journal_days.proofs.reading.read_day.Goals as goal
 pub returns-in-Err-clause-fault : goal.returns-in-Err-clause-fault
 returns-in-Err-clause-fault c = no_header c.args.asked c.args.bytes.now c.in-Err.fault c.header_fault.result c.in-Err.ensures.exact c.header_fault.ensures
 
-pub returns-in-Ok-replay_groups-clause-day : goal.returns-in-Ok-replay_groups-clause-day
-returns-in-Ok-replay_groups-clause-day c =
+pub returns-clause-day : goal.returns-clause-day
+returns-clause-day c =
     let h = c.in-Ok.header in
     let state = c.new-groups.ensures.state in
     let all =
     all_turns c.args.bytes.now h.len c.new-groups.result (ap (λ (r : ReaderState). r.rest) state)
     ∙ ap all_groups (state ∙ ap (λ (n : ℕ). reader_at h.session 0 h.digest n (drop n c.args.bytes.now)) c.in-Ok.ensures.exact.1) in
     day_made c.args.asked c.args.bytes.now _ c.in-Ok.ensures.exact.2 c.in_default.ensures c.in-Ok-new.tape c.in-Ok-new.ensures.ok _ all
-    c.in-Ok-replay_groups.end c.replay_groups.new.tape c.day_of.result c.in-Ok-replay_groups.ensures.end c.in-Ok-replay_groups.ensures.tape c.day_of.ensures.ends
+    c.in_ok-end.end c.replay_groups.new.tape c.day_of.result c.in_ok-end.ensures.end c.in_ok-end.ensures.tape c.day_of.ensures.ends
 
-pub returns-in-Ok-replay_groups-clause-fault : goal.returns-in-Ok-replay_groups-clause-fault
-returns-in-Ok-replay_groups-clause-fault c =
+pub returns-clause-fault : goal.returns-clause-fault
+returns-clause-fault c =
     let h = c.in-Ok.header in
     let state = c.new-groups.ensures.state in
     let all =
     all_turns c.args.bytes.now h.len c.new-groups.result (ap (λ (r : ReaderState). r.rest) state)
     ∙ ap all_groups (state ∙ ap (λ (n : ℕ). reader_at h.session 0 h.digest n (drop n c.args.bytes.now)) c.in-Ok.ensures.exact.1) in
     damage_made c.args.asked c.args.bytes.now _ c.in-Ok.ensures.exact.2 c.in_default.ensures c.in-Ok-new.tape c.in-Ok-new.ensures.ok _ all
-    c.in-Ok-replay_groups.end c.replay_groups.new.tape c.day_of.result c.in-Ok-replay_groups.ensures.end c.in-Ok-replay_groups.ensures.tape c.day_of.ensures.ends
+    c.in_ok-end.end c.replay_groups.new.tape c.day_of.result c.in_ok-end.ensures.end c.in_ok-end.ensures.tape c.day_of.ensures.ends
 
-pub returns-in-Err-replay_groups-clause-fault : goal.returns-in-Err-replay_groups-clause-fault
-returns-in-Err-replay_groups-clause-fault c =
+pub returns-in_err-end-clause-fault : goal.returns-in_err-end-clause-fault
+returns-in_err-end-clause-fault c =
+    let p = err_from_is_err_and c.from_residual.result c.from_residual.ensures.1 in
     let h = c.in-Ok.header in
     let state = c.new-groups.ensures.state in
     let all =
     all_turns c.args.bytes.now h.len c.new-groups.result (ap (λ (r : ReaderState). r.rest) state)
     ∙ ap all_groups (state ∙ ap (λ (n : ℕ). reader_at h.session 0 h.digest n (drop n c.args.bytes.now)) c.in-Ok.ensures.exact.1) in
-    stop_made c.args.asked c.args.bytes.now _ c.in-Ok.ensures.exact.2 c.in_default.ensures c.in-Ok-new.tape c.in-Ok-new.ensures.ok _ all
-    c.in-Err-replay_groups.fault c.in-Err-replay_groups.ensures.stops
+    rw (p.1, p.2) (stop_made c.args.asked c.args.bytes.now _ c.in-Ok.ensures.exact.2 c.in_default.ensures c.in-Ok-new.tape c.in-Ok-new.ensures.ok _ all
+    c.in_err-end.field-0.0 c.in_err-end.ensures.stops)

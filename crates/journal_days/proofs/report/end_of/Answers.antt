@@ -1,5 +1,5 @@
 use Rattle.std.proofs.Common.{◌∙◌, ap, length, sym, subst}
-use Rattle.std.specs.Prelude.{◌<◌, get_or, ℕ, List}
+use Rattle.std.specs.Prelude.{◌<◌, get_or, List}
 use Rattle.sale_matrix.specs.declared.matrix.Matrix.{Matrix}
 use Rattle.tape_core.specs.declared.entry.Entry.{Entry}
 use Rattle.tape_core.specs.Ending.{KeepsEnd}

@@ -5,7 +5,7 @@ use Rattle.whole_io.specs.Lemmas.WriteLemmas.{WritesPrefix-kept, WritesPrefix-wh
 use Rattle.whole_io.specs.Writing.{WritesPrefix}
 use Rattle.csv_days.specs.TapeRows.{tape_text}
 use Rattle.journal_days.specs.Texts.{messages_in}
-use Rattle.journal_days.proofs.TextLemmas.{nothing_written, on_err, on_ok, tape_of_none, text_failed, written_kept}
+use Rattle.journal_days.proofs.TextLemmas.{nothing_written, on_err, tape_of_none, text_failed, written_kept}
 use Rattle.journal_days.proofs.tape.write_journal_tape.Goals as goal
 
 pub returns-in_err-write_head-clause-prefix : goal.returns-in_err-write_head-clause-prefix
@@ -18,13 +18,12 @@ returns-in_err-write_head-clause-prefix g c =
 pub returns-then-is_empty-clause-written : goal.returns-then-is_empty-clause-written
 returns-then-is_empty-clause-written g c =
     let none : (length c.args.day.now.tape.entries == 0) ≡ true = search rules in
-    on_ok _ _
-    (subst (λ (text : List ℕ). Appends (g.W.Write.contents c.args.writer.now) (g.W.Write.contents c.flush.new.writer) text)
+    subst (λ (text : List ℕ). Appends (g.W.Write.contents c.args.writer.now) (g.W.Write.contents c.flush.new.writer) text)
     (tape_of_none c.args.day.now.tape.matrix c.args.day.now.tape.entries none)
-    (written_kept _ _ _ _ c.in_ok-write_head.ensures.written c.flush.ensures.kept))
+    (written_kept _ _ _ _ c.in_ok-write_head.ensures.written c.flush.ensures.kept)
 
-pub returns-then-is_empty-clause-prefix : goal.returns-then-is_empty-clause-prefix
-returns-then-is_empty-clause-prefix g c =
+pub returns-in_err-flush-clause-prefix : goal.returns-in_err-flush-clause-prefix
+returns-in_err-flush-clause-prefix g c =
     let none : (length c.args.day.now.tape.entries == 0) ≡ true = search rules in
     on_err _ _
     (subst (λ (text : List ℕ). WritesPrefix text (g.W.Write.contents c.args.writer.now) (g.W.Write.contents c.flush.new.writer))

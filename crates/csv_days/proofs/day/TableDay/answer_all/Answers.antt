@@ -1,6 +1,6 @@
 use Rattle.std.proofs.Common.{arith, sym}
 use Rattle.csv_days.proofs.DayLemmas.{AnswersMore-none, AnswersMore-one}
-use Rattle.csv_days.proofs.day.Day.answer_all.Goals as goal
+use Rattle.csv_days.proofs.day.TableDay.answer_all.Goals as goal
 
 pub loop-message-init : goal.loop-message-init
 loop-message-init c = record { more = AnswersMore-none c.args.self.now; row = omega arith }

@@ -1,6 +1,6 @@
 use Rattle.std.proofs.Common.{◌≡◌, ◌+◌, take}
 use Rattle.csv_days.specs.Days.{AnswersMore}
-use Rattle.csv_days.proofs.day.Day.answer_all.Given as goal
+use Rattle.csv_days.proofs.day.TableDay.answer_all.Given as goal
 
 -- the messages so far are answered
 abbrev pub invariant-loop-message : goal.invariant-loop-message

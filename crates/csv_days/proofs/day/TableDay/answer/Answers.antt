@@ -3,7 +3,7 @@ use Rattle.reports.specs.declared.message.Header.{Header}
 use Rattle.tape_core.specs.Standing.{last_number}
 use Rattle.tape_core.specs.Tape.{messages_of}
 use Rattle.csv_days.proofs.DayLemmas.{AnswersMore-answer}
-use Rattle.csv_days.proofs.day.Day.answer.Goals as goal
+use Rattle.csv_days.proofs.day.TableDay.answer.Goals as goal
 
 pub returns-clause-more : goal.returns-clause-more
 returns-clause-more c =
