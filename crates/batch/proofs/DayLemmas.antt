@@ -8,7 +8,7 @@ use Rattle.batch.specs.Batch.{RunsOut, line_answer, line_answers, tape_after_lin
 use Rattle.batch.specs.Day.{AnswersLines, AnswersMore, AnswersTaken, HasAnswered}
 use Rattle.batch.specs.Input.{TakesLines}
 use Rattle.batch.specs.Lines.{ends_a_line, lines_of}
-use Rattle.batch.specs.declared.day.Day.{Day}
+use Rattle.batch.specs.declared.day.BatchDay.{BatchDay}
 use Rattle.batch.specs.declared.batch_refusal.BatchRefusal.{BatchRefusal}
 use Rattle.batch.specs.declared.batch_refusal.BatchRefusal.TheVariants.{Refused}
 use Rattle.batch.proofs.AnswerLemmas.{line_answers-push, tape_after_lines-push}
@@ -50,21 +50,21 @@ AnswersLines-line t lines line now next answers pushed answer true is stops answ
 }
 
 -- a day that stays as it is has answered no further line
-pub AnswersMore-none : (day : Day) → AnswersMore day day []
+pub AnswersMore-none : (day : BatchDay) → AnswersMore day day []
 AnswersMore-none day = λ t before so_far. rw (append-nil before) so_far
 
 -- lines, and then others
-pub AnswersMore-both : (a b c : Day) (lines more : List (List ℕ)) → AnswersMore a b lines → AnswersMore b c more → AnswersMore a c (lines ++ more)
+pub AnswersMore-both : (a b c : BatchDay) (lines more : List (List ℕ)) → AnswersMore a b lines → AnswersMore b c more → AnswersMore a c (lines ++ more)
 AnswersMore-both a b c lines more first second = λ t before so_far. rw (← append_assoc before lines more) (second t (before ++ lines) (first t before so_far))
 
 -- some of these lines were answered, and these are left
-pub record AnsweredSome (old now : Day) (lines left : List (List ℕ)) : Type 0 where
+pub record AnsweredSome (old now : BatchDay) (lines left : List (List ℕ)) : Type 0 where
   pub done : List (List ℕ)
   pub split : lines ≡ done ++ left
   pub more : AnswersMore old now done
 
 -- the first of the lines that were left is answered too
-pub AnsweredSome-line : (old now next : Day) (lines left rest : List (List ℕ)) (line : List ℕ) → left ≡ line ∷ rest → AnswersMore now next (line ∷ [])
+pub AnsweredSome-line : (old now next : BatchDay) (lines left rest : List (List ℕ)) (line : List ℕ) → left ≡ line ∷ rest → AnswersMore now next (line ∷ [])
     → AnsweredSome old now lines left → AnsweredSome old next lines rest
 AnsweredSome-line old now next lines left rest line is more so_far = record {
   done = so_far.done ++ line ∷ [];
@@ -73,7 +73,7 @@ AnsweredSome-line old now next lines left rest line is more so_far = record {
 }
 
 -- the whole lines at the front of an input were answered and taken
-pub AnswersTaken-front : (old now : Day) (bytes left : Option (List ℕ)) (front : List ℕ) (taken taken_now : ℕ)
+pub AnswersTaken-front : (old now : BatchDay) (bytes left : Option (List ℕ)) (front : List ℕ) (taken taken_now : ℕ)
     → AnswersMore old now (lines_of front) → ends_a_line front ≡ true → Consumes bytes left front → taken_now ≡ taken + length front
     → AnswersTaken old now bytes left taken taken_now
 AnswersTaken-front old now bytes left front taken taken_now more whole lost counted = record {
@@ -88,7 +88,7 @@ OnOk-always (Ok x) p = p
 OnOk-always (Err e) p = tt
 
 -- nothing was answered, and nothing taken
-pub AnswersTaken-none : (day : Day) (bytes left : Option (List ℕ)) (taken : ℕ) → Keeps bytes left → AnswersTaken day day bytes left taken taken
+pub AnswersTaken-none : (day : BatchDay) (bytes left : Option (List ℕ)) (taken : ℕ) → Keeps bytes left → AnswersTaken day day bytes left taken taken
 AnswersTaken-none day bytes left taken kept = record {
   lines = [];
   answered = AnswersMore-none day;
@@ -96,7 +96,7 @@ AnswersTaken-none day bytes left taken kept = record {
 }
 
 -- lines were answered and taken, and then others
-pub AnswersTaken-both : (old mid now : Day) (a b c : Option (List ℕ)) (t t1 t2 : ℕ) → AnswersTaken old mid a b t t1 → AnswersTaken mid now b c t1 t2
+pub AnswersTaken-both : (old mid now : BatchDay) (a b c : Option (List ℕ)) (t t1 t2 : ℕ) → AnswersTaken old mid a b t t1 → AnswersTaken mid now b c t1 t2
     → AnswersTaken old now a c t t2
 AnswersTaken-both old mid now a b c t t1 t2 first second = record {
   lines = first.lines ++ second.lines;
@@ -105,7 +105,7 @@ AnswersTaken-both old mid now a b c t t1 t2 first second = record {
 }
 
 -- a line was taken and answered
-pub AnswersTaken-line : (old now : Day) (a b : Option (List ℕ)) (t t1 : ℕ) (line : List ℕ) → AnswersMore old now (line ∷ []) → TakesLines a b t t1 (line ∷ [])
+pub AnswersTaken-line : (old now : BatchDay) (a b : Option (List ℕ)) (t t1 : ℕ) (line : List ℕ) → AnswersMore old now (line ∷ []) → TakesLines a b t t1 (line ∷ [])
     → AnswersTaken old now a b t t1
 AnswersTaken-line old now a b t t1 line more took = record {
   lines = line ∷ [];
@@ -114,7 +114,7 @@ AnswersTaken-line old now a b t t1 line more took = record {
 }
 
 -- a new day that answered all lines of an input
-pub HasAnswered-all : (t : TapeState) (new now : Day) (bytes : Option (List ℕ)) → new.tape ≡ t → new.answers.items ≡ [] → new.is_stopped ≡ false
+pub HasAnswered-all : (t : TapeState) (new now : BatchDay) (bytes : Option (List ℕ)) → new.tape ≡ t → new.answers.items ≡ [] → new.is_stopped ≡ false
     → IfSome bytes (λ b. AnswersMore new now (lines_of b)) → IfSome bytes (λ b. HasAnswered t (lines_of b) now)
 unfolding line_answers
 HasAnswered-all t new now None tape answers goes_on more = tt

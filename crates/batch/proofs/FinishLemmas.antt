@@ -13,13 +13,13 @@ use Rattle.batch.specs.Finish.{EndsAfterStop, Finishes, report_unless}
 use Rattle.batch.specs.Reading.{GoesOn, ReadsBatch}
 use Rattle.batch.specs.declared.batch_end.BatchEnd.{BatchEnd}
 use Rattle.batch.specs.declared.batch_end.BatchEnd.TheVariants.{Done, BadHeader, TooLarge, ReadFault, WriteFault, OutOfMemory}
-use Rattle.batch.specs.declared.day.Day.{Day}
+use Rattle.batch.specs.declared.day.BatchDay.{BatchDay}
 use Rattle.batch.specs.declared.header_fault.HeaderFault.{HeaderFault}
 use Rattle.batch.specs.declared.read_end.ReadEnd.{ReadEnd}
 use Rattle.batch.specs.declared.read_end.ReadEnd.TheVariants.{TooLarge as ReadTooLarge, ReadFault as ReadFailed, OutOfMemory as ReadOutOfMemory}
 use Rattle.batch.specs.declared.reading.ReadInput.{ReadInput}
 use Rattle.batch.specs.declared.reading.ReadInput.TheVariants.{Answered, HeaderRefused}
-use Rattle.batch.specs.declared.reading.Unread.{Unread}
+use Rattle.batch.specs.declared.reading.UnreadInput.{UnreadInput}
 use Rattle.batch.proofs.BatchLemmas.{Appends-same}
 use Rattle.whole_io.specs.Lemmas.WriteLemmas.{WritesPrefix-kept, WritesPrefix-longer, WritesPrefix-whole}
 use Rattle.batch.proofs.WrittenDay.{ReadsBatch-may, ReadsBatch-stop, ReadsBatch-text}
@@ -122,12 +122,12 @@ Finishes-stopped (Answered day) ReadFault old new h = absurd h
 Finishes-stopped (HeaderRefused fault) end old new h = tt
 
 -- and if reading stopped before
-pub reading-stopped : (unread : Unread) (read : Option ReadInput) (held : Option (List ℕ)) → GoesOn unread → read ≡ option_map (λ (day : Day). Answered day) unread.day
+pub reading-stopped : (unread : UnreadInput) (read : Option ReadInput) (held : Option (List ℕ)) → GoesOn unread → read ≡ option_map (λ (day : BatchDay). Answered day) unread.day
     → IfSome read (λ read. EndsAfterStop read (end_of_reading unread.end) held held)
 reading-stopped unread read held goes_on is = rw is (at unread.end unread.day goes_on)
   where
-    at : (end : ReadEnd) (day : Option Day) → (end ≡ ReadOutOfMemory → IfSome day (λ d. d.is_stopped ≡ false))
-        → IfSome (option_map (λ (day : Day). Answered day) day) (λ read. EndsAfterStop read (end_of_reading end) held held)
+    at : (end : ReadEnd) (day : Option BatchDay) → (end ≡ ReadOutOfMemory → IfSome day (λ d. d.is_stopped ≡ false))
+        → IfSome (option_map (λ (day : BatchDay). Answered day) day) (λ read. EndsAfterStop read (end_of_reading end) held held)
     at end None goes_on = tt
     at ReadTooLarge (Some day) goes_on = λ stops. tt
     at ReadFailed (Some day) goes_on = λ stops. tt

@@ -10,7 +10,7 @@ use Rattle.batch.specs.Header.{header_listing}
 use Rattle.batch.specs.Input.{TakesLines}
 use Rattle.batch.specs.Lines.{lines_of}
 use Rattle.batch.specs.Reading.{ReadsBatch}
-use Rattle.batch.specs.declared.day.Day.{Day}
+use Rattle.batch.specs.declared.day.BatchDay.{BatchDay}
 use Rattle.batch.specs.declared.reading.ReadInput.TheVariants.{Answered}
 
 -- the next line was taken from known bytes, or an empty one if there was none
@@ -86,7 +86,7 @@ header_taken (Some x) (Some y) c t t1 t2 some1 some2 first second took1 none1 to
     took_lines x y t t1 false line took none = sym took.0 ∙ rw (none refl).0 refl
 
 -- the day of an input whose header gives a listing, and whose other lines were answered
-pub ReadsBatch-day : (matrix : Matrix) (a c : Option (List ℕ)) (t t2 : ℕ) (first second : List ℕ) (names : Names) (day : Day)
+pub ReadsBatch-day : (matrix : Matrix) (a c : Option (List ℕ)) (t t2 : ℕ) (first second : List ℕ) (names : Names) (day : BatchDay)
     → IfSome a (HeaderTaken c t t2 first second) → header_listing first second ≡ Ok names
     → IfSome c (λ bytes. HasAnswered (batch_tape matrix names) (lines_of bytes) day) → IfSome a (ReadsBatch matrix (Answered day))
 ReadsBatch-day matrix None c t t2 first second names day header is answered = tt

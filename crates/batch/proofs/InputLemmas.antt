@@ -11,8 +11,8 @@ use Rattle.batch.specs.Ends.{end_of_line}
 use Rattle.batch.specs.Input.{TakesLines}
 use Rattle.batch.specs.Lines.{ends_a_line, lines_of}
 use Rattle.batch.specs.Reading.{EndsReading, IsReadEnd}
-use Rattle.batch.specs.declared.line_reading.LineReadFault.{LineReadFault}
-use Rattle.batch.specs.declared.line_reading.LineReadFault.TheVariants.{Failed, OutOfMemory}
+use Rattle.whole_io.specs.declared.reading.ReadFault.{ReadFault}
+use Rattle.whole_io.specs.declared.reading.ReadFault.TheVariants.{Failed, OutOfMemory}
 use Rattle.batch.specs.declared.read_end.ReadEnd.{ReadEnd}
 use Rattle.batch.specs.declared.read_end.ReadEnd.TheVariants.{TooLarge}
 use Rattle.batch.proofs.LineLemmas.{lines_of-cons, lines_of-whole}
@@ -94,7 +94,7 @@ taken-too_large (Some x) None taken len lines end took over = absurd took
 taken-too_large (Some x) (Some y) taken len lines end took over = rw over.0 (omega (arith, over.1, took.1))
 
 -- reading may end at a line that cannot be taken, however much was taken before
-pub EndsReading-line : (known : Option (List ℕ)) (taken : ℕ) (fault : LineReadFault) (end : ReadEnd) → end ≡ end_of_line fault → EndsReading known taken end
+pub EndsReading-line : (known : Option (List ℕ)) (taken : ℕ) (fault : ReadFault) (end : ReadEnd) → end ≡ end_of_line fault → EndsReading known taken end
 EndsReading-line None taken fault end is = tt
 EndsReading-line (Some bytes) taken Failed end is = rw is tt
 EndsReading-line (Some bytes) taken OutOfMemory end is = rw is tt

@@ -11,7 +11,7 @@ use Rattle.batch.specs.BatchEnds.{IsTextUnder, WroteForMemory}
 use Rattle.batch.specs.Day.{AnswersLines}
 use Rattle.batch.specs.Finish.{day_text, report_unless}
 use Rattle.batch.specs.Reading.{ReadsBatch}
-use Rattle.batch.specs.declared.day.Day.{Day}
+use Rattle.batch.specs.declared.day.BatchDay.{BatchDay}
 use Rattle.batch.specs.declared.batch_refusal.BatchRefusal.{BatchRefusal}
 use Rattle.batch.specs.declared.reading.ReadInput.TheVariants.{Answered}
 use Rattle.batch.proofs.BatchLemmas.{Appends-same}
@@ -39,15 +39,15 @@ AnswersLines-may matrix names lines false now answers h = inl (AnswersLines-text
 AnswersLines-may matrix names lines true now answers h = inr (answers, h, append-nil (flat_map answer_line answers))
 
 -- the text of a batch of which a day was read that goes on
-pub ReadsBatch-text : (matrix : Matrix) (day : Day) (input : List ℕ) → day.is_stopped ≡ false → ReadsBatch matrix (Answered day) input → day_text day ≡ batch_text matrix input
+pub ReadsBatch-text : (matrix : Matrix) (day : BatchDay) (input : List ℕ) → day.is_stopped ≡ false → ReadsBatch matrix (Answered day) input → day_text day ≡ batch_text matrix input
 ReadsBatch-text matrix day input on read = rw (on, read.1) (AnswersLines-text (batch_tape matrix read.0) (message_lines input) day.tape day.answers.items (rw on at read.2))
 
 -- the text of a day that was read is one that may be written for its input
-pub ReadsBatch-may : (matrix : Matrix) (day : Day) (input : List ℕ) → ReadsBatch matrix (Answered day) input → IsTextUnder matrix (input_listing input) (message_lines input) (day_text day)
+pub ReadsBatch-may : (matrix : Matrix) (day : BatchDay) (input : List ℕ) → ReadsBatch matrix (Answered day) input → IsTextUnder matrix (input_listing input) (message_lines input) (day_text day)
 ReadsBatch-may matrix day input read = rw read.1 (AnswersLines-may matrix read.0 (message_lines input) day.is_stopped day.tape day.answers.items read.2)
 
 -- a batch of which a day was read stops out of memory
-pub ReadsBatch-stop : (matrix : Matrix) (day : Day) (input : List ℕ) (old new : Option (List ℕ)) → ReadsBatch matrix (Answered day) input
+pub ReadsBatch-stop : (matrix : Matrix) (day : BatchDay) (input : List ℕ) (old new : Option (List ℕ)) → ReadsBatch matrix (Answered day) input
     → Appends old new (flat_map answer_line day.answers.items) → WroteForMemory matrix (input_listing input) (message_lines input) old new
 ReadsBatch-stop matrix day input old new read stop =
     rw read.1 (AnswersLines-stop (batch_tape matrix read.0) (message_lines input) day.is_stopped day.tape day.answers.items old new read.2 stop)

@@ -2,13 +2,13 @@
 use Rattle.std.specs.Prelude.{ℕ, List, [], codes}
 use Rattle.batch.specs.declared.batch_end.BatchEnd.{BatchEnd}
 use Rattle.batch.specs.declared.batch_end.BatchEnd.TheVariants.{Done, BadHeader, TooLarge, ReadFault, WriteFault, OutOfMemory}
-use Rattle.batch.specs.declared.line_reading.LineReadFault.{LineReadFault}
-use Rattle.batch.specs.declared.line_reading.LineReadFault.TheVariants as line
+use Rattle.whole_io.specs.declared.reading.ReadFault.{ReadFault as Unread}
+use Rattle.whole_io.specs.declared.reading.ReadFault.TheVariants as line
 use Rattle.batch.specs.declared.read_end.ReadEnd.{ReadEnd}
 use Rattle.batch.specs.declared.read_end.ReadEnd.TheVariants.{TooLarge as ReadTooLarge, ReadFault as ReadFailed, OutOfMemory as ReadOutOfMemory}
 
 -- the end of reading if a line could not be taken
-abbrev pub end_of_line : LineReadFault → ReadEnd
+abbrev pub end_of_line : Unread → ReadEnd
 end_of_line line.Failed = ReadFailed
 end_of_line line.OutOfMemory = ReadOutOfMemory
 

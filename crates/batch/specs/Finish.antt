@@ -7,7 +7,7 @@ use Rattle.batch.specs.Batch.{answer_line, fault_line, tape_report}
 use Rattle.whole_io.specs.Writing.{WritesPrefix}
 use Rattle.batch.specs.declared.batch_end.BatchEnd.{BatchEnd}
 use Rattle.batch.specs.declared.batch_end.BatchEnd.TheVariants.{Done, BadHeader, TooLarge, ReadFault, WriteFault, OutOfMemory}
-use Rattle.batch.specs.declared.day.Day.{Day}
+use Rattle.batch.specs.declared.day.BatchDay.{BatchDay}
 use Rattle.batch.specs.declared.reading.ReadInput.{ReadInput}
 use Rattle.batch.specs.declared.reading.ReadInput.TheVariants.{Answered, HeaderRefused}
 
@@ -17,11 +17,11 @@ report_unless false t = tape_report t
 report_unless true t = []
 
 -- the text of a day: its answers, and the report of its tape unless memory ran out at a line
-abbrev pub day_text : Day → List ℕ
+abbrev pub day_text : BatchDay → List ℕ
 day_text day = flat_map answer_line day.answers.items ++ report_unless day.is_stopped day.tape
 
 -- what was written of a day at this end; a day at one of whose lines memory ran out is never done
-abbrev pub FinishesDay : Day → BatchEnd → Option (List ℕ) → Option (List ℕ) → Type 0
+abbrev pub FinishesDay : BatchDay → BatchEnd → Option (List ℕ) → Option (List ℕ) → Type 0
 FinishesDay day Done old new = (day.is_stopped ≡ false) × Appends old new (day_text day)
 FinishesDay day OutOfMemory old new = Appends old new (flat_map answer_line day.answers.items)
 FinishesDay day WriteFault old new = WritesPrefix (day_text day) old new
@@ -45,7 +45,7 @@ Finishes (HeaderRefused fault) end old new = FinishesRefusal (fault_line fault) 
 
 -- the end of a batch that ran out of memory at a line of its day, and what was written: the answers, of which the refusal is the last,
 -- unless a read or a write failed or the input is too large
-abbrev pub EndsStopped : Day → BatchEnd → Option (List ℕ) → Option (List ℕ) → Type 0
+abbrev pub EndsStopped : BatchDay → BatchEnd → Option (List ℕ) → Option (List ℕ) → Type 0
 EndsStopped day OutOfMemory old new = Appends old new (flat_map answer_line day.answers.items)
 EndsStopped day TooLarge old new = Unit {0}
 EndsStopped day ReadFault old new = Unit {0}

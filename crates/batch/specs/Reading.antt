@@ -8,7 +8,7 @@ use Rattle.batch.specs.declared.read_end.ReadEnd.{ReadEnd}
 use Rattle.batch.specs.declared.read_end.ReadEnd.TheVariants.{TooLarge, ReadFault, OutOfMemory}
 use Rattle.batch.specs.declared.reading.ReadInput.{ReadInput}
 use Rattle.batch.specs.declared.reading.ReadInput.TheVariants.{Answered, HeaderRefused}
-use Rattle.batch.specs.declared.reading.Unread.{Unread}
+use Rattle.batch.specs.declared.reading.UnreadInput.{UnreadInput}
 
 -- what was read of a whole input: the day of its lines, or what is wrong with its header
 abbrev pub ReadsBatch : Matrix → ReadInput → List ℕ → Type 0
@@ -30,5 +30,5 @@ abbrev pub Fits : Option (List ℕ) → ℕ → Type 0
 Fits left taken = IfSome left (λ bytes. taken + length bytes ≤ INPUT_MOST)
 
 -- if memory ran out for reading, it did not run out at a line of the day
-abbrev pub GoesOn : Unread → Type 0
+abbrev pub GoesOn : UnreadInput → Type 0
 GoesOn unread = unread.end ≡ OutOfMemory → IfSome unread.day (λ day. day.is_stopped ≡ false)

@@ -7,7 +7,7 @@ ghost use Rattle.batch.specs.declared.answer_buffer.TheConstants.{LONGEST_NAME, 
 ghost use Rattle.whole_io.specs.Writing.{WritesPrefix, WritesUpTo};
 
 use crate::HeaderFault;
-use crate::day::Answer;
+use crate::day::LineAnswer;
 use itoa::Buffer;
 use std::alloc::{AllocError, Global};
 use std::io::Write;
@@ -72,7 +72,7 @@ impl AnswerBuffer {
     }
 
     /// Adds the line of an answer.
-    pub fn push_answer(&mut self, answer: &Answer)
+    pub fn push_answer(&mut self, answer: &LineAnswer)
         requires { length self.old ≤ PIECE }
         ensures { self.new ≡ self.old ++ answer_line answer.now }
     {

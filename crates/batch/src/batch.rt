@@ -10,15 +10,14 @@ ghost use Rattle.batch.specs.BatchEnds.{EndsAt, WritesBatch, Wrote};
 ghost use Rattle.batch.specs.Finish.{EndsAfterStop, Finishes, day_text};
 ghost use Rattle.whole_io.specs.Writing.{WritesPrefix};
 ghost use Rattle.batch.specs.declared.batch_end.BatchEnd.TheVariants.{ReadFault, TooLarge, WriteFault as EndWriteFault};
-ghost use Rattle.batch.specs.declared.stop.Stop.TheVariants.{OutOfMemory, WriteFault as StopWriteFault};
+ghost use Rattle.whole_io.specs.declared.writing_fault.WritingFault.TheVariants.{OutOfMemory, WriteFault as FailedWrite};
 
 use crate::BatchEnd;
 use crate::answer_buffer::AnswerBuffer;
-use crate::day::{Answer, Day};
+use crate::day::{BatchDay, LineAnswer};
 use crate::day_tape::DayTape;
 use crate::input::{INPUT_MOST, Input};
 use crate::reading::{ReadInput, read_batch};
-use crate::stop::Stop;
 use day_report::{ReportFault, Row, rows, write_report};
 use sale_matrix::Matrix;
 use std::alloc::{AllocError, Global};
@@ -26,7 +25,7 @@ use std::io::{BufReader, Read, Take, Write};
 use std::mem;
 use std::thread::Threads;
 use tape_types::NoGate;
-use whole_io::{WriteFault, write_text};
+use whole_io::{WriteFault, WritingFault, flush, write_text};
 
 /// How many bytes are read at once.
 const READ_PIECE: usize = 65_536;
@@ -36,15 +35,15 @@ fn flushed<W: Write>(writer: &mut W, end: BatchEnd) -> BatchEnd
     ensures end { (result ≡ end) ⊎ (result ≡ EndWriteFault) }
     ensures kept { Keeps (W.contents writer.old) (W.contents writer.new) }
 {
-    match writer.flush() {
+    match flush(writer) {
         Ok(()) => end,
-        Err(_) => BatchEnd::WriteFault,
+        Err(WriteFault) => BatchEnd::WriteFault,
     }
 }
 
 /// Writes answers, each on its line.
 fn write_answers<W: Write>(
-    answers: &[Answer],
+    answers: &[LineAnswer],
     buffer: &mut AnswerBuffer,
     writer: &mut W,
 ) -> Result<(), WriteFault>
@@ -86,23 +85,23 @@ fn report<T: Threads + Sync>(rt: &T, alloc: Global, tape: &DayTape) -> Result<Ve
 }
 
 /// Writes a day: its answers, then the report of its tape unless memory ran out at one of the lines.
-fn write_day<T: Threads + Sync, W: Write>(
+fn write_answered<T: Threads + Sync, W: Write>(
     rt: &T,
     alloc: Global,
-    day: &Day,
+    day: &BatchDay,
     buffer: &mut AnswerBuffer,
     writer: &mut W,
-) -> Result<(), Stop>
+) -> Result<(), WritingFault>
     requires { buffer.old ≡ [] }
     ensures goes_on { OnOk result (day.now.is_stopped ≡ false) }
     ensures written { OnOk result (Appends (W.contents writer.old) (W.contents writer.new) (day_text day.now)) }
     ensures memory { result ≡ Err OutOfMemory
         → Appends (W.contents writer.old) (W.contents writer.new) (flat_map answer_line day.now.answers.items) }
-    ensures fault { result ≡ Err StopWriteFault → WritesPrefix (day_text day.now) (W.contents writer.old) (W.contents writer.new) }
+    ensures fault { result ≡ Err FailedWrite → WritesPrefix (day_text day.now) (W.contents writer.old) (W.contents writer.new) }
 {
     write_answers(&day.answers, buffer, writer)?;
     if day.is_stopped {
-        return Err(Stop::OutOfMemory);
+        return Err(WritingFault::OutOfMemory);
     }
     let text = report(rt, alloc, &day.tape)?;
     write_text(writer, &text)?;
@@ -121,10 +120,10 @@ fn write_batch<T: Threads + Sync, W: Write>(
     ensures finishes { Finishes read.now result (W.contents writer.old) (W.contents writer.new) }
 {
     match read {
-        ReadInput::Answered(day) => match write_day(rt, alloc, day, buffer, writer) {
+        ReadInput::Answered(day) => match write_answered(rt, alloc, day, buffer, writer) {
             Ok(()) => BatchEnd::Done,
-            Err(Stop::WriteFault) => BatchEnd::WriteFault,
-            Err(Stop::OutOfMemory) => BatchEnd::OutOfMemory,
+            Err(WritingFault::WriteFault) => BatchEnd::WriteFault,
+            Err(WritingFault::OutOfMemory) => BatchEnd::OutOfMemory,
         },
         ReadInput::HeaderRefused(fault) => {
             buffer.push_fault(*fault);

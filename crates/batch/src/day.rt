@@ -7,29 +7,29 @@ ghost use Rattle.batch.specs.Reading.{EndsReading, Fits};
 ghost use Rattle.batch.specs.Day.{AnswersMore, AnswersTaken};
 ghost use Rattle.batch.specs.Lines.{lines_of};
 ghost use Rattle.batch.specs.declared.batch_refusal.BatchRefusal.TheVariants.{Refused};
-ghost use Rattle.batch.specs.declared.read_end.ReadEnd.TheVariants.{OutOfMemory as ReadOutOfMemory, ReadFault};
+ghost use Rattle.batch.specs.declared.read_end.ReadEnd.TheVariants.{OutOfMemory as ReadOutOfMemory, ReadFault as ReadFailed};
 
 use crate::BatchRefusal;
 use crate::day_tape::DayTape;
 use crate::input::Input;
-use crate::line_reading::failed_read;
-use crate::lines::{Lines, whole_lines};
+use crate::lines::{WholeLines, whole_lines};
 use crate::message_line::read_message;
 use crate::read_end::ReadEnd;
 use std::alloc::{AllocError, Global};
 use std::io::{BufRead, Error, ErrorKind};
 use tape_core::Refusal;
 use tape_types::TapeNumber;
+use whole_io::ReadFault;
 
 /// The answer to a line: its message's tape number, or why it was refused.
-pub type Answer = Result<TapeNumber, BatchRefusal>;
+pub type LineAnswer = Result<TapeNumber, BatchRefusal>;
 
 // A day holds an answer to each of its lines.
-const _: () = prove!(size_of::<Answer>() == 5);
+const _: () = prove!(size_of::<LineAnswer>() == 5);
 
 /// Admits a line's message and returns its tape number, or its refusal, which leaves the tape unchanged.
 #[tactic(auto, unfolding(crate::specs::Batch::line_answer, crate::specs::Batch::tape_after_line))]
-fn answer(tape: &mut DayTape, line: &[u8]) -> Answer
+fn answer(tape: &mut DayTape, line: &[u8]) -> LineAnswer
     ensures answer { (result ≢ Err (Refused OutOfMemory)) → result ≡ line_answer tape.old line.now }
     ensures tape { (result ≢ Err (Refused OutOfMemory)) → tape.new ≡ tape_after_line tape.old line.now }
     ensures refused { OnErr result (tape.new ≡ tape.old) }
@@ -43,44 +43,44 @@ fn answer(tape: &mut DayTape, line: &[u8]) -> Answer
     }
 }
 
-/// Whether an answer is the refusal for want of memory.
-fn is_out_of_memory(answer: &Answer) -> bool
+/// Whether memory ran out at the line of an answer.
+fn lacks_memory(answer: &LineAnswer) -> bool
     ensures { IsTrue result ↔ (answer.now ≡ Err (Refused OutOfMemory)) }
 {
-    matches!(answer, Err(BatchRefusal::Refused(Refusal::OutOfMemory)))
+    matches!(answer, Err(BatchRefusal::Refused(refusal)) if refusal.is_out_of_memory())
 }
 
 /// The end of reading after a failed read of a piece: none if the read was interrupted, since the next read tries again.
 fn unread_piece(error: &Error) -> Result<(), ReadEnd>
     ensures interrupted { error_kind error.now ≡ ErrorKind.Interrupted → result ≡ Ok tt }
     ensures memory { error_kind error.now ≡ ErrorKind.OutOfMemory → result ≡ Err ReadOutOfMemory }
-    ensures fault { error_kind error.now ≢ ErrorKind.Interrupted → error_kind error.now ≢ ErrorKind.OutOfMemory → result ≡ Err ReadFault }
+    ensures fault { error_kind error.now ≢ ErrorKind.Interrupted → error_kind error.now ≢ ErrorKind.OutOfMemory → result ≡ Err ReadFailed }
 {
     match error.kind() {
         ErrorKind::Interrupted => Ok(()),
-        _ => Err(ReadEnd::from(failed_read(error))),
+        _ => Err(ReadEnd::from(ReadFault::of(error))),
     }
 }
 
 /// A day: its tape, and the answers that it holds until its input has been read whole.
 #[derive(Drop)]
-pub struct Day {
+pub struct BatchDay {
     /// The tape.
     pub tape: DayTape,
     /// The answers to the lines so far.
-    pub answers: Vec<Answer>,
+    pub answers: Vec<LineAnswer>,
     /// Whether memory ran out at a line, whose refusal is then the last answer.
     pub is_stopped: bool,
 }
 
-impl Day {
+impl BatchDay {
     /// A day without answers.
     pub fn new(alloc: Global, tape: DayTape) -> Self
         ensures tape { result.tape ≡ tape }
         ensures answers { result.answers.items ≡ [] }
         ensures goes_on { result.is_stopped ≡ false }
     {
-        Day {
+        BatchDay {
             tape,
             answers: Vec::new(alloc),
             is_stopped: false,
@@ -98,13 +98,13 @@ impl Day {
         // The answer's room is allocated first, so a refusal for want of memory can be kept.
         self.answers.reserve(1)?;
         let answer = answer(&mut self.tape, line);
-        self.is_stopped = is_out_of_memory(&answer);
+        self.is_stopped = lacks_memory(&answer);
         self.answers.push(answer).unwrap();
         Ok(())
     }
 
     /// Answers lines one after another.
-    fn answer_lines(&mut self, lines: Lines<'_>) -> Result<(), AllocError>
+    fn answer_lines(&mut self, lines: WholeLines<'_>) -> Result<(), AllocError>
         ensures answered { OnOk result (AnswersMore self.old self.new (lines_of lines.entry.rest.now)) }
         ensures goes_on { OnErr result (self.new.is_stopped ≡ false) }
     {
@@ -130,7 +130,7 @@ impl Day {
             Err(error) => return unread_piece(&error),
         };
         let whole = whole_lines(piece);
-        let answered = self.answer_lines(Lines::new(&piece[..whole]));
+        let answered = self.answer_lines(WholeLines::new(&piece[..whole]));
         input.left.consume(whole);
         input.count(whole)?;
         answered?;

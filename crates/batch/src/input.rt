@@ -6,9 +6,10 @@ ghost use Rattle.batch.specs.Reading.{EndsReading, Fits};
 ghost use Rattle.batch.specs.Input.{TakesLines};
 ghost use Rattle.batch.specs.declared.read_end.ReadEnd.TheVariants.{TooLarge};
 
-use crate::line_reading::{failed_read, take_line};
+use crate::line_reading::take_line;
 use crate::read_end::ReadEnd;
 use std::io::BufRead;
+use whole_io::ReadFault;
 
 /// The longest input, in bytes.
 pub const INPUT_MOST: u64 = 16_777_216;
@@ -73,7 +74,7 @@ impl<B: BufRead> Input<B> {
     {
         let len = match self.left.skip_until(b'\n') {
             Ok(len) => len,
-            Err(error) => return Err(ReadEnd::from(failed_read(&error))),
+            Err(error) => return Err(ReadEnd::from(ReadFault::of(&error))),
         };
         self.count(len)?;
         Ok(len > 0)

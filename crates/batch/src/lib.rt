@@ -19,15 +19,14 @@ mod names;
 mod pieces;
 mod read_end;
 mod reading;
-mod stop;
 
 pub use batch::{batch_kept, batch_over, last_batch};
 pub use batch_end::BatchEnd;
 pub use batch_refusal::BatchRefusal;
-pub use day::{Answer, Day};
+pub use day::{BatchDay, LineAnswer};
 pub use day_tape::DayTape;
 pub use header::{read_header, read_names};
 pub use header_fault::HeaderFault;
-pub use line_reading::{LineReadFault, take_line};
+pub use line_reading::take_line;
 pub use message_line::read_message;
 pub use reading::ReadInput;

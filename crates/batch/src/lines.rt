@@ -9,25 +9,25 @@ use memchr::{memchr, memrchr};
 
 /// The lines that are left of a text, without their line feeds. The last line may lack its own.
 #[derive(Drop)]
-pub struct Lines<'a> {
+pub struct WholeLines<'a> {
     rest: &'a [u8],
     /// The length of the previous line, or 0.
     former: usize,
 }
 
-impl<'a> Lines<'a> {
+impl<'a> WholeLines<'a> {
     /// All lines of the text.
-    pub fn new(text: &'a [u8]) -> Lines<'a>
+    pub fn new(text: &'a [u8]) -> WholeLines<'a>
         ensures { result.rest.now ≡ text.now }
     {
-        Lines {
+        WholeLines {
             rest: text,
             former: 0,
         }
     }
 }
 
-impl<'a> Iterator for Lines<'a> {
+impl<'a> Iterator for WholeLines<'a> {
     type Item = &'a [u8];
 
     ghost next_gives = { YieldsFirstRef (λ s. lines_of s.rest.now) };

@@ -2,8 +2,9 @@
 ghost use Rattle.batch.specs.Ends.{end_of_line, end_of_reading};
 ghost use Rattle.batch.specs.declared.read_end.ReadEnd.TheVariants.{OutOfMemory};
 
-use crate::{BatchEnd, LineReadFault};
+use crate::BatchEnd;
 use std::alloc::AllocError;
+use whole_io::ReadFault;
 
 /// Why reading an input stopped before its end.
 #[derive(Clone, Copy, Debug, PartialEq, Eq)]
@@ -26,15 +27,15 @@ impl From<AllocError> for ReadEnd {
     }
 }
 
-impl From<LineReadFault> for ReadEnd {
+impl From<ReadFault> for ReadEnd {
     ghost use Rattle.std.specs.Prelude.{◌≡◌};
 
     ghost from_gives = { λ fault end. end ≡ end_of_line fault };
 
-    fn from(fault: LineReadFault) -> ReadEnd {
+    fn from(fault: ReadFault) -> ReadEnd {
         match fault {
-            LineReadFault::Failed => ReadEnd::ReadFault,
-            LineReadFault::OutOfMemory => ReadEnd::OutOfMemory,
+            ReadFault::Failed => ReadEnd::ReadFault,
+            ReadFault::OutOfMemory => ReadEnd::OutOfMemory,
         }
     }
 }

@@ -6,7 +6,7 @@ ghost use Rattle.batch.specs.Lines.{lines_of};
 ghost use Rattle.batch.specs.declared.read_end.ReadEnd.TheVariants.{OutOfMemory};
 
 use crate::HeaderFault;
-use crate::day::Day;
+use crate::day::BatchDay;
 use crate::day_tape::DayTape;
 use crate::header::read_header;
 use crate::input::Input;
@@ -23,27 +23,27 @@ const BATCH_TAPE_MOST: u32 = 1_048_576;
 #[derive(Drop)]
 pub enum ReadInput {
     /// The day with the answers to its lines.
-    Answered(Day),
+    Answered(BatchDay),
     /// What is wrong with its header. Its other lines were skipped.
     HeaderRefused(HeaderFault),
 }
 
 /// Why an input was not read to its end, and its day up to there, if it had begun.
 #[derive(Drop)]
-pub struct Unread {
+pub struct UnreadInput {
     /// Why it was not read to its end.
     pub end: ReadEnd,
     /// The day. If memory ran out for reading, it had not run out at one of the day's lines.
-    pub day: Option<Day>,
+    pub day: Option<BatchDay>,
 }
 
-impl From<ReadEnd> for Unread {
+impl From<ReadEnd> for UnreadInput {
     ghost use Rattle.std.specs.Prelude.{◌≡◌, None};
 
     ghost from_gives = { λ end unread. (unread.end ≡ end) × (unread.day ≡ None) };
 
-    fn from(end: ReadEnd) -> Unread {
-        Unread { end, day: None }
+    fn from(end: ReadEnd) -> UnreadInput {
+        UnreadInput { end, day: None }
     }
 }
 
@@ -54,13 +54,13 @@ fn read_day<B: BufRead>(
     tape: DayTape,
     input: &mut Input<B>,
     line: &mut Vec<u8>,
-) -> (Day, Result<(), ReadEnd>)
+) -> (BatchDay, Result<(), ReadEnd>)
     ensures day { OnOk result.1 (IfSome (B.remaining input.old.left) (λ bytes. HasAnswered tape (lines_of bytes) result.0)) }
     ensures fits { OnOk result.1 (Fits (B.remaining input.old.left) input.old.taken) }
     ensures err { IfErr result.1 (EndsReading (B.remaining input.old.left) input.old.taken) }
     ensures goes_on { result.1 ≡ Err OutOfMemory → result.0.is_stopped ≡ false }
 {
-    let mut day = Day::new(alloc, tape);
+    let mut day = BatchDay::new(alloc, tape);
     let read = day.answer_all(input, line);
     (day, read)
 }
@@ -70,7 +70,7 @@ pub fn read_batch<B: BufRead>(
     alloc: Global,
     matrix: Matrix,
     input: &mut Input<B>,
-) -> Result<ReadInput, Unread>
+) -> Result<ReadInput, UnreadInput>
     ensures read { IfOk result (λ read. IfSome (B.remaining input.old.left) (ReadsBatch matrix read)) }
     ensures fits { OnOk result (Fits (B.remaining input.old.left) input.old.taken) }
     ensures err { IfErr result (λ unread. EndsReading (B.remaining input.old.left) input.old.taken unread.end) }
@@ -83,20 +83,20 @@ pub fn read_batch<B: BufRead>(
     match read_header(alloc, &first, &second) {
         Ok(listing) => {
             let Ok(tape) = DayTape::new(alloc, listing, BATCH_TAPE_MOST, matrix) else {
-                return Err(Unread::from(ReadEnd::OutOfMemory));
+                return Err(UnreadInput::from(ReadEnd::OutOfMemory));
             };
             // The first line's memory is used again for lines between two pieces.
             let (day, read) = read_day(alloc, tape, input, &mut first);
             match read {
                 Ok(()) => Ok(ReadInput::Answered(day)),
-                Err(end) => Err(Unread {
+                Err(end) => Err(UnreadInput {
                     end,
                     day: Some(day),
                 }),
             }
         }
         Err(HeaderFault::BadListing(ListingFault::OutOfMemory)) => {
-            Err(Unread::from(ReadEnd::OutOfMemory))
+            Err(UnreadInput::from(ReadEnd::OutOfMemory))
         }
         Err(fault) => {
             input.skip_lines()?;

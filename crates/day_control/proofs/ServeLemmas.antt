@@ -10,9 +10,9 @@ use Rattle.day_control.specs.Calls.{Call, Makes}
 use Rattle.day_control.specs.Commands.{command_of}
 use Rattle.day_control.specs.Lines.{answer_text, line_text}
 use Rattle.day_control.specs.Serving.{Answered, IsTooLong, IsWhole, Serves, ServesTo}
-use Rattle.day_control.specs.declared.command.Command.{Command}
-use Rattle.day_control.specs.declared.serve_end.Ended.{Ended}
-use Rattle.day_control.specs.declared.serve_end.Ended.TheVariants.{Clean, Truncated, TooLong, ReadFault, WriteFault, OutOfMemory, TooMany}
+use Rattle.day_control.specs.declared.command.ControlCommand.{ControlCommand}
+use Rattle.day_control.specs.declared.serve_end.ControlOutcome.{ControlOutcome}
+use Rattle.day_control.specs.declared.serve_end.ControlOutcome.TheVariants.{Clean, Truncated, TooLong, ReadFault, WriteFault, OutOfMemory, TooMany}
 
 -- no call was made
 pub Makes-nil : (known : Option (List Call)) → Makes known known []
@@ -94,7 +94,7 @@ Serves-both before midst after had left rest held holds kept n m k one two is = 
 }
 
 -- an end after lines
-pub ServesTo-after : (end : Ended) (before midst after : Option (List Call)) (had left rest held holds kept : Option (List ℕ)) (n : ℕ)
+pub ServesTo-after : (end : ControlOutcome) (before midst after : Option (List Call)) (had left rest held holds kept : Option (List ℕ)) (n : ℕ)
     → Serves before midst had left held holds n
     → ServesTo end midst after left rest holds kept 0 → ServesTo end before after had rest held kept n
 ServesTo-after Clean before midst after had left rest held holds kept n one two =
@@ -119,7 +119,7 @@ unknown_answered (Ok done) known held holds written = ([], answer_text (UNKNOWN_
 unknown_answered (Err fault) known held holds written = written
 
 -- a prefix of the answer to a line that is no command was written
-unknown_fails : (end : Ended) (known : Option (List Call)) (held holds : Option (List ℕ)) → end ≡ WriteFault
+unknown_fails : (end : ControlOutcome) (known : Option (List Call)) (held holds : Option (List ℕ)) → end ≡ WriteFault
     → WritesPrefix (answer_text (UNKNOWN_LINE ∷ [])) held holds → AnswerFails end None known known held holds
 unknown_fails end known held holds is prefix = rw is ([], answer_text (UNKNOWN_LINE ∷ []), (refl, refl), Makes-nil known, prefix)
 
@@ -130,7 +130,7 @@ line_answered before after had left held holds line whole read answers =
     Serves-one before after had left held holds line answers.1 answers.0 whole answers.2 answers.3 read answers.4
 
 -- a line that was read was not answered
-line_fails : (end : Ended) (before after : Option (List Call)) (had left held holds : Option (List ℕ)) (line : List ℕ) → IsWhole line
+line_fails : (end : ControlOutcome) (before after : Option (List Call)) (had left held holds : Option (List ℕ)) (line : List ℕ) → IsWhole line
     → Consumes had left (line_text line) → AnswerFails end (command_of line) before after held holds → ServesTo end before after had left held holds 0
 line_fails WriteFault before after had left held holds line whole read fails =
     (before, had, held, line, fails.1, fails.0, Serves-none before had held, fails.3, fails.4, inl (whole, read, fails.2))
@@ -143,30 +143,30 @@ line_fails ReadFault before after had left held holds line whole read fails = ab
 line_fails TooMany before after had left held holds line whole read fails = absurd fails
 
 -- a line that is no command was not answered, by its result
-pub unknown_failed : {A : Type 0} (result : Result A Ended) (known : Option (List Call)) (held holds : Option (List ℕ))
+pub unknown_failed : {A : Type 0} (result : Result A ControlOutcome) (known : Option (List Call)) (held holds : Option (List ℕ))
     → IfErr result (λ end. (end ≡ WriteFault) × WritesPrefix (answer_text (UNKNOWN_LINE ∷ [])) held holds)
     → IfErr result (λ end. AnswerFails end None known known held holds)
 unknown_failed (Ok done) known held holds fails = fails
 unknown_failed (Err end) known held holds fails = unknown_fails end known held holds fails.0 fails.1
 
 -- a line that was read, if it was answered
-pub read_answered : {A : Type 0} (result : Result A Ended) (command : Option Command) (before after : Option (List Call)) (had left held holds : Option (List ℕ)) (line : List ℕ)
+pub read_answered : {A : Type 0} (result : Result A ControlOutcome) (command : Option ControlCommand) (before after : Option (List Call)) (had left held holds : Option (List ℕ)) (line : List ℕ)
     → IsWhole line → Consumes had left (line_text line) → command ≡ command_of line
     → OnOk result (AnswersTo command before after held holds) → OnOk result (Serves before after had left held holds 1)
 read_answered (Ok done) command before after had left held holds line whole read is answers =
-    line_answered before after had left held holds line whole read (subst (λ (c : Option Command). AnswersTo c before after held holds) is answers)
+    line_answered before after had left held holds line whole read (subst (λ (c : Option ControlCommand). AnswersTo c before after held holds) is answers)
 read_answered (Err end) command before after had left held holds line whole read is answers = answers
 
 -- a line that was read, if it was not answered
-pub read_failed : {A : Type 0} (result : Result A Ended) (command : Option Command) (before after : Option (List Call)) (had left held holds : Option (List ℕ)) (line : List ℕ)
+pub read_failed : {A : Type 0} (result : Result A ControlOutcome) (command : Option ControlCommand) (before after : Option (List Call)) (had left held holds : Option (List ℕ)) (line : List ℕ)
     → IsWhole line → Consumes had left (line_text line) → command ≡ command_of line
     → IfErr result (λ end. AnswerFails end command before after held holds) → IfErr result (λ end. ServesTo end before after had left held holds 0)
 read_failed (Ok done) command before after had left held holds line whole read is fails = fails
 read_failed (Err end) command before after had left held holds line whole read is fails =
-    line_fails end before after had left held holds line whole read (subst (λ (c : Option Command). AnswerFails end c before after held holds) is fails)
+    line_fails end before after had left held holds line whole read (subst (λ (c : Option ControlCommand). AnswerFails end c before after held holds) is fails)
 
 -- a line that is too long, if its answer was not written whole
-pub too_long_failed : (end : Ended) (known : Option (List Call)) (had left held holds : Option (List ℕ)) (line : List ℕ) → IsTooLong line → Consumes had left line
+pub too_long_failed : (end : ControlOutcome) (known : Option (List Call)) (had left held holds : Option (List ℕ)) (line : List ℕ) → IsTooLong line → Consumes had left line
     → end ≡ WriteFault → WritesPrefix (answer_text (UNKNOWN_LINE ∷ [])) held holds → ServesTo end known known had left held holds 0
 too_long_failed end known had left held holds line long read is prefix =
     rw is (known, had, held, line, answer_text (UNKNOWN_LINE ∷ []), [], Serves-none known had held, Makes-nil known, prefix, inr (long, read, (refl, refl)))

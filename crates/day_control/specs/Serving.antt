@@ -6,8 +6,8 @@ use Rattle.day_control.specs.Answers.{Answers, Fails, UNKNOWN_LINE}
 use Rattle.day_control.specs.Calls.{Call, Makes}
 use Rattle.day_control.specs.Commands.{command_of}
 use Rattle.day_control.specs.Lines.{IsLine, answer_text, line_text}
-use Rattle.day_control.specs.declared.serve_end.Ended.{Ended}
-use Rattle.day_control.specs.declared.serve_end.Ended.TheVariants.{Clean, Truncated, TooLong, ReadFault, WriteFault, OutOfMemory, TooMany}
+use Rattle.day_control.specs.declared.serve_end.ControlOutcome.{ControlOutcome}
+use Rattle.day_control.specs.declared.serve_end.ControlOutcome.TheVariants.{Clean, Truncated, TooLong, ReadFault, WriteFault, OutOfMemory, TooMany}
 
 -- a line that is read whole
 abbrev pub IsWhole : List ℕ → Type 0
@@ -37,7 +37,7 @@ pub record Serves (before after : Option (List Call)) (had left held holds : Opt
   pub written : Appends held holds text
 
 -- what was read, called and written at an end: the lines that were served, and then
-abbrev pub ServesTo : Ended → Option (List Call) → Option (List Call) → Option (List ℕ) → Option (List ℕ) → Option (List ℕ) → Option (List ℕ) → ℕ → Type 0
+abbrev pub ServesTo : ControlOutcome → Option (List Call) → Option (List Call) → Option (List ℕ) → Option (List ℕ) → Option (List ℕ) → Option (List ℕ) → ℕ → Type 0
 -- the input ended
 ServesTo Clean before after had rest held holds served = Serves before after had rest held holds served × IsAtEnd rest
 -- the input ended after some more bytes without a line feed, which got no answer

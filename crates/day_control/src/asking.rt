@@ -7,11 +7,11 @@ ghost use Rattle.day_control.specs.Commands.{command_name};
 ghost use Rattle.day_control.specs.Lines.{line_text};
 ghost use Rattle.day_control.specs.declared.control_fault.ControlFault.TheVariants.{CutOff, OutOfMemory, Unanswered, WriteFault};
 
-use crate::line::{LINE_FEED, ReadFault, next_byte};
-use crate::transport::send;
-use crate::{Command, ControlFault};
+use crate::line::{FailedRead, LINE_FEED, next_byte};
+use crate::{ControlCommand, ControlFault};
 use std::alloc::Global;
 use std::io::{Read, Write};
+use whole_io::send;
 
 /// How many bytes of an answer are read at most.
 pub const ANSWER_MOST: u32 = 1_048_576;
@@ -21,7 +21,7 @@ pub const ANSWER_MOST: u32 = 1_048_576;
 /// nothing was written. No byte after the answer is read.
 pub fn ask_over<R: Read, P: Write, W: Write>(
     alloc: Global,
-    command: Command,
+    command: ControlCommand,
     reader: &mut R,
     peer: &mut P,
     writer: &mut W,
@@ -62,7 +62,7 @@ fn read_answer<R: Read>(reader: &mut R, text: &mut Vec<u8>) -> Result<(), Contro
                 }
                 is_begun = byte != LINE_FEED;
             }
-            Ok(None) | Err(ReadFault) => return Err(ControlFault::CutOff),
+            Ok(None) | Err(FailedRead) => return Err(ControlFault::CutOff),
         }
     }
     Err(ControlFault::CutOff)

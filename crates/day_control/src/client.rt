@@ -4,7 +4,7 @@ ghost use Rattle.day_control.specs.Asking.{Told};
 ghost use Rattle.day_control.specs.declared.control_fault.ControlFault.TheVariants.{WriteFault};
 
 use crate::place::here;
-use crate::{Command, ControlFault, ControlPlace, ask_over};
+use crate::{ControlCommand, ControlFault, ControlPlace, ask_over};
 use std::alloc::Global;
 use std::io;
 use std::io::{BufReader, Write};
@@ -38,7 +38,7 @@ pub fn ask_control<R: Net<Listener = TcpListener, Stream = TcpStream>, W: Write>
     rt: &R,
     alloc: Global,
     place: &ControlPlace,
-    command: Command,
+    command: ControlCommand,
     writer: &mut W,
 ) -> Result<(), ControlFault>
     // The lines of an answer were written, and nothing else.

@@ -5,17 +5,17 @@ ghost use Rattle.day_control.specs.Lines.{line_text};
 
 /// A client's command.
 #[derive(Clone, Copy, Debug, PartialEq, Eq)]
-pub enum Command {
+pub enum ControlCommand {
     /// Asks for the day's status.
     Status,
     /// Ends the day. A second one makes the day wait no longer for followers.
     End,
 }
 
-const ALL_COMMANDS: [Command; 2] = [Command::Status, Command::End];
+const ALL_COMMANDS: [ControlCommand; 2] = [ControlCommand::Status, ControlCommand::End];
 
 /// Returns the first command of this name.
-fn first_named(line: &[u8]) -> Option<Command>
+fn first_named(line: &[u8]) -> Option<ControlCommand>
     ensures { result ≡ command_of line.now }
 {
     ALL_COMMANDS
@@ -24,14 +24,14 @@ fn first_named(line: &[u8]) -> Option<Command>
         .find(|command| line == command.name())
 }
 
-impl Command {
+impl ControlCommand {
     /// The command's line, without its line feed.
     pub fn name(self) -> &'static [u8]
         ensures { result.now ≡ command_name self }
     {
         match self {
-            Command::Status => b"status",
-            Command::End => b"end",
+            ControlCommand::Status => b"status",
+            ControlCommand::End => b"end",
         }
     }
 
@@ -40,16 +40,16 @@ impl Command {
         ensures { result.now ≡ line_text (command_name self) }
     {
         match self {
-            Command::Status => b"status\n",
-            Command::End => b"end\n",
+            ControlCommand::Status => b"status\n",
+            ControlCommand::End => b"end\n",
         }
     }
 
     /// Returns the command of a line without its line feed, or `None` if the line is no command's name. Each command has a
     /// line.
-    pub fn of_line(line: &[u8]) -> Option<Command>
+    pub fn of_line(line: &[u8]) -> Option<ControlCommand>
         ensures command { result ≡ command_of line.now }
-        ensures each { (command : Command) → line.now ≡ command_name command → result ≡ Some command }
+        ensures each { (command : ControlCommand) → line.now ≡ command_name command → result ≡ Some command }
     {
         first_named(line)
     }

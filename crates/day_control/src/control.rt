@@ -3,7 +3,7 @@
 use crate::connections::{Connections, Numbered};
 use crate::listener::ControlListener;
 use crate::operator::Operating;
-use crate::{Ended, Operated, serve_commands};
+use crate::{ControlOutcome, Operated, serve_commands};
 use std::alloc::Global;
 use std::io::Read;
 use std::net::Shutdown;
@@ -106,7 +106,7 @@ fn answer_lines<R: Wait + Clock, O: Operated>(
         &mut lines,
         &mut &*connection,
     );
-    if matches!(end.ended, Ended::TooLong) {
+    if matches!(end.ended, ControlOutcome::TooLong) {
         drain(connection);
     }
 }

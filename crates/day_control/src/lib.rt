@@ -15,11 +15,10 @@ mod place;
 mod serve_end;
 mod serving;
 mod standing;
-mod transport;
 
 pub use asking::{ANSWER_MOST, ask_over};
 pub use client::ask_control;
-pub use command::Command;
+pub use command::ControlCommand;
 pub use connections::CONNECTIONS_MOST;
 pub use control::serve_control;
 pub use control_fault::ControlFault;
@@ -27,7 +26,7 @@ pub use line::LINE_MOST;
 pub use listener::{ControlListener, open_control, remove_control};
 pub use operator::{Operated, Operator};
 pub use place::ControlPlace;
-pub use serve_end::{Ended, ServeEnd};
+pub use serve_end::{ControlEnd, ControlOutcome};
 pub use serving::serve_commands;
 
 #[cfg(test)]

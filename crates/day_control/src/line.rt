@@ -17,7 +17,7 @@ pub(crate) const LINE_FEED: u8 = b'\n';
 
 /// A read failed, or brought nothing in time.
 #[derive(Clone, Copy, Debug, PartialEq, Eq)]
-pub(crate) struct ReadFault;
+pub(crate) struct FailedRead;
 
 /// What was read of a line.
 #[derive(Clone, Copy, Debug, PartialEq, Eq)]
@@ -35,14 +35,14 @@ pub(crate) enum LineRead {
 }
 
 /// Returns the next byte, or `None` if the input ended.
-pub(crate) fn next_byte<R: Read>(reader: &mut R) -> Result<Option<u8>, ReadFault>
+pub(crate) fn next_byte<R: Read>(reader: &mut R) -> Result<Option<u8>, FailedRead>
     ensures byte { IfOk result (λ next. IfSome next (λ b. Consumes (R.remaining reader.old) (R.remaining reader.new) (b ∷ []))) }
     ensures end { IfOk result (λ next. IfNone next (Consumes (R.remaining reader.old) (R.remaining reader.new) [] × IsAtEnd (R.remaining reader.new))) }
     ensures fault { OnErr result (Consumes (R.remaining reader.old) (R.remaining reader.new) []) }
 {
     let mut byte = [0];
     match fill(reader, &mut byte) {
-        None => Err(ReadFault),
+        None => Err(FailedRead),
         Some(0) => Ok(None),
         Some(_) => Ok(Some(byte[0])),
     }
@@ -66,7 +66,7 @@ pub(crate) fn read_line<R: Read>(reader: &mut R, row: &mut [u8]) -> LineRead
             } else {
                 LineRead::Part
             },
-            Err(ReadFault) => return LineRead::Fault,
+            Err(FailedRead) => return LineRead::Fault,
         }
     }
     LineRead::TooLong

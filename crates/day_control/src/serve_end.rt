@@ -2,7 +2,7 @@
 
 /// Why a connection ended.
 #[derive(Clone, Copy, Debug, PartialEq, Eq)]
-pub enum Ended {
+pub enum ControlOutcome {
     /// The input ended after a line's end.
     Clean,
     /// The input ended within a line, which gets no answer.
@@ -21,9 +21,9 @@ pub enum Ended {
 
 /// How many lines of a connection were answered, and why it ended.
 #[derive(Clone, Copy, Debug, PartialEq, Eq)]
-pub struct ServeEnd {
+pub struct ControlEnd {
     /// The lines that were answered whole, except for one that was too long.
     pub served: u32,
     /// Why it ended.
-    pub ended: Ended,
+    pub ended: ControlOutcome,
 }

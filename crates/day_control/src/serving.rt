@@ -5,15 +5,15 @@ ghost use Rattle.whole_io.specs.Writing.{WritesPrefix};
 ghost use Rattle.day_control.specs.Answers.{AnswersTo, AnswerFails, UNKNOWN_LINE};
 ghost use Rattle.day_control.specs.Lines.{answer_text};
 ghost use Rattle.day_control.specs.Serving.{Serves, ServesTo};
-ghost use Rattle.day_control.specs.declared.command.Command.TheVariants.{Status, End};
-ghost use Rattle.day_control.specs.declared.serve_end.Ended.TheVariants.{TooMany, WriteFault};
+ghost use Rattle.day_control.specs.declared.command.ControlCommand.TheVariants.{Status, End};
+ghost use Rattle.day_control.specs.declared.serve_end.ControlOutcome.TheVariants.{TooMany, WriteFault};
 
 use crate::answer::{ending, put_answer, unknown};
 use crate::line::{LINE_ROOM, LineRead, read_line};
-use crate::transport::send;
-use crate::{Command, Ended, Operator, ServeEnd};
+use crate::{ControlCommand, ControlEnd, ControlOutcome, Operator};
 use std::alloc::Global;
 use std::io::{Read, Write};
+use whole_io::send;
 
 /// The buffers that all answers of a connection share.
 #[derive(Drop)]
@@ -33,7 +33,7 @@ pub fn serve_commands<O: Operator, R: Read, W: Write>(
     operator: &mut O,
     reader: &mut R,
     writer: &mut W,
-) -> ServeEnd
+) -> ControlEnd
     // What was read, called and written.
     ensures serves { ServesTo result.ended (O.calls operator.old) (O.calls operator.new) (R.remaining reader.old) (R.remaining reader.new)
         (W.contents writer.old) (W.contents writer.new) result.served }
@@ -47,12 +47,12 @@ pub fn serve_commands<O: Operator, R: Read, W: Write>(
     };
     for served in 0..most {
         if let Err(ended) = serve_next(operator, reader, writer, &mut room) {
-            return ServeEnd { served, ended };
+            return ControlEnd { served, ended };
         }
     }
-    ServeEnd {
+    ControlEnd {
         served: most,
-        ended: Ended::TooMany,
+        ended: ControlOutcome::TooMany,
     }
 }
 
@@ -62,7 +62,7 @@ fn serve_next<O: Operator, R: Read, W: Write>(
     reader: &mut R,
     writer: &mut W,
     room: &mut Room,
-) -> Result<(), Ended>
+) -> Result<(), ControlOutcome>
     ensures ok { OnOk result (Serves (O.calls operator.old) (O.calls operator.new) (R.remaining reader.old) (R.remaining reader.new)
         (W.contents writer.old) (W.contents writer.new) 1) }
     ensures err { IfErr result (λ ended. ServesTo ended (O.calls operator.old) (O.calls operator.new) (R.remaining reader.old) (R.remaining reader.new)
@@ -71,30 +71,30 @@ fn serve_next<O: Operator, R: Read, W: Write>(
 {
     let mut row = [0; LINE_ROOM];
     match read_line(reader, &mut row) {
-        LineRead::Line(len) => answer(operator, Command::of_line(&row[..len]), writer, room),
+        LineRead::Line(len) => answer(operator, ControlCommand::of_line(&row[..len]), writer, room),
         LineRead::TooLong => match answer_unknown(writer) {
-            Ok(()) => Err(Ended::TooLong),
+            Ok(()) => Err(ControlOutcome::TooLong),
             Err(ended) => Err(ended),
         },
-        LineRead::Nothing => Err(Ended::Clean),
-        LineRead::Part => Err(Ended::Truncated),
-        LineRead::Fault => Err(Ended::ReadFault),
+        LineRead::Nothing => Err(ControlOutcome::Clean),
+        LineRead::Part => Err(ControlOutcome::Truncated),
+        LineRead::Fault => Err(ControlOutcome::ReadFault),
     }
 }
 
 /// Makes a command's call and answers it.
 fn answer<O: Operator, W: Write>(
     operator: &mut O,
-    command: Option<Command>,
+    command: Option<ControlCommand>,
     writer: &mut W,
     room: &mut Room,
-) -> Result<(), Ended>
+) -> Result<(), ControlOutcome>
     ensures ok { OnOk result (AnswersTo command (O.calls operator.old) (O.calls operator.new) (W.contents writer.old) (W.contents writer.new)) }
     ensures err { IfErr result (λ ended. AnswerFails ended command (O.calls operator.old) (O.calls operator.new) (W.contents writer.old) (W.contents writer.new)) }
 {
     match command {
-        Some(Command::Status) => answer_status(operator, writer, room),
-        Some(Command::End) => answer_end(operator, writer),
+        Some(ControlCommand::Status) => answer_status(operator, writer, room),
+        Some(ControlCommand::End) => answer_end(operator, writer),
         None => answer_unknown(writer),
     }
 }
@@ -104,42 +104,42 @@ fn answer_status<O: Operator, W: Write>(
     operator: &mut O,
     writer: &mut W,
     room: &mut Room,
-) -> Result<(), Ended>
+) -> Result<(), ControlOutcome>
     ensures ok { OnOk result (AnswersTo (Some Status) (O.calls operator.old) (O.calls operator.new) (W.contents writer.old) (W.contents writer.new)) }
     ensures err { IfErr result (λ ended. AnswerFails ended (Some Status) (O.calls operator.old) (O.calls operator.new) (W.contents writer.old) (W.contents writer.new)) }
 {
     room.told.clear();
     let Ok(()) = operator.put_status(&mut room.told) else {
-        return Err(Ended::OutOfMemory);
+        return Err(ControlOutcome::OutOfMemory);
     };
     let Ok(()) = put_answer(&room.told, &mut room.text) else {
-        return Err(Ended::OutOfMemory);
+        return Err(ControlOutcome::OutOfMemory);
     };
     if !send(writer, &room.text) {
-        return Err(Ended::WriteFault);
+        return Err(ControlOutcome::WriteFault);
     }
     Ok(())
 }
 
 /// Ends what is operated, and answers.
-fn answer_end<O: Operator, W: Write>(operator: &mut O, writer: &mut W) -> Result<(), Ended>
+fn answer_end<O: Operator, W: Write>(operator: &mut O, writer: &mut W) -> Result<(), ControlOutcome>
     ensures ok { OnOk result (AnswersTo (Some End) (O.calls operator.old) (O.calls operator.new) (W.contents writer.old) (W.contents writer.new)) }
     ensures err { IfErr result (λ ended. AnswerFails ended (Some End) (O.calls operator.old) (O.calls operator.new) (W.contents writer.old) (W.contents writer.new)) }
 {
     let is_first = operator.end();
     if !send(writer, ending(is_first)) {
-        return Err(Ended::WriteFault);
+        return Err(ControlOutcome::WriteFault);
     }
     Ok(())
 }
 
 /// Answers a line that is no command.
-fn answer_unknown<W: Write>(writer: &mut W) -> Result<(), Ended>
+fn answer_unknown<W: Write>(writer: &mut W) -> Result<(), ControlOutcome>
     ensures ok { OnOk result (Appends (W.contents writer.old) (W.contents writer.new) (answer_text (UNKNOWN_LINE ∷ []))) }
     ensures err { IfErr result (λ ended. (ended ≡ WriteFault) × WritesPrefix (answer_text (UNKNOWN_LINE ∷ [])) (W.contents writer.old) (W.contents writer.new)) }
 {
     if !send(writer, unknown()) {
-        return Err(Ended::WriteFault);
+        return Err(ControlOutcome::WriteFault);
     }
     Ok(())
 }

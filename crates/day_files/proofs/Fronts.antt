@@ -8,8 +8,8 @@ use Rattle.day_files.specs.Faults.{◌>>=◌, Fails, Fault, fault_of, out_of_ran
 use Rattle.day_files.specs.Listings.{each_line}
 use Rattle.day_files.specs.declared.day_fault.DayFault.{DayFault}
 use Rattle.day_files.specs.declared.day_key.DayKey.{DayKey}
-use Rattle.day_files.specs.declared.place.Place.{Place}
-use Rattle.day_files.specs.declared.place.Place.TheVariants.{Entry, Line}
+use Rattle.day_files.specs.declared.place.FilePlace.{FilePlace}
+use Rattle.day_files.specs.declared.place.FilePlace.TheVariants.{Entry, Line}
 
 -- what is read so far, in front of what is read behind it
 abbrev pub with_front : {A : Type 0} → List A → Result (List A) Fault → Result (List A) Fault
@@ -54,14 +54,14 @@ pub all_read : {A : Type 0} (front : List A) → with_front front (Ok []) ≡ Ok
 all_read front = ap Ok (append-nil front)
 
 -- one more entry, which is read
-pub entry_read : {A : Type 0} (entry : Place → Data → Result A Fault) (key : DayKey) (front new : List A) (value : Data) (one : A) (items : Items)
+pub entry_read : {A : Type 0} (entry : FilePlace → Data → Result A Fault) (key : DayKey) (front new : List A) (value : Data) (one : A) (items : Items)
     → entry (Entry key (length front + 1)) value ≡ Ok one → new ≡ front ++ one ∷ []
     → with_front new (each_entry entry key (length new + 1) items) ≡ with_front front (each_entry entry key (length front + 1) (item value items))
 entry_read entry key front new value one items is pushed =
     rw (next_place front new one pushed, is, pushed) (with_front-more front one (each_entry entry key (suc (length front + 1)) items))
 
 -- an entry with a fault
-pub entry_refused : {A : Type 0} (entry : Place → Data → Result A Fault) (key : DayKey) (front : List A) (value : Data) (items : Items) (fault : DayFault)
+pub entry_refused : {A : Type 0} (entry : FilePlace → Data → Result A Fault) (key : DayKey) (front : List A) (value : Data) (items : Items) (fault : DayFault)
     → Fails fault (entry (Entry key (length front + 1)) value)
     → Fails fault (with_front front (each_entry entry key (length front + 1) (item value items)))
 entry_refused {A} entry key front value items fault failed =

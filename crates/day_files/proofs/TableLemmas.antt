@@ -14,7 +14,7 @@ use Rattle.day_files.specs.Faults.{Fault, syntax, unknown}
 use Rattle.day_files.specs.Keys.{is_key}
 use Rattle.day_files.specs.Tables.{known_keys, table_of}
 use Rattle.day_files.specs.declared.day_key.DayKey.{DayKey}
-use Rattle.day_files.specs.declared.place.Place.{Place}
+use Rattle.day_files.specs.declared.place.FilePlace.{FilePlace}
 
 -- all names are keys, or the fault of the first that is not
 abbrev pub known_names : List (String Global) → Result (Unit {0}) Fault
@@ -27,7 +27,7 @@ known_names_all [] = refl
 known_names_all (entry ∷ entries) = ap (λ (others : Result (Unit {0}) Fault). if is_key (string_bytes entry.0) then others else Err (unknown (string_bytes entry.0))) (known_names_all entries)
 
 -- the entries of a value that is a list with one or more
-pub entries_at_list : {A : Type 0} (entry : Place → Data → Result A Fault) (key : DayKey) (value : Data) (items : List Value)
+pub entries_at_list : {A : Type 0} (entry : FilePlace → Data → Result A Fault) (key : DayKey) (value : Data) (items : List Value)
     → Some (items_view items) ≡ as_array value → (length items == 0) ≡ false → each_entry entry key 1 (items_view items) ≡ entries_at entry key value
 entries_at_list entry key (array list) [] is some = absurd (cc some)
 entries_at_list entry key (array list) (one ∷ items) is some = let same : items_view (one ∷ items) ≡ list = cc is in rw (← same) refl

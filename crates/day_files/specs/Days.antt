@@ -17,7 +17,7 @@ use Rattle.day_files.specs.declared.day_file.DaySymbols.{DaySymbols}
 use Rattle.day_files.specs.declared.day_file.DaySymbols.TheVariants as read
 use Rattle.day_files.specs.declared.day_key.DayKey.{DayKey}
 use Rattle.day_files.specs.declared.day_key.DayKey.TheVariants as keys
-use Rattle.day_files.specs.declared.place.Place.TheVariants.{At}
+use Rattle.day_files.specs.declared.place.FilePlace.TheVariants.{At}
 
 -- the symbols, or the name of their file
 pub data NamedSymbols : Type 0 where

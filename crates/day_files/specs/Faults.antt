@@ -4,16 +4,16 @@ use Rattle.tape_types.specs.declared.listing_fault.ListingFault.{ListingFault}
 use Rattle.day_files.specs.declared.day_fault.DayFault.{DayFault}
 use Rattle.day_files.specs.declared.day_fault.DayFault.TheVariants as told
 use Rattle.day_files.specs.declared.day_key.DayKey.{DayKey}
-use Rattle.day_files.specs.declared.kind.Kind.{Kind}
-use Rattle.day_files.specs.declared.place.Place.{Place}
+use Rattle.day_files.specs.declared.kind.ValueKind.{ValueKind}
+use Rattle.day_files.specs.declared.place.FilePlace.{FilePlace}
 
 -- what can be wrong with a day's file
 pub data Fault : Type 0 where
   syntax : Fault
   unknown : List ℕ → Fault
   missing : DayKey → Fault
-  other_kind : Place → Kind → Fault
-  out_of_range : Place → Fault
+  other_kind : FilePlace → ValueKind → Fault
+  out_of_range : FilePlace → Fault
   empty : DayKey → Fault
   uneven : Fault
   port_past_last : Fault

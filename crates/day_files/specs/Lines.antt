@@ -1,7 +1,7 @@
 -- The lines of a file, each ended by a line feed, which the last may lack.
 use Rattle.std.specs.Prelude.{◌==◌, ℕ, Bool, List, [], ◌∷◌, length, if◌then◌else◌}
 use Rattle.std.specs.List.{slice_split}
-use Rattle.day_files.specs.declared.lines.Lines.{Lines}
+use Rattle.day_files.specs.declared.lines.TextLines.{TextLines}
 
 -- whether a byte ends a line
 abbrev pub is_line_feed : ℕ → Bool
@@ -18,5 +18,5 @@ unfoldable pub file_lines : List ℕ → List (List ℕ)
 file_lines text = lines_of_parts (slice_split is_line_feed text)
 
 -- the lines that are left
-abbrev pub lines_left : Lines → List (List ℕ)
+abbrev pub lines_left : TextLines → List (List ℕ)
 lines_left lines = file_lines lines.rest.now

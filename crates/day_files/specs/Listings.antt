@@ -6,7 +6,7 @@ use Rattle.day_files.specs.Days.{NamedSymbols, in_file, listed}
 use Rattle.day_files.specs.Entries.{or_out_of_range}
 use Rattle.day_files.specs.Faults.{Fault, ◌>>=◌, names}
 use Rattle.day_files.specs.Lines.{file_lines}
-use Rattle.day_files.specs.declared.place.Place.TheVariants.{Line}
+use Rattle.day_files.specs.declared.place.FilePlace.TheVariants.{Line}
 
 -- the symbol of each line, of which the first is the n-th of its file
 abbrev pub each_line : ℕ → List (List ℕ) → Result (List (List ℕ)) Fault

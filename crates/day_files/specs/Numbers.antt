@@ -5,15 +5,15 @@ use Rattle.day_files.specs.Faults.{Fault, other_kind, out_of_range}
 use Rattle.day_files.specs.Keys.{key_least, key_most}
 use Rattle.day_files.specs.Kinds.{kind_of}
 use Rattle.day_files.specs.declared.day_key.DayKey.{DayKey}
-use Rattle.day_files.specs.declared.place.Place.{Place}
+use Rattle.day_files.specs.declared.place.FilePlace.{FilePlace}
 
 -- a number within the range of a key
-abbrev pub in_range : DayKey → Place → ℤ → Result ℕ Fault
+abbrev pub in_range : DayKey → FilePlace → ℤ → Result ℕ Fault
 in_range key place (pos number) =
     if nat_le (key_least key) number && nat_le number (key_most key) then Ok number else Err (out_of_range place)
 in_range key place (negsuc number) = Err (out_of_range place)
 
 -- the number of a value, within the range of a key
-abbrev pub number_at : DayKey → Place → Data → Result ℕ Fault
+abbrev pub number_at : DayKey → FilePlace → Data → Result ℕ Fault
 number_at key place (integer number) = in_range key place number
 number_at key place value = Err (other_kind place (kind_of value))

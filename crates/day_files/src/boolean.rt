@@ -3,18 +3,18 @@ ghost use Rattle.toml.specs.View.{view};
 ghost use Rattle.day_files.specs.Entries.{boolean_at};
 ghost use Rattle.day_files.specs.Faults.{Gives};
 
-use crate::{DayFault, Kind, Place};
+use crate::{DayFault, FilePlace, ValueKind};
 use toml::Value;
 
 /// Returns the boolean that a value is.
-pub(crate) fn boolean_of(place: Place, value: &Value) -> Result<bool, DayFault>
+pub(crate) fn boolean_of(place: FilePlace, value: &Value) -> Result<bool, DayFault>
     ensures { Gives (λ is. is) result (boolean_at place (view value.now)) }
 {
     match value.as_bool() {
         Some(is) => Ok(is),
         None => Err(DayFault::OtherKind {
             place,
-            found: Kind::of(value),
+            found: ValueKind::of(value),
         }),
     }
 }

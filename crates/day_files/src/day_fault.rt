@@ -2,7 +2,7 @@
 ghost use Rattle.std.specs.Prelude.{◌≡◌};
 ghost use Rattle.day_files.specs.declared.day_fault.DayFault.TheVariants.{OutOfMemory};
 
-use crate::{DayKey, Kind, Place, SyntaxFault};
+use crate::{DayKey, FilePlace, SyntaxFault, ValueKind};
 use std::alloc::{AllocError, AllocFailed};
 use tape_types::ListingFault;
 use thiserror::Error;
@@ -24,13 +24,13 @@ pub enum DayFault {
     #[error("{place}: {found}, not {wanted}", wanted = .place.kind_text())]
     OtherKind {
         /// Where the value stands.
-        place: Place,
+        place: FilePlace,
         /// The kind of the value.
-        found: Kind,
+        found: ValueKind,
     },
     /// A value is out of its range, or a text is not a name of its kind.
     #[error("{0}: not {range}", range = .0.range_text())]
-    OutOfRange(Place),
+    OutOfRange(FilePlace),
     /// A list has no entry.
     #[error("{0}: empty")]
     Empty(DayKey),

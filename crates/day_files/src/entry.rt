@@ -3,11 +3,11 @@ ghost use Rattle.std.specs.Prelude.{◌≡◌, Result};
 ghost use Rattle.toml.specs.Data.{Data};
 ghost use Rattle.toml.specs.View.{view};
 ghost use Rattle.day_files.specs.Faults.{Fault, Gives};
-ghost use Rattle.day_files.specs.declared.place.Place.{Place};
+ghost use Rattle.day_files.specs.declared.place.FilePlace.{FilePlace};
 ghost use Rattle.day_files.specs.Entries.{entries_at, text_at};
 
 use crate::number::short_of;
-use crate::{DayFault, DayKey, Kind, Place};
+use crate::{DayFault, DayKey, FilePlace, ValueKind};
 use std::alloc::Global;
 use tape_types::{Participant, Symbol};
 use toml::Value;
@@ -15,10 +15,10 @@ use toml::Value;
 /// What can stand in a list of a day's file.
 pub(crate) trait Entry: Copy {
     /// The entry that a value is at a place, or its fault.
-    ghost entry: { Place → Data → Result Self Fault };
+    ghost entry: { FilePlace → Data → Result Self Fault };
 
     /// Returns the entry that a value is, or its fault at the place.
-    fn of_value(place: Place, value: &Value) -> Result<Self, DayFault>
+    fn of_value(place: FilePlace, value: &Value) -> Result<Self, DayFault>
         ensures { Gives (λ entry. entry) result (entry place (view value.now)) };
 }
 
@@ -27,7 +27,7 @@ impl Entry for Symbol {
 
     ghost entry = { symbol_at };
 
-    fn of_value(place: Place, value: &Value) -> Result<Symbol, DayFault> {
+    fn of_value(place: FilePlace, value: &Value) -> Result<Symbol, DayFault> {
         Symbol::of_name(text_of(place, value)?.as_bytes()).ok_or(DayFault::OutOfRange(place))
     }
 }
@@ -37,7 +37,7 @@ impl Entry for Participant {
 
     ghost entry = { participant_at };
 
-    fn of_value(place: Place, value: &Value) -> Result<Participant, DayFault> {
+    fn of_value(place: FilePlace, value: &Value) -> Result<Participant, DayFault> {
         match text_of(place, value)?.as_bytes() {
             [letter] => Participant::try_new(*letter).ok_or(DayFault::OutOfRange(place)),
             _ => Err(DayFault::OutOfRange(place)),
@@ -51,20 +51,20 @@ impl Entry for u16 {
 
     ghost entry = { port_at };
 
-    fn of_value(place: Place, value: &Value) -> Result<u16, DayFault> {
+    fn of_value(place: FilePlace, value: &Value) -> Result<u16, DayFault> {
         short_of(DayKey::Port, place, value)
     }
 }
 
 /// Returns the text that a value is.
-pub(crate) fn text_of(place: Place, value: &Value) -> Result<&str, DayFault>
+pub(crate) fn text_of(place: FilePlace, value: &Value) -> Result<&str, DayFault>
     ensures { Gives (λ text. text.now) result (text_at place (view value.now)) }
 {
     match value.as_str() {
         Some(text) => Ok(text),
         None => Err(DayFault::OtherKind {
             place,
-            found: Kind::of(value),
+            found: ValueKind::of(value),
         }),
     }
 }
@@ -79,8 +79,8 @@ pub(crate) fn entries_of<E: Entry>(
 {
     let Some(list) = value.as_array() else {
         return Err(DayFault::OtherKind {
-            place: Place::At(key),
-            found: Kind::of(value),
+            place: FilePlace::At(key),
+            found: ValueKind::of(value),
         });
     };
     if list.is_empty() {
@@ -88,7 +88,7 @@ pub(crate) fn entries_of<E: Entry>(
     }
     let mut entries = Vec::new(alloc);
     for item in list {
-        entries.push(E::of_value(Place::Entry(key, entries.len() + 1), item)?)?;
+        entries.push(E::of_value(FilePlace::Entry(key, entries.len() + 1), item)?)?;
     }
     Ok(entries)
 }

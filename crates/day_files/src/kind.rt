@@ -8,7 +8,7 @@ use toml::Value;
 
 /// The kind of a TOML value.
 #[derive(Clone, Copy, Debug, PartialEq, Eq)]
-pub enum Kind {
+pub enum ValueKind {
     /// Text between quotes.
     Text,
     /// A whole number.
@@ -25,19 +25,19 @@ pub enum Kind {
     Table,
 }
 
-impl Kind {
+impl ValueKind {
     /// Returns the kind of this value.
-    pub(crate) fn of(value: &Value) -> Kind
+    pub(crate) fn of(value: &Value) -> ValueKind
         ensures { result ≡ kind_of (view value.now) }
     {
         match value {
-            Value::String(_) => Kind::Text,
-            Value::Integer(_) => Kind::Number,
-            Value::Float(_) => Kind::Fraction,
-            Value::Boolean(_) => Kind::Boolean,
-            Value::Datetime(_) => Kind::Date,
-            Value::Array(_) => Kind::List,
-            Value::Table(_) => Kind::Table,
+            Value::String(_) => ValueKind::Text,
+            Value::Integer(_) => ValueKind::Number,
+            Value::Float(_) => ValueKind::Fraction,
+            Value::Boolean(_) => ValueKind::Boolean,
+            Value::Datetime(_) => ValueKind::Date,
+            Value::Array(_) => ValueKind::List,
+            Value::Table(_) => ValueKind::Table,
         }
     }
 
@@ -46,18 +46,18 @@ impl Kind {
         ensures { result.now ≡ kind_text self }
     {
         match self {
-            Kind::Text => "a string",
-            Kind::Number => "a number",
-            Kind::Fraction => "a fraction",
-            Kind::Boolean => "a boolean",
-            Kind::Date => "a date",
-            Kind::List => "a list",
-            Kind::Table => "a table",
+            ValueKind::Text => "a string",
+            ValueKind::Number => "a number",
+            ValueKind::Fraction => "a fraction",
+            ValueKind::Boolean => "a boolean",
+            ValueKind::Date => "a date",
+            ValueKind::List => "a list",
+            ValueKind::Table => "a table",
         }
     }
 }
 
-impl fmt::Display for Kind {
+impl fmt::Display for ValueKind {
     ghost output = { λ kind. Some (kind_text kind) };
 
     fn fmt<W: fmt::Write>(&self, f: &mut fmt::Formatter<W>) -> fmt::Result {

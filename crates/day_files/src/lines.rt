@@ -5,7 +5,7 @@ ghost use Rattle.day_files.specs.Lines.{is_line_feed, lines_left};
 
 /// The lines of a file that are left. The last one may lack its line feed.
 #[derive(Drop)]
-pub struct Lines<'a> {
+pub struct TextLines<'a> {
     pub rest: &'a [u8],
 }
 
@@ -16,7 +16,7 @@ fn end_of_line(text: &[u8]) -> Option<usize>
     text.iter().position(|byte| *byte == b'\n')
 }
 
-impl<'a> Iterator for Lines<'a> {
+impl<'a> Iterator for TextLines<'a> {
     type Item = &'a [u8];
 
     ghost next_gives = { YieldsFirstRef lines_left };

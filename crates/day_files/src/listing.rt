@@ -4,8 +4,8 @@ ghost use Rattle.day_files.specs.Days.{symbols_view};
 ghost use Rattle.day_files.specs.Faults.{Gives};
 ghost use Rattle.day_files.specs.Listings.{file_symbols, listing_in, listing_of};
 
-use crate::lines::Lines;
-use crate::{DayFault, DaySymbols, Place};
+use crate::lines::TextLines;
+use crate::{DayFault, DaySymbols, FilePlace};
 use std::alloc::Global;
 use tape_types::{Listing, ListingFault, Participant, Symbol};
 
@@ -14,10 +14,10 @@ fn symbols_in_file(alloc: Global, text: &[u8]) -> Result<Vec<Symbol>, DayFault>
     ensures { Gives (λ symbols. symbols.items) result (file_symbols text.now) }
 {
     let mut symbols = Vec::new(alloc);
-    for name in (Lines { rest: text }) {
+    for name in (TextLines { rest: text }) {
         match Symbol::of_name(name) {
             Some(symbol) => symbols.push(symbol)?,
-            None => return Err(DayFault::OutOfRange(Place::Line(symbols.len() + 1))),
+            None => return Err(DayFault::OutOfRange(FilePlace::Line(symbols.len() + 1))),
         }
     }
     Ok(symbols)

@@ -5,11 +5,11 @@ ghost use Rattle.day_files.specs.Faults.{Gives};
 ghost use Rattle.day_files.specs.Keys.{key_least, key_most};
 ghost use Rattle.day_files.specs.Numbers.{number_at};
 
-use crate::{DayFault, DayKey, Kind, Place};
+use crate::{DayFault, DayKey, FilePlace, ValueKind};
 use toml::Value;
 
 /// Returns the number that a value is, within the range of a key.
-pub(crate) fn number_of(key: DayKey, place: Place, value: &Value) -> Result<u64, DayFault>
+pub(crate) fn number_of(key: DayKey, place: FilePlace, value: &Value) -> Result<u64, DayFault>
     ensures number { Gives (λ number. number) result (number_at key place (view value.now)) }
     ensures least { IfOk result (λ number. key_least key ≤ number) }
     ensures most { IfOk result (λ number. number ≤ key_most key) }
@@ -17,7 +17,7 @@ pub(crate) fn number_of(key: DayKey, place: Place, value: &Value) -> Result<u64,
     let Some(number) = value.as_integer() else {
         return Err(DayFault::OtherKind {
             place,
-            found: Kind::of(value),
+            found: ValueKind::of(value),
         });
     };
     let (least, most) = key.range();
@@ -28,7 +28,7 @@ pub(crate) fn number_of(key: DayKey, place: Place, value: &Value) -> Result<u64,
 }
 
 /// Returns the number that a value is, for a key whose range has 16 bits.
-pub(crate) fn short_of(key: DayKey, place: Place, value: &Value) -> Result<u16, DayFault>
+pub(crate) fn short_of(key: DayKey, place: FilePlace, value: &Value) -> Result<u16, DayFault>
     requires short { key_most key ≤ 65535 }
     ensures number { Gives (λ number. number) result (number_at key place (view value.now)) }
 {

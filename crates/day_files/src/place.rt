@@ -5,7 +5,7 @@ use std::fmt;
 
 /// A place in a day's file, or in the file of its symbols.
 #[derive(Clone, Copy, Debug, PartialEq, Eq)]
-pub enum Place {
+pub enum FilePlace {
     /// The value at a key.
     At(DayKey),
     /// An entry of the list at a key, from 1.
@@ -14,25 +14,26 @@ pub enum Place {
     Line(usize),
 }
 
-impl Place {
+impl FilePlace {
     /// Returns the key that the place belongs to.
     fn key(self) -> DayKey {
         match self {
-            Place::At(key) | Place::Entry(key, _) => key,
-            Place::Line(_) => DayKey::Symbols,
+            FilePlace::At(key) | FilePlace::Entry(key, _) => key,
+            FilePlace::Line(_) => DayKey::Symbols,
         }
     }
 
     /// Returns the kind of value that has to stand there, in words.
     pub(crate) fn kind_text(self) -> &'static str {
         match self {
-            Place::At(DayKey::Symbols) => "a list or a file's name",
-            Place::At(DayKey::Control) => "a number or a path",
-            Place::At(DayKey::Journal) => "a path",
-            Place::At(DayKey::JournalSync) => "a boolean",
-            Place::At(DayKey::Participants | DayKey::A | DayKey::B) => "a list",
-            Place::Entry(DayKey::Symbols | DayKey::Participants, _) | Place::Line(_) => "a string",
-            Place::At(_) | Place::Entry(_, _) => "a number",
+            FilePlace::At(DayKey::Symbols) => "a list or a file's name",
+            FilePlace::At(DayKey::Control) => "a number or a path",
+            FilePlace::At(DayKey::Journal) => "a path",
+            FilePlace::At(DayKey::JournalSync) => "a boolean",
+            FilePlace::At(DayKey::Participants | DayKey::A | DayKey::B) => "a list",
+            FilePlace::Entry(DayKey::Symbols | DayKey::Participants, _) | FilePlace::Line(_) =>
+                "a string",
+            FilePlace::At(_) | FilePlace::Entry(_, _) => "a number",
         }
     }
 
@@ -42,12 +43,12 @@ impl Place {
     }
 }
 
-impl fmt::Display for Place {
+impl fmt::Display for FilePlace {
     fn fmt<W: fmt::Write>(&self, f: &mut fmt::Formatter<W>) -> fmt::Result {
         match self {
-            Place::At(key) => write!(f, "{key}"),
-            Place::Entry(key, entry) => write!(f, "{key}, entry {entry}"),
-            Place::Line(line) => write!(f, "{}, line {line}", DayKey::Symbols),
+            FilePlace::At(key) => write!(f, "{key}"),
+            FilePlace::Entry(key, entry) => write!(f, "{key}, entry {entry}"),
+            FilePlace::Line(line) => write!(f, "{}, line {line}", DayKey::Symbols),
         }
     }
 }

@@ -11,7 +11,7 @@ use crate::boolean::boolean_of;
 use crate::entry::{entries_of, text_of};
 use crate::number::{number_of, short_of};
 use crate::table::{judge_keys, required_of, table_of, value_of};
-use crate::{DayControl, DayFault, DayFile, DayKey, DaySymbols, Place};
+use crate::{DayControl, DayFault, DayFile, DayKey, DaySymbols, FilePlace};
 use sale_matrix::Matrix;
 use std::alloc::Global;
 use tape_types::TapeNumber;
@@ -49,7 +49,7 @@ fn short_in(table: &Table, key: DayKey) -> Result<u16, DayFault>
     requires short { key_most key ≤ 65535 }
     ensures { Gives (λ number. number) result (number_in key (table_view table.now)) }
 {
-    short_of(key, Place::At(key), required_of(table, key)?)
+    short_of(key, FilePlace::At(key), required_of(table, key)?)
 }
 
 /// Returns the session.
@@ -59,7 +59,7 @@ fn session_in(table: &Table) -> Result<u64, DayFault>
 {
     number_of(
         DayKey::Session,
-        Place::At(DayKey::Session),
+        FilePlace::At(DayKey::Session),
         required_of(table, DayKey::Session)?,
     )
 }
@@ -72,7 +72,7 @@ fn matrix_in(table: &Table) -> Result<Matrix, DayFault>
     let Some(value) = value_of(table, DayKey::Matrix) else {
         return Ok(Matrix::One);
     };
-    match number_of(DayKey::Matrix, Place::At(DayKey::Matrix), value)? {
+    match number_of(DayKey::Matrix, FilePlace::At(DayKey::Matrix), value)? {
         1 => Ok(Matrix::One),
         _ => Ok(Matrix::Two),
     }
@@ -84,10 +84,10 @@ fn limit_in(table: &Table) -> Result<TapeNumber, DayFault>
     ensures { Gives (λ limit. limit) result (limit_in (table_view table.now)) }
 {
     let limit = match value_of(table, DayKey::Limit) {
-        Some(value) => number_of(DayKey::Limit, Place::At(DayKey::Limit), value)? as u32,
+        Some(value) => number_of(DayKey::Limit, FilePlace::At(DayKey::Limit), value)? as u32,
         None => LIMIT_LEFT_OUT,
     };
-    TapeNumber::try_new(limit).ok_or(DayFault::OutOfRange(Place::At(DayKey::Limit)))
+    TapeNumber::try_new(limit).ok_or(DayFault::OutOfRange(FilePlace::At(DayKey::Limit)))
 }
 
 /// Returns a number of seconds, if the table has its key.
@@ -97,7 +97,7 @@ fn seconds_in(table: &Table, key: DayKey) -> Result<Option<u32>, DayFault>
     ensures { Gives (λ seconds. seconds) result (seconds_in key (table_view table.now)) }
 {
     match value_of(table, key) {
-        Some(value) => Ok(Some(number_of(key, Place::At(key), value)? as u32)),
+        Some(value) => Ok(Some(number_of(key, FilePlace::At(key), value)? as u32)),
         None => Ok(None),
     }
 }
@@ -107,7 +107,7 @@ fn seconds_in(table: &Table, key: DayKey) -> Result<Option<u32>, DayFault>
 fn control_at(alloc: Global, value: &Value) -> Result<DayControl, DayFault>
     ensures { Gives control_view result (control_at (view value.now)) }
 {
-    let place = Place::At(DayKey::Control);
+    let place = FilePlace::At(DayKey::Control);
     match value.as_str() {
         Some("") => Err(DayFault::OutOfRange(place)),
         Some(path) => Ok(DayControl::Path(String::from_str(alloc, path)?)),
@@ -131,7 +131,7 @@ fn control_in(alloc: Global, table: &Table) -> Result<Option<DayControl>, DayFau
 fn journal_at(alloc: Global, value: &Value) -> Result<String, DayFault>
     ensures { Gives string_bytes result (journal_at (view value.now)) }
 {
-    let place = Place::At(DayKey::Journal);
+    let place = FilePlace::At(DayKey::Journal);
     match text_of(place, value)? {
         "" => Err(DayFault::OutOfRange(place)),
         path => Ok(String::from_str(alloc, path)?),
@@ -155,7 +155,7 @@ fn sync_in(table: &Table) -> Result<bool, DayFault>
     ensures { Gives (λ is_synced. is_synced) result (sync_in (table_view table.now)) }
 {
     match value_of(table, DayKey::JournalSync) {
-        Some(value) => boolean_of(Place::At(DayKey::JournalSync), value),
+        Some(value) => boolean_of(FilePlace::At(DayKey::JournalSync), value),
         None => Ok(true),
     }
 }

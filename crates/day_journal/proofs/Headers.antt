@@ -17,15 +17,15 @@ use Rattle.sha2.proofs.Facts256.{length-sha256}
 use Rattle.tape_types.specs.Names.{is_nil, names_fault}
 use Rattle.tape_types.specs.declared.listing_fault.ListingFault.{ListingFault}
 use Rattle.tape_types.specs.Ranges.{FIRST_PARTICIPANT, LAST_PARTICIPANT, IsParticipant, IsSymbol, PARTICIPANTS_MOST, SYMBOLS_MOST, TAPE_MOST}
-use Rattle.day_journal.specs.declared.header_fault.HeaderFault.{HeaderFault}
-use Rattle.day_journal.specs.declared.header_fault.HeaderFault.TheVariants.{NoJournal, Short, Damaged}
+use Rattle.day_journal.specs.declared.header_fault.JournalHeaderFault.{JournalHeaderFault}
+use Rattle.day_journal.specs.declared.header_fault.JournalHeaderFault.TheVariants.{NoJournal, Short, Damaged}
 use Rattle.day_journal.specs.Headers.{AreTerms, HeadersAreRead, JOURNAL_VERSION, MAGIC, Terms, header_at, header_digest}
 use Rattle.day_journal.specs.Headers.{magic_at, matrix_at, matrix_byte, matrix_of, participant_at, participants_at, participants_text, symbol_at}
 use Rattle.day_journal.specs.Headers.{symbols_at, symbols_text, terms_at, terms_text, values_at, version_at}
 use Rattle.day_journal.proofs.Lists.{bytes_there}
 
 -- values that are spelled one after the other are read again
-values_again : {A : Type 0} (read : List ℕ → Result (A × List ℕ) HeaderFault) (text : A → List ℕ) (Fits : A → Type 0)
+values_again : {A : Type 0} (read : List ℕ → Result (A × List ℕ) JournalHeaderFault) (text : A → List ℕ) (Fits : A → Type 0)
     → ((x : A) (rest : List ℕ) → Fits x → read (text x ++ rest) ≡ Ok (x, rest))
     → (xs before : List A) (rest : List ℕ) → All Fits xs → values_at read (length xs) before (flat_map text xs ++ rest) ≡ Ok (before ++ xs, rest)
 unfolding values_at
@@ -144,7 +144,7 @@ headers_again t rest are =
 -- ---- values read one after the other
 
 -- one more value is read
-pub value_next : {A : Type 0} (read : List ℕ → Result (A × List ℕ) HeaderFault) (count place : ℕ) (before : List A) (bytes rest : List ℕ) (x : A)
+pub value_next : {A : Type 0} (read : List ℕ → Result (A × List ℕ) JournalHeaderFault) (count place : ℕ) (before : List A) (bytes rest : List ℕ) (x : A)
     → place < count → read bytes ≡ Ok (x, rest) → values_at read (count - (place + 1)) (before ++ x ∷ []) rest ≡ values_at read (count - place) before bytes
 unfolding values_at
 value_next read count place before bytes rest x more is =
@@ -153,7 +153,7 @@ value_next read count place before bytes rest x more is =
     rw (one, is) refl
 
 -- a value that can't be read ends the list
-pub value_stops : {A : Type 0} (read : List ℕ → Result (A × List ℕ) HeaderFault) (count place : ℕ) (before : List A) (bytes : List ℕ) (f : HeaderFault)
+pub value_stops : {A : Type 0} (read : List ℕ → Result (A × List ℕ) JournalHeaderFault) (count place : ℕ) (before : List A) (bytes : List ℕ) (f : JournalHeaderFault)
     → place < count → read bytes ≡ Err f → values_at read (count - place) before bytes ≡ Err f
 unfolding values_at
 value_stops read count place before bytes f more is =
@@ -161,7 +161,7 @@ value_stops read count place before bytes f more is =
     rw (one, is) refl
 
 -- all values were read
-pub values_end : {A : Type 0} (read : List ℕ → Result (A × List ℕ) HeaderFault) (count place : ℕ) (before : List A) (bytes : List ℕ)
+pub values_end : {A : Type 0} (read : List ℕ → Result (A × List ℕ) JournalHeaderFault) (count place : ℕ) (before : List A) (bytes : List ℕ)
     → count ≤ place → values_at read (count - place) before bytes ≡ Ok (before, bytes)
 unfolding values_at
 values_end read count place before bytes all =

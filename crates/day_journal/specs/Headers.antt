@@ -10,8 +10,8 @@ use Rattle.sale_matrix.specs.declared.matrix.Matrix.TheVariants as matrix
 use Rattle.sha2.specs.Sha256.{sha256}
 use Rattle.tape_types.specs.Names.{Names, names_fault}
 use Rattle.tape_types.specs.Ranges.{FIRST_PARTICIPANT, LAST_PARTICIPANT, IsParticipant, IsSymbol, IsTapeNumber, TAPE_MOST}
-use Rattle.day_journal.specs.declared.header_fault.HeaderFault.{HeaderFault}
-use Rattle.day_journal.specs.declared.header_fault.HeaderFault.TheVariants.{NoJournal, OtherVersion, Short, Damaged}
+use Rattle.day_journal.specs.declared.header_fault.JournalHeaderFault.{JournalHeaderFault}
+use Rattle.day_journal.specs.declared.header_fault.JournalHeaderFault.TheVariants.{NoJournal, OtherVersion, Short, Damaged}
 
 -- the terms of a day: the session, the matrix, the most entries and the listing
 pub record Terms : Type 0 where
@@ -75,53 +75,53 @@ pub record AreTerms (t : Terms) : Type 0 where
 -- ---- what is read
 
 -- as many values as the count, after those that were read
-unfoldable pub values_at : {A : Type 0} → (List ℕ → Result (A × List ℕ) HeaderFault) → ℕ → List A → List ℕ → Result (List A × List ℕ) HeaderFault
+unfoldable pub values_at : {A : Type 0} → (List ℕ → Result (A × List ℕ) JournalHeaderFault) → ℕ → List A → List ℕ → Result (List A × List ℕ) JournalHeaderFault
 values_at read zero before bytes = Ok (before, bytes)
 values_at read (suc count) before bytes = do
   value ← read bytes
   values_at read count (before ++ value.0 ∷ []) value.1
 
 -- a symbol
-abbrev pub symbol_at : List ℕ → Result (List ℕ × List ℕ) HeaderFault
+abbrev pub symbol_at : List ℕ → Result (List ℕ × List ℕ) JournalHeaderFault
 symbol_at bytes = text_at Short 8 is_symbol Damaged bytes
 
 -- a participant
-abbrev pub participant_at : List ℕ → Result (ℕ × List ℕ) HeaderFault
+abbrev pub participant_at : List ℕ → Result (ℕ × List ℕ) JournalHeaderFault
 participant_at bytes = ranged_at Short w8 FIRST_PARTICIPANT LAST_PARTICIPANT Damaged bytes
 
 -- the symbols after their number
-unfoldable pub symbols_at : List ℕ → Result (List (List ℕ) × List ℕ) HeaderFault
+unfoldable pub symbols_at : List ℕ → Result (List (List ℕ) × List ℕ) JournalHeaderFault
 symbols_at bytes = do
   count ← number_at Short w16 bytes
   values_at symbol_at count.0 [] count.1
 
 -- the participants after their number
-unfoldable pub participants_at : List ℕ → Result (List ℕ × List ℕ) HeaderFault
+unfoldable pub participants_at : List ℕ → Result (List ℕ × List ℕ) JournalHeaderFault
 participants_at bytes = do
   count ← number_at Short w8 bytes
   values_at participant_at count.0 [] count.1
 
 -- the first bytes of a journal, of this version
-unfoldable pub magic_at : List ℕ → Result (List ℕ × List ℕ) HeaderFault
+unfoldable pub magic_at : List ℕ → Result (List ℕ × List ℕ) JournalHeaderFault
 magic_at bytes = do
   magic ← bytes_at NoJournal 8 bytes
   if bytes_eq magic.0 MAGIC then Ok magic else Err NoJournal
 
 -- the version
-unfoldable pub version_at : List ℕ → Result (ℕ × List ℕ) HeaderFault
+unfoldable pub version_at : List ℕ → Result (ℕ × List ℕ) JournalHeaderFault
 version_at bytes = do
   version ← number_at Short w8 bytes
   if version.0 == JOURNAL_VERSION then Ok version else Err OtherVersion
 
 -- the matrix
-unfoldable pub matrix_at : List ℕ → Result (Matrix × List ℕ) HeaderFault
+unfoldable pub matrix_at : List ℕ → Result (Matrix × List ℕ) JournalHeaderFault
 matrix_at bytes = do
   byte ← number_at Short w8 bytes
   matrix ← ok_or (matrix_of byte.0) Damaged
   Ok (matrix, byte.1)
 
 -- the terms, which may not be those of a day yet
-unfoldable pub terms_at : List ℕ → Result (Terms × List ℕ) HeaderFault
+unfoldable pub terms_at : List ℕ → Result (Terms × List ℕ) JournalHeaderFault
 terms_at bytes = do
   magic ← magic_at bytes
   version ← version_at magic.1
@@ -145,7 +145,7 @@ abbrev pub is_listing : Names → Bool
 is_listing names = is_none (names_fault names.symbols names.participants)
 
 -- a header at the front of bytes; it is damaged if its digest is another, or if the names are no listing
-unfoldable pub header_at : List ℕ → Result ReadHeader HeaderFault
+unfoldable pub header_at : List ℕ → Result ReadHeader JournalHeaderFault
 header_at bytes = do
   terms ← terms_at bytes
   digest ← bytes_at Short 32 terms.1

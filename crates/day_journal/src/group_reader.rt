@@ -66,7 +66,7 @@ impl<'a> GroupReader<'a> {
         if self.rest.is_empty() {
             return Ok(Next::End(JournalEnd::Whole));
         }
-        let mut unread = Unread { rest: self.rest };
+        let mut unread = Unread::of(self.rest);
         match read_group(&mut unread, self.session, self.held, &self.digest, entries) {
             Ok(digest) => {
                 self.held += entries.len() as u32;

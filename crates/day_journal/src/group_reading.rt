@@ -90,7 +90,7 @@ fn frame_length(session: u64, number: u32, bytes: &[u8]) -> Result<usize, GroupF
     ensures there { IfOk result (λ len. 2 + len ≤ length bytes.now) }
     ensures short { IfOk result (λ len. len ≤ LONGEST_PACKET) }
 {
-    let mut unread = Unread { rest: bytes };
+    let mut unread = Unread::of(bytes);
     let len = unread.u16(GroupFault::Torn)? as usize;
     if len > LONGEST_PACKET {
         return Err(GroupFault::Damaged);
@@ -212,7 +212,7 @@ fn told(bytes: &[u8]) -> Result<u32, GroupFault>
 {
     let mut rest = bytes;
     for place in 0..bytes.len() {
-        let mut unread = Unread { rest };
+        let mut unread = Unread::of(rest);
         let len = unread.u16(GroupFault::Damaged)? as usize;
         if len == 0 {
             return unread.u32(GroupFault::Damaged);

@@ -2,7 +2,7 @@
 
 /// Why the bytes do not begin with the header of a journal: the first reason, read from the front.
 #[derive(Clone, Copy, Debug, PartialEq, Eq)]
-pub enum HeaderFault {
+pub enum JournalHeaderFault {
     /// They do not begin as every journal does: another file, or fewer than eight bytes.
     NoJournal,
     /// They are a journal of another version.

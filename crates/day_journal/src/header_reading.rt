@@ -5,7 +5,7 @@ ghost use Rattle.reports.specs.Fields.{Reads};
 ghost use Rattle.day_journal.specs.Headers.{header_at, magic_at, matrix_at, matrix_of, participant_at, participants_at, symbol_at, symbols_at, terms_at, values_at, version_at};
 ghost use Rattle.day_journal.specs.HeaderReads.{GivesHeader, GivesListing, GivesTerms, GivesValues};
 
-use crate::HeaderFault;
+use crate::JournalHeaderFault;
 use crate::limits::{DIGEST_LENGTH, MAGIC, VERSION};
 use reports::Unread;
 use sale_matrix::Matrix;
@@ -15,7 +15,7 @@ use tape_types::{Listing, ListingFault, Participant, Symbol, TAPE_MOST};
 
 /// The terms in a journal's header, its digest and its length.
 #[derive(Drop)]
-pub struct Header {
+pub struct JournalHeader {
     /// The session under which the tape is sent.
     pub session: u64,
     /// The matrix of the day.
@@ -42,23 +42,23 @@ struct Fields {
 
 /// Returns the header at the front of a journal's bytes. The listing is allocated.
 #[tactic(auto, unfolding(crate::specs::Headers::header_at))]
-pub fn read_header(alloc: Global, bytes: &[u8]) -> Result<Header, HeaderFault>
+pub fn read_header(alloc: Global, bytes: &[u8]) -> Result<JournalHeader, JournalHeaderFault>
     ensures exact { GivesHeader result bytes.now (header_at bytes.now) }
     ensures within { IfOk result (λ h. h.len ≤ length bytes.now) }
 {
-    let mut unread = Unread { rest: bytes };
+    let mut unread = Unread::of(bytes);
     let fields = read_fields(alloc, &mut unread)?;
     let body = &bytes[..bytes.len().saturating_sub(unread.rest.len())];
-    let digest: [u8; DIGEST_LENGTH] = unread.bytes(HeaderFault::Short)?;
+    let digest: [u8; DIGEST_LENGTH] = unread.bytes(JournalHeaderFault::Short)?;
     if digest != Sha256::digest(body) {
-        return Err(HeaderFault::Damaged);
+        return Err(JournalHeaderFault::Damaged);
     }
     let listing = listed(
         alloc,
         fields.symbols.as_slice(),
         fields.participants.as_slice(),
     )?;
-    Ok(Header {
+    Ok(JournalHeader {
         session: fields.session,
         matrix: fields.matrix,
         limit: fields.limit,
@@ -70,14 +70,18 @@ pub fn read_header(alloc: Global, bytes: &[u8]) -> Result<Header, HeaderFault>
 
 /// The fields before the digest.
 #[tactic(auto, unfolding(crate::specs::Headers::terms_at, reports::specs::Fields::ranged_at))]
-fn read_fields(alloc: Global, unread: &mut Unread<'_>) -> Result<Fields, HeaderFault>
+fn read_fields(alloc: Global, unread: &mut Unread<'_>) -> Result<Fields, JournalHeaderFault>
     ensures terms { GivesTerms result unread.new.rest.now (terms_at unread.old.rest.now) }
 {
     read_magic(unread)?;
     read_version(unread)?;
-    let session = unread.u64(HeaderFault::Short)?;
+    let session = unread.u64(JournalHeaderFault::Short)?;
     let matrix = read_matrix(unread)?;
-    let limit = unread.tape_number(TAPE_MOST, HeaderFault::Short, HeaderFault::Damaged)?;
+    let limit = unread.tape_number(
+        TAPE_MOST,
+        JournalHeaderFault::Short,
+        JournalHeaderFault::Damaged,
+    )?;
     let symbols = read_symbols(alloc, unread)?;
     let participants = read_participants(alloc, unread)?;
     Ok(Fields {
@@ -91,35 +95,35 @@ fn read_fields(alloc: Global, unread: &mut Unread<'_>) -> Result<Fields, HeaderF
 
 /// The first bytes, which every journal has.
 #[tactic(auto, unfolding(crate::specs::Headers::magic_at))]
-fn read_magic(unread: &mut Unread<'_>) -> Result<[u8; 8], HeaderFault>
+fn read_magic(unread: &mut Unread<'_>) -> Result<[u8; 8], JournalHeaderFault>
     ensures { Reads result unread.new.rest.now (magic_at unread.old.rest.now) }
 {
-    let magic: [u8; 8] = unread.bytes(HeaderFault::NoJournal)?;
+    let magic: [u8; 8] = unread.bytes(JournalHeaderFault::NoJournal)?;
     if magic != MAGIC {
-        return Err(HeaderFault::NoJournal);
+        return Err(JournalHeaderFault::NoJournal);
     }
     Ok(magic)
 }
 
 /// The version, which must be this one.
 #[tactic(auto, unfolding(crate::specs::Headers::version_at))]
-fn read_version(unread: &mut Unread<'_>) -> Result<u8, HeaderFault>
+fn read_version(unread: &mut Unread<'_>) -> Result<u8, JournalHeaderFault>
     ensures { Reads result unread.new.rest.now (version_at unread.old.rest.now) }
 {
-    let version = unread.u8(HeaderFault::Short)?;
+    let version = unread.u8(JournalHeaderFault::Short)?;
     if version != VERSION {
-        return Err(HeaderFault::OtherVersion);
+        return Err(JournalHeaderFault::OtherVersion);
     }
     Ok(version)
 }
 
 /// The matrix.
 #[tactic(auto, unfolding(crate::specs::Headers::matrix_at))]
-fn read_matrix(unread: &mut Unread<'_>) -> Result<Matrix, HeaderFault>
+fn read_matrix(unread: &mut Unread<'_>) -> Result<Matrix, JournalHeaderFault>
     ensures { Reads result unread.new.rest.now (matrix_at unread.old.rest.now) }
 {
-    let byte = unread.u8(HeaderFault::Short)?;
-    matrix_of(byte).ok_or(HeaderFault::Damaged)
+    let byte = unread.u8(JournalHeaderFault::Short)?;
+    matrix_of(byte).ok_or(JournalHeaderFault::Damaged)
 }
 
 /// Returns the matrix of a byte.
@@ -135,10 +139,10 @@ fn matrix_of(byte: u8) -> Option<Matrix>
 
 /// The symbols after their number.
 #[tactic(auto, unfolding(crate::specs::Headers::symbols_at))]
-fn read_symbols(alloc: Global, unread: &mut Unread<'_>) -> Result<Vec<Symbol>, HeaderFault>
+fn read_symbols(alloc: Global, unread: &mut Unread<'_>) -> Result<Vec<Symbol>, JournalHeaderFault>
     ensures { GivesValues result unread.new.rest.now (symbols_at unread.old.rest.now) }
 {
-    let count = unread.u16(HeaderFault::Short)?;
+    let count = unread.u16(JournalHeaderFault::Short)?;
     read_symbol_list(alloc, unread, count)
 }
 
@@ -147,14 +151,14 @@ fn read_symbol_list(
     alloc: Global,
     unread: &mut Unread<'_>,
     count: u16,
-) -> Result<Vec<Symbol>, HeaderFault>
+) -> Result<Vec<Symbol>, JournalHeaderFault>
     ensures { GivesValues result unread.new.rest.now (values_at symbol_at count [] unread.old.rest.now) }
 {
     let mut symbols = Vec::new(alloc);
     for place in 0..count {
-        let symbol = unread.symbol(HeaderFault::Short, HeaderFault::Damaged)?;
+        let symbol = unread.symbol(JournalHeaderFault::Short, JournalHeaderFault::Damaged)?;
         let Ok(()) = symbols.push(symbol) else {
-            return Err(HeaderFault::OutOfMemory);
+            return Err(JournalHeaderFault::OutOfMemory);
         };
     }
     Ok(symbols)
@@ -165,10 +169,10 @@ fn read_symbol_list(
 fn read_participants(
     alloc: Global,
     unread: &mut Unread<'_>,
-) -> Result<Vec<Participant>, HeaderFault>
+) -> Result<Vec<Participant>, JournalHeaderFault>
     ensures { GivesValues result unread.new.rest.now (participants_at unread.old.rest.now) }
 {
-    let count = unread.u8(HeaderFault::Short)?;
+    let count = unread.u8(JournalHeaderFault::Short)?;
     read_participant_list(alloc, unread, count)
 }
 
@@ -177,14 +181,17 @@ fn read_participant_list(
     alloc: Global,
     unread: &mut Unread<'_>,
     count: u8,
-) -> Result<Vec<Participant>, HeaderFault>
+) -> Result<Vec<Participant>, JournalHeaderFault>
     ensures { GivesValues result unread.new.rest.now (values_at participant_at count [] unread.old.rest.now) }
 {
     let mut participants = Vec::new(alloc);
     for place in 0..count {
-        let participant = unread.participant(HeaderFault::Short, HeaderFault::Damaged)?;
+        let participant = unread.participant(
+            JournalHeaderFault::Short,
+            JournalHeaderFault::Damaged,
+        )?;
         let Ok(()) = participants.push(participant) else {
-            return Err(HeaderFault::OutOfMemory);
+            return Err(JournalHeaderFault::OutOfMemory);
         };
     }
     Ok(participants)
@@ -195,12 +202,12 @@ fn listed(
     alloc: Global,
     symbols: &[Symbol],
     participants: &[Participant],
-) -> Result<Listing, HeaderFault>
+) -> Result<Listing, JournalHeaderFault>
     ensures listing { GivesListing result symbols.now participants.now }
 {
     match Listing::new(alloc, symbols, participants) {
         Ok(listing) => Ok(listing),
-        Err(ListingFault::OutOfMemory) => Err(HeaderFault::OutOfMemory),
-        Err(_) => Err(HeaderFault::Damaged),
+        Err(ListingFault::OutOfMemory) => Err(JournalHeaderFault::OutOfMemory),
+        Err(_) => Err(JournalHeaderFault::Damaged),
     }
 }

@@ -1,5 +1,5 @@
 //! Replays the entries of a journal on a tape, one after the other, until one is not the tape's next entry.
-ghost use Rattle.std.specs.Prelude.{◌≡◌, ◌↔◌, IfErr, IsTrue, OnOk};
+ghost use Rattle.std.specs.Prelude.{◌≡◌, IfErr, OnOk};
 ghost use Rattle.day_journal.specs.Replays.{StopsReplay, with_entries};
 
 use summaries::Store;
@@ -33,7 +33,7 @@ pub fn replay_entries<S: Store>(tape: &mut Tape<S>, entries: &[Entry]) -> Result
         let number = entry.number.value();
         match tape.replay(entry.number, entry.message) {
             Ok(own) => {
-                if !is_same(&own, entry) {
+                if !own.is_same(entry) {
                     return Err(ReplayFault::Differs { number });
                 }
             }
@@ -41,11 +41,4 @@ pub fn replay_entries<S: Store>(tape: &mut Tape<S>, entries: &[Entry]) -> Result
         }
     }
     Ok(())
-}
-
-/// Whether two entries are the same.
-fn is_same(own: &Entry, entry: &Entry) -> bool
-    ensures { IsTrue result ↔ (own.now ≡ entry.now) }
-{
-    own == entry
 }

@@ -5,7 +5,7 @@ use Rattle.day_journal.specs.Journals.{IsRead, ReaderState, read_next, reader_at
 use Rattle.day_journal.specs.GroupReading.{told_count}
 use Rattle.day_journal.specs.declared.group_fault.GroupFault.{GroupFault}
 use Rattle.day_journal.specs.declared.group_fault.GroupFault.TheVariants.{Torn}
-use Rattle.day_journal.specs.declared.header_reading.Header.{Header}
+use Rattle.day_journal.specs.declared.header_reading.JournalHeader.{JournalHeader}
 use Rattle.journal_start.specs.PastLines.{no_entry, with_entries}
 use Rattle.journal_start.specs.declared.journal_groups.JournalGroups.{JournalGroups}
 use Rattle.journal_start.specs.declared.journal_refusal.JournalRefusal.TheVariants.{Damaged}
@@ -34,7 +34,7 @@ pub record GivesGroups (len whole : ℕ) (old : ReaderState) (before : List Past
   pub lines : after ≡ map (λ line. with_entries line (entries_of groups)) before
 
 -- what is known of a journal's groups after they were read
-pub record HasGroups (had : JournalGroups) (header : Header) (bytes : List ℕ) : Type 0 where
+pub record HasGroups (had : JournalGroups) (header : JournalHeader) (bytes : List ℕ) : Type 0 where
   pub end : ReaderState
   pub given : GivesGroups (length bytes) had.whole (reader_at header.session 0 header.digest header.len (drop header.len bytes))
       (map no_entry header.listing.participants) end had.lines.items

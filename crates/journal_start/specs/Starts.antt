@@ -6,8 +6,8 @@ use Rattle.std.specs.declared.io.ErrorKind.TheVariants as kind
 use Rattle.day_journal.specs.HeaderReads.{GivesHeader}
 use Rattle.day_journal.specs.Headers.{MAGIC, ReadHeader, Terms, header_at, header_digest, header_text}
 use Rattle.day_journal.specs.Journals.{reader_at}
-use Rattle.day_journal.specs.declared.header_fault.HeaderFault.TheVariants as header
-use Rattle.day_journal.specs.declared.header_reading.Header.{Header}
+use Rattle.day_journal.specs.declared.header_fault.JournalHeaderFault.TheVariants as header
+use Rattle.day_journal.specs.declared.header_reading.JournalHeader.{JournalHeader}
 use Rattle.journal_start.specs.Groups.{HasGroups, RefusesGroups}
 use Rattle.journal_start.specs.Terms.{Differs, header_terms}
 use Rattle.journal_start.specs.declared.journal_groups.JournalGroups.{JournalGroups}
@@ -47,7 +47,7 @@ RefusesHeader OutOfMemory terms bytes = Unit {0}
 RefusesHeader _ terms bytes = ⊥
 
 -- bytes begin with the header of a journal of these terms
-pub record HasHeader (h : Header) (terms : Terms) (bytes : List ℕ) : Type 0 where
+pub record HasHeader (h : JournalHeader) (terms : Terms) (bytes : List ℕ) : Type 0 where
   pub given : GivesHeader (Ok h) bytes (header_at bytes)
   pub own : header_terms h ≡ terms
 
@@ -71,7 +71,7 @@ IsCutTo whole cut_off old new = Keeps (option_map (take whole) old) new ⊎ ((cu
 
 -- the journal of this day is continued behind its whole groups
 pub record GoesOn (s : Started) (terms : Terms) (bytes : List ℕ) (old new : Option (List ℕ)) : Type 0 where
-  pub header : Header
+  pub header : JournalHeader
   pub had : JournalGroups
   pub begun : HasHeader header terms bytes
   pub read : HasGroups had header bytes
@@ -86,13 +86,13 @@ abbrev pub Starts : Started → Terms → List ℕ → Option (List ℕ) → Opt
 Starts s terms bytes old new = Begins s terms bytes old new ⊎ GoesOn s terms bytes old new
 
 -- why a journal with this header is not continued; nothing is said if it can't be written
-abbrev pub RefusesBehind : StartFault → Header → List ℕ → Type 0
+abbrev pub RefusesBehind : StartFault → JournalHeader → List ℕ → Type 0
 RefusesBehind (Refused why) h bytes = RefusesGroups (Refused why) (reader_at h.session 0 h.digest h.len (drop h.len bytes))
 RefusesBehind _ h bytes = Unit {0}
 
 -- why a journal with these bytes is not started; nothing is said if it can't be read or written
 abbrev pub Refuses : StartFault → Terms → List ℕ → Type 0
-Refuses (Refused (Damaged first count)) terms bytes = (h : Header) × HasHeader h terms bytes × RefusesBehind (Refused (Damaged first count)) h bytes
+Refuses (Refused (Damaged first count)) terms bytes = (h : JournalHeader) × HasHeader h terms bytes × RefusesBehind (Refused (Damaged first count)) h bytes
 Refuses (Refused other) terms bytes = RefusesHeader (Refused other) terms bytes
 Refuses _ terms bytes = Unit {0}
 

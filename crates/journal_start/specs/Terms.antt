@@ -1,13 +1,13 @@
 -- The terms of a day compared with those of a journal.
 use Rattle.std.specs.Prelude.{◌≡◌, ◌≢◌, ℕ, List, Option, Some, None, codes}
 use Rattle.day_journal.specs.Headers.{Terms}
-use Rattle.day_journal.specs.declared.header_reading.Header.{Header}
+use Rattle.day_journal.specs.declared.header_reading.JournalHeader.{JournalHeader}
 use Rattle.journal_start.specs.declared.day_terms.DayTerms.{DayTerms}
 use Rattle.journal_start.specs.declared.day_terms.OtherTerm.{OtherTerm}
 use Rattle.journal_start.specs.declared.day_terms.OtherTerm.TheVariants.{Session, Matrix, Limit, Symbols, Participants}
 
 -- the terms of a header that was read
-abbrev pub header_terms : Header → Terms
+abbrev pub header_terms : JournalHeader → Terms
 header_terms h = record { session = h.session; matrix = h.matrix; limit = h.limit; listing = h.listing }
 
 -- the terms of a day

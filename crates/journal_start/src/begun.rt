@@ -5,7 +5,7 @@ ghost use Rattle.journal_start.specs.Terms.{terms_of};
 
 use crate::day_terms::other_term;
 use crate::{DayTerms, JournalRefusal, StartFault};
-use day_journal::{Header, HeaderFault, read_header};
+use day_journal::{JournalHeader, JournalHeaderFault, read_header};
 use std::alloc::Global;
 
 /// What every journal begins with.
@@ -24,7 +24,7 @@ pub(crate) fn begun_header(
     alloc: Global,
     terms: &DayTerms<'_>,
     bytes: &[u8],
-) -> Result<Option<Header>, StartFault>
+) -> Result<Option<JournalHeader>, StartFault>
     ensures none { IfOk result (λ header. header ≡ None → IsUnbegun bytes.now) }
     ensures some { IfOk result (λ header. IfSome header (λ h. HasHeader h (terms_of terms.now) bytes.now)) }
     ensures within { IfOk result (λ header. IfSome header (λ h. h.len ≤ length bytes.now)) }
@@ -38,10 +38,12 @@ pub(crate) fn begun_header(
             Some(term) => Err(StartFault::Refused(JournalRefusal::OtherDay(term))),
             None => Ok(Some(header)),
         },
-        Err(HeaderFault::Short) => Ok(None),
-        Err(HeaderFault::NoJournal) => Err(StartFault::Refused(JournalRefusal::NoJournal)),
-        Err(HeaderFault::OtherVersion) => Err(StartFault::Refused(JournalRefusal::OtherVersion)),
-        Err(HeaderFault::Damaged) => Err(StartFault::Refused(JournalRefusal::HeaderDamaged)),
-        Err(HeaderFault::OutOfMemory) => Err(StartFault::OutOfMemory),
+        Err(JournalHeaderFault::Short) => Ok(None),
+        Err(JournalHeaderFault::NoJournal) => Err(StartFault::Refused(JournalRefusal::NoJournal)),
+        Err(JournalHeaderFault::OtherVersion) => Err(StartFault::Refused(
+            JournalRefusal::OtherVersion,
+        )),
+        Err(JournalHeaderFault::Damaged) => Err(StartFault::Refused(JournalRefusal::HeaderDamaged)),
+        Err(JournalHeaderFault::OutOfMemory) => Err(StartFault::OutOfMemory),
     }
 }

@@ -2,7 +2,7 @@
 ghost use Rattle.std.specs.Prelude.{◌≡◌, ◌↔◌, IsTrue};
 ghost use Rattle.journal_start.specs.Terms.{Differs, header_terms, other_text, terms_of};
 
-use day_journal::Header;
+use day_journal::JournalHeader;
 use sale_matrix::Matrix;
 use tape_types::{Listing, Participant, Symbol};
 
@@ -65,7 +65,7 @@ fn same_participants(one: &[Participant], other: &[Participant]) -> bool
 
 /// Returns the first term, in the order of `OtherTerm`, in which a journal's header differs, if there is one.
 #[tactic(auto, using(crate::proofs::TermLemmas::same_terms))]
-pub(crate) fn other_term(header: &Header, terms: &DayTerms<'_>) -> Option<OtherTerm>
+pub(crate) fn other_term(header: &JournalHeader, terms: &DayTerms<'_>) -> Option<OtherTerm>
     ensures { Differs result (header_terms header.now) (terms_of terms.now) }
 {
     if header.session != terms.session {

@@ -6,7 +6,7 @@ ghost use Rattle.journal_start.specs.Groups.{GivesGroups, HasGroups, RefusesGrou
 
 use crate::past_lines::{after_entries, new_lines};
 use crate::{JournalRefusal, PastLine, StartFault};
-use day_journal::{GroupReader, Header, JournalEnd, Next};
+use day_journal::{GroupReader, JournalEnd, JournalHeader, Next};
 use std::alloc::Global;
 use tape_core::Entry;
 
@@ -50,7 +50,7 @@ fn read_on(
 /// Reads the groups of a journal behind its header, to its end.
 pub(crate) fn read_groups(
     alloc: Global,
-    header: &Header,
+    header: &JournalHeader,
     bytes: &[u8],
 ) -> Result<JournalGroups, StartFault>
     requires { header.now.len ≤ length bytes.now }

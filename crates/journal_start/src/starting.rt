@@ -10,7 +10,7 @@ use crate::begun::begun_header;
 use crate::journal_groups::{JournalGroups, read_groups};
 use crate::start_fault::fault_of_reading;
 use crate::{DayTerms, JournalDisk, PastLine, StartFault};
-use day_journal::{GroupWriter, Header, put_header};
+use day_journal::{GroupWriter, JournalHeader, put_header};
 use std::alloc::Global;
 use whole_io::write_text;
 
@@ -103,7 +103,7 @@ fn cut_to<F: JournalDisk>(disk: &mut F, whole: usize, cut_off: usize) -> Result<
 /// Continues the journal of a day, which has this header and these bytes. A group that was cut off is removed.
 fn go_on<F: JournalDisk>(
     alloc: Global,
-    header: Header,
+    header: JournalHeader,
     bytes: Vec<u8>,
     disk: &mut F,
 ) -> Result<Started, StartFault>

@@ -4,7 +4,6 @@ ghost use Rattle.std.specs.Vec.{vec_capacity};
 ghost use Rattle.line_ledger.specs.Cells.{IsTokenOf, TokenAt, FirstTokens, NextTokens, HaveAll, SeenAt, FirstSeen, NextSeen};
 ghost use Rattle.tape_types.specs.Ranges.{TAPE_MOST};
 
-use crate::same_entry::is_same;
 use crate::{Sighting, Token};
 use once_cell::race::OnceBox;
 use seen_cells::Seen;
@@ -149,7 +148,7 @@ impl CellRow {
         let cell = self.cells.get(at)?;
         let entry = entries.get(at)?;
         let mut note = cell.note();
-        if !is_same(cell.get_as(&mut note)?, entry) {
+        if !cell.get_as(&mut note)?.is_same(entry) {
             return None;
         }
         Some(Seen::of(&mut note))
@@ -211,7 +210,7 @@ impl CellRow {
     {
         let token = self.show(number, sighting);
         match entries.get(number as usize - 1) {
-            Some(entry) => is_same(entry, &token.entry),
+            Some(entry) => entry.is_same(&token.entry),
             None => false,
         }
     }

@@ -5,7 +5,6 @@ ghost use Rattle.sale_matrix.specs.declared.matrix.Matrix.TheVariants.{One};
 ghost use Rattle.line_ledger.specs.Cells.{IsTokenOf, FirstTokens, HaveAll};
 ghost use Rattle.line_ledger.specs.Days.{Terms};
 
-use crate::same_entry::is_same;
 use crate::{CellRow, NotOnTape, Sighting, Token};
 use seen_cells::Seen;
 use std::marker::{Brand, Model};
@@ -76,7 +75,7 @@ impl Day {
             return Ok(());
         }
         match self.tape.entries().get(at) {
-            Some(entry) if is_same(entry, &token.entry()) => Ok(()),
+            Some(entry) if entry.is_same(&token.entry()) => Ok(()),
             _ => Err(NotOnTape),
         }
     }

@@ -15,7 +15,6 @@ mod open_fault;
 mod prepared;
 mod publish_fault;
 mod published;
-mod same_entry;
 mod shared;
 mod sighting;
 mod token;

@@ -22,36 +22,36 @@ use Rattle.tape_core.specs.declared.refusal.Refusal.TheVariants as tape
 use Rattle.participant_lines.specs.Frames.{EndsInput, IsFrame}
 use Rattle.participant_lines.specs.Runs.{AreDone, Does, EndsAfter, IsAnswered, IsDone, Runs, RunsSo, RunsTallied, StopsAt, TakesMessage, effect_of, FRAMES_MOST, refusal_effect}
 use Rattle.participant_lines.specs.Tallies.{AreCounted}
-use Rattle.participant_lines.specs.declared.tally.Mark.{Mark}
+use Rattle.participant_lines.specs.declared.tally.RefusedFrame.{RefusedFrame}
 use Rattle.participant_lines.specs.declared.tally.Reason.TheVariants.{Refused as ByTape}
 use Rattle.participant_lines.specs.declared.tally.Tally.{Tally}
-use Rattle.participant_lines.specs.declared.line_end.Ended.{Ended}
-use Rattle.participant_lines.specs.declared.line_end.Ended.TheVariants.{Clean, Truncated, Oversize, ReadFault, TooMany, OutOfMemory, Behind}
+use Rattle.participant_lines.specs.declared.line_end.LineOutcome.{LineOutcome}
+use Rattle.participant_lines.specs.declared.line_end.LineOutcome.TheVariants.{Clean, Truncated, Oversize, ReadFault, TooMany, OutOfMemory, Behind}
 
 -- the refusal that an effect counts
-abbrev mark_in : Result (Option Mark) Ended → Option Mark
+abbrev mark_in : Result (Option RefusedFrame) LineOutcome → Option RefusedFrame
 mark_in (Ok mark) = mark
 mark_in (Err ended) = None
 
 -- the effect of a refusal, by whether it is `OutOfMemory`
-abbrev effect_by : Bool → ℕ → Refusal → Result (Option Mark) Ended
+abbrev effect_by : Bool → ℕ → Refusal → Result (Option RefusedFrame) LineOutcome
 effect_by memory number r = if memory then Err OutOfMemory else Ok (Some (record { reason = ByTape r; number = number }))
 
 -- a refusal by the tape after which the line goes on is counted once
-counted_once : (number : ℕ) (r : Refusal) (mark : Option Mark) → refusal_effect number r ≡ Ok mark → length (cons_option mark []) ≡ 1
+counted_once : (number : ℕ) (r : Refusal) (mark : Option RefusedFrame) → refusal_effect number r ≡ Ok mark → length (cons_option mark []) ≡ 1
 counted_once number r mark = by (is_out_of_memory r)
   where
     by : (memory : Bool) → effect_by memory number r ≡ Ok mark → length (cons_option mark []) ≡ 1
     by true is = absurd cc
-    by false is = sym (ap (λ (o : Option Mark). length (cons_option o [])) (ap mark_in is))
+    by false is = sym (ap (λ (o : Option RefusedFrame). length (cons_option o [])) (ap mark_in is))
 
 -- what a message that was taken does to the counts of a seat
-takes_counts : (terms : Terms) (s s' : SeatState) (m : Message) (answer : Result ℕ LineRefusal) (mark : Option Mark) → IsAnswered terms s m answer s'
+takes_counts : (terms : Terms) (s s' : SeatState) (m : Message) (answer : Result ℕ LineRefusal) (mark : Option RefusedFrame) → IsAnswered terms s m answer s'
     → effect_of (header_of m).number answer ≡ Ok mark
     → (length s'.told + length (cons_option mark []) ≡ length s.told + 1) × (length (cons_option mark []) ≤ 1) × (s'.who ≡ s.who)
 takes_counts terms s s' m (Ok number) mark tells is =
     let t : Told = record { number = number; message = m } in
-    let none : length (cons_option mark []) ≡ 0 = sym (ap (λ (o : Option Mark). length (cons_option o [])) (ap mark_in is)) in (
+    let none : length (cons_option mark []) ≡ 0 = sym (ap (λ (o : Option RefusedFrame). length (cons_option o [])) (ap mark_in is)) in (
       omega (arith, ap (λ (x : SeatState). length x.told) tells.told, length-append s.told (t ∷ []), none),
       omega (arith, none),
       ap (λ (x : SeatState). x.who) tells.told,
@@ -62,10 +62,10 @@ takes_counts terms s s' m (Err (line.Refused r)) mark tells is =
     (omega (arith, ap (λ (x : SeatState). length x.told) tells.seat, one), omega (arith, one), ap (λ (x : SeatState). x.who) tells.seat)
 
 -- what a frame does to the counts of a seat
-counts : (terms : Terms) (s s' : SeatState) (frame : List ℕ) (mark : Option Mark) → IsDone terms s frame mark s'
+counts : (terms : Terms) (s s' : SeatState) (frame : List ℕ) (mark : Option RefusedFrame) → IsDone terms s frame mark s'
     → (length s'.told + length (cons_option mark []) ≡ length s.told + 1) × (length (cons_option mark []) ≤ 1) × (s'.who ≡ s.who)
 counts terms s s' frame mark (inl (fault, read, same, one)) =
-    let many : length (cons_option mark []) ≡ 1 = ap (λ (o : Option Mark). length (cons_option o [])) one in
+    let many : length (cons_option mark []) ≡ 1 = ap (λ (o : Option RefusedFrame). length (cons_option o [])) one in
     (omega (arith, ap (λ (x : SeatState). length x.told) same, many), omega (arith, many), ap (λ (x : SeatState). x.who) same)
 counts terms s s' frame mark (inr (m, spells, (answer, tells, is))) = takes_counts terms s s' m answer mark tells is
 
@@ -76,7 +76,7 @@ answered terms s s' m (Ok number) tells why = tells
 answered terms s s' m (Err refusal) tells why = why
 
 -- an answer after which the line goes on
-pub taken : (terms : Terms) (s s' : SeatState) (m : Message) (answer : Result ℕ LineRefusal) (result : Result (Option Mark) Ended) → IsAnswered terms s m answer s'
+pub taken : (terms : Terms) (s s' : SeatState) (m : Message) (answer : Result ℕ LineRefusal) (result : Result (Option RefusedFrame) LineOutcome) → IsAnswered terms s m answer s'
     → result ≡ effect_of (header_of m).number answer → IfOk result (λ mark. TakesMessage terms s m mark s')
 taken terms s s' m answer (Ok mark) tells is = (answer, tells, sym is)
 taken terms s s' m answer (Err ended) tells is = tt
@@ -102,10 +102,10 @@ effect-stops terms s s' m (Err line.Behind) tells = (tells.seat, subst (TellsWhy
 effect-stops terms s s' m (Err (line.Refused r)) tells = stopped_by terms s s' m r tells
 
 -- an answer at which the line ends
-pub stopped : (terms : Terms) (s s' : SeatState) (m : Message) (answer : Result ℕ LineRefusal) (result : Result (Option Mark) Ended) → IsAnswered terms s m answer s'
+pub stopped : (terms : Terms) (s s' : SeatState) (m : Message) (answer : Result ℕ LineRefusal) (result : Result (Option RefusedFrame) LineOutcome) → IsAnswered terms s m answer s'
     → result ≡ effect_of (header_of m).number answer → IfErr result (λ ended. (s' ≡ s) × StopsAt ended terms s m)
 stopped terms s s' m answer result tells is =
-    subst (λ (r : Result (Option Mark) Ended). IfErr r (λ ended. (s' ≡ s) × StopsAt ended terms s m)) (sym is) (effect-stops terms s s' m answer tells)
+    subst (λ (r : Result (Option RefusedFrame) LineOutcome). IfErr r (λ ended. (s' ≡ s) × StopsAt ended terms s m)) (sym is) (effect-stops terms s s' m answer tells)
 
 -- if nothing was read, no frame is done and the seat is as it was
 pub does_none : (terms : Terms) (s : SeatState) (had : Option (List ℕ)) → Does terms s had had 0 [] s
@@ -121,7 +121,7 @@ does_none terms s had = record {
 }
 
 -- if one frame was read and done, one is done
-pub does_one : (terms : Terms) (s s' : SeatState) (had rest : Option (List ℕ)) (frame : List ℕ) (mark : Option Mark) → IsFrame frame
+pub does_one : (terms : Terms) (s s' : SeatState) (had rest : Option (List ℕ)) (frame : List ℕ) (mark : Option RefusedFrame) → IsFrame frame
     → IsDone terms s frame mark s' → Consumes had rest frame → Does terms s had rest 1 (cons_option mark []) s'
 unfolding AreDone
 does_one terms s s' had rest frame mark is done read =
@@ -137,17 +137,17 @@ does_one terms s s' had rest frame mark is done read =
     }
 
 -- a mark before two lists
-cons_both : (mark : Option Mark) (others more : List Mark) → cons_option mark others ++ more ≡ cons_option mark (others ++ more)
+cons_both : (mark : Option RefusedFrame) (others more : List RefusedFrame) → cons_option mark others ++ more ≡ cons_option mark (others ++ more)
 cons_both None others more = refl
 cons_both (Some mark) others more = refl
 
 -- two lists of frames that are done one after the other are done as one list
-done_both : (terms : Terms) (s s' s'' : SeatState) (xs ys : List (List ℕ)) (n m : List Mark) → AreDone terms s xs n s' → AreDone terms s' ys m s''
+done_both : (terms : Terms) (s s' s'' : SeatState) (xs ys : List (List ℕ)) (n m : List RefusedFrame) → AreDone terms s xs n s' → AreDone terms s' ys m s''
     → AreDone terms s (xs ++ ys) (n ++ m) s''
 unfolding AreDone
 done_both terms s s' s'' [] ys n m one two =
-    let none : n ++ m ≡ m = ap (λ (k : List Mark). k ++ m) one.1 in
-    subst (λ (k : List Mark). AreDone terms s ys k s'') (sym none) (subst (λ (x : SeatState). AreDone terms x ys m s'') one.0 two)
+    let none : n ++ m ≡ m = ap (λ (k : List RefusedFrame). k ++ m) one.1 in
+    subst (λ (k : List RefusedFrame). AreDone terms s ys k s'') (sym none) (subst (λ (x : SeatState). AreDone terms x ys m s'') one.0 two)
 done_both terms s s' s'' (frame ∷ xs) ys n m (between, first, others, is, done, later, sum) two = (
   between,
   first,
@@ -155,11 +155,11 @@ done_both terms s s' s'' (frame ∷ xs) ys n m (between, first, others, is, done
   is,
   done,
   done_both terms between s' s'' xs ys others m later two,
-  ap (λ (k : List Mark). k ++ m) sum ∙ cons_both first others m,
+  ap (λ (k : List RefusedFrame). k ++ m) sum ∙ cons_both first others m,
 )
 
 -- frames that are done one part after the other are done together
-pub does_both : (terms : Terms) (s s' s'' : SeatState) (had left rest : Option (List ℕ)) (n m : ℕ) (a b : List Mark) (many : ℕ)
+pub does_both : (terms : Terms) (s s' s'' : SeatState) (had left rest : Option (List ℕ)) (n m : ℕ) (a b : List RefusedFrame) (many : ℕ)
     → Does terms s had left n a s' → Does terms s' left rest m b s'' → many ≡ n + m → Does terms s had rest many (a ++ b) s''
 does_both terms s s' s'' had left rest n m a b many one two all = record {
   frames = one.frames ++ two.frames;
@@ -174,7 +174,7 @@ does_both terms s s' s'' had left rest n m a b many one two all = record {
 }
 
 -- an end that the input brings is an end of the line
-pub input_end : (ended : Ended) (terms : Terms) (s : SeatState) (had rest : Option (List ℕ)) → EndsInput ended had rest
+pub input_end : (ended : LineOutcome) (terms : Terms) (s : SeatState) (had rest : Option (List ℕ)) → EndsInput ended had rest
     → EndsAfter ended terms s had rest
 input_end Clean terms s had rest end = end
 input_end Truncated terms s had rest end = end
@@ -185,7 +185,7 @@ input_end OutOfMemory terms s had rest end = absurd end
 input_end Behind terms s had rest end = absurd end
 
 -- an end that a refusal brings is an end of the line
-pub refusal_end : (ended : Ended) (terms : Terms) (s : SeatState) (had rest : Option (List ℕ)) (frame : List ℕ) (m : Message)
+pub refusal_end : (ended : LineOutcome) (terms : Terms) (s : SeatState) (had rest : Option (List ℕ)) (frame : List ℕ) (m : Message)
     → Consumes had rest frame → IsFrame frame → Spells frame m → StopsAt ended terms s m → EndsAfter ended terms s had rest
 refusal_end Clean terms s had rest frame m read is spells stop = absurd stop
 refusal_end Truncated terms s had rest frame m read is spells stop = absurd stop
@@ -196,15 +196,15 @@ refusal_end OutOfMemory terms s had rest frame m read is spells stop = (frame, m
 refusal_end Behind terms s had rest frame m read is spells stop = (frame, m, read, is, spells, stop)
 
 -- an end that the input brings is not `TooMany`
-pub input_few : (ended : Ended) (had rest : Option (List ℕ)) → EndsInput ended had rest → ended ≢ TooMany
-input_few ended had rest end is = subst (λ (e : Ended). EndsInput e had rest) is end
+pub input_few : (ended : LineOutcome) (had rest : Option (List ℕ)) → EndsInput ended had rest → ended ≢ TooMany
+input_few ended had rest end is = subst (λ (e : LineOutcome). EndsInput e had rest) is end
 
 -- nor is an end at a message
-pub refusal_few : (ended : Ended) (terms : Terms) (s : SeatState) (m : Message) → StopsAt ended terms s m → ended ≢ TooMany
-refusal_few ended terms s m stop is = subst (λ (e : Ended). StopsAt e terms s m) is stop
+pub refusal_few : (ended : LineOutcome) (terms : Terms) (s : SeatState) (m : Message) → StopsAt ended terms s m → ended ≢ TooMany
+refusal_few ended terms s m stop is = subst (λ (e : LineOutcome). StopsAt e terms s m) is stop
 
 -- a line that ended before it did `FRAMES_MOST` frames
-pub runs_ended : (terms : Terms) (s s' s'' : SeatState) (had left rest : Option (List ℕ)) (many : ℕ) (marks : List Mark) (ended : Ended)
+pub runs_ended : (terms : Terms) (s s' s'' : SeatState) (had left rest : Option (List ℕ)) (many : ℕ) (marks : List RefusedFrame) (ended : LineOutcome)
     → Does terms s had left many marks s' → s'' ≡ s' → EndsAfter ended terms s' left rest → ended ≢ TooMany → many < FRAMES_MOST
     → RunsSo terms s had rest marks ended s''
 runs_ended terms s s' s'' had left rest many marks ended does same after goes_on fewer =
@@ -218,7 +218,7 @@ runs_ended terms s s' s'' had left rest many marks ended does same after goes_on
     })
 
 -- a line that did `FRAMES_MOST` frames
-pub runs_most : (terms : Terms) (s s' : SeatState) (had rest : Option (List ℕ)) (many : ℕ) (marks : List Mark)
+pub runs_most : (terms : Terms) (s s' : SeatState) (had rest : Option (List ℕ)) (many : ℕ) (marks : List RefusedFrame)
     → Does terms s had rest many marks s' → many ≡ FRAMES_MOST → RunsSo terms s had rest marks TooMany s'
 runs_most terms s s' had rest many marks does all = record {
   many = many;
@@ -230,13 +230,13 @@ runs_most terms s s' had rest many marks does all = record {
 }
 
 -- a run with a tally is one with the count of refused frames
-pub runs_counted : (terms : Terms) (s s' : SeatState) (had rest : Option (List ℕ)) (tally : Tally) (refused : ℕ) (ended : Ended)
+pub runs_counted : (terms : Terms) (s s' : SeatState) (had rest : Option (List ℕ)) (tally : Tally) (refused : ℕ) (ended : LineOutcome)
     → refused ≡ tally.refused → RunsTallied terms s had rest tally ended s' → Runs terms s had rest refused ended s'
 runs_counted terms s s' had rest tally refused ended is (marks, counted, runs) = (marks, is ∙ counted.all, runs)
 
 -- a tally with one more frame, if it is counted
-pub counted_next : (marks : List Mark) (mark : Option Mark) (old new : Tally) → IfNone mark (new ≡ old)
+pub counted_next : (marks : List RefusedFrame) (mark : Option RefusedFrame) (old new : Tally) → IfNone mark (new ≡ old)
     → IfSome mark (λ m. length marks + 1 < 2 ^ 32 → AreCounted marks old → AreCounted (marks ++ m ∷ []) new)
     → length marks + 1 < 2 ^ 32 → AreCounted marks old → AreCounted (marks ++ cons_option mark []) new
-counted_next marks None old new none some fits had = subst (λ (l : List Mark). AreCounted l new) (sym (append-nil marks)) (subst (AreCounted marks) (sym none) had)
+counted_next marks None old new none some fits had = subst (λ (l : List RefusedFrame). AreCounted l new) (sym (append-nil marks)) (subst (AreCounted marks) (sym none) had)
 counted_next marks (Some mark) old new none some fits had = some fits had

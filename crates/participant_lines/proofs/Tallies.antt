@@ -14,10 +14,10 @@ use Rattle.tape_core.specs.Refusals.{refusal_code}
 use Rattle.tape_core.specs.declared.refusal.Refusal.{Refusal}
 use Rattle.tape_core.specs.declared.refusal.Refusal.TheVariants as tape
 use Rattle.participant_lines.specs.Tallies.{AreCounted, all_reasons, is_for, one_more, reason_code, refused_for, refused_frames}
-use Rattle.participant_lines.specs.declared.tally.Mark.{Mark}
+use Rattle.participant_lines.specs.declared.tally.RefusedFrame.{RefusedFrame}
 use Rattle.participant_lines.specs.declared.tally.Reason.{Reason}
 use Rattle.participant_lines.specs.declared.tally.Reason.TheVariants.{Unspelled, Refused as ByTape}
-use Rattle.participant_lines.specs.declared.tally.Refused.{Refused}
+use Rattle.participant_lines.specs.declared.tally.RefusedFrames.{RefusedFrames}
 use Rattle.participant_lines.specs.declared.tally.Tally.{Tally}
 
 -- the numbers of faults
@@ -128,11 +128,11 @@ count_by-fails p xs x fails = sum_by_push (λ x. cond (p x) 1 0) xs x ∙ rw fai
 -- ## Marks
 
 -- marks by how many they are, if there is a first
-abbrev counted : ℕ → Option Mark → Option Refused
+abbrev counted : ℕ → Option RefusedFrame → Option RefusedFrames
 counted count first = option_map (λ mark. record { count = count; first = mark.number }) first
 
 -- a frame that was refused for another reason changes nothing
-refused_frames-same : (reason : Reason) (marks : List Mark) (mark : Mark) → is_for reason mark ≡ false
+refused_frames-same : (reason : Reason) (marks : List RefusedFrame) (mark : RefusedFrame) → is_for reason mark ≡ false
     → refused_frames reason (marks ++ mark ∷ []) ≡ refused_frames reason marks
 unfolding refused_frames
 refused_frames-same reason marks mark other =
@@ -140,15 +140,15 @@ refused_frames-same reason marks mark other =
     ∙ ap (counted (count_by (is_for reason) marks)) (find-fails (is_for reason) marks mark other)
 
 -- one more frame that was refused for this reason
-refused_frames-more : (reason : Reason) (marks : List Mark) (mark : Mark) → is_for reason mark ≡ true
+refused_frames-more : (reason : Reason) (marks : List RefusedFrame) (mark : RefusedFrame) → is_for reason mark ≡ true
     → refused_frames reason (marks ++ mark ∷ []) ≡ Some (one_more (refused_frames reason marks) mark.number)
 unfolding refused_frames
 refused_frames-more reason marks mark same = cases (find p marks) refl
   where
-    p : Mark → Bool
+    p : RefusedFrame → Bool
     p = is_for reason
 
-    cases : (o : Option Mark) → find p marks ≡ o
+    cases : (o : Option RefusedFrame) → find p marks ≡ o
         → counted (count_by p (marks ++ mark ∷ [])) (find p (marks ++ mark ∷ [])) ≡ Some (one_more (counted (count_by p marks) o) mark.number)
     cases None none =
         ap (counted (count_by p (marks ++ mark ∷ []))) (find-new p marks mark none same)
@@ -158,11 +158,11 @@ refused_frames-more reason marks mark same = cases (find p marks) refl
         ∙ ap (λ (n : ℕ). counted n (Some first)) (count_by-passes p marks mark same)
 
 -- no more marks are counted than there are
-refused_frames-few : (reason : Reason) (marks : List Mark) → IfSome (refused_frames reason marks) (λ refused. refused.count ≤ length marks)
+refused_frames-few : (reason : Reason) (marks : List RefusedFrame) → IfSome (refused_frames reason marks) (λ refused. refused.count ≤ length marks)
 unfolding refused_frames
 refused_frames-few reason marks = cases (find (is_for reason) marks)
   where
-    cases : (o : Option Mark) → IfSome (counted (count_by (is_for reason) marks) o) (λ refused. refused.count ≤ length marks)
+    cases : (o : Option RefusedFrame) → IfSome (counted (count_by (is_for reason) marks) o) (λ refused. refused.count ≤ length marks)
     cases None = tt
     cases (Some mark) = count_by-le-length (is_for reason) marks
 
@@ -180,12 +180,12 @@ AreCounted-none tally none nothing = record {
   all = nothing;
   each = λ reason.
       let range = code_range reason in
-      ap (λ (l : List (Option Refused)). slice_index_or l (reason_code reason - 11) None) none
+      ap (λ (l : List (Option RefusedFrames)). slice_index_or l (reason_code reason - 11) None) none
       ∙ get_or-replicate 34 (reason_code reason - 11) None None (omega (arith, range.1));
 }
 
 -- one more frame is counted for its reason
-more_at : (old new : Tally) (mark : Mark) (place : ℕ) (more : Refused) (marks : List Mark)
+more_at : (old new : Tally) (mark : RefusedFrame) (place : ℕ) (more : RefusedFrames) (marks : List RefusedFrame)
     → length old.reasons ≡ 34 → place + 11 ≡ reason_code mark.reason → new.reasons ≡ slice_set old.reasons place (Some more)
     → (IfSome (slice_index_or old.reasons place None) (λ refused. refused.count + 1 < 2 ^ 32)
     → more ≡ one_more (slice_index_or old.reasons place None) mark.number)
@@ -200,23 +200,23 @@ more_at old new mark place more marks size at set is fits had reason =
           let had_here : slice_index_or old.reasons place None ≡ refused_frames reason marks =
           ap (λ (n : ℕ). slice_index_or old.reasons n None) (sym here) ∙ had.each reason in
           let few : IfSome (slice_index_or old.reasons place None) (λ refused. refused.count + 1 < 2 ^ 32) =
-          subst (λ (o : Option Refused). IfSome o (λ refused. refused.count + 1 < 2 ^ 32)) (sym had_here)
+          subst (λ (o : Option RefusedFrames). IfSome o (λ refused. refused.count + 1 < 2 ^ 32)) (sym had_here)
           (if_some-weaker (λ refused. refused.count ≤ length marks) (λ refused. refused.count + 1 < 2 ^ 32) (refused_frames reason marks)
           (λ refused le. omega (arith, le, fits)) (refused_frames-few reason marks)) in
-          ap (λ (l : List (Option Refused)). slice_index_or l (reason_code reason - 11) None) set
+          ap (λ (l : List (Option RefusedFrames)). slice_index_or l (reason_code reason - 11) None) set
           ∙ ap (λ (n : ℕ). slice_index_or (slice_set old.reasons place (Some more)) n None) here
           ∙ get_or-set_same old.reasons place (Some more) None (omega (arith, size, at, range.1))
-          ∙ ap (λ (r : Refused). Some r) (is few ∙ ap (λ (o : Option Refused). one_more o mark.number) had_here)
+          ∙ ap (λ (r : RefusedFrames). Some r) (is few ∙ ap (λ (o : Option RefusedFrames). one_more o mark.number) had_here)
           ∙ sym (refused_frames-more reason marks mark same)
       | inr other ↦
           let apart : reason_code reason - 11 ≢ place = λ e. cc (eq-eqb (reason_code mark.reason) (reason_code reason) (omega (arith, e, at, other_range.0)), other) in
-          ap (λ (l : List (Option Refused)). slice_index_or l (reason_code reason - 11) None) set
+          ap (λ (l : List (Option RefusedFrames)). slice_index_or l (reason_code reason - 11) None) set
           ∙ get_or-set_other old.reasons place (reason_code reason - 11) (Some more) None apart
           ∙ had.each reason ∙ sym (refused_frames-same reason marks mark other)
     ]
 
 -- so the tally is that of all the frames
-pub AreCounted-more : (old new : Tally) (mark : Mark) (place : ℕ) (more : Refused) (marks : List Mark)
+pub AreCounted-more : (old new : Tally) (mark : RefusedFrame) (place : ℕ) (more : RefusedFrames) (marks : List RefusedFrame)
     → length old.reasons ≡ 34 → place + 11 ≡ reason_code mark.reason → new.reasons ≡ slice_set old.reasons place (Some more)
     → (IfSome (slice_index_or old.reasons place None) (λ refused. refused.count + 1 < 2 ^ 32)
     → more ≡ one_more (slice_index_or old.reasons place None) mark.number)

@@ -5,8 +5,8 @@ use Rattle.reports.specs.Reading.{announced_length, message_at, LONGEST_BODY}
 use Rattle.reports.specs.Spelling.{Spells}
 use Rattle.reports.specs.declared.fault.MessageFault.{MessageFault}
 use Rattle.reports.specs.declared.message.Message.{Message}
-use Rattle.participant_lines.specs.declared.line_end.Ended.{Ended}
-use Rattle.participant_lines.specs.declared.line_end.Ended.TheVariants.{Clean, Truncated, Oversize, ReadFault, TooMany, OutOfMemory, Behind}
+use Rattle.participant_lines.specs.declared.line_end.LineOutcome.{LineOutcome}
+use Rattle.participant_lines.specs.declared.line_end.LineOutcome.TheVariants.{Clean, Truncated, Oversize, ReadFault, TooMany, OutOfMemory, Behind}
 
 -- how many bytes the body of a frame may have
 abbrev pub IsLength : ℕ → Type 0
@@ -31,7 +31,7 @@ abbrev pub IsPart : List ℕ → Type 0
 IsPart part = (length part < 2) ⊎ (IsLength (announced_length part) × (length part < 2 + announced_length part))
 
 -- what was read from an input in which no whole frame comes next, by the end of the line
-abbrev pub EndsInput : Ended → Option (List ℕ) → Option (List ℕ) → Type 0
+abbrev pub EndsInput : LineOutcome → Option (List ℕ) → Option (List ℕ) → Type 0
 EndsInput Clean had rest = Consumes had rest [] × IsAtEnd rest
 EndsInput Truncated had rest = (part : List ℕ) × Consumes had rest part × (1 ≤ length part) × IsPart part × IsAtEnd rest
 EndsInput Oversize had rest = (head : List ℕ) × Consumes had rest head × (length head ≡ 2) × ¬ (IsLength (announced_length head))

@@ -3,15 +3,15 @@ use Rattle.std.specs.Prelude.{ℕ, List, Option, Some}
 use Rattle.line_ledger.specs.Days.{Terms}
 use Rattle.line_ledger.specs.Seats.{SeatState}
 use Rattle.participant_lines.specs.Runs.{Runs, RunsTallied}
-use Rattle.participant_lines.specs.declared.line_end.Ended.{Ended}
+use Rattle.participant_lines.specs.declared.line_end.LineOutcome.{LineOutcome}
 use Rattle.participant_lines.specs.declared.tally.Tally.{Tally}
 
 -- the line has run, and its reader is spent
-abbrev pub HasRun : Terms → SeatState → Option (List ℕ) → ℕ → Ended → SeatState → Type 0
+abbrev pub HasRun : Terms → SeatState → Option (List ℕ) → ℕ → LineOutcome → SeatState → Type 0
 HasRun terms s had refused ended s' = (rest : Option (List ℕ)) × Runs terms s had rest refused ended s'
 
 -- the same with the tally of its refused frames
-abbrev pub HasTallied : Terms → SeatState → Option (List ℕ) → Tally → Ended → SeatState → Type 0
+abbrev pub HasTallied : Terms → SeatState → Option (List ℕ) → Tally → LineOutcome → SeatState → Type 0
 HasTallied terms s had tally ended s' = (rest : Option (List ℕ)) × RunsTallied terms s had rest tally ended s'
 
 -- a line whose reader is still held

@@ -4,7 +4,7 @@ ghost use Rattle.std.specs.Io.KnownBytes.{Consumes, IsAtEnd, Keeps};
 ghost use Rattle.reports.specs.Reading.{announced_length, LONGEST_FRAME};
 ghost use Rattle.participant_lines.specs.Frames.{EndsInput, IsFrame, IsLength, IsSpelled, ReadsFrame};
 
-use crate::Ended;
+use crate::LineOutcome;
 use reports::{LONGEST_FRAME, Message, MessageFault, Unread, decode, is_oversize};
 use std::io::{BufRead, ErrorKind, Read};
 use whole_io::fill;
@@ -39,7 +39,7 @@ fn length_in_front(bytes: &[u8]) -> Option<usize>
     ensures some { IfSome result (λ len. (len ≡ announced_length bytes.now) × (2 ≤ length bytes.now)) }
     ensures none { result ≡ None → length bytes.now < 2 }
 {
-    let mut unread = Unread { rest: bytes };
+    let mut unread = Unread::of(bytes);
     match unread.u16(()) {
         Ok(len) => Some(usize::from(len)),
         Err(()) => None,
@@ -48,28 +48,28 @@ fn length_in_front(bytes: &[u8]) -> Option<usize>
 
 /// Reads the length of the next frame to the front of the row, and returns it, or how the line ends instead.
 #[inline(always)]
-fn read_length<R: Read>(reader: &mut R, row: &mut [u8; LONGEST_FRAME]) -> Result<usize, Ended>
+fn read_length<R: Read>(reader: &mut R, row: &mut [u8; LONGEST_FRAME]) -> Result<usize, LineOutcome>
     ensures len { IfOk result IsLength }
     ensures ok { IfOk result (λ len. (announced_length (take 2 row.new) ≡ len)
         × Consumes (R.remaining reader.old) (R.remaining reader.new) (take 2 row.new)) }
     ensures err { IfErr result (λ ended. EndsInput ended (R.remaining reader.old) (R.remaining reader.new)) }
 {
     match read_on(reader, row, 0, LENGTH_BYTES) {
-        None => return Err(Ended::ReadFault),
-        Some(0) => return Err(Ended::Clean),
-        Some(1) => return Err(Ended::Truncated),
+        None => return Err(LineOutcome::ReadFault),
+        Some(0) => return Err(LineOutcome::Clean),
+        Some(1) => return Err(LineOutcome::Truncated),
         Some(_) => {}
     }
     let len = length_in_front(row).unwrap();
     if is_oversize(len) {
-        return Err(Ended::Oversize);
+        return Err(LineOutcome::Oversize);
     }
     Ok(len)
 }
 
 /// Reads the next frame to the front of the row, and returns how many bytes it has, or how the line ends instead.
 #[inline(always)]
-fn read_frame<R: Read>(reader: &mut R, row: &mut [u8; LONGEST_FRAME]) -> Result<usize, Ended>
+fn read_frame<R: Read>(reader: &mut R, row: &mut [u8; LONGEST_FRAME]) -> Result<usize, LineOutcome>
     ensures within { IfOk result (λ len. len ≤ LONGEST_FRAME) }
     ensures ok { IfOk result (λ len. IsFrame (take len row.new) × Consumes (R.remaining reader.old) (R.remaining reader.new) (take len row.new)) }
     ensures err { IfErr result (λ ended. EndsInput ended (R.remaining reader.old) (R.remaining reader.new)) }
@@ -77,8 +77,8 @@ fn read_frame<R: Read>(reader: &mut R, row: &mut [u8; LONGEST_FRAME]) -> Result<
     let len = read_length(reader, row)?;
     let whole = LENGTH_BYTES + len;
     match read_on(reader, row, LENGTH_BYTES, whole) {
-        None => Err(Ended::ReadFault),
-        Some(read) if read < whole => Err(Ended::Truncated),
+        None => Err(LineOutcome::ReadFault),
+        Some(read) if read < whole => Err(LineOutcome::Truncated),
         Some(_) => Ok(whole),
     }
 }
@@ -115,7 +115,7 @@ fn frame_in(bytes: &[u8]) -> Option<&[u8]>
 /// Reads the next frame if the reader's buffer has it whole, without copying it. Returns what it spells, or `None` if it is not
 /// there, and then nothing was read.
 #[inline(always)]
-fn read_at_hand<R: BufRead>(reader: &mut R) -> Result<Option<Spelled>, Ended>
+fn read_at_hand<R: BufRead>(reader: &mut R) -> Result<Option<Spelled>, LineOutcome>
     ensures some { IfOk result (λ found. IfSome found (ReadsFrame (R.remaining reader.old) (R.remaining reader.new))) }
     ensures none { IfOk result (λ found. IfNone found (Keeps (R.remaining reader.old) (R.remaining reader.new))) }
     ensures err { IfErr result (λ ended. EndsInput ended (R.remaining reader.old) (R.remaining reader.new)) }
@@ -124,7 +124,7 @@ fn read_at_hand<R: BufRead>(reader: &mut R) -> Result<Option<Spelled>, Ended>
         Ok(piece) => piece,
         // The next read tries again.
         Err(error) if error.kind() == ErrorKind::Interrupted => return Ok(None),
-        Err(_) => return Err(Ended::ReadFault),
+        Err(_) => return Err(LineOutcome::ReadFault),
     };
     let Some(frame) = frame_in(piece) else {
         return Ok(None);
@@ -141,7 +141,7 @@ fn read_at_hand<R: BufRead>(reader: &mut R) -> Result<Option<Spelled>, Ended>
 pub(crate) fn read_spelled<R: BufRead>(
     reader: &mut R,
     row: &mut [u8; LONGEST_FRAME],
-) -> Result<Spelled, Ended>
+) -> Result<Spelled, LineOutcome>
     ensures ok { IfOk result (ReadsFrame (R.remaining reader.old) (R.remaining reader.new)) }
     ensures err { IfErr result (λ ended. EndsInput ended (R.remaining reader.old) (R.remaining reader.new)) }
 {

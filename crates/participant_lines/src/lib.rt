@@ -10,10 +10,10 @@ mod tally;
 mod unstarted;
 mod watch;
 
-pub use line_end::{Ended, LineEnd, TalliedEnd};
+pub use line_end::{LineEnd, LineOutcome, TalliedEnd};
 pub use lines::{run_lines, run_watched_lines};
 pub use running::{FRAMES_MOST, run_line};
 pub use seats::{seats_of_ends, seats_of_lines, seats_of_tallied};
-pub use tally::{ALL_REASONS, Mark, Reason, Refused, Tally, each_reason};
+pub use tally::{ALL_REASONS, Reason, RefusedFrame, RefusedFrames, Tally, each_reason};
 pub use unstarted::{Lack, Unstarted};
 pub use watch::LineWatch;

@@ -5,7 +5,7 @@ use line_ledger::{DayName, LineSeat};
 
 /// Why a line does no more frames.
 #[derive(Clone, Copy, Debug, PartialEq, Eq)]
-pub enum Ended {
+pub enum LineOutcome {
     /// The input ended, and the frames were all of it.
     Clean,
     /// The input ended within a frame: after one byte, or after a length of 1 to `LONGEST_BODY` and fewer bytes
@@ -32,7 +32,7 @@ pub struct LineEnd<D: DayName> {
     /// does not take, out of memory aside.
     pub refused: u32,
     /// Why no more were done.
-    pub ended: Ended,
+    pub ended: LineOutcome,
 }
 
 /// A line that has ended, with what was refused of it. It must be spent, since it holds the line's seat.
@@ -43,5 +43,5 @@ pub struct TalliedEnd<D: DayName> {
     /// aside.
     pub tally: Tally,
     /// Why no more were done.
-    pub ended: Ended,
+    pub ended: LineOutcome,
 }

@@ -6,7 +6,7 @@ ghost use Rattle.participant_lines.specs.declared.unstarted.Lack.TheVariants.{Wo
 
 use crate::running::{Outcome, run_frames};
 use crate::watch::ByGate;
-use crate::{Ended, Lack, LineEnd, LineWatch, TalliedEnd, Tally, Unstarted};
+use crate::{Lack, LineEnd, LineOutcome, LineWatch, TalliedEnd, Tally, Unstarted};
 use line_ledger::{DayName, LineSeat, SharedTape};
 use std::alloc::Global;
 use std::io::BufRead;
@@ -55,7 +55,7 @@ fn running_lines<D: DayName, R>(
             reader: Some(reader),
             outcome: Outcome {
                 tally: Tally::none(),
-                ended: Ended::Clean,
+                ended: LineOutcome::Clean,
             },
         });
     }

@@ -3,11 +3,11 @@ ghost use Rattle.std.specs.Prelude.{◌≡◌, ◌≢◌, [], IfErr, IfOk};
 ghost use Rattle.std.specs.List.{cons_option};
 ghost use Rattle.reports.specs.Messages.{header_of};
 ghost use Rattle.participant_lines.specs.Runs.{Does, EndsAfter, Runs, RunsTallied, StopsAt, TakesMessage, effect_of};
-ghost use Rattle.participant_lines.specs.declared.line_end.Ended.TheVariants.{TooMany};
+ghost use Rattle.participant_lines.specs.declared.line_end.LineOutcome.TheVariants.{TooMany};
 
 use crate::frame::read_spelled;
 use crate::watch::ByGate;
-use crate::{Ended, LineEnd, LineWatch, Mark, Reason, Tally};
+use crate::{LineEnd, LineOutcome, LineWatch, Reason, RefusedFrame, Tally};
 use line_ledger::{DayName, LineRefusal, LineSeat, Receipt, SharedTape};
 use reports::{LONGEST_FRAME, Message};
 use std::io::BufRead;
@@ -23,23 +23,26 @@ pub(crate) struct Outcome {
     /// The frames that were refused.
     pub tally: Tally,
     /// Why no more were done.
-    pub ended: Ended,
+    pub ended: LineOutcome,
 }
 
 /// Returns what an answer to the message of this number does to its line: the refusal to count, `None` on an admission, or the
 /// end of the line. Nothing else decides which refusals end a line.
 #[inline(always)]
-fn effect_of(answer: Result<Receipt, LineRefusal>, number: u32) -> Result<Option<Mark>, Ended>
+fn effect_of(
+    answer: Result<Receipt, LineRefusal>,
+    number: u32,
+) -> Result<Option<RefusedFrame>, LineOutcome>
     ensures { result ≡ effect_of number answer }
 {
     match answer {
         Ok(_) => Ok(None),
-        Err(LineRefusal::Behind) => Err(Ended::Behind),
+        Err(LineRefusal::Behind) => Err(LineOutcome::Behind),
         Err(LineRefusal::Refused(refusal)) => {
             if refusal.is_out_of_memory() {
-                Err(Ended::OutOfMemory)
+                Err(LineOutcome::OutOfMemory)
             } else {
-                Ok(Some(Mark {
+                Ok(Some(RefusedFrame {
                     reason: Reason::Refused(refusal),
                     number,
                 }))
@@ -55,7 +58,7 @@ fn take_message<D: DayName, W: Wait>(
     shared: &SharedTape<D>,
     seat: &mut LineSeat<D>,
     message: Message,
-) -> Result<Option<Mark>, Ended>
+) -> Result<Option<RefusedFrame>, LineOutcome>
     ensures ok { IfOk result (λ mark. TakesMessage D.terms seat.old message mark seat.new) }
     ensures err { IfErr result (λ ended. (seat.new ≡ seat.old) × StopsAt ended D.terms seat.old message) }
 {
@@ -72,7 +75,7 @@ fn do_frame<D: DayName, R: BufRead, W: Wait>(
     seat: &mut LineSeat<D>,
     reader: &mut R,
     row: &mut [u8; LONGEST_FRAME],
-) -> Result<Option<Mark>, Ended>
+) -> Result<Option<RefusedFrame>, LineOutcome>
     ensures ok { IfOk result (λ mark. Does D.terms seat.old (R.remaining reader.old) (R.remaining reader.new) 1 (cons_option mark []) seat.new) }
     ensures same { IfErr result (λ _. seat.new ≡ seat.old) }
     ensures err { IfErr result (λ ended. EndsAfter ended D.terms seat.old (R.remaining reader.old) (R.remaining reader.new)) }
@@ -80,7 +83,7 @@ fn do_frame<D: DayName, R: BufRead, W: Wait>(
 {
     match read_spelled(reader, row)? {
         Ok(message) => take_message(rt, shared, seat, message),
-        Err(fault) => Ok(Some(Mark {
+        Err(fault) => Ok(Some(RefusedFrame {
             reason: Reason::Unspelled(fault),
             number: 0,
         })),
@@ -109,7 +112,7 @@ pub(crate) fn run_frames<D: DayName, R: BufRead, G: LineWatch, W: Wait>(
     }
     Outcome {
         tally,
-        ended: Ended::TooMany,
+        ended: LineOutcome::TooMany,
     }
 }
 
@@ -117,7 +120,7 @@ pub(crate) fn run_frames<D: DayName, R: BufRead, G: LineWatch, W: Wait>(
 /// to `LONGEST_BODY` in two bytes, big-endian, and as many bytes. One that spells no message is refused, and so is one whose
 /// message the tape does not take, out of memory aside: that is counted, and the line goes on.
 ///
-/// It ends as `Ended` says, and returns the seat in each case. It reads no byte after those that decide the end, allocates only
+/// It ends as `LineOutcome` says, and returns the seat in each case. It reads no byte after those that decide the end, allocates only
 /// what an admission does, and may wait for the lock. After each frame that is done it calls the gate with the number of the
 /// line, `line`, and how many of its frames are done, from 1.
 pub fn run_line<D: DayName, R: BufRead, G: Gate, W: Wait>(

@@ -83,7 +83,7 @@ impl Reason {
 
 /// A refused frame.
 #[derive(Clone, Copy, Debug, PartialEq, Eq)]
-pub struct Mark {
+pub struct RefusedFrame {
     /// Why it was refused.
     pub reason: Reason,
     /// The number of its message, or 0 if it spells none.
@@ -92,7 +92,7 @@ pub struct Mark {
 
 /// The frames that were refused for one reason.
 #[derive(Clone, Copy, Debug, PartialEq, Eq)]
-pub struct Refused {
+pub struct RefusedFrames {
     /// How many they are, 1 or more.
     pub count: u32,
     /// The message number of the first of them, or 0 if it spells no message.
@@ -102,20 +102,20 @@ pub struct Refused {
 /// The refused frames of a line: how many they are, and for each reason how many, and the first.
 #[derive(Clone, Copy, Debug, PartialEq, Eq)]
 pub struct Tally {
-    reasons: [Option<Refused>; REASONS],
+    reasons: [Option<RefusedFrames>; REASONS],
     refused: u32,
 }
 
 /// Adds one more frame to those that were refused for a reason.
-fn one_more(refused: Option<Refused>, number: u32) -> Refused
+fn one_more(refused: Option<RefusedFrames>, number: u32) -> RefusedFrames
     ensures { IfSome refused (λ refused. refused.count + 1 < 2 ^ 32) → result ≡ one_more refused number }
 {
     match refused {
-        Some(refused) => Refused {
+        Some(refused) => RefusedFrames {
             count: refused.count.saturating_add(1),
             first: refused.first,
         },
-        None => Refused {
+        None => RefusedFrames {
             count: 1,
             first: number,
         },
@@ -123,7 +123,7 @@ fn one_more(refused: Option<Refused>, number: u32) -> Refused
 }
 
 impl Tally {
-    ghost use Rattle.participant_lines.specs.declared.tally.Mark.{Mark as TheMark};
+    ghost use Rattle.participant_lines.specs.declared.tally.RefusedFrame.{RefusedFrame as TheFrame};
 
     /// Returns the tally of no refused frame.
     pub fn none() -> Tally
@@ -143,15 +143,15 @@ impl Tally {
     }
 
     /// The frames that were refused for this reason, or `None` if none was.
-    pub fn of(&self, reason: Reason) -> Option<Refused>
+    pub fn of(&self, reason: Reason) -> Option<RefusedFrames>
         ensures refused { result ≡ refused_for self.now reason }
     {
         self.reasons[reason.place()]
     }
 
     /// Counts one more refused frame.
-    pub(crate) fn add(&mut self, mark: Mark)
-        ensures counts { (marks : List TheMark) → length marks + 1 < 2 ^ 32 → AreCounted marks self.old
+    pub(crate) fn add(&mut self, mark: RefusedFrame)
+        ensures counts { (marks : List TheFrame) → length marks + 1 < 2 ^ 32 → AreCounted marks self.old
             → AreCounted (marks ++ mark ∷ []) self.new }
     {
         let place = mark.reason.place();
@@ -162,8 +162,8 @@ impl Tally {
 
     /// Counts one more refused frame, if there is one.
     #[inline(always)]
-    pub(crate) fn count(&mut self, mark: Option<Mark>)
-        ensures counts { (marks : List TheMark) → length marks + 1 < 2 ^ 32 → AreCounted marks self.old
+    pub(crate) fn count(&mut self, mark: Option<RefusedFrame>)
+        ensures counts { (marks : List TheFrame) → length marks + 1 < 2 ^ 32 → AreCounted marks self.old
             → AreCounted (marks ++ cons_option mark []) self.new }
     {
         if let Some(mark) = mark {

@@ -9,7 +9,7 @@ use Rattle.program_words.specs.declared.command.Asked.TheVariants as asked
 use Rattle.program_words.specs.declared.command.Command.{Command}
 use Rattle.program_words.specs.declared.command.Command.TheVariants as command
 use Rattle.program_words.specs.declared.command.Conversion.TheVariants as conversion
-use Rattle.program_words.specs.declared.command.Request.{Request}
+use Rattle.program_words.specs.declared.command.FileCommand.{FileCommand}
 use Rattle.program_words.specs.declared.flag.Flag.{Flag}
 use Rattle.program_words.specs.declared.flag.Flag.TheVariants as flag
 use Rattle.program_words.specs.declared.given.Given.{Given}

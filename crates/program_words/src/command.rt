@@ -45,7 +45,7 @@ pub enum Command {
 
 /// A text of a table or a journal, and the file of that. The arguments after a word are counted from 0.
 #[derive(Clone, Copy, Debug, PartialEq, Eq)]
-pub struct Request {
+pub struct FileCommand {
     /// The text.
     pub command: Command,
     /// Which argument is the name of the file, which is standard input if it is `-` or there is none.
@@ -56,7 +56,7 @@ pub struct Request {
 #[derive(Clone, Copy, Debug, PartialEq, Eq)]
 pub enum Asked {
     /// A text of a table or a journal.
-    Table(Request),
+    Table(FileCommand),
     /// A running day, and which argument is the name of its file.
     Live(usize),
     /// The report of a running day at a follower's place, from 1, whether what is held is reported if no end comes, and which
@@ -115,7 +115,7 @@ fn asked_by(word: Word, given: &Given) -> Result<Asked, Wrong>
         Word::Status => return Ok(Asked::Status(given.file.ok_or(Wrong::NoDay)?)),
         Word::End => return Ok(Asked::End(given.file.ok_or(Wrong::NoDay)?)),
     };
-    Ok(Asked::Table(Request {
+    Ok(Asked::Table(FileCommand {
         command,
         file: given.file,
     }))

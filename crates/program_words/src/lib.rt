@@ -13,7 +13,7 @@ mod word;
 mod wrong_texts;
 
 pub use arguments::argument_at;
-pub use command::{Asked, Command, Conversion, Request, read_arguments};
+pub use command::{Asked, Command, Conversion, FileCommand, read_arguments};
 pub use flag::Flag;
 pub use given::{STANDARD_INPUT, Wrong};
 pub use help::{help_text, word_help_text};

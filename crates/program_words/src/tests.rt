@@ -1,6 +1,6 @@
 //! Tests what arguments ask for, and the messages for a wrong one and for help.
 
-use crate::{Asked, Command, Request, Word, help_text, read_arguments, wrong_text};
+use crate::{Asked, Command, FileCommand, Word, help_text, read_arguments, wrong_text};
 use feed_words::first_argument;
 use sale_matrix::Matrix;
 use std::alloc::{AllocError, Global};
@@ -8,7 +8,7 @@ use std::process::Abort;
 
 /// Returns the request for a text of a table, whose name is this argument.
 fn table_in(command: Command, file: Option<usize>) -> Option<Asked> {
-    Some(Asked::Table(Request { command, file }))
+    Some(Asked::Table(FileCommand { command, file }))
 }
 
 /// Returns whether arguments ask for a strict report by Matrix Two of the table whose name is this argument.

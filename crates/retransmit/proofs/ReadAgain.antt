@@ -30,8 +30,8 @@ use Rattle.retransmit.specs.declared.ask_fault.AskFault.{AskFault}
 use Rattle.retransmit.specs.declared.ask_fault.AskFault.TheVariants as fault
 use Rattle.retransmit.specs.declared.reply.Answer.{Answer}
 use Rattle.retransmit.specs.declared.reply.Answer.TheVariants.{Refused, Range}
-use Rattle.retransmit.specs.declared.refusal.Refusal.{Refusal}
-use Rattle.retransmit.specs.declared.refusal.Refusal.TheVariants.{OtherSession, Beyond, BadSpan}
+use Rattle.retransmit.specs.declared.refusal.RequestRefusal.{RequestRefusal}
+use Rattle.retransmit.specs.declared.refusal.RequestRefusal.TheVariants.{OtherSession, Beyond, BadSpan}
 use Rattle.retransmit.proofs.LawProofs.{answers_are_read, packet_count-few}
 use Rattle.retransmit.proofs.PacketRuns.{ArePackets-short, length-packet_texts}
 use Rattle.tape_frames.specs.Lemmas.Lengths.{length-data_text}
@@ -53,7 +53,7 @@ after_first first rest byte =
     ap (λ (r : Result (ℕ × List ℕ) AskFault). r >>= λ x. answered_at x.0 x.1) ((number_reader fault.ReadFault wide8).again first rest byte)
 
 -- a refusal's byte is read as that refusal
-refusal_is_read : (refusal : Refusal) (rest : List ℕ) → answer_at (refusal_code refusal ∷ rest) ≡ Err (fault.Refused refusal)
+refusal_is_read : (refusal : RequestRefusal) (rest : List ℕ) → answer_at (refusal_code refusal ∷ rest) ≡ Err (fault.Refused refusal)
 unfolding answered_at
 refusal_is_read OtherSession rest = after_first (refusal_code OtherSession) rest (lit< tt)
 refusal_is_read Beyond rest = after_first (refusal_code Beyond) rest (lit< tt)

@@ -14,7 +14,7 @@ use Rattle.retransmit.specs.Faults.{refusal_code}
 use Rattle.whole_io.specs.FailedReads.{ReadsFewer}
 use Rattle.retransmit.specs.declared.ask_fault.AskFault.{AskFault}
 use Rattle.retransmit.specs.declared.ask_fault.AskFault.TheVariants.{ReadFault, BadAnswer}
-use Rattle.retransmit.specs.declared.refusal.Refusal.TheVariants.{OtherSession, Beyond, BadSpan}
+use Rattle.retransmit.specs.declared.refusal.RequestRefusal.TheVariants.{OtherSession, Beyond, BadSpan}
 use Rattle.retransmit.proofs.Readings.{Follows-fault, Follows-here, Follows-same, Follows-stops, Follows-then, Tells}
 
 -- bytes at the front, as many as requested, are read

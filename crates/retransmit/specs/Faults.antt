@@ -2,17 +2,17 @@
 use Rattle.std.specs.Prelude.{ℕ, List, codes}
 use Rattle.retransmit.specs.declared.ask_fault.AskFault.{AskFault}
 use Rattle.retransmit.specs.declared.ask_fault.AskFault.TheVariants.{ReadFault, WriteFault, BadAnswer, Refused, OutOfMemory}
-use Rattle.retransmit.specs.declared.refusal.Refusal.{Refusal}
-use Rattle.retransmit.specs.declared.refusal.Refusal.TheVariants.{OtherSession, Beyond, BadSpan}
+use Rattle.retransmit.specs.declared.refusal.RequestRefusal.{RequestRefusal}
+use Rattle.retransmit.specs.declared.refusal.RequestRefusal.TheVariants.{OtherSession, Beyond, BadSpan}
 
 -- the number of a refusal, which is the byte that answers the request
-abbrev pub refusal_code : Refusal → ℕ
+abbrev pub refusal_code : RequestRefusal → ℕ
 refusal_code OtherSession = 71
 refusal_code Beyond = 72
 refusal_code BadSpan = 73
 
 -- the name of a refusal, as printed
-abbrev pub refusal_name : Refusal → List ℕ
+abbrev pub refusal_name : RequestRefusal → List ℕ
 refusal_name OtherSession = codes "OtherSession"
 refusal_name Beyond = codes "Beyond"
 refusal_name BadSpan = codes "BadSpan"

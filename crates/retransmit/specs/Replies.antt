@@ -12,7 +12,7 @@ use Rattle.retransmit.specs.declared.ask_fault.AskFault.{AskFault}
 use Rattle.retransmit.specs.declared.ask_fault.AskFault.TheVariants as fault
 use Rattle.retransmit.specs.declared.reply.Answer.{Answer}
 use Rattle.retransmit.specs.declared.reply.Answer.TheVariants.{Refused, Range}
-use Rattle.retransmit.specs.declared.refusal.Refusal.TheVariants.{BadSpan}
+use Rattle.retransmit.specs.declared.refusal.RequestRefusal.TheVariants.{BadSpan}
 
 -- the result read from an answer: its packets' bytes, or the refusal
 abbrev pub given_packets : List Entry → ℕ → Version → Answer → Result (List (List ℕ)) AskFault

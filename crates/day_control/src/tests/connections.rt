@@ -1,7 +1,7 @@
 //! Answers lines over memory.
 ghost use Rattle.std.specs.Prelude.{None};
 
-use crate::{Command, ControlFault, Ended, Operator, ask_over, serve_commands};
+use crate::{ControlCommand, ControlFault, ControlOutcome, Operator, ask_over, serve_commands};
 use std::alloc::AllocError;
 
 /// Puts two lines with an empty one between them, and counts its calls.
@@ -30,9 +30,9 @@ const STATUS: &str = "since 9:30\ntape 12\n\n";
 const UNKNOWN: &str = "unknown command; status or end\n\n";
 
 /// What a connection sends, what it gets, how many calls asked and ended, how many lines were served, and how it ended.
-const ROWS: [(&str, &[&str], (u32, u32), (u32, Ended)); 8] = [
-    ("", &[], (0, 0), (0, Ended::Clean)),
-    ("status\n", &[STATUS], (1, 0), (1, Ended::Clean)),
+const ROWS: [(&str, &[&str], (u32, u32), (u32, ControlOutcome)); 8] = [
+    ("", &[], (0, 0), (0, ControlOutcome::Clean)),
+    ("status\n", &[STATUS], (1, 0), (1, ControlOutcome::Clean)),
     (
         "end\nend\nstatus\nend\n",
         &[
@@ -42,26 +42,31 @@ const ROWS: [(&str, &[&str], (u32, u32), (u32, Ended)); 8] = [
             "ending without waiting for followers\n\n",
         ],
         (1, 3),
-        (4, Ended::Clean),
+        (4, ControlOutcome::Clean),
     ),
     (
         "End\nend \n\nend\r\nstatus\n",
         &[UNKNOWN, UNKNOWN, UNKNOWN, UNKNOWN, STATUS],
         (1, 0),
-        (5, Ended::Clean),
+        (5, ControlOutcome::Clean),
     ),
-    ("status\nen", &[STATUS], (1, 0), (1, Ended::Truncated)),
+    (
+        "status\nen",
+        &[STATUS],
+        (1, 0),
+        (1, ControlOutcome::Truncated),
+    ),
     (
         "0123456789012345678901234567890123456789012345678901234567890123\nend\n",
         &[UNKNOWN, "ending\n\n"],
         (0, 1),
-        (2, Ended::Clean),
+        (2, ControlOutcome::Clean),
     ),
     (
         "01234567890123456789012345678901234567890123456789012345678901234\nend\n",
         &[UNKNOWN],
         (0, 0),
-        (0, Ended::TooLong),
+        (0, ControlOutcome::TooLong),
     ),
     (
         "end\nend\nend\nend\nend\nend\nend\n",
@@ -74,7 +79,7 @@ const ROWS: [(&str, &[&str], (u32, u32), (u32, Ended)); 8] = [
             "ending without waiting for followers\n\n",
         ],
         (0, 6),
-        (6, Ended::TooMany),
+        (6, ControlOutcome::TooMany),
     ),
 ];
 
@@ -113,7 +118,7 @@ fn answers_are_read(rt: HostRuntime) {
         let mut written = Vec::new(rt.alloc());
         let asking = ask_over(
             rt.alloc(),
-            Command::End,
+            ControlCommand::End,
             &mut reader,
             &mut asked,
             &mut written,

@@ -1,8 +1,8 @@
 //! Serves a control socket with its clients, and opens one where something is already there.
 
 use crate::{
-    Command, ControlFault, ControlPlace, Operated, ask_control, open_control, remove_control,
-    serve_control,
+    ControlCommand, ControlFault, ControlPlace, Operated, ask_control, open_control,
+    remove_control, serve_control,
 };
 use std::alloc::{AllocError, Global};
 use std::fs::{Files, Permissions};
@@ -39,7 +39,7 @@ fn told<R: Net<Listener = TcpListener, Stream = TcpStream>>(
     rt: &R,
     alloc: Global,
     place: &ControlPlace,
-    command: Command,
+    command: ControlCommand,
 ) -> Result<Vec<u8>, ControlFault> {
     let mut written = Vec::new(alloc);
     ask_control(rt, alloc, place, command, &mut written)?;
@@ -51,7 +51,7 @@ fn assert_told<R: Abort + Net<Listener = TcpListener, Stream = TcpStream>>(
     rt: &R,
     alloc: Global,
     place: &ControlPlace,
-    command: Command,
+    command: ControlCommand,
     want: &str,
 ) {
     match told(rt, alloc, place, command) {
@@ -67,10 +67,13 @@ fn operate<R: Abort + Net<Listener = TcpListener, Stream = TcpStream>>(
     place: &ControlPlace,
 ) {
     for (command, want) in [
-        (Command::Status, "tape 12\n"),
-        (Command::End, "ending\n"),
-        (Command::End, "ending without waiting for followers\n"),
-        (Command::Status, "tape 12\n"),
+        (ControlCommand::Status, "tape 12\n"),
+        (ControlCommand::End, "ending\n"),
+        (
+            ControlCommand::End,
+            "ending without waiting for followers\n",
+        ),
+        (ControlCommand::Status, "tape 12\n"),
     ] {
         assert_told(rt, alloc, place, command, want);
     }
@@ -140,7 +143,13 @@ fn a_path_is_operated_through_half_lines(rt: HostRuntime) -> Result<(), Fail> {
         let open = half_lines(rt_shared, alloc, path, 256);
         assert!(rt_shared; open.is_ok());
         assert!(rt_shared; first_has_ended(&open));
-        assert_told(rt_shared, alloc, place_shared, Command::Status, "tape 12\n");
+        assert_told(
+            rt_shared,
+            alloc,
+            place_shared,
+            ControlCommand::Status,
+            "tape 12\n",
+        );
         let long = answered(rt_shared, alloc, path, &[b'a'; 1_000]);
         let refused = b"unknown command; status or end\n\n";
         assert!(rt_shared; long.is_ok_and(|text| text.as_slice() == refused.as_slice()));
@@ -180,7 +189,13 @@ fn connections_that_ended_shut_none_down(rt: HostRuntime) -> Result<(), Fail> {
         assert!(rt_shared; started.is_ok());
         let open = half_lines(rt_shared, alloc, path, 1);
         for _ in 0..40 {
-            assert_told(rt_shared, alloc, place_shared, Command::Status, "tape 12\n");
+            assert_told(
+                rt_shared,
+                alloc,
+                place_shared,
+                ControlCommand::Status,
+                "tape 12\n",
+            );
         }
         assert!(rt_shared; !first_has_ended(&open));
         served.close();
@@ -216,7 +231,7 @@ fn what_stands_at_a_path(rt: HostRuntime) -> Result<(), Fail> {
     // No folder, and nobody.
     assert!(rt;
         matches!(
-            told(&rt, rt.alloc(), &place, Command::Status),
+            told(&rt, rt.alloc(), &place, ControlCommand::Status),
             Err(ControlFault::Unanswered)
         )
     );

@@ -14,4 +14,4 @@ returns-in_err-count-clause-err g c =
 
 pub returns-in-Err-clause-err : goal.returns-in-Err-clause-err
 returns-in-Err-clause-err g c =
-    EndsReading-line (g.B.Read.remaining c.args.self.now.left) c.args.self.now.taken c.failed_read.result c.from.result c.from.ensures
+    EndsReading-line (g.B.Read.remaining c.args.self.now.left) c.args.self.now.taken c.of.result c.from.result c.from.ensures

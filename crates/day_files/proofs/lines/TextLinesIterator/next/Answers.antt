@@ -1,6 +1,6 @@
 use Rattle.std.proofs.Common.{rules, arith}
 use Rattle.day_files.proofs.LineLemmas.{lines-last, lines-more, lines-none, rest-slice}
-use Rattle.day_files.proofs.lines.LinesIterator.next.Goals as goal
+use Rattle.day_files.proofs.lines.TextLinesIterator.next.Goals as goal
 
 pub returns-then-is_empty-clause-steps : goal.returns-then-is_empty-clause-steps
 returns-then-is_empty-clause-steps c = let none = lines-none c.args.self.now.rest.now (search rules) in (none, none)

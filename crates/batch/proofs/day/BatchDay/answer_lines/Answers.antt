@@ -1,5 +1,5 @@
 use Rattle.batch.proofs.DayLemmas.{AnsweredSome-line}
-use Rattle.batch.proofs.day.Day.answer_lines.Goals as goal
+use Rattle.batch.proofs.day.BatchDay.answer_lines.Goals as goal
 
 pub loop-line-preserved : goal.loop-line-preserved
 loop-line-preserved c = record {

@@ -1,7 +1,7 @@
 use Rattle.std.proofs.Common.{◌+◌, ◌-◌}
 use Rattle.batch.specs.Batch.{INPUT_MOST}
 use Rattle.batch.specs.Day.{AnswersTaken}
-use Rattle.batch.proofs.day.Day.answer_all.Given as goal
+use Rattle.batch.proofs.day.BatchDay.answer_all.Given as goal
 
 -- the lines taken so far were answered
 abbrev pub invariant-loop-self : goal.invariant-loop-self

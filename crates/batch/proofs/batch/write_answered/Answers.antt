@@ -4,7 +4,7 @@ use Rattle.batch.specs.Batch.{answer_line, tape_report}
 use Rattle.batch.specs.Finish.{report_unless}
 use Rattle.whole_io.specs.Writing.{WritesPrefix}
 use Rattle.whole_io.specs.Lemmas.WriteLemmas.{WritesPrefix-longer, WritesPrefix-then}
-use Rattle.batch.proofs.batch.write_day.Goals as goal
+use Rattle.batch.proofs.batch.write_answered.Goals as goal
 
 pub returns-in_err-write_answers-clause-fault : goal.returns-in_err-write_answers-clause-fault
 returns-in_err-write_answers-clause-fault g c = λ fault.

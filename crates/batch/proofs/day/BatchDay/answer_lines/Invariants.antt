@@ -1,6 +1,6 @@
 use Rattle.batch.specs.Lines.{lines_of}
 use Rattle.batch.proofs.DayLemmas.{AnsweredSome}
-use Rattle.batch.proofs.day.Day.answer_lines.Given as goal
+use Rattle.batch.proofs.day.BatchDay.answer_lines.Given as goal
 
 abbrev pub invariant-loop-line : goal.invariant-loop-line
 invariant-loop-line l = record {

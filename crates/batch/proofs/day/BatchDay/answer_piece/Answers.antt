@@ -2,7 +2,7 @@ use Rattle.std.proofs.Common.{subst, sym, ap, ◌∙◌, take, length-take-le, �
 use Rattle.std.proofs.BufReadLemmas.{Consumes_shown}
 use Rattle.std.specs.Io.BufRead.{FillKeeps}
 use Rattle.batch.proofs.DayLemmas.{AnswersTaken-front, AnswersTaken-none, OnOk-always}
-use Rattle.batch.proofs.day.Day.answer_piece.Goals as goal
+use Rattle.batch.proofs.day.BatchDay.answer_piece.Goals as goal
 
 pub returns-in-Err-clause-answered : goal.returns-in-Err-clause-answered
 returns-in-Err-clause-answered g c =

@@ -1,7 +1,7 @@
 use Rattle.std.proofs.Common.{◌≡◌, Ok, true, false, ap}
 use Rattle.batch.proofs.DayLemmas.{AnswersTaken-both, AnswersTaken-line}
 use Rattle.batch.proofs.InputLemmas.{TakesLines-fits}
-use Rattle.batch.proofs.day.Day.answer_all.Goals as goal
+use Rattle.batch.proofs.day.BatchDay.answer_all.Goals as goal
 
 pub loop-self-preserved : goal.loop-self-preserved
 loop-self-preserved g c =

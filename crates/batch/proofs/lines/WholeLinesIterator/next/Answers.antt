@@ -3,7 +3,7 @@ use Rattle.std.proofs.lemmas.Grind.{common_steps}
 use Rattle.batch.specs.Lines.{lines_of}
 use Rattle.batch.proofs.LineLemmas.{lines_of-first, lines_of-last, lines_of-some}
 use Rattle.batch.proofs.PartLemmas.{fewer_parts, take-behind}
-use Rattle.batch.proofs.lines.LinesIterator.next.Goals as goal
+use Rattle.batch.proofs.lines.WholeLinesIterator.next.Goals as goal
 
 pub returns-in-None-clause-steps : goal.returns-in-None-clause-steps
 returns-in-None-clause-steps c = lines_of-last c.args.self.now.rest.now (grind (arith, common_steps)) c.in-None.ensures
