@@ -4,9 +4,9 @@ use Rattle.std.specs.declared.io.ErrorKind.{ErrorKind}
 use Rattle.std.specs.declared.io.ErrorKind.TheVariants as kind
 use Rattle.feed_ends.specs.declared.cause.Cause.{Cause}
 use Rattle.feed_ends.specs.declared.cause.Cause.TheVariants as cause
-use Rattle.feed_ends.specs.declared.open_fault.OpenFault.{OpenFault}
-use Rattle.feed_ends.specs.declared.place.Place.{Place}
-use Rattle.feed_ends.specs.declared.place.Place.TheVariants as place
+use Rattle.feed_ends.specs.declared.socket_fault.SocketFault.{SocketFault}
+use Rattle.feed_ends.specs.declared.place.SocketPlace.{SocketPlace}
+use Rattle.feed_ends.specs.declared.place.SocketPlace.TheVariants as place
 
 -- the cause of a socket error, by its kind
 abbrev pub cause_of : ErrorKind → Cause
@@ -31,7 +31,7 @@ cause_text cause.NotFound = codes "not found"
 cause_text cause.Other = codes "not opened"
 
 -- a place and its port in words; the sender's socket takes any free port
-abbrev pub place_text : Place → ℕ → List ℕ
+abbrev pub place_text : SocketPlace → ℕ → List ℕ
 place_text (place.Line participant) port = codes "port " ++ decimal port ++ codes " (" ++ (participant ∷ codes ")")
 place_text place.A port = codes "line A " ++ decimal port
 place_text place.B port = codes "line B " ++ decimal port
@@ -40,5 +40,5 @@ place_text place.Sender port = codes "the sender's socket"
 place_text place.Control port = codes "control " ++ decimal port
 
 -- which socket could not be opened, and why, in words
-abbrev pub open_fault_text : OpenFault → List ℕ
+abbrev pub open_fault_text : SocketFault → List ℕ
 open_fault_text fault = place_text fault.place fault.port ++ codes ": " ++ cause_text fault.cause

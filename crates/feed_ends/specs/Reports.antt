@@ -6,6 +6,10 @@ use Rattle.sale_matrix.specs.declared.matrix.Matrix.{Matrix}
 use Rattle.tape_core.specs.Tape.{TapeState, IsLegal}
 use Rattle.day_report.specs.ReportText.{report_text}
 use Rattle.day_report.specs.Rows.{report_rows}
+use Rattle.day_report.specs.declared.report_fault.ReportFault.{ReportFault}
+use Rattle.day_report.specs.declared.report_fault.ReportFault.TheVariants.{BadWorkers, Unstarted, OutOfMemory, WriteFault}
+use Rattle.feed_ends.specs.declared.fault.Fault.{Fault}
+use Rattle.feed_ends.specs.declared.fault.Fault.TheVariants.{Worker, Memory, Write}
 
 -- a day's listing has symbols and participants, not too many, and none of them twice
 abbrev pub IsListing : Names → Type 0
@@ -21,3 +25,10 @@ abbrev pub WritesItsReport : Names → Matrix → ℕ → Option (List ℕ) → 
 WritesItsReport listing matrix limit old new =
     (t : TapeState) × IsListing t.listing × IsLegal t × (t.listing ≡ listing) × (t.matrix ≡ matrix) × (length t.entries ≤ limit)
     × Appends old new (report_text (report_rows t))
+
+-- the end of a day whose report was not made or not written
+abbrev pub report_end : ReportFault → Fault
+report_end BadWorkers = Worker
+report_end Unstarted = Worker
+report_end OutOfMemory = Memory
+report_end WriteFault = Write

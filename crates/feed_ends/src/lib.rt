@@ -5,13 +5,13 @@
 mod address;
 mod cause;
 mod fault;
-mod open_fault;
 mod place;
 mod report;
+mod socket_fault;
 
 pub use address::here;
 pub use cause::Cause;
 pub use fault::{Fault, fault_of_tape};
-pub use open_fault::OpenFault;
-pub use place::Place;
+pub use place::SocketPlace;
 pub use report::write_day;
+pub use socket_fault::SocketFault;

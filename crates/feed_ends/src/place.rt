@@ -8,7 +8,7 @@ use whole_io::push_number;
 
 /// A socket of a day, by what it is for.
 #[derive(Clone, Copy, Debug, PartialEq, Eq)]
-pub enum Place {
+pub enum SocketPlace {
     /// A participant's line.
     Line(Participant),
     /// Line A of a follower.
@@ -33,7 +33,7 @@ fn push_port(text: &mut Vec<u8>, what: &[u8], port: u16) -> Result<(), AllocErro
 
 /// Adds a participant's port, and the participant.
 fn push_line(text: &mut Vec<u8>, participant: Participant, port: u16) -> Result<(), AllocError>
-    ensures { OnOk result (text.new.items ≡ text.old.items ++ place_text (Place.Line participant) port) }
+    ensures { OnOk result (text.new.items ≡ text.old.items ++ place_text (SocketPlace.Line participant) port) }
 {
     push_port(text, b"port ", port)?;
     text.extend_from_slice(b" (")?;
@@ -41,18 +41,18 @@ fn push_line(text: &mut Vec<u8>, participant: Participant, port: u16) -> Result<
     text.extend_from_slice(b")")
 }
 
-impl Place {
+impl SocketPlace {
     /// Adds the place in words, with its port.
     pub(crate) fn push(self, text: &mut Vec<u8>, port: u16) -> Result<(), AllocError>
         ensures { OnOk result (text.new.items ≡ text.old.items ++ place_text self port) }
     {
         match self {
-            Place::Line(participant) => push_line(text, participant, port),
-            Place::A => push_port(text, b"line A ", port),
-            Place::B => push_port(text, b"line B ", port),
-            Place::Retransmission => push_port(text, b"retransmission ", port),
-            Place::Sender => text.extend_from_slice(b"the sender's socket"),
-            Place::Control => push_port(text, b"control ", port),
+            SocketPlace::Line(participant) => push_line(text, participant, port),
+            SocketPlace::A => push_port(text, b"line A ", port),
+            SocketPlace::B => push_port(text, b"line B ", port),
+            SocketPlace::Retransmission => push_port(text, b"retransmission ", port),
+            SocketPlace::Sender => text.extend_from_slice(b"the sender's socket"),
+            SocketPlace::Control => push_port(text, b"control ", port),
         }
     }
 }

@@ -3,9 +3,9 @@ ghost use Rattle.std.specs.Prelude.{◌≡◌, ◌≢◌, ◌⊎◌, IfErr, IfOk
 ghost use Rattle.std.specs.Io.KnownBytes.{Appends};
 ghost use Rattle.day_report.specs.ReportText.{report_text};
 ghost use Rattle.day_report.specs.Rows.{report_rows};
-ghost use Rattle.day_report.specs.declared.report_fault.ReportFault.TheVariants.{BadWorkers, OutOfMemory as ReportOutOfMemory, Unstarted, WriteFault};
-ghost use Rattle.feed_ends.specs.Reports.{IsListing};
-ghost use Rattle.feed_ends.specs.declared.fault.Fault.TheVariants.{Memory, Worker, Write};
+ghost use Rattle.day_report.specs.declared.report_fault.ReportFault.TheVariants.{OutOfMemory as ReportOutOfMemory};
+ghost use Rattle.feed_ends.specs.Reports.{IsListing, report_end};
+ghost use Rattle.feed_ends.specs.declared.fault.Fault.TheVariants.{Memory, Write};
 
 use crate::Fault;
 use day_report::{ReportFault, Row, rows, write_report};
@@ -15,20 +15,22 @@ use std::thread::Threads;
 use summaries::IndexStore;
 use tape_core::Tape;
 use tape_types::NoGate;
+use whole_io::flush;
 
 /// The number of workers that make the rows of a report, if a thread can be started for them.
 const WORKERS: usize = 4;
 
-/// Returns the day's fault for a report that is not written.
-fn fault_of_report(fault: ReportFault) -> Fault
-    ensures worker { (fault ≡ BadWorkers) ⊎ (fault ≡ Unstarted) → result ≡ Worker }
-    ensures memory { fault ≡ ReportOutOfMemory → result ≡ Memory }
-    ensures write { fault ≡ WriteFault → result ≡ Write }
-{
-    match fault {
-        ReportFault::BadWorkers | ReportFault::Unstarted => Fault::Worker,
-        ReportFault::OutOfMemory => Fault::Memory,
-        ReportFault::WriteFault => Fault::Write,
+impl From<ReportFault> for Fault {
+    ghost use Rattle.std.specs.Prelude.{◌≡◌};
+
+    ghost from_gives = { λ fault made. made ≡ report_end fault };
+
+    fn from(fault: ReportFault) -> Fault {
+        match fault {
+            ReportFault::BadWorkers | ReportFault::Unstarted => Fault::Worker,
+            ReportFault::OutOfMemory => Fault::Memory,
+            ReportFault::WriteFault => Fault::Write,
+        }
     }
 }
 
@@ -62,15 +64,7 @@ pub fn write_day<R: Threads + Sync, W: Write>(
 {
     // For the proof alone: by the clauses of this call a tape's listing is a day's.
     let _ = tape.listing().symbols();
-    let rows = match rows_of(rt, alloc, tape) {
-        Ok(rows) => rows,
-        Err(fault) => return Err(fault_of_report(fault)),
-    };
-    if let Err(fault) = write_report(alloc, &rows, writer) {
-        return Err(fault_of_report(fault));
-    }
-    match writer.flush() {
-        Ok(()) => Ok(()),
-        Err(_) => Err(Fault::Write),
-    }
+    let rows = rows_of(rt, alloc, tape)?;
+    write_report(alloc, &rows, writer)?;
+    flush(writer).map_err(|_| Fault::Write)
 }

@@ -1,5 +1,6 @@
 -- The text that accounts for a follower's day, part by part.
 use Rattle.std.specs.Prelude.{◌==◌, ◌++◌, ℕ, List, [], ◌∷◌, Option, None, Some, Result, Ok, Err, codes, decimal, if◌then◌else◌}
+use Rattle.whole_io.specs.CountedTexts.{counted}
 use Rattle.feed_ends.specs.declared.fault.Fault.{Fault}
 use Rattle.feed_follower.specs.Accounts.{dropped}
 use Rattle.feed_follower.specs.declared.account.FollowAccount.{FollowAccount}
@@ -8,13 +9,9 @@ use Rattle.feed_follower.specs.declared.follow_end.FollowEnd.{FollowEnd}
 use Rattle.feed_follower.specs.declared.follow_fault.FollowFault.{FollowFault}
 use Rattle.feed_follower.specs.declared.follow_fault.FollowFault.TheVariants.{Ended, Unreachable, OtherEntry}
 
--- a count and a noun, which is one for a count of 1 and more otherwise
-unfoldable pub many : ℕ → List ℕ → List ℕ → List ℕ
-many count one more = decimal count ++ (if count == 1 then one else more)
-
 -- a text, a count and a noun
 unfoldable pub counted_text : List ℕ → ℕ → List ℕ → List ℕ → List ℕ
-counted_text before count one more = before ++ many count one more
+counted_text before count one more = before ++ counted count one more
 
 -- how many packets were dropped for a reason, if any were
 unfoldable pub reason_text : ℕ → List ℕ → List ℕ
@@ -33,7 +30,7 @@ drops_text count (comma ∷ reasons) = codes ", " ++ decimal count ++ codes " dr
 
 -- how many packets came by a line, and how many of them were dropped for which reason
 unfoldable pub packets_text : LineCounts → List ℕ
-packets_text c = many c.packets (codes " packet") (codes " packets") ++ drops_text (dropped c) (reasons_text c) ++ codes "\n"
+packets_text c = counted c.packets (codes " packet") (codes " packets") ++ drops_text (dropped c) (reasons_text c) ++ codes "\n"
 
 -- a number between two texts
 unfoldable pub named : List ℕ → ℕ → List ℕ → List ℕ

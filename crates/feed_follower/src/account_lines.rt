@@ -1,25 +1,16 @@
 //! Writes the account of a follower's day as lines for standard error, part by part, each part as `specs/AccountTexts.antt`
 //! says.
 ghost use Rattle.std.specs.Prelude.{◌≡◌, ◌++◌, IfOk, OnOk};
-ghost use Rattle.feed_follower.specs.AccountTexts.{account_text, asked_text, counted_text, drops_text, end_text, entries_text, heard_text, line_text, lines_text, many, named, other_text, packets_text, pair_text, part_text, reason_text, reasons_text, senders_text, session_text};
+ghost use Rattle.feed_follower.specs.AccountTexts.{account_text, asked_text, counted_text, drops_text, end_text, entries_text, heard_text, line_text, lines_text, named, other_text, packets_text, pair_text, part_text, reason_text, reasons_text, senders_text, session_text};
 
 use crate::{FollowAccount, FollowEnd, FollowFault, LineCounts};
 use feed_ends::Fault;
 use std::alloc::{AllocError, Global};
-use whole_io::{push_number, push_wide_number};
-
-/// Adds a count and a noun, which is `one` for a count of 1 and `more` otherwise.
-#[tactic(auto, unfolding(crate::specs::AccountTexts::many))]
-fn push_many(text: &mut Vec<u8>, count: u128, one: &[u8], more: &[u8]) -> Result<(), AllocError>
-    ensures { OnOk result (text.new.items ≡ text.old.items ++ many count one.now more.now) }
-{
-    push_wide_number(text, count)?;
-    text.extend_from_slice(if count == 1 { one } else { more })
-}
+use whole_io::{push_counted, push_number, push_wide_number};
 
 /// Adds a text, a count and a noun.
 #[tactic(auto, unfolding(crate::specs::AccountTexts::counted_text))]
-fn push_counted(
+fn push_counted_after(
     text: &mut Vec<u8>,
     before: &[u8],
     count: u64,
@@ -29,7 +20,7 @@ fn push_counted(
     ensures { OnOk result (text.new.items ≡ text.old.items ++ counted_text before.now count one.now more.now) }
 {
     text.extend_from_slice(before)?;
-    push_many(text, u128::from(count), one, more)
+    push_counted(text, u128::from(count), one, more)
 }
 
 /// Adds how many packets were dropped for a reason, if any were.
@@ -84,7 +75,7 @@ fn push_drops(text: &mut Vec<u8>, count: u128, reasons: &[u8]) -> Result<(), All
 fn push_packets(alloc: Global, text: &mut Vec<u8>, counts: &LineCounts) -> Result<(), AllocError>
     ensures { OnOk result (text.new.items ≡ text.old.items ++ packets_text counts.now) }
 {
-    push_many(text, u128::from(counts.packets), b" packet", b" packets")?;
+    push_counted(text, u128::from(counts.packets), b" packet", b" packets")?;
     let reasons = reasons(alloc, counts)?;
     push_drops(text, counts.dropped(), &reasons)?;
     text.extend_from_slice(b"\n")
@@ -141,7 +132,7 @@ fn push_asked(alloc: Global, text: &mut Vec<u8>, account: &FollowAccount) -> Res
     ensures { OnOk result (text.new.items ≡ text.old.items ++ asked_text account.now) }
 {
     let before = b"tapebox: retransmission: ";
-    push_counted(text, before, account.asked, b" request, ", b" requests, ")?;
+    push_counted_after(text, before, account.asked, b" request, ", b" requests, ")?;
     push_packets(alloc, text, &account.retransmission)
 }
 
@@ -235,7 +226,7 @@ fn push_part(text: &mut Vec<u8>, report: Option<Result<u32, Fault>>) -> Result<(
     ensures { OnOk result (text.new.items ≡ text.old.items ++ part_text report) }
 {
     match report {
-        Some(Ok(count)) => push_counted(
+        Some(Ok(count)) => push_counted_after(
             text,
             b"tapebox: the report is of the first ",
             u64::from(count),

@@ -4,7 +4,7 @@ ghost use Rattle.feed_ends.specs.declared.fault.Fault.TheVariants.{Disagrees, Me
 ghost use Rattle.feed_follower.specs.Reported.{follow_fault};
 ghost use Rattle.feed_follower.specs.declared.requester.Answered.TheVariants.{Beyond, Packets};
 ghost use Rattle.retransmit.specs.declared.ask_fault.AskFault.TheVariants.{OutOfMemory as AskOutOfMemory, ReadFault, Refused, WriteFault};
-ghost use Rattle.retransmit.specs.declared.refusal.Refusal.TheVariants.{Beyond as RefusedBeyond};
+ghost use Rattle.retransmit.specs.declared.refusal.RequestRefusal.TheVariants.{Beyond as RefusedBeyond};
 
 use crate::follower::Next;
 use crate::held_name::HeldName;
@@ -12,7 +12,7 @@ use crate::run::Run;
 use crate::tries::{PAUSE, Tries, tries_within};
 use crate::{EntrySink, FollowFault};
 use feed_ends::{Fault, here};
-use retransmit::{AskFault, Refusal, ask};
+use retransmit::{AskFault, RequestRefusal, ask};
 use std::alloc::Global;
 use std::io::ErrorKind;
 use std::net::{Net, TcpListener, TcpStream};
@@ -126,7 +126,7 @@ fn read_answer(asked: Result<Vec<Vec<u8>>, AskFault>) -> Result<Answered, Fault>
 {
     match asked {
         Ok(packets) => Ok(Answered::Packets(packets)),
-        Err(AskFault::Refused(Refusal::Beyond)) => Ok(Answered::Beyond),
+        Err(AskFault::Refused(RequestRefusal::Beyond)) => Ok(Answered::Beyond),
         Err(fault) => Err(fault_of_ask(fault)),
     }
 }

@@ -1,8 +1,8 @@
 //! The sockets of a follower, and how they are opened.
 ghost use Rattle.std.specs.Prelude.{◌≡◌, ◌⊎◌, Some, IfErr, IfOk, slice_get};
-ghost use Rattle.feed_ends.specs.declared.place.Place.TheVariants.{A, B};
+ghost use Rattle.feed_ends.specs.declared.place.SocketPlace.TheVariants.{A, B};
 
-use feed_ends::{OpenFault, Place, here};
+use feed_ends::{SocketFault, SocketPlace, here};
 use std::net::{Net, TcpListener, TcpStream, UdpSocket};
 
 /// The open sockets of a follower, and the port at which it asks.
@@ -19,12 +19,12 @@ pub struct FollowSockets {
 /// Opens the socket of a line on a port of this machine.
 fn bind<R: Net<Listener = TcpListener, Stream = TcpStream>>(
     rt: &R,
-    place: Place,
+    place: SocketPlace,
     port: u16,
-) -> Result<UdpSocket, OpenFault>
+) -> Result<UdpSocket, SocketFault>
     ensures { IfErr result (λ why. (why.place ≡ place) × (why.port ≡ port)) }
 {
-    UdpSocket::bind(rt, here(port)).map_err(|error| OpenFault::new(place, port, error.kind()))
+    UdpSocket::bind(rt, here(port)).map_err(|error| SocketFault::new(place, port, error.kind()))
 }
 
 impl FollowSockets {
@@ -34,15 +34,15 @@ impl FollowSockets {
         rt: &R,
         ports: [u16; 2],
         retransmission: u16,
-    ) -> Result<FollowSockets, OpenFault>
+    ) -> Result<FollowSockets, SocketFault>
         ensures retransmission { IfOk result (λ sockets. sockets.retransmission ≡ retransmission) }
         ensures fault { IfErr result (λ why. ((why.place ≡ A) × (slice_get ports 0 ≡ Some why.port))
             ⊎ ((why.place ≡ B) × (slice_get ports 1 ≡ Some why.port))) }
     {
         let [a, b] = ports;
         Ok(FollowSockets {
-            a: bind(rt, Place::A, a)?,
-            b: bind(rt, Place::B, b)?,
+            a: bind(rt, SocketPlace::A, a)?,
+            b: bind(rt, SocketPlace::B, b)?,
             retransmission,
         })
     }

@@ -2,16 +2,17 @@
 use Rattle.std.specs.Prelude.{◌≡◌, ◌==◌, ◌⊎◌, ◌<◌, ◌+◌, ◌++◌, ◌∷◌, ◌||◌, ℕ, Bool, true, false, not, if◌then◌else◌, Option, None, Some, List, [], codes, decimal, length, slice_index_or}
 use Rattle.std.specs.List.{flat_map}
 use Rattle.std.specs.Option.{option_map_or}
+use Rattle.whole_io.specs.CountedTexts.{counted}
 use Rattle.line_ledger.specs.Seats.{SeatState, last_told}
 use Rattle.participant_lines.specs.Tallies.{all_reasons, reason_code, reason_name, refused_for}
-use Rattle.participant_lines.specs.declared.line_end.Ended.{Ended}
-use Rattle.participant_lines.specs.declared.line_end.Ended.TheVariants.{Clean, Truncated, Oversize, ReadFault, TooMany, OutOfMemory, Behind}
+use Rattle.participant_lines.specs.declared.line_end.LineOutcome.{LineOutcome}
+use Rattle.participant_lines.specs.declared.line_end.LineOutcome.TheVariants.{Clean, Truncated, Oversize, ReadFault, TooMany, OutOfMemory, Behind}
 use Rattle.participant_lines.specs.declared.tally.Reason.{Reason}
 use Rattle.participant_lines.specs.declared.tally.Reason.TheVariants.{Unspelled, Refused as ByTape}
-use Rattle.participant_lines.specs.declared.tally.Refused.{Refused}
+use Rattle.participant_lines.specs.declared.tally.RefusedFrames.{RefusedFrames}
 use Rattle.participant_lines.specs.declared.tally.Tally.{Tally}
 use Rattle.live_feed.specs.declared.account.LineAccount.{LineAccount}
-use Rattle.live_feed.specs.declared.line_counts.LineCounts.{LineCounts}
+use Rattle.live_feed.specs.declared.line_counts.MessageCounts.{MessageCounts}
 use Rattle.live_feed.specs.declared.line_counts.LineStage.{LineStage}
 use Rattle.live_feed.specs.declared.line_counts.LineStage.TheVariants.{Awaited, Absent, Unawaited, Open, Closed}
 use Rattle.live_feed.specs.declared.line_counts.SeenLine.{SeenLine}
@@ -21,7 +22,7 @@ abbrev pub head_text : List ℕ → ℕ → List ℕ
 head_text word who = word ++ who ∷ codes ": "
 
 -- how many messages of a line were done and admitted, and the number of the last that was
-abbrev pub counts_text : LineCounts → List ℕ
+abbrev pub counts_text : MessageCounts → List ℕ
 counts_text c = decimal (c.admitted + c.tally.refused) ++ codes " messages, " ++ decimal c.admitted ++ codes " admitted, last number " ++ decimal c.last
 
 -- how many messages were refused by a number and a name
@@ -29,16 +30,16 @@ abbrev pub refused_text : ℕ → ℕ → List ℕ → List ℕ
 refused_text count code name = decimal count ++ codes " refused by " ++ decimal code ++ codes " " ++ name
 
 -- how many messages were refused for a reason
-abbrev pub reason_text : Reason → Refused → List ℕ
+abbrev pub reason_text : Reason → RefusedFrames → List ℕ
 reason_text reason refused = refused_text refused.count (reason_code reason) (reason_name reason)
 
 -- the number of the first message that was refused for a reason, if the frame spells a message
-unfoldable pub first_text : Reason → Refused → List ℕ
+unfoldable pub first_text : Reason → RefusedFrames → List ℕ
 first_text (Unspelled fault) refused = []
 first_text (ByTape refusal) refused = codes ", the first with number " ++ decimal refused.first
 
 -- the line of the messages that were refused for a reason
-abbrev pub refused_line : List ℕ → ℕ → Reason → Refused → List ℕ
+abbrev pub refused_line : List ℕ → ℕ → Reason → RefusedFrames → List ℕ
 refused_line word who reason refused = head_text word who ++ reason_text reason refused ++ first_text reason refused ++ codes "\n"
 
 -- the line of a reason, or nothing if no message was refused for it
@@ -69,7 +70,7 @@ absent_stage true (Some seconds) = Unawaited
 absent_stage false (Some seconds) = Absent seconds
 
 -- whether a line's counts are said: its participant has connected, or the day goes on after some of its messages
-abbrev pub is_counted : LineStage → LineCounts → Bool
+abbrev pub is_counted : LineStage → MessageCounts → Bool
 is_counted stage counts = has_connected stage || not (counts.admitted == 0)
 
 -- what is said of a participant that did not connect
@@ -91,7 +92,7 @@ unfoldable pub program_word : List ℕ
 program_word = codes "tapebox: "
 
 -- how a line ended that did not end cleanly, or that was open when the day was ended
-unfoldable pub end_words : Ended → Bool → List ℕ
+unfoldable pub end_words : LineOutcome → Bool → List ℕ
 end_words Clean false = []
 end_words Clean true = codes "the day was ended while the line was open"
 end_words Truncated false = codes "the line ended within a message"
@@ -119,13 +120,9 @@ outcome_line word a =
 abbrev pub account_lines : LineAccount → List ℕ
 account_lines a = messages_lines program_word a ++ outcome_line program_word a
 
--- the words for so many connections of the retransmission that were given up
-unfoldable pub followers_words : ℕ → List ℕ
-followers_words given_up = if given_up == 1 then codes " follower was" else codes " followers were"
-
 -- so many connections of the retransmission were waited for no longer
 abbrev pub given_up_text : List ℕ → ℕ → List ℕ
-given_up_text word given_up = word ++ decimal given_up ++ followers_words given_up ++ codes " waited for no longer\n"
+given_up_text word given_up = word ++ counted given_up (codes " follower was") (codes " followers were") ++ codes " waited for no longer\n"
 
 -- how many were, if any
 unfoldable pub given_up_line : ℕ → List ℕ
@@ -137,11 +134,11 @@ account_text accounts given_up = flat_map account_lines accounts ++ given_up_lin
 
 -- what an account tells of a line's end: whose it is, how many messages were admitted, the last one's number, what was refused,
 -- and why no more were done
-abbrev pub told_account : LineAccount → ℕ × LineCounts × Ended
+abbrev pub told_account : LineAccount → ℕ × MessageCounts × LineOutcome
 told_account a = (a.who, a.counts, a.ended)
 
 -- what is to be told of it, by the line's seat
-abbrev pub told_end : SeatState → Tally → Ended → ℕ × LineCounts × Ended
+abbrev pub told_end : SeatState → Tally → LineOutcome → ℕ × MessageCounts × LineOutcome
 told_end seat tally ended = (seat.who, record { admitted = length seat.told; last = last_told 0 seat.told; tally = tally }, ended)
 
 -- whose line it is, how many messages were admitted, and the last one's number, by an account and by a seat

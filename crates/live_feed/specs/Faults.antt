@@ -1,7 +1,7 @@
 -- The faults that a day's lines, sender and retransmission meet.
 use Rattle.std.specs.Prelude.{◌≡◌, ◌≤◌, ◌↔◌, Bool, false, List, Option, Some, None, IfSome, Result, MatchResult, All, Contains}
-use Rattle.participant_lines.specs.declared.line_end.Ended.{Ended}
-use Rattle.participant_lines.specs.declared.line_end.Ended.TheVariants as ended
+use Rattle.participant_lines.specs.declared.line_end.LineOutcome.{LineOutcome}
+use Rattle.participant_lines.specs.declared.line_end.LineOutcome.TheVariants as ended
 use Rattle.participant_lines.specs.declared.unstarted.Lack.{Lack}
 use Rattle.participant_lines.specs.declared.unstarted.Lack.TheVariants as lack
 use Rattle.feed_ends.specs.Faults.{fault_status}
@@ -27,7 +27,7 @@ pub record IsLeast (met : List (Option Fault)) (answer : Option Fault) : Type 0 
   pub least : IfSome answer (λ fault. All (NoneBefore fault) met)
 
 -- the day's fault for the end of a line: a peer that misbehaves ends its own line alone
-abbrev pub line_fault : Ended → Option Fault
+abbrev pub line_fault : LineOutcome → Option Fault
 line_fault ended.Clean = None
 line_fault ended.Truncated = None
 line_fault ended.Oversize = None

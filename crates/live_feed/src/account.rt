@@ -1,16 +1,16 @@
 //! Writes the account of a day's lines: what became of each participant's messages.
 ghost use Rattle.std.specs.Prelude.{◌≡◌, ◌++◌, IfOk, OnOk};
 ghost use Rattle.std.specs.List.{flat_map};
-ghost use Rattle.live_feed.specs.Accounts.{account_lines, account_text, counted_lines, end_words, followers_words, given_up_line, given_up_text, messages_lines, outcome_line, program_word};
+ghost use Rattle.live_feed.specs.Accounts.{account_lines, account_text, counted_lines, end_words, given_up_line, given_up_text, messages_lines, outcome_line, program_word};
 
 use crate::line_counts::{
-    LineCounts, LineStage, push_absent, push_all_refused, push_counts, push_head, push_text,
+    LineStage, MessageCounts, push_absent, push_all_refused, push_counts, push_head, push_text,
     push_words,
 };
-use participant_lines::Ended;
+use participant_lines::LineOutcome;
 use std::alloc::{AllocError, Global};
 use tape_types::Participant;
-use whole_io::push_number;
+use whole_io::push_counted;
 
 /// How a participant's line came out.
 #[derive(Clone, Copy, Debug, PartialEq, Eq)]
@@ -20,9 +20,9 @@ pub(crate) struct LineAccount {
     /// How far it came.
     pub(crate) stage: LineStage,
     /// What became of its messages.
-    pub(crate) counts: LineCounts,
+    pub(crate) counts: MessageCounts,
     /// Why no more were done.
-    pub(crate) ended: Ended,
+    pub(crate) ended: LineOutcome,
     /// Whether it was open when the day was ended, which is no fault of its participant.
     pub(crate) was_cut: bool,
 }
@@ -37,24 +37,28 @@ fn program_word() -> &'static [u8]
 
 /// What is said of a line that did not end cleanly, or that was open when the day was ended; nothing of another.
 #[tactic(auto, unfolding(crate::specs::Accounts::end_words))]
-fn end_words(ended: Ended, was_cut: bool) -> &'static [u8]
+fn end_words(ended: LineOutcome, was_cut: bool) -> &'static [u8]
     ensures { result.now ≡ end_words ended was_cut }
 {
     match (ended, was_cut) {
-        (Ended::Clean, false) => b"",
-        (Ended::Clean, true) => b"the day was ended while the line was open",
-        (Ended::Truncated, false) => b"the line ended within a message",
-        (Ended::Truncated, true) => b"the day was ended within a message",
-        (Ended::Oversize, _) => b"the line ended at a length that no message has",
-        (Ended::ReadFault, _) => b"the line ended at a read that failed",
-        (Ended::TooMany, _) => b"the line ended after as many messages as one may have",
-        (Ended::OutOfMemory, _) => b"the line ended for want of memory",
-        (Ended::Behind, _) => b"the line ended at a tape that disagrees",
+        (LineOutcome::Clean, false) => b"",
+        (LineOutcome::Clean, true) => b"the day was ended while the line was open",
+        (LineOutcome::Truncated, false) => b"the line ended within a message",
+        (LineOutcome::Truncated, true) => b"the day was ended within a message",
+        (LineOutcome::Oversize, _) => b"the line ended at a length that no message has",
+        (LineOutcome::ReadFault, _) => b"the line ended at a read that failed",
+        (LineOutcome::TooMany, _) => b"the line ended after as many messages as one may have",
+        (LineOutcome::OutOfMemory, _) => b"the line ended for want of memory",
+        (LineOutcome::Behind, _) => b"the line ended at a tape that disagrees",
     }
 }
 
 /// Adds what became of a participant's messages.
-fn push_counted(text: &mut Vec<u8>, word: &[u8], account: &LineAccount) -> Result<(), AllocError>
+fn push_message_counts(
+    text: &mut Vec<u8>,
+    word: &[u8],
+    account: &LineAccount,
+) -> Result<(), AllocError>
     ensures { OnOk result (text.new.items ≡ text.old.items ++ counted_lines word.now account.now) }
 {
     push_head(text, word, account.who)?;
@@ -69,7 +73,7 @@ fn push_messages(text: &mut Vec<u8>, word: &[u8], account: &LineAccount) -> Resu
     ensures { OnOk result (text.new.items ≡ text.old.items ++ messages_lines word.now account.now) }
 {
     if account.stage.is_counted(&account.counts) {
-        return push_counted(text, word, account);
+        return push_message_counts(text, word, account);
     }
     Ok(())
 }
@@ -104,25 +108,17 @@ fn push_accounts(text: &mut Vec<u8>, accounts: &[LineAccount]) -> Result<(), All
     Ok(())
 }
 
-/// The words for so many followers that were given up.
-#[tactic(auto, unfolding(crate::specs::Accounts::followers_words))]
-fn followers_words(given_up: u64) -> &'static [u8]
-    ensures { result.now ≡ followers_words given_up }
-{
-    if given_up == 1 {
-        b" follower was"
-    } else {
-        b" followers were"
-    }
-}
-
 /// Adds that so many followers were waited for no longer.
-fn push_given(text: &mut Vec<u8>, word: &[u8], given_up: u64) -> Result<(), AllocError>
+fn push_given(text: &mut Vec<u8>, word: &[u8], given_up: u32) -> Result<(), AllocError>
     ensures { OnOk result (text.new.items ≡ text.old.items ++ given_up_text word.now given_up) }
 {
     push_text(text, word)?;
-    push_number(text, given_up)?;
-    push_text(text, followers_words(given_up))?;
+    push_counted(
+        text,
+        u128::from(given_up),
+        b" follower was",
+        b" followers were",
+    )?;
     push_text(text, b" waited for no longer\n")
 }
 
@@ -134,7 +130,7 @@ fn push_given_up(text: &mut Vec<u8>, given_up: u32) -> Result<(), AllocError>
     if given_up == 0 {
         return Ok(());
     }
-    push_given(text, program_word(), u64::from(given_up))
+    push_given(text, program_word(), given_up)
 }
 
 /// The account of a day: the lines of each participant, in listing order, and how many followers were given up.

@@ -1,5 +1,6 @@
 //! The sockets, the session and the loss that a day is sent with.
 
+use crate::bell::Bell;
 use std::alloc::Global;
 use std::net::{TcpListener, TcpStream, UdpSocket};
 
@@ -18,6 +19,8 @@ pub(crate) struct Feed<'a, L> {
     pub(crate) b: &'a [u16],
     /// Which data packets are lost.
     pub(crate) loss: &'a L,
+    /// What wakes the sender if a line has admitted a message.
+    pub(crate) bell: &'a Bell,
     /// The session of the day.
     pub(crate) session: u64,
     /// How many connections are served.

@@ -5,14 +5,14 @@ ghost use Rattle.live_feed.specs.Accounts.{absent_line, absent_words, counts_tex
 ghost use Rattle.live_feed.specs.declared.line_counts.LineStage.TheVariants.{Awaited};
 ghost use Rattle.participant_lines.specs.Tallies.{AreCounted};
 
-use participant_lines::{ALL_REASONS, Reason, Refused, Tally};
+use participant_lines::{ALL_REASONS, Reason, RefusedFrames, Tally};
 use std::alloc::AllocError;
 use tape_types::Participant;
 use whole_io::push_number;
 
 /// What became of a line's messages.
 #[derive(Clone, Copy, Debug, PartialEq, Eq)]
-pub(crate) struct LineCounts {
+pub(crate) struct MessageCounts {
     /// How many were admitted.
     pub(crate) admitted: u32,
     /// The number of the last one that was, 0 for none.
@@ -44,17 +44,17 @@ pub(crate) struct SeenLine {
     /// How far it has come.
     pub(crate) stage: LineStage,
     /// What became of its messages.
-    pub(crate) counts: LineCounts,
+    pub(crate) counts: MessageCounts,
     /// How many of its messages the day's journal had when the day began, which are counted too.
     pub(crate) before: u32,
 }
 
-impl LineCounts {
+impl MessageCounts {
     /// Nothing came yet.
-    pub(crate) fn none() -> LineCounts
+    pub(crate) fn none() -> MessageCounts
         ensures { (result.admitted ≡ 0) × (result.last ≡ 0) × AreCounted [] result.tally }
     {
-        LineCounts {
+        MessageCounts {
             admitted: 0,
             last: 0,
             tally: Tally::none(),
@@ -62,23 +62,23 @@ impl LineCounts {
     }
 
     /// The counts of a line of which this many messages were admitted before the day goes on, the last with this number.
-    pub(crate) fn before(admitted: u32, last: u32) -> LineCounts
+    pub(crate) fn before(admitted: u32, last: u32) -> MessageCounts
         ensures numbers { (result.admitted ≡ admitted) × (result.last ≡ last) }
         ensures tally { AreCounted [] result.tally }
     {
-        LineCounts {
+        MessageCounts {
             admitted,
             last,
-            ..LineCounts::none()
+            ..MessageCounts::none()
         }
     }
 
     /// What became of a line's messages once this many were done and these of them refused, after those of a day that goes on.
-    pub(crate) fn so_far(before: u32, done: u32, last: u32, tally: &Tally) -> LineCounts
+    pub(crate) fn so_far(before: u32, done: u32, last: u32, tally: &Tally) -> MessageCounts
         ensures admitted { result.admitted ≡ min (before + (done - tally.now.refused)) (2 ^ 32 - 1) }
         ensures others { (result.last ≡ last) × (result.tally ≡ tally.now) }
     {
-        LineCounts {
+        MessageCounts {
             admitted: before.saturating_add(done.saturating_sub(tally.refused())),
             last,
             tally: *tally,
@@ -95,7 +95,7 @@ impl LineStage {
     }
 
     /// Whether a line's counts are said: its participant has connected, or the day goes on after some of its messages.
-    pub(crate) fn is_counted(self, counts: &LineCounts) -> bool
+    pub(crate) fn is_counted(self, counts: &MessageCounts) -> bool
         ensures { result ≡ is_counted self counts.now }
     {
         self.has_connected() || counts.admitted != 0
@@ -118,7 +118,7 @@ impl SeenLine {
         SeenLine {
             who,
             stage: LineStage::Awaited,
-            counts: LineCounts::none(),
+            counts: MessageCounts::none(),
             before: 0,
         }
     }
@@ -129,7 +129,7 @@ impl SeenLine {
         ensures counts { (result.counts.admitted ≡ admitted) × (result.counts.last ≡ last) × AreCounted [] result.counts.tally }
     {
         SeenLine {
-            counts: LineCounts::before(admitted, last),
+            counts: MessageCounts::before(admitted, last),
             before: admitted,
             ..self
         }
@@ -142,7 +142,7 @@ impl SeenLine {
         ensures others { (result.counts.last ≡ last) × (result.counts.tally ≡ tally.now) }
     {
         SeenLine {
-            counts: LineCounts::so_far(self.before, done, last, tally),
+            counts: MessageCounts::so_far(self.before, done, last, tally),
             ..self
         }
     }
@@ -183,7 +183,7 @@ pub(crate) fn push_words(
 }
 
 /// Adds how many messages were done and admitted, and the number of the last that was.
-pub(crate) fn push_counts(text: &mut Vec<u8>, counts: &LineCounts) -> Result<(), AllocError>
+pub(crate) fn push_counts(text: &mut Vec<u8>, counts: &MessageCounts) -> Result<(), AllocError>
     ensures { OnOk result (text.new.items ≡ text.old.items ++ counts_text counts.now) }
 {
     let messages = u64::from(counts.admitted) + u64::from(counts.tally.refused());
@@ -206,7 +206,7 @@ fn push_refusals(text: &mut Vec<u8>, count: u64, code: u64, name: &[u8]) -> Resu
 }
 
 /// Adds how many messages were refused for a reason.
-fn push_reason(text: &mut Vec<u8>, reason: Reason, refused: Refused) -> Result<(), AllocError>
+fn push_reason(text: &mut Vec<u8>, reason: Reason, refused: RefusedFrames) -> Result<(), AllocError>
     ensures { OnOk result (text.new.items ≡ text.old.items ++ reason_text reason refused) }
 {
     let (count, code) = (u64::from(refused.count), u64::from(reason.code()));
@@ -215,7 +215,7 @@ fn push_reason(text: &mut Vec<u8>, reason: Reason, refused: Refused) -> Result<(
 
 /// Adds the number of the first message that was refused for a reason, if the frame spells a message.
 #[tactic(auto, unfolding(crate::specs::Accounts::first_text))]
-fn push_first(text: &mut Vec<u8>, reason: Reason, refused: Refused) -> Result<(), AllocError>
+fn push_first(text: &mut Vec<u8>, reason: Reason, refused: RefusedFrames) -> Result<(), AllocError>
     ensures { OnOk result (text.new.items ≡ text.old.items ++ first_text reason refused) }
 {
     match reason {

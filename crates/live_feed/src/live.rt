@@ -173,8 +173,7 @@ fn run_named<D: DayName + Send + Sync, R: Threads + Wait + Clock + Sync, L: Loss
 {
     let slots = Vec::new(feed.alloc);
     let (shared, waiting) = open_lines::<D, R>(rt, feed.alloc, prepared, readers, slots, None)?;
-    let bell = Bell::new();
-    let joined = run_together(rt, feed, &shared, waiting, &bell, text);
+    let joined = run_together(rt, feed, &shared, waiting, text);
     finish_day(shared, joined)
 }
 
@@ -289,6 +288,7 @@ pub fn run_live<R: Threads + Wait + Clock + Sync, L: Loss + Sync, W: Write>(
         b,
     } = sockets;
     let closing = closing_of(&retransmission)?;
+    let bell = Bell::new();
     let feed = Feed {
         sender: &sender,
         retransmission: &retransmission,
@@ -296,6 +296,7 @@ pub fn run_live<R: Threads + Wait + Clock + Sync, L: Loss + Sync, W: Write>(
         a: &a,
         b: &b,
         loss,
+        bell: &bell,
         session: terms.session,
         serves: terms.serves,
         alloc,

@@ -232,14 +232,11 @@ fn run_named<
         Ok(opened) => opened,
         Err(fault) => return not_held(feed.alloc, fault),
     };
-    let bell = Bell::new();
     let Reported {
         joined,
         is_whole,
         given_up,
-    } = run_and_report(
-        rt, feed, &shared, keeper, waiting, &bell, watch, &mut text, writer,
-    );
+    } = run_and_report(rt, feed, &shared, keeper, waiting, watch, &mut text, writer);
     let failed = journal_failed(keeper);
     held_of(feed.alloc, shared, joined, is_whole, given_up, failed)
 }
@@ -427,6 +424,7 @@ pub fn live_day<R: Threads + Wait + Clock + Sync, L: Loss + Sync, J: JournalFile
         Ok(ready) => ready,
         Err(fault) => return end_of(alloc, not_held(alloc, fault)),
     };
+    let bell = Bell::new();
     let feed = Feed {
         sender: &sender,
         retransmission: &retransmission,
@@ -434,6 +432,7 @@ pub fn live_day<R: Threads + Wait + Clock + Sync, L: Loss + Sync, J: JournalFile
         a: &a,
         b: &b,
         loss,
+        bell: &bell,
         session,
         serves,
         alloc,

@@ -10,6 +10,7 @@ ghost use Rattle.live_feed.specs.Sendings.{end_text};
 use crate::clock::nanos_of;
 use crate::feed::Feed;
 use crate::patience::{Watch, is_enough};
+use crate::seated::Ran;
 use crate::sender::{PAUSE_BEFORE_LATER_END, Sent, send_first_ends, send_to_both, spell_end};
 use crate::serving::Serving;
 use feed_ends::{Fault, write_day};
@@ -138,27 +139,26 @@ pub(crate) fn end_and_report<D: DayName, R: Threads + Wait + Clock + Sync, L, W:
     shared: &SharedTape<D>,
     serving: &Serving<'_>,
     watch: &Watch<'_>,
-    seats: &[LineSeat<D>],
+    ran: &Ran<D>,
     sent: Sent,
-    lines: Option<Fault>,
     text: &mut Vec<u8>,
     writer: &mut W,
 ) -> Ending
     requires tokens { FirstTokens shared.now sent.tokens.items }
     requires whole { sent.fault ≡ None → length sent.tokens.items ≡ sent.number }
     ensures same { (result.sent.tokens ≡ sent.tokens) × (result.sent.number ≡ sent.number) }
-    ensures met { ((sent.fault ≡ None) × (lines ≡ None)) ⊎ IsLeast (sent.fault ∷ lines ∷ []) result.sent.fault }
+    ensures met { ((sent.fault ≡ None) × (ran.now.fault ≡ None)) ⊎ IsLeast (sent.fault ∷ ran.now.fault ∷ []) result.sent.fault }
     ensures end { result.sent.fault ≡ None → text.new.items ≡ end_text feed.now.session sent.number }
-    ensures lines { IsSome lines → text.new.items ≡ [] }
+    ensures lines { IsSome ran.now.fault → text.new.items ≡ [] }
     ensures report { result.is_whole ≡ true → ReportsDay D.terms (shown sent.tokens.items) (W.contents writer.old) (W.contents writer.new) }
     ensures whole { result.sent.fault ≡ None → result.is_whole ≡ true }
     ensures unwritten { result.is_whole ≡ false → result.sent.fault ≢ Some WriteFault → writer.new ≡ writer.old }
     ensures early { IfSome sent.fault (λ fault. EndsEarly fault result.is_whole result.sent.fault) }
 {
-    let met = Fault::least(sent.fault, lines);
+    let met = Fault::least(sent.fault, ran.fault);
     let sent = sent.with_fault(met);
     let ended = match met {
-        None => end_and_write(rt, feed, shared, seats, &sent, text, writer),
+        None => end_and_write(rt, feed, shared, &ran.seats, &sent, text, writer),
         Some(fault) => Err(fault),
     };
     match ended {

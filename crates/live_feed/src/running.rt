@@ -9,7 +9,6 @@ ghost use Rattle.live_feed.specs.Journals.{HasFailed, Runs};
 ghost use Rattle.live_feed.specs.Reports.{ReportsDay};
 ghost use Rattle.live_feed.specs.Sendings.{end_text};
 
-use crate::bell::Bell;
 use crate::feed::Feed;
 use crate::keeper::Keeper;
 use crate::patience::Watch;
@@ -64,7 +63,6 @@ fn run_waiting<D: DayName + Send + Sync, R: Threads + Wait + Sync, L>(
     feed: &Feed<'_, L>,
     shared: &SharedTape<D>,
     waiting: &mut Option<Waiting<D>>,
-    bell: &Bell,
 ) -> Option<Ran<D>>
     requires { IsSome waiting.old }
     ensures taken { waiting.new ≡ None }
@@ -72,10 +70,10 @@ fn run_waiting<D: DayName + Send + Sync, R: Threads + Wait + Sync, L>(
     ensures ran { IfSome waiting.old (λ w. IfSome result (λ ran. whos ran.seats.items ≡ map (λ l. l.0.who) w.lines.items)) }
 {
     let ran = match waiting.take() {
-        Some(lines) => Some(run_all(rt, feed.alloc, shared, lines, bell)),
+        Some(lines) => Some(run_all(rt, feed.alloc, shared, lines, feed.bell)),
         None => None,
     };
-    bell.end();
+    feed.bell.end();
     ran
 }
 
@@ -91,7 +89,6 @@ fn run_beside_sender<
     shared: &SharedTape<D>,
     keeper: &mut Option<Keeper<J>>,
     waiting: &mut Option<Waiting<D>>,
-    bell: &Bell,
     serving: &Serving<'_>,
     text: &mut Vec<u8>,
 ) -> RanAndSent<D>
@@ -106,12 +103,12 @@ fn run_beside_sender<
     let mut lines = waiting.take();
     let (sent, ran) = join_mut(
         rt,
-        &mut || send_entries(rt, feed, shared, keeper, bell, serving, text),
+        &mut || send_entries(rt, feed, shared, keeper, serving, text),
         &mut || -> Option<Ran<D>>
             requires { IsSync R.row × IsSome lines }
             ensures { (lines.exit ≡ None) × IsSome result
                 × IfSome lines.entry (λ w. IfSome result (λ ran. whos ran.seats.items ≡ map (λ l. l.0.who) w.lines.items)) }
-        { run_waiting(rt, feed, shared, &mut lines, bell) },
+        { run_waiting(rt, feed, shared, &mut lines) },
     );
     match (lines, ran) {
         (None, Some(ran)) => RanAndSent { ran, sent },
@@ -126,7 +123,6 @@ fn run_and_send<D: DayName + Send + Sync, R: Threads + Wait + Clock + Sync, L: L
     feed: &Feed<'_, L>,
     shared: &SharedTape<D>,
     waiting: &mut Option<Waiting<D>>,
-    bell: &Bell,
     serving: &Serving<'_>,
     text: &mut Vec<u8>,
 ) -> Option<RanAndSent<D>>
@@ -145,7 +141,6 @@ fn run_and_send<D: DayName + Send + Sync, R: Threads + Wait + Clock + Sync, L: L
         shared,
         &mut keeper,
         waiting,
-        bell,
         serving,
         text,
     );
@@ -167,7 +162,6 @@ fn run_and_end<
     shared: &SharedTape<D>,
     keeper: &mut Option<Keeper<J>>,
     waiting: &mut Option<Waiting<D>>,
-    bell: &Bell,
     serving: &Serving<'_>,
     watch: &Watch<'_>,
     text: &mut Vec<u8>,
@@ -188,11 +182,9 @@ fn run_and_end<
     ensures failed { IfSome result (λ both. HasFailed keeper.new → HasFailed keeper.old ⊎ EndsEarly WriteFault both.ending.is_whole both.ending.sent.fault) }
 {
     let RanAndSent { ran, sent } = run_beside_sender(
-        rt, feed, shared, keeper, waiting, bell, serving, text,
+        rt, feed, shared, keeper, waiting, serving, text,
     );
-    let ending = end_and_report(
-        rt, feed, shared, serving, watch, &ran.seats, sent, ran.fault, text, writer,
-    );
+    let ending = end_and_report(rt, feed, shared, serving, watch, &ran, sent, text, writer);
     Some(RanAndEnded { ran, ending })
 }
 
@@ -207,7 +199,6 @@ pub(crate) fn run_together<
     feed: &Feed<'_, L>,
     shared: &SharedTape<D>,
     waiting: Waiting<D>,
-    bell: &Bell,
     text: &mut Vec<u8>,
 ) -> Joined<D>
     ensures whos { whos result.ran.seats.items ≡ map (λ l. l.0.who) waiting.lines.items }
@@ -223,7 +214,7 @@ pub(crate) fn run_together<
             ensures { (waiting.exit ≡ None) × IsSome result
                 × IfSome waiting.entry (λ w. IfSome result (λ both. whos both.ran.seats.items ≡ map (λ l. l.0.who) w.lines.items))
                 × IfSome result (λ both. FirstTokens shared.entry.now both.sent.tokens.items) }
-        { run_and_send(rt, feed, shared, &mut waiting, bell, &serving, text) },
+        { run_and_send(rt, feed, shared, &mut waiting, &serving, text) },
     );
     match (waiting, both) {
         (None, Some(RanAndSent { ran, sent })) => Joined { ran, sent, served },
@@ -246,7 +237,6 @@ pub(crate) fn run_and_report<
     shared: &SharedTape<D>,
     keeper: &mut Option<Keeper<J>>,
     waiting: Waiting<D>,
-    bell: &Bell,
     watch: &Watch<'_>,
     text: &mut Vec<u8>,
     writer: &mut W,
@@ -284,7 +274,6 @@ pub(crate) fn run_and_report<
                 shared,
                 keeper,
                 &mut waiting,
-                bell,
                 &serving,
                 watch,
                 text,

@@ -1,23 +1,16 @@
 //! Compares the last entries of a source with given ones.
-ghost use Rattle.std.specs.Prelude.{◌≡◌, ◌+◌, ◌↔◌, IsTrue, Some, drop, length, true};
+ghost use Rattle.std.specs.Prelude.{◌≡◌, ◌+◌, Some, drop, length, true};
 ghost use Rattle.tape_frames.specs.Sources.{entry_of};
 
 use tape_core::Entry;
 use tape_frames::Source;
-
-/// Whether the entries are the same.
-fn is_same(one: &Entry, other: &Entry) -> bool
-    ensures { IsTrue result ↔ (one.now ≡ other.now) }
-{
-    one == other
-}
 
 /// Whether the source has this entry under the number.
 fn has_entry<S: Source>(source: &S, number: u32, entry: &Entry) -> bool
     ensures { result ≡ true → entry_of (S.list source.now) number ≡ Some entry.now }
 {
     match source.entry(number) {
-        Some(found) => is_same(&found, entry),
+        Some(found) => found.is_same(entry),
         None => false,
     }
 }

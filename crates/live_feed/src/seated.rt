@@ -8,13 +8,13 @@ ghost use Rattle.live_feed.specs.Faults.{IsLeast, lack_fault, line_fault};
 
 use crate::account::LineAccount;
 use crate::bell::Bell;
-use crate::line_counts::{LineCounts, LineStage};
+use crate::line_counts::{LineStage, MessageCounts};
 use crate::line_input::Reader;
 use crate::line_slot::{CountingBell, LineSlot};
 use feed_ends::Fault;
 use line_ledger::{DayName, LineSeat, SharedTape};
 use participant_lines::{
-    Ended, Lack, TalliedEnd, Unstarted, run_watched_lines, seats_of_lines, seats_of_tallied,
+    Lack, LineOutcome, TalliedEnd, Unstarted, run_watched_lines, seats_of_lines, seats_of_tallied,
 };
 use std::alloc::Global;
 use std::sync::{Arc, Wait};
@@ -77,14 +77,17 @@ pub(crate) fn seated_lines<D: DayName>(
 }
 
 /// The day's fault for the end of a line. A peer that misbehaves ends its own line alone.
-fn fault_of_end(ended: Ended) -> Option<Fault>
+fn fault_of_end(ended: LineOutcome) -> Option<Fault>
     ensures { result ≡ line_fault ended }
 {
     match ended {
-        Ended::OutOfMemory => Some(Fault::Memory),
-        Ended::Behind => Some(Fault::Disagrees),
-        Ended::Clean | Ended::Truncated | Ended::Oversize | Ended::ReadFault | Ended::TooMany =>
-            None,
+        LineOutcome::OutOfMemory => Some(Fault::Memory),
+        LineOutcome::Behind => Some(Fault::Disagrees),
+        LineOutcome::Clean
+        | LineOutcome::Truncated
+        | LineOutcome::Oversize
+        | LineOutcome::ReadFault
+        | LineOutcome::TooMany => None,
     }
 }
 
@@ -127,7 +130,7 @@ fn account_of<D: DayName, R: Wait>(
     LineAccount {
         who: end.seat.participant(),
         stage,
-        counts: LineCounts {
+        counts: MessageCounts {
             admitted: end.seat.count(),
             last: end.seat.last(),
             tally: end.tally,

@@ -11,7 +11,6 @@ ghost use Rattle.live_feed.specs.Journals.{AllKept, Grows, HasFailed, Runs, Step
 ghost use Rattle.live_feed.specs.Sendings.{IsSent, beat_text, data_text, end_text};
 ghost use Rattle.feed_ends.specs.declared.fault.Fault.TheVariants.{Memory, Write as WriteFault};
 
-use crate::bell::Bell;
 use crate::budget::Budget;
 use crate::clock::nanos_of;
 use crate::feed::Feed;
@@ -214,7 +213,6 @@ fn keep_pace<R: Clock>(rt: &R, requested: &RequestFlag, now: u64, budget: Budget
 fn keep_quiet<D: DayName, R: Wait + Clock, L>(
     rt: &R,
     feed: &Feed<'_, L>,
-    bell: &Bell,
     published: &Published<'_, D>,
     number: u32,
     quiet: Quiet,
@@ -223,13 +221,13 @@ fn keep_quiet<D: DayName, R: Wait + Clock, L>(
     requires { number ≡ length (shown published.now.tokens) }
 {
     if number == 0 {
-        bell.wait(rt);
+        feed.bell.wait(rt);
         return Ok(quiet);
     }
     let now = nanos_of(rt);
     let left = quiet.left(now);
     if left > 0 {
-        bell.wait_within(rt, left);
+        feed.bell.wait_within(rt, left);
         return Ok(quiet);
     }
     send_beat(feed, published, number, text)?;
@@ -245,7 +243,6 @@ fn send_to_end<D: DayName, R: Wait + Clock, L: Loss, J: JournalFile>(
     feed: &Feed<'_, L>,
     shared: &SharedTape<D>,
     keeper: &mut Option<Keeper<J>>,
-    bell: &Bell,
     requested: &RequestFlag,
     published: &mut Published<'_, D>,
     text: &mut Vec<u8>,
@@ -262,7 +259,7 @@ fn send_to_end<D: DayName, R: Wait + Clock, L: Loss, J: JournalFile>(
     let mut quiet = Quiet::after_data(0);
     for _ in rt.forever() {
         // Looked at first: what was admitted before the end is published after it.
-        let is_last = bell.has_ended();
+        let is_last = feed.bell.has_ended();
         let last = match send_next(rt, feed, shared, keeper, published, number, text) {
             Ok(last) => last,
             Err(fault) => return (number, Some(fault)),
@@ -275,7 +272,7 @@ fn send_to_end<D: DayName, R: Wait + Clock, L: Loss, J: JournalFile>(
         } else if is_last {
             return (number, None);
         } else {
-            quiet = match keep_quiet(rt, feed, bell, published, number, quiet, text) {
+            quiet = match keep_quiet(rt, feed, published, number, quiet, text) {
                 Ok(quiet) => quiet,
                 Err(met) => return (number, Some(met)),
             };
@@ -290,7 +287,6 @@ fn send_all<D: DayName, R: Wait + Clock, L: Loss, J: JournalFile>(
     feed: &Feed<'_, L>,
     shared: &SharedTape<D>,
     keeper: &mut Option<Keeper<J>>,
-    bell: &Bell,
     requested: &RequestFlag,
     published: &mut Published<'_, D>,
     text: &mut Vec<u8>,
@@ -302,7 +298,7 @@ fn send_all<D: DayName, R: Wait + Clock, L: Loss, J: JournalFile>(
     ensures failed { HasFailed keeper.new → HasFailed keeper.old ⊎ (result.1 ≡ Some WriteFault) }
 {
     match begin(keeper, published) {
-        Ok(()) => send_to_end(rt, feed, shared, keeper, bell, requested, published, text),
+        Ok(()) => send_to_end(rt, feed, shared, keeper, requested, published, text),
         Err(fault) => (0, Some(fault)),
     }
 }
@@ -315,7 +311,6 @@ pub(crate) fn send_entries<D: DayName, R: Wait + Clock, L: Loss, J: JournalFile>
     feed: &Feed<'_, L>,
     shared: &SharedTape<D>,
     keeper: &mut Option<Keeper<J>>,
-    bell: &Bell,
     serving: &Serving<'_>,
     text: &mut Vec<u8>,
 ) -> Sent
@@ -326,16 +321,7 @@ pub(crate) fn send_entries<D: DayName, R: Wait + Clock, L: Loss, J: JournalFile>
 {
     let mut published = Published::new(shared);
     let requested = &serving.requested;
-    let (number, fault) = send_all(
-        rt,
-        feed,
-        shared,
-        keeper,
-        bell,
-        requested,
-        &mut published,
-        text,
-    );
+    let (number, fault) = send_all(rt, feed, shared, keeper, requested, &mut published, text);
     if fault.is_some() {
         serving.stop_lines();
         serving.give_up(rt, feed.closing);

@@ -1,7 +1,7 @@
 use Rattle.std.specs.Prelude.{◌++◌, codes}
 use Rattle.live_feed.specs.Accounts.{counts_text, head_text, refused_lines}
 use Rattle.live_feed.proofs.StatusSums.{put, put_last}
-use Rattle.live_feed.proofs.account.push_counted.Goals as goal
+use Rattle.live_feed.proofs.account.push_message_counts.Goals as goal
 
 -- the pieces stand behind one another
 pub returns : goal.returns

@@ -2,27 +2,27 @@
 ghost use Rattle.std.specs.Prelude.{◌≡◌, IfOk};
 ghost use Rattle.feed_ends.specs.OpenFaults.{cause_of, open_fault_text};
 
-use crate::{Cause, Place};
+use crate::{Cause, SocketPlace};
 use std::alloc::{AllocError, Global};
 use std::io::ErrorKind;
 
 /// A socket that could not be opened. A day ends with `Fault::Read` for it.
 #[derive(Clone, Copy, Debug, PartialEq, Eq)]
-pub struct OpenFault {
+pub struct SocketFault {
     /// The socket.
-    pub place: Place,
+    pub place: SocketPlace,
     /// The port of the socket.
     pub port: u16,
     /// Why the socket could not be opened.
     pub cause: Cause,
 }
 
-impl OpenFault {
+impl SocketFault {
     /// Returns the fault of a socket whose opening failed with an error of this kind.
-    pub fn new(place: Place, port: u16, kind: ErrorKind) -> OpenFault
+    pub fn new(place: SocketPlace, port: u16, kind: ErrorKind) -> SocketFault
         ensures { result ≡ record { place = place; port = port; cause = cause_of kind } }
     {
-        OpenFault {
+        SocketFault {
             place,
             port,
             cause: Cause::of(kind),
