@@ -8,8 +8,8 @@ use Rattle.journal_days.specs.declared.verify.JournalVerdict.TheVariants as verd
 use Rattle.program_words.specs.Statuses.{status_text}
 use Rattle.program_words.specs.declared.status.Status.{Status}
 use Rattle.program_words.specs.declared.status.Status.TheVariants as status
-use Rattle.csv_days.specs.declared.writing.WritingFault.{WritingFault}
-use Rattle.csv_days.specs.declared.writing.WritingFault.TheVariants as writing
+use Rattle.whole_io.specs.declared.writing_fault.WritingFault.{WritingFault}
+use Rattle.whole_io.specs.declared.writing_fault.WritingFault.TheVariants as writing
 use Rattle.desk_words.specs.Tellings.{told_line}
 
 -- the status of a journal that has no day

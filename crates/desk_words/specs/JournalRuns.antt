@@ -17,8 +17,8 @@ use Rattle.whole_io.specs.Writing.{WritesPrefix}
 use Rattle.sale_matrix.specs.declared.matrix.Matrix.{Matrix}
 use Rattle.csv_days.specs.Explained.{explain_text}
 use Rattle.csv_days.specs.TapeRows.{tape_text}
-use Rattle.csv_days.specs.declared.writing.WritingFault.{WritingFault}
-use Rattle.csv_days.specs.declared.writing.WritingFault.TheVariants as writing
+use Rattle.whole_io.specs.declared.writing_fault.WritingFault.{WritingFault}
+use Rattle.whole_io.specs.declared.writing_fault.WritingFault.TheVariants as writing
 use Rattle.desk_words.specs.JournalLines.{no_day_line, no_day_status, no_table_line, verdict_line, verdict_status, written_line, written_status}
 use Rattle.desk_words.specs.declared.day_texts.DayText.{DayText}
 use Rattle.desk_words.specs.declared.day_texts.DayText.TheVariants.{Report, Tape, Explain}

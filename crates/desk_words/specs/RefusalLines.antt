@@ -7,7 +7,7 @@ use Rattle.tape_core.specs.declared.refusal.Refusal.TheVariants.{Stale}
 use Rattle.csv_days.specs.Refusals.{is_refusal, refused_for}
 use Rattle.tape_core.specs.Refusals.{all_refusals, refusal_code, refusal_name}
 use Rattle.csv_days.specs.declared.refusals.Refusals.{Refusals}
-use Rattle.csv_days.specs.declared.refusals.Refused.{Refused}
+use Rattle.csv_days.specs.declared.refusals.RefusedRows.{RefusedRows}
 use Rattle.csv_days.specs.declared.stale_row.StaleRow.{StaleRow}
 
 -- the words after the count: one row, or several
@@ -48,7 +48,7 @@ abbrev pub detail_text : Refusals → Refusal → List ℕ
 detail_text refusals reason = if is_refusal Stale (Err reason) then option_map_or stale_text refusals.stale [] else []
 
 -- the line of the rows that were refused for a reason
-abbrev pub refused_line : Refusals → Refusal → Refused → List ℕ
+abbrev pub refused_line : Refusals → Refusal → RefusedRows → List ℕ
 refused_line refusals reason refused = count_text refused.count ++ reason_text reason refused.first ++ detail_text refusals reason ++ codes "\n"
 
 -- the line of a reason, or nothing if no row was refused for it

@@ -2,11 +2,12 @@
 use Rattle.std.specs.Prelude.{◌+◌, ◌-◌, ◌==◌, ◌++◌, ℕ, List, [], codes, decimal, fold, get_or, if◌then◌else◌}
 use Rattle.std.specs.Option.{option_map_or}
 use Rattle.std.specs.Str.{bytes_eq}
+use Rattle.whole_io.specs.CountedTexts.{counted}
 use Rattle.tape_core.specs.declared.refusal.Refusal.{Refusal}
 use Rattle.csv_messages.specs.FaultTexts.{shown}
 use Rattle.csv_days.specs.Refusals.{refused_for}
 use Rattle.tape_core.specs.Refusals.{all_refusals}
-use Rattle.csv_days.specs.TapeRows.{column_names}
+use Rattle.csv_days.specs.TapeRows.{tape_columns}
 use Rattle.csv_days.specs.declared.refusals.Refusals.{Refusals}
 use Rattle.recorded_tapes.specs.declared.difference.Difference.{Difference}
 use Rattle.recorded_tapes.specs.declared.verdict.Rows.{Rows}
@@ -25,10 +26,6 @@ refused_for_any refusals reasons = fold (λ refused reason. refused + refused_co
 abbrev pub refused_in_all : Refusals → ℕ
 refused_in_all refusals = refused_for_any refusals all_refusals
 
--- a count and its noun, which is one word for 1 and another for more
-abbrev pub counted : ℕ → List ℕ → List ℕ → List ℕ
-counted count one more = decimal count ++ (if count == 1 then one else more)
-
 -- how many of the rows are entries and how many are refusals
 abbrev pub rows_line : Rows → List ℕ
 rows_line rows =
@@ -38,7 +35,7 @@ rows_line rows =
 -- what a column of a line has, and what it should have
 abbrev pub field_line : Difference → List ℕ
 field_line d =
-    codes ": " ++ get_or column_names d.column [] ++ codes " is \"" ++ shown d.stands ++ codes "\" and should be \"" ++ shown d.wanted ++ codes "\"\n"
+    codes ": " ++ get_or tape_columns d.column [] ++ codes " is \"" ++ shown d.stands ++ codes "\" and should be \"" ++ shown d.wanted ++ codes "\"\n"
 
 -- where a recorded tape first differs
 abbrev pub difference_line : Difference → List ℕ

@@ -7,8 +7,8 @@ use Rattle.tape_types.specs.Names.{Names}
 use Rattle.tape_core.specs.Tape.{TapeState}
 use Rattle.tape_core.specs.declared.entry.Entry.{Entry}
 use Rattle.tape_core.specs.declared.row_figures.RowFigures.{RowFigures}
-use Rattle.csv_days.specs.declared.writing.WritingFault.{WritingFault}
-use Rattle.csv_days.specs.declared.writing.WritingFault.TheVariants.{OutOfMemory, WriteFault}
+use Rattle.whole_io.specs.declared.writing_fault.WritingFault.{WritingFault}
+use Rattle.whole_io.specs.declared.writing_fault.WritingFault.TheVariants.{OutOfMemory, WriteFault}
 use Rattle.program_words.specs.Statuses.{status_text}
 use Rattle.program_words.specs.declared.status.Status.{Status}
 use Rattle.program_words.specs.declared.status.Status.TheVariants as status

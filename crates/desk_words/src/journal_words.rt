@@ -1,11 +1,11 @@
 //! Writes the texts of a journal, which is read whole, and turns their ends into statuses and lines on standard error.
 ghost use Rattle.std.specs.Prelude.{◌≡◌, ◌≢◌, ◌⊎◌, [], Err, IfErr, IfOk, IfSome, OnErr, OnOk, string_bytes};
 ghost use Rattle.std.specs.Io.KnownBytes.{Appends};
-ghost use Rattle.std.specs.IoError.{error_kind};
 ghost use Rattle.whole_io.specs.Writing.{WritesPrefix};
-ghost use Rattle.csv_days.specs.declared.writing.WritingFault.TheVariants.{OutOfMemory as NoMemory};
+ghost use Rattle.whole_io.specs.declared.writing_fault.WritingFault.TheVariants.{OutOfMemory as NoMemory};
 ghost use Rattle.program_words.specs.Statuses.{status_code};
-ghost use Rattle.program_words.specs.declared.status.Status.TheVariants.{Bad, OutOfMemory, ReadFault, WriteFault};
+ghost use Rattle.program_words.specs.declared.status.Status.TheVariants.{Bad, OutOfMemory, ReadFault as Unreadable, WriteFault};
+ghost use Rattle.whole_io.specs.declared.reading.ReadFault.TheVariants.{Failed, OutOfMemory as NoRoom};
 ghost use Rattle.desk_words.specs.JournalLines.{no_day_line, no_day_status, no_table_line, torn_line, torn_text, verdict_line, verdict_status, written_line, written_status};
 ghost use Rattle.desk_words.specs.JournalRuns.{AnswersJournal, Reads, RunsDay, RunsFound, TellsDay, TellsFound, day_text};
 ghost use Rattle.desk_words.specs.Outputs.{IsQuietIfGone};
@@ -14,7 +14,6 @@ use crate::Output;
 use crate::day_texts::DayText;
 use crate::saying::{say_ended, say_status};
 use crate::telling::say_told;
-use csv_days::WritingFault;
 use journal_days::{
     JournalDay, JournalFault, JournalVerdict, fault_text, read_day, verdict_text, verify_journal,
     write_journal_explained, write_journal_report, write_journal_tape,
@@ -22,30 +21,18 @@ use journal_days::{
 use program_words::{Command, Status};
 use sale_matrix::Matrix;
 use std::alloc::{AllocError, Global};
-use std::io::{Error, ErrorKind, Read, Write};
-use whole_io::write_text;
+use std::io::{Read, Write};
+use whole_io::{ReadFault, WritingFault, read_all, write_text};
 
-/// Returns the status of a failed read: `OutOfMemory` if memory ran out, else `ReadFault`.
-fn failed_read(error: &Error) -> Status
-    ensures one { (result ≡ ReadFault) ⊎ (result ≡ OutOfMemory) }
-    ensures memory { error_kind error.now ≡ ErrorKind.OutOfMemory → result ≡ OutOfMemory }
-    ensures fault { error_kind error.now ≢ ErrorKind.OutOfMemory → result ≡ ReadFault }
+/// Returns the status of a journal that could not be read.
+fn read_status(fault: ReadFault) -> Status
+    ensures one { (result ≡ Unreadable) ⊎ (result ≡ OutOfMemory) }
+    ensures failed { fault ≡ Failed → result ≡ Unreadable }
+    ensures memory { fault ≡ NoRoom → result ≡ OutOfMemory }
 {
-    match error.kind() {
-        ErrorKind::OutOfMemory => Status::OutOfMemory,
-        _ => Status::ReadFault,
-    }
-}
-
-/// Reads all that a reader has left. Errors: `ReadFault`, or `OutOfMemory` if memory runs out.
-fn read_all<R: Read>(alloc: Global, reader: &mut R) -> Result<Vec<u8>, Status>
-    ensures all { IfSome (R.remaining reader.old) (λ all. IfOk result (λ bytes. bytes.items ≡ all)) }
-    ensures fault { IfErr result (λ status. (status ≡ ReadFault) ⊎ (status ≡ OutOfMemory)) }
-{
-    let mut bytes = Vec::new(alloc);
-    match reader.read_to_end(&mut bytes) {
-        Ok(_) => Ok(bytes),
-        Err(error) => Err(failed_read(&error)),
+    match fault {
+        ReadFault::Failed => Status::ReadFault,
+        ReadFault::OutOfMemory => Status::OutOfMemory,
     }
 }
 
@@ -185,7 +172,8 @@ fn run_day<R: Read, W: Output, E: Write>(
 {
     match read_all(alloc, reader) {
         Ok(bytes) => run_bytes(alloc, text, asked, &bytes, writer, errors),
-        Err(status) => {
+        Err(fault) => {
+            let status = read_status(fault);
             say_ended(errors, status, writer.reader_is_gone());
             status
         }
@@ -269,7 +257,8 @@ fn run_found<R: Read, W: Output, E: Write>(
 {
     match read_all(alloc, reader) {
         Ok(bytes) => verify_bytes(alloc, asked, &bytes, writer, errors),
-        Err(status) => {
+        Err(fault) => {
+            let status = read_status(fault);
             say_ended(errors, status, writer.reader_is_gone());
             status
         }

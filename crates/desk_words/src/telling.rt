@@ -5,7 +5,7 @@ ghost use Rattle.whole_io.specs.Writing.{WritesPrefix};
 ghost use Rattle.desk_words.specs.Tellings.{told_line};
 
 use crate::saying::say;
-use feed_ends::{OpenFault, Place};
+use feed_ends::{SocketFault, SocketPlace};
 use feed_follower::{FollowEnd, FollowFault, account_text};
 use std::alloc::{AllocError, Global};
 use std::io::Write;
@@ -30,7 +30,7 @@ pub fn say_told<E: Write>(alloc: Global, errors: &mut E, what: &[u8])
 }
 
 /// Says which socket could not be opened, unless there is no memory for the line.
-pub fn say_open_fault<E: Write>(alloc: Global, errors: &mut E, fault: OpenFault)
+pub fn say_open_fault<E: Write>(alloc: Global, errors: &mut E, fault: SocketFault)
     ensures { WritesPrefix (told_line (open_fault_text fault)) (E.contents errors.old) (E.contents errors.new) }
 {
     if let Ok(text) = fault.text(alloc) {
@@ -49,7 +49,7 @@ pub fn say_followed<E: Write>(alloc: Global, errors: &mut E, end: &FollowEnd) ->
     let Err(FollowFault::Unreachable { port, kind }) = end.ended else {
         return false;
     };
-    let fault = OpenFault::new(Place::Retransmission, port, kind);
+    let fault = SocketFault::new(SocketPlace::Retransmission, port, kind);
     say_open_fault(alloc, errors, fault);
     true
 }

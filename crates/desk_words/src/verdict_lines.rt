@@ -1,7 +1,7 @@
 //! Writes the line of a recorded tape's verdict, and returns its status.
-ghost use Rattle.std.specs.Prelude.{◌≡◌, ◌≢◌, ◌⊎◌, ◌<◌, ◌^◌, ◌++◌, [], Err, IfOk, Ok, OnOk, get_or, length, string_bytes};
-ghost use Rattle.csv_days.specs.TapeRows.{column_names};
-ghost use Rattle.desk_words.specs.VerdictLines.{counted, cut_line, cut_text, difference_line, recorded_line, refused_count, refused_for_any, rows_line, verdict_line, verdict_status};
+ghost use Rattle.std.specs.Prelude.{◌≡◌, ◌≢◌, ◌⊎◌, ◌<◌, ◌^◌, ◌++◌, [], Err, IfOk, Ok, OnOk, get_or, length, string_bytes, map};
+ghost use Rattle.csv_days.specs.TapeRows.{tape_columns};
+ghost use Rattle.desk_words.specs.VerdictLines.{cut_line, cut_text, difference_line, recorded_line, refused_count, refused_for_any, rows_line, verdict_line, verdict_status};
 ghost use Rattle.program_words.specs.Statuses.{status_code};
 ghost use Rattle.program_words.specs.declared.status.Status.TheVariants.{WriteFault};
 ghost use Rattle.desk_words.specs.Outputs.{IsQuietIfGone};
@@ -11,12 +11,13 @@ ghost use Rattle.csv_days.specs.declared.table_end.TableEnd.TheVariants.{OutOfMe
 use crate::Output;
 use crate::saying::say_end;
 use csv_days::{Refusals, TableEnd};
+use csv_messages::TAPE_COLUMNS;
 use program_words::Status;
 use recorded_tapes::{Difference, Rows, Verdict};
 use std::alloc::{AllocError, Global};
 use std::io::Write;
 use tape_core::{ALL_REFUSALS, Refusal};
-use whole_io::{push_number, push_wide_number, write_text};
+use whole_io::{push_counted, push_number, write_text};
 
 /// Returns how many rows were refused for a reason.
 fn refused_count(refusals: &Refusals, reason: Refusal) -> u64
@@ -40,14 +41,6 @@ fn refused_for_any(refusals: &Refusals, reasons: &[Refusal]) -> u128
     refused
 }
 
-/// Adds a count and its noun, which is `one` for 1 and else `more`.
-fn push_counted(text: &mut Vec<u8>, count: u128, one: &[u8], more: &[u8]) -> Result<(), AllocError>
-    ensures { OnOk result (text.new.items ≡ text.old.items ++ counted count one.now more.now) }
-{
-    push_wide_number(text, count)?;
-    text.extend_from_slice(if count == 1 { one } else { more })
-}
-
 /// Adds how many of the rows are entries and how many are refusals.
 fn push_rows(text: &mut Vec<u8>, rows: &Rows) -> Result<(), AllocError>
     ensures { OnOk result (text.new.items ≡ text.old.items ++ rows_line rows.now) }
@@ -58,30 +51,22 @@ fn push_rows(text: &mut Vec<u8>, rows: &Rows) -> Result<(), AllocError>
     push_counted(text, refused, b" refusal, ", b" refusals, ")
 }
 
+/// Returns the name at a place, counted from 0, or an empty name behind the last.
+fn name_at(names: &[&'static [u8]], place: usize) -> &'static [u8]
+    ensures { result.now ≡ get_or (map (λ name. name.now) names.now) place [] }
+{
+    if place < names.len() {
+        names[place]
+    } else {
+        b""
+    }
+}
+
 /// Returns the name of a readable tape's column, counted from 0, or an empty name behind the last.
 fn column_name(column: u64) -> &'static [u8]
-    ensures { result.now ≡ get_or column_names column [] }
+    ensures { result.now ≡ get_or tape_columns column [] }
 {
-    match column {
-        0 => b"tape",
-        1 => b"refused",
-        2 => b"kind",
-        3 => b"participant",
-        4 => b"number",
-        5 => b"moment",
-        6 => b"symbol",
-        7 => b"target",
-        8 => b"price",
-        9 => b"size",
-        10 => b"condition",
-        11 => b"open",
-        12 => b"high",
-        13 => b"low",
-        14 => b"last",
-        15 => b"volume",
-        16 => b"trades",
-        _ => b"",
-    }
+    name_at(&TAPE_COLUMNS, column as usize)
 }
 
 /// Returns the line of the first place at which a recorded tape differs.

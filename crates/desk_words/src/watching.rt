@@ -14,7 +14,7 @@ ghost use Rattle.desk_words.specs.Watches.{IsRunStatus, IsWatchStatus, WritesPar
 use crate::Output;
 use crate::run_status::ended_status;
 use crate::saying::{say, say_ended};
-use csv_days::{EntryRows, WritingFault, write_head};
+use csv_days::{EntryRows, write_head};
 use feed_ends::Fault;
 use feed_follower::{EntrySink, FollowSockets, FollowTerms, SinkFault, follow_tape};
 use feed_words::{FollowWords, WordsFault};
@@ -25,6 +25,7 @@ use std::net::{Net, TcpListener, TcpStream};
 use std::sync::Wait;
 use std::thread::Threads;
 use tape_core::{Entry, RowFigures};
+use whole_io::{WritingFault, flush};
 
 /// A sink that writes the row of each entry of a followed tape.
 #[derive(Drop)]
@@ -85,7 +86,7 @@ pub(crate) fn flushed<W: Write>(ended: Result<(), Fault>, writer: &mut W) -> Res
     ensures fault { IfErr ended (λ fault. result ≡ Err fault) }
     ensures unflushed { OnOk ended (IfErr result (λ fault. fault ≡ WriteFault)) }
 {
-    match writer.flush() {
+    match flush(writer) {
         Ok(()) => ended,
         Err(_) => Err(unflushed(ended)),
     }

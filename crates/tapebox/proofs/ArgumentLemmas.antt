@@ -7,8 +7,8 @@ use Rattle.std.specs.Option.{is_none}
 use Rattle.std.specs.Str.{bytes_eq}
 use Rattle.feed_words.specs.declared.fault.WordsFault.{WordsFault}
 use Rattle.program_words.specs.declared.command.Asked.{Asked}
-use Rattle.tapebox.specs.declared.command.Command.{Command}
-use Rattle.tapebox.specs.declared.command.Command.TheVariants.{Asked as Asks}
+use Rattle.tapebox.specs.declared.command.ProgramCommand.{ProgramCommand}
+use Rattle.tapebox.specs.declared.command.ProgramCommand.TheVariants.{Asked as Asks}
 use Rattle.tapebox.specs.Program.{asked_in, batch_matrix, asks_follow, asks_live, begin_with, follow_word, live_word}
 
 -- a slice up to the last byte is all that stands behind its start
@@ -37,7 +37,7 @@ in_row words word row asked some =
     absurd (cc here)
 
 -- arguments that are read as a fault ask for nothing
-pub asks_nothing : (words : List ℕ) (result : Result Command WordsFault) (fault : WordsFault)
+pub asks_nothing : (words : List ℕ) (result : Result ProgramCommand WordsFault) (fault : WordsFault)
     → (batch_matrix words ≡ None → IfSome (asked_in words) (λ asked. result ≡ Ok (Asks asked))) → result ≡ Err fault
     → batch_matrix words ≡ None → (asked : Asked) → asked_in words ≡ Some asked → ⊥
 asks_nothing words result fault other is none asked some =

@@ -12,8 +12,8 @@ use Rattle.program_words.specs.declared.status.Status.{Status}
 use Rattle.program_words.specs.declared.status.Status.TheVariants as status
 use Rattle.tapebox.specs.Files.{named_line}
 use Rattle.tapebox.specs.Outlets.{write_cause_text}
-use Rattle.tapebox.specs.declared.journal_fault.JournalFault.{JournalFault}
-use Rattle.tapebox.specs.declared.journal_fault.JournalFault.TheVariants as fault
+use Rattle.tapebox.specs.declared.journal_fault.JournalFileFault.{JournalFileFault}
+use Rattle.tapebox.specs.declared.journal_fault.JournalFileFault.TheVariants as fault
 use Rattle.tapebox.specs.declared.journal_held.Unheld.{Unheld}
 use Rattle.tapebox.specs.declared.journal_held.Unheld.TheVariants.{Taken, NoFile, Unopened}
 
@@ -38,7 +38,7 @@ start_status Unwritten = status.WriteFault
 start_status OutOfMemory = status.OutOfMemory
 
 -- the status of a journal that was not opened
-abbrev pub journal_status : JournalFault → Status
+abbrev pub journal_status : JournalFileFault → Status
 journal_status (fault.Unheld unheld) = unheld_status unheld
 journal_status (fault.Unstarted why cause) = start_status why
 
@@ -55,7 +55,7 @@ unheld_text NoFile text = text.items ≡ codes "no journal"
 unheld_text (Unopened kind) text = Unit {0}
 
 -- what is said of a journal that was not opened
-abbrev pub fault_text : JournalFault → Vec ℕ → Type 0
+abbrev pub fault_text : JournalFileFault → Vec ℕ → Type 0
 fault_text (fault.Unheld unheld) text = unheld_text unheld text
 fault_text (fault.Unstarted (Refused refusal) cause) text = text.items ≡ refusal_text refusal
 fault_text (fault.Unstarted (Unread kind) cause) text = Unit {0}

@@ -6,7 +6,7 @@ ghost use Rattle.program_words.specs.Statuses.{status_code};
 ghost use Rattle.program_words.specs.declared.status.Status.TheVariants.{Done, WriteFault};
 ghost use Rattle.tapebox.specs.Feeds.{IsControlStatus, control_status};
 
-use day_control::{Command, ControlFault, ControlPlace, ask_control};
+use day_control::{ControlCommand, ControlFault, ControlPlace, ask_control};
 use desk_words::say_told;
 use program_words::Status;
 use std::alloc::Global;
@@ -55,7 +55,7 @@ pub fn ask_day<T, W, E>(
     rt: &T,
     alloc: Global,
     place: &ControlPlace,
-    command: Command,
+    command: ControlCommand,
     writer: &mut W,
     errors: &mut E,
 ) -> Status

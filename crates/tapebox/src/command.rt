@@ -1,22 +1,16 @@
 //! Reads what the program's arguments ask for.
 ghost use Rattle.std.specs.Prelude.{◌≡◌, ◌⊎◌, IfOk, IfSome, None, Ok, Err, true};
 ghost use Rattle.feed_words.specs.declared.fault.WordsFault.TheVariants.{OutOfMemory};
-ghost use Rattle.tapebox.specs.Program.{AsksFor, asked_in, asks_follow, asks_live, batch_matrix};
-ghost use Rattle.tapebox.specs.declared.command.Command.TheVariants.{Asked as Asks, Batch};
+ghost use Rattle.tapebox.specs.Program.{AsksFor, asked_in, asks_follow, asks_live, batch_matrix, named_matrix};
+ghost use Rattle.tapebox.specs.declared.command.ProgramCommand.TheVariants.{Asked as Asks, Batch};
 
-use feed_words::{FollowWords, LiveWords, WordsFault};
+use feed_words::{FollowWords, LiveWords, WordsFault, matrix_named};
 use program_words::{Asked, read_arguments};
 use sale_matrix::Matrix;
 use std::alloc::Global;
 
-/// The arguments of a batch by Matrix One.
+/// The first argument of a batch.
 const BATCH: &[u8] = b"batch\0";
-
-/// The same, with the matrix named.
-const BATCH_ONE: &[u8] = b"batch\01\0";
-
-/// The arguments of a batch by Matrix Two.
-const BATCH_TWO: &[u8] = b"batch\02\0";
 
 /// The first argument for a tape that is made from lines.
 const LIVE: &[u8] = b"live\0";
@@ -26,7 +20,7 @@ const FOLLOW: &[u8] = b"follow\0";
 
 /// What the program is asked for.
 #[derive(Drop)]
-pub enum Command {
+pub enum ProgramCommand {
     /// A batch by a matrix.
     Batch(Matrix),
     /// A tape that is made from lines and sent.
@@ -37,14 +31,25 @@ pub enum Command {
     Asked(Asked),
 }
 
+/// Returns the matrix that the arguments behind the word of a batch name, each ended by a zero byte: One if there are none.
+fn named_matrix(words: &[u8]) -> Option<Matrix>
+    ensures { result ≡ named_matrix words.now }
+{
+    if words.is_empty() {
+        Some(Matrix::One)
+    } else if words[words.len() - 1] == 0 {
+        matrix_named(&words[..words.len() - 1])
+    } else {
+        None
+    }
+}
+
 /// Returns the matrix that the arguments of a batch ask for, or `None` for other arguments.
 fn batch_matrix(words: &[u8]) -> Option<Matrix>
     ensures { result ≡ batch_matrix words.now }
 {
-    if words == BATCH || words == BATCH_ONE {
-        Some(Matrix::One)
-    } else if words == BATCH_TWO {
-        Some(Matrix::Two)
+    if words.starts_with(BATCH) {
+        named_matrix(&words[BATCH.len()..])
     } else {
         None
     }
@@ -52,20 +57,20 @@ fn batch_matrix(words: &[u8]) -> Option<Matrix>
 
 /// Returns what arguments ask for, each ended by a zero byte. Errors: `BadArguments`, and `OutOfMemory` for the names of `live`
 /// or `follow` in a row.
-pub fn read_command(alloc: Global, words: &[u8]) -> Result<Command, WordsFault>
+pub fn read_command(alloc: Global, words: &[u8]) -> Result<ProgramCommand, WordsFault>
     ensures other { batch_matrix words.now ≡ None → IfSome (asked_in words.now) (λ asked. result ≡ Ok (Asks asked)) }
     ensures batch { IfSome (batch_matrix words.now) (λ matrix. result ≡ Ok (Batch matrix)) }
     ensures asked { IfOk result (λ command. AsksFor command words.now) }
     ensures memory { result ≡ Err OutOfMemory → (asks_live words.now ≡ true) ⊎ (asks_follow words.now ≡ true) }
 {
     if let Some(matrix) = batch_matrix(words) {
-        Ok(Command::Batch(matrix))
+        Ok(ProgramCommand::Batch(matrix))
     } else if let Some(asked) = read_arguments(words) {
-        Ok(Command::Asked(asked))
+        Ok(ProgramCommand::Asked(asked))
     } else if words.starts_with(LIVE) {
-        Ok(Command::Live(LiveWords::read(alloc, &words[LIVE.len()..])?))
+        Ok(ProgramCommand::Live(LiveWords::read(alloc, &words[LIVE.len()..])?))
     } else if words.starts_with(FOLLOW) {
-        Ok(Command::Follow(FollowWords::read(alloc, &words[FOLLOW.len()..])?))
+        Ok(ProgramCommand::Follow(FollowWords::read(alloc, &words[FOLLOW.len()..])?))
     } else {
         Err(WordsFault::BadArguments)
     }

@@ -14,11 +14,11 @@ use crate::operated::run_live_file;
 use crate::outlet::CauseWriter;
 use crate::program::{arguments_of, run, write_own};
 use crate::version::version_text;
-use day_control::Command as Order;
+use day_control::ControlCommand;
 use desk_words::{ClearedWriter, PipeWriter, ProgressLine, ToldReader, ToldWriter, watch_row};
 use feed_words::first_argument;
 use program_words::{
-    Asked, Command, Request, STANDARD_INPUT, Status, Word, argument_at, read_arguments,
+    Asked, Command, FileCommand, STANDARD_INPUT, Status, Word, argument_at, read_arguments,
 };
 use std::alloc::{Alloc, Global};
 use std::fs::{File, Files};
@@ -31,7 +31,7 @@ use std::thread::Threads;
 
 /// Returns whether a text has a row of each message or of each report, so that a line of progress may count them if nobody sees
 /// them scroll by.
-fn has_rows(request: &Request) -> bool
+fn has_rows(request: &FileCommand) -> bool
     ensures { result ≡ has_rows request.now.command }
 {
     matches!(
@@ -123,7 +123,7 @@ where
     }
 
     /// Runs a word for a table over standard input or the file that an argument names.
-    fn run_request(&self, words: &[u8], request: &Request) -> Status {
+    fn run_request(&self, words: &[u8], request: &FileCommand) -> Status {
         let name = match request.file {
             Some(place) => argument_text(words, place),
             None => STANDARD_INPUT,
@@ -175,7 +175,7 @@ where
     }
 
     /// Asks a day by its file, at its control socket.
-    fn run_order(&self, name: &str, order: Order) -> Status {
+    fn run_order(&self, name: &str, order: ControlCommand) -> Status {
         let (mut stdout, mut stderr) = (self.stdout, self.stderr);
         match control_file(self.rt, self.alloc, name, &mut stderr) {
             Ok(place) => ask_day(self.rt, self.alloc, &place, order, &mut stdout, &mut stderr),
@@ -206,8 +206,14 @@ where
             Some(Asked::Watch(follower, file)) => {
                 self.run_watch(argument_text(words, file), follower)
             }
-            Some(Asked::Status(file)) => self.run_order(argument_text(words, file), Order::Status),
-            Some(Asked::End(file)) => self.run_order(argument_text(words, file), Order::End),
+            Some(Asked::Status(file)) => self.run_order(
+                argument_text(words, file),
+                ControlCommand::Status,
+            ),
+            Some(Asked::End(file)) => self.run_order(
+                argument_text(words, file),
+                ControlCommand::End,
+            ),
             Some(Asked::Version) => write_own(version_text(self.rt), &mut stdout, &mut stderr),
             Some(Asked::Help | Asked::HelpOn(_) | Asked::Wrong(_, _)) => self.run_streams(words),
             None => match self.run_watch_row(words) {

@@ -11,16 +11,16 @@ use std::io::ErrorKind;
 
 /// Why a day's journal was not opened.
 #[derive(Clone, Copy, Debug, PartialEq, Eq)]
-pub enum JournalFault {
+pub enum JournalFileFault {
     /// Its file is not held.
     Unheld(Unheld),
     /// It was not started. The cause is that of its last error.
     Unstarted(StartFault, WriteCause),
 }
 
-impl From<Unheld> for JournalFault {
-    fn from(unheld: Unheld) -> JournalFault {
-        JournalFault::Unheld(unheld)
+impl From<Unheld> for JournalFileFault {
+    fn from(unheld: Unheld) -> JournalFileFault {
+        JournalFileFault::Unheld(unheld)
     }
 }
 
@@ -73,14 +73,14 @@ fn unheld_text(alloc: Global, unheld: Unheld) -> Result<Vec<u8>, AllocError>
     }
 }
 
-impl JournalFault {
+impl JournalFileFault {
     /// Returns the status that the program ends with.
     pub fn status(self) -> Status
         ensures { result ≡ journal_status self }
     {
         match self {
-            JournalFault::Unheld(unheld) => unheld_status(unheld),
-            JournalFault::Unstarted(fault, _) => start_status(fault),
+            JournalFileFault::Unheld(unheld) => unheld_status(unheld),
+            JournalFileFault::Unstarted(fault, _) => start_status(fault),
         }
     }
 
@@ -89,13 +89,13 @@ impl JournalFault {
         ensures { IfOk result (fault_text self) }
     {
         match self {
-            JournalFault::Unheld(unheld) => unheld_text(alloc, unheld),
-            JournalFault::Unstarted(StartFault::Refused(refusal), _) => refusal.text(alloc),
-            JournalFault::Unstarted(StartFault::Unread(kind), _) => kind_text(alloc, kind),
-            JournalFault::Unstarted(StartFault::Unwritten, cause) => {
+            JournalFileFault::Unheld(unheld) => unheld_text(alloc, unheld),
+            JournalFileFault::Unstarted(StartFault::Refused(refusal), _) => refusal.text(alloc),
+            JournalFileFault::Unstarted(StartFault::Unread(kind), _) => kind_text(alloc, kind),
+            JournalFileFault::Unstarted(StartFault::Unwritten, cause) => {
                 Vec::from_slice(alloc, cause.text())
             }
-            JournalFault::Unstarted(StartFault::OutOfMemory, _) => {
+            JournalFileFault::Unstarted(StartFault::OutOfMemory, _) => {
                 Vec::from_slice(alloc, b"out of memory")
             }
         }

@@ -5,7 +5,7 @@ ghost use Rattle.journal_start.specs.Texts.{cut_text, went_on_text};
 ghost use Rattle.whole_io.specs.Writing.{WritesPrefix};
 ghost use Rattle.tapebox.specs.Journals.{journal_line, journal_name, journal_status};
 
-use crate::journal_fault::JournalFault;
+use crate::journal_fault::JournalFileFault;
 use crate::sayings::say_of;
 use desk_words::say_told;
 use journal_start::{PastLine, cut_text, went_on_text};
@@ -37,7 +37,7 @@ pub fn say_journal_fault<E: Write>(
     alloc: Global,
     errors: &mut E,
     path: &str,
-    fault: JournalFault,
+    fault: JournalFileFault,
 ) -> Status
     ensures { result ≡ journal_status fault }
 {

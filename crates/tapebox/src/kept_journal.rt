@@ -4,7 +4,7 @@ ghost use Rattle.journal_start.specs.Terms.{terms_of as journal_terms};
 ghost use Rattle.tapebox.specs.Journals.{IsJournalStatus, restored_of};
 
 use crate::file_journal::FileJournal;
-use crate::journal_fault::JournalFault;
+use crate::journal_fault::JournalFileFault;
 use crate::journal_held::{hold_journal, sync_folder};
 use crate::journal_place::JournalPlace;
 use crate::journal_texts::{say_cut, say_journal_fault, say_went_on};
@@ -93,7 +93,7 @@ fn start<R: Files<File = File>>(
     alloc: Global,
     words: &LiveWords,
     place: &JournalPlace,
-) -> Result<(Started, FileJournal), JournalFault> {
+) -> Result<(Started, FileJournal), JournalFileFault> {
     let held = hold_journal(rt, &place.path)?;
     let mut file = FileJournal::new(held, place.is_synced);
     match start_journal(alloc, &terms_of(words), &mut file) {
@@ -103,7 +103,7 @@ fn start<R: Files<File = File>>(
             }
             Ok((started, file))
         }
-        Err(fault) => Err(JournalFault::Unstarted(fault, file.cause())),
+        Err(fault) => Err(JournalFileFault::Unstarted(fault, file.cause())),
     }
 }
 

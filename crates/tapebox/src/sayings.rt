@@ -11,13 +11,13 @@ ghost use Rattle.tapebox.specs.Outlets.{day_end_text, write_fault_text};
 
 use crate::write_cause::WriteCause;
 use desk_words::{ended_status, say_open_fault, say_status, say_told};
-use feed_ends::{Fault, OpenFault};
+use feed_ends::{Fault, SocketFault};
 use program_words::Status;
 use std::alloc::{AllocError, Global};
 use std::io::Write;
 
 /// Says which socket could not be opened, unless there is no memory for the line, and returns the status.
-pub fn say_unopened<E: Write>(alloc: Global, errors: &mut E, fault: OpenFault) -> Status
+pub fn say_unopened<E: Write>(alloc: Global, errors: &mut E, fault: SocketFault) -> Status
     ensures status { result ≡ ReadFault }
     ensures said { WritesPrefix (told_line (open_fault_text fault)) (E.contents errors.old) (E.contents errors.new) }
 {

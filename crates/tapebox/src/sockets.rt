@@ -3,7 +3,7 @@ ghost use Rattle.std.specs.Prelude.{◌≡◌, IfErr, IfOk};
 ghost use Rattle.tapebox.specs.declared.sockets.Unopened.TheVariants.{Memory, Socket};
 ghost use Rattle.tapebox.specs.Feeds.{unopened_fault};
 
-use feed_ends::{Fault, OpenFault, Place, here};
+use feed_ends::{Fault, SocketFault, SocketPlace, here};
 use feed_words::LiveWords;
 use live_feed::LiveSockets;
 use std::alloc::{AllocError, AllocFailed, Global};
@@ -13,15 +13,15 @@ use std::net::{Net, TcpListener, TcpStream, UdpSocket};
 #[derive(Clone, Copy, Debug, PartialEq, Eq)]
 pub enum Unopened {
     /// One could not be opened.
-    Socket(OpenFault),
+    Socket(SocketFault),
     /// Memory ran out.
     Memory,
 }
 
-impl From<OpenFault> for Unopened {
+impl From<SocketFault> for Unopened {
     ghost from_gives = { λ why unopened. unopened ≡ Socket why };
 
-    fn from(why: OpenFault) -> Unopened {
+    fn from(why: SocketFault) -> Unopened {
         Unopened::Socket(why)
     }
 }
@@ -57,21 +57,25 @@ impl Unopened {
 /// Opens a listener.
 fn listen<T: Net<Listener = TcpListener, Stream = TcpStream>>(
     rt: &T,
-    place: Place,
+    place: SocketPlace,
     port: u16,
-) -> Result<TcpListener, OpenFault>
+) -> Result<TcpListener, SocketFault>
     ensures { IfErr result (λ why. (why.place ≡ place) × (why.port ≡ port)) }
 {
-    TcpListener::bind(rt, here(port)).map_err(|error| OpenFault::new(place, port, error.kind()))
+    TcpListener::bind(rt, here(port)).map_err(|error| SocketFault::new(place, port, error.kind()))
 }
 
 /// Opens the socket that packets are sent from, at any free port.
 fn open_sender<T: Net<Listener = TcpListener, Stream = TcpStream>>(
     rt: &T,
-) -> Result<UdpSocket, OpenFault>
-    ensures { IfErr result (λ why. (why.place ≡ Place.Sender) × (why.port ≡ 0)) }
+) -> Result<UdpSocket, SocketFault>
+    ensures { IfErr result (λ why. (why.place ≡ SocketPlace.Sender) × (why.port ≡ 0)) }
 {
-    UdpSocket::bind(rt, here(0)).map_err(|error| OpenFault::new(Place::Sender, 0, error.kind()))
+    UdpSocket::bind(rt, here(0)).map_err(|error| SocketFault::new(
+        SocketPlace::Sender,
+        0,
+        error.kind(),
+    ))
 }
 
 /// Opens a listener for each participant, on consecutive ports from the first.
@@ -83,7 +87,7 @@ fn open_lines<T: Net<Listener = TcpListener, Stream = TcpStream>>(
     let mut lines = Vec::new(alloc);
     let ports = words.first_port..=u16::MAX;
     for (port, participant) in ports.zip(words.listing.participants()) {
-        lines.push(listen(rt, Place::Line(*participant), port)?)?;
+        lines.push(listen(rt, SocketPlace::Line(*participant), port)?)?;
     }
     Ok(lines)
 }
@@ -102,7 +106,7 @@ pub fn open_live<T: Net<Listener = TcpListener, Stream = TcpStream>>(
         lines: open_lines(rt, alloc, words)?,
         a: Vec::from_slice(alloc, &words.a)?,
         b: Vec::from_slice(alloc, &words.b)?,
-        retransmission: listen(rt, Place::Retransmission, words.retransmission)?,
+        retransmission: listen(rt, SocketPlace::Retransmission, words.retransmission)?,
         sender: open_sender(rt)?,
     })
 }

@@ -11,24 +11,24 @@ use Rattle.retransmit.specs.declared.ask_fault.AskFault.{AskFault}
 use Rattle.retransmit.specs.declared.ask_fault.AskFault.TheVariants as ask
 use Rattle.tapebox_c.specs.Faults.{fault_code}
 use Rattle.tapebox_c.specs.Sending.{TellsText}
-use Rattle.tapebox_c.specs.declared.fault.Fault.{Fault}
-use Rattle.tapebox_c.specs.declared.fault.Fault.TheVariants.{NoRequest, BadRequest}
+use Rattle.tapebox_c.specs.declared.fault.CallFault.{CallFault}
+use Rattle.tapebox_c.specs.declared.fault.CallFault.TheVariants.{NoRequest, BadRequest}
 use Rattle.tapebox_c.specs.declared.rows.ReplyRow.{ReplyRow}
 use Rattle.tapebox_c.specs.declared.rows.RequestFieldsRow.{RequestFieldsRow}
 
 -- ---- requests
 
 -- a request that was read, or its fault
-abbrev pub request_or : Result Request RequestFault → Result Request Fault
+abbrev pub request_or : Result Request RequestFault → Result Request CallFault
 request_or (Ok r) = Ok r
 request_or (Err fault) = Err (BadRequest fault)
 
 -- the request that the bytes are: 107 if there are not as many as one has
-abbrev pub request_due : List ℕ → Result Request Fault
+abbrev pub request_due : List ℕ → Result Request CallFault
 request_due bytes = if length bytes == REQUEST_LENGTH then request_or (request_of bytes) else Err NoRequest
 
 -- the result of reading a request
-abbrev pub ReadsRequest : Result Request Fault → ℕ → RequestFieldsRow → RequestFieldsRow → Type 0
+abbrev pub ReadsRequest : Result Request CallFault → ℕ → RequestFieldsRow → RequestFieldsRow → Type 0
 ReadsRequest (Ok r) code old new = (code ≡ 0) × (new ≡ record { session = r.session; from = r.from; count = r.count })
 ReadsRequest (Err fault) code old new = (code ≡ fault_code fault) × (new ≡ old)
 

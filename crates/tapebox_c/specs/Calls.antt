@@ -7,8 +7,8 @@ use Rattle.reports.specs.declared.message.Message.{Message}
 use Rattle.tape_core.specs.Tape.{TapeState, Answers, refusal}
 use Rattle.tape_core.specs.declared.entry.Entry.{Entry}
 use Rattle.tape_core.specs.declared.refusal.Refusal.TheVariants.{OutOfMemory}
-use Rattle.tapebox_c.specs.declared.fault.Fault.{Fault}
-use Rattle.tapebox_c.specs.declared.fault.Fault.TheVariants.{NoTape, NoMessage, ExtraBytes, Refused}
+use Rattle.tapebox_c.specs.declared.fault.CallFault.{CallFault}
+use Rattle.tapebox_c.specs.declared.fault.CallFault.TheVariants.{NoTape, NoMessage, ExtraBytes, Refused}
 use Rattle.tapebox_c.specs.declared.held.Held.{Held}
 use Rattle.tapebox_c.specs.declared.held.Held.TheVariants.{Tape, Subscriber, Table, Words}
 
@@ -24,29 +24,29 @@ abbrev pub held_tape : Option Held → Option TapeState
 held_tape held = option_and_then own_tape held
 
 -- the message that was read, if it took all the bytes
-abbrev pub message_of_all : ℕ → Result (Message × ℕ) MessageFault → Result Message Fault
+abbrev pub message_of_all : ℕ → Result (Message × ℕ) MessageFault → Result Message CallFault
 message_of_all len (Err fault) = Err (NoMessage fault)
 message_of_all len (Ok read) = if read.1 == len then Ok read.0 else Err ExtraBytes
 
 -- the message that all the bytes are, or what is wrong with them
-abbrev pub whole_message : List ℕ → Result Message Fault
+abbrev pub whole_message : List ℕ → Result Message CallFault
 whole_message bytes = message_of_all (length bytes) (message_at bytes)
 
 -- a tape answers a message: it is admitted, or the result is the fault of its bytes, the tape's first refusal, or out of
 -- memory, and nothing changes
-abbrev pub Takes : TapeState → Result Message Fault → Result Entry Fault → TapeState → Type 0
+abbrev pub Takes : TapeState → Result Message CallFault → Result Entry CallFault → TapeState → Type 0
 Takes old (Err fault) answer new = (answer ≡ Err fault) × (new ≡ old)
 Takes old (Ok m) (Ok e) new = Answers old m (Ok e) new
 Takes old (Ok m) (Err fault) new = (fault ≡ Refused (unwrap_or (refusal old m) OutOfMemory)) × (new ≡ old)
 
 -- what a handle holds answers bytes
-abbrev pub Admits : Held → List ℕ → Result Entry Fault → Held → Type 0
+abbrev pub Admits : Held → List ℕ → Result Entry CallFault → Held → Type 0
 Admits (Tape t) bytes answer (Tape u) = Takes t (whole_message bytes) answer u
 Admits (Tape t) bytes answer new = ⊥
 Admits held bytes answer new = (answer ≡ Err NoTape) × (new ≡ held)
 
 -- a tape is closed
-abbrev pub Closes : Held → Result (Unit {0}) Fault → Held → Type 0
+abbrev pub Closes : Held → Result (Unit {0}) CallFault → Held → Type 0
 Closes (Tape t) answer new = (answer ≡ Ok tt) × (new ≡ Tape (record t { closed = true }))
 Closes held answer new = (answer ≡ Err NoTape) × (new ≡ held)
 

@@ -7,7 +7,7 @@ use Rattle.reports.specs.declared.message.Message.TheVariants.{Report, Cancel, C
 use Rattle.sale_matrix.specs.declared.content.Content.{Content}
 use Rattle.tapebox_c.specs.Faults.{fault_code}
 use Rattle.tapebox_c.specs.Rows.{LONGEST_MESSAGE}
-use Rattle.tapebox_c.specs.declared.fault.Fault.{Fault}
+use Rattle.tapebox_c.specs.declared.fault.CallFault.{CallFault}
 use Rattle.tapebox_c.specs.declared.rows.FieldsRow.{FieldsRow}
 use Rattle.tapebox_c.specs.declared.rows.MessageRow.{MessageRow}
 
@@ -32,7 +32,7 @@ fields_text f =
     else start_part 1 f.kind
 
 -- the bytes, with zeros after them, if they are a message
-abbrev pub EncodesTo : List ℕ → Result Message Fault → ℕ → MessageRow → MessageRow → Type 0
+abbrev pub EncodesTo : List ℕ → Result Message CallFault → ℕ → MessageRow → MessageRow → Type 0
 EncodesTo text (Ok message) code old new =
     (code ≡ 0) × (new.len ≡ length text) × (take new.len new.bytes ≡ text) × (drop new.len new.bytes ≡ drop new.len (replicate LONGEST_MESSAGE 0))
 EncodesTo text (Err fault) code old new = (code ≡ fault_code fault) × (new ≡ old)
@@ -63,6 +63,6 @@ fields_of (Correct header target content) = with_content (record (with_header 67
 fields_of (Reinstate header target) = record (with_header 83 header) { target = target }
 
 -- the fields of a message as the result of a call
-abbrev pub DecodesTo : Result Message Fault → ℕ → FieldsRow → FieldsRow → Type 0
+abbrev pub DecodesTo : Result Message CallFault → ℕ → FieldsRow → FieldsRow → Type 0
 DecodesTo (Ok message) code old new = (code ≡ 0) × (new ≡ fields_of message)
 DecodesTo (Err fault) code old new = (code ≡ fault_code fault) × (new ≡ old)

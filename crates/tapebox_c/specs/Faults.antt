@@ -6,13 +6,13 @@ use Rattle.retransmit.specs.Faults.{ask_fault_code}
 use Rattle.subscriber.specs.Faults.{delivery_fault_code, stop_code}
 use Rattle.tape_core.specs.Refusals.{refusal_code, tape_fault_code}
 use Rattle.tape_frames.specs.Faults.{packet_fault_code, request_fault_code}
-use Rattle.tapebox_c.specs.declared.fault.Fault.{Fault}
-use Rattle.tapebox_c.specs.declared.fault.Fault.TheVariants.{NoTape, NoSubscriber, InUse, BadMatrix, NoEntry, NoLine, NoListing, NotMade}
-use Rattle.tapebox_c.specs.declared.fault.Fault.TheVariants.{NoMessage, ExtraBytes, Refused, NotDelivered, Stopped}
-use Rattle.tapebox_c.specs.declared.fault.Fault.TheVariants.{NoRequest, NoRoom, OutOfMemory, NoTable, BadTable, NoPacket, BadRequest, NotAnswered}
+use Rattle.tapebox_c.specs.declared.fault.CallFault.{CallFault}
+use Rattle.tapebox_c.specs.declared.fault.CallFault.TheVariants.{NoTape, NoSubscriber, InUse, BadMatrix, NoEntry, NoLine, NoListing, NotMade}
+use Rattle.tapebox_c.specs.declared.fault.CallFault.TheVariants.{NoMessage, ExtraBytes, Refused, NotDelivered, Stopped}
+use Rattle.tapebox_c.specs.declared.fault.CallFault.TheVariants.{NoRequest, NoRoom, OutOfMemory, NoTable, BadTable, NoPacket, BadRequest, NotAnswered}
 
 -- the number of a fault
-abbrev pub fault_code : Fault → ℕ
+abbrev pub fault_code : CallFault → ℕ
 fault_code NoTape = 101
 fault_code NoSubscriber = 102
 fault_code InUse = 103

@@ -6,8 +6,8 @@ use Rattle.tape_core.specs.Tape.{TapeState, messages_of}
 use Rattle.tape_core.specs.declared.figures.Figures.{Figures}
 use Rattle.tape_core.specs.declared.refusal.Refusal.TheVariants.{UnknownParticipant, UnknownSymbol}
 use Rattle.tapebox_c.specs.Calls.{letter_named}
-use Rattle.tapebox_c.specs.declared.fault.Fault.{Fault}
-use Rattle.tapebox_c.specs.declared.fault.Fault.TheVariants.{NoTape, Refused}
+use Rattle.tapebox_c.specs.declared.fault.CallFault.{CallFault}
+use Rattle.tapebox_c.specs.declared.fault.CallFault.TheVariants.{NoTape, Refused}
 use Rattle.tapebox_c.specs.declared.rows.NameRow.{NameRow}
 use Rattle.tapebox_c.specs.declared.rows.TotalsRow.{TotalsRow}
 
@@ -20,7 +20,7 @@ abbrev pub totals_of : TapeState → ℕ → Option Figures
 totals_of t letter = option_map (figures_of (messages_of t.entries)) (letter_named letter)
 
 -- what a participant has sent: 101 without a tape, 34 if the letter is not one
-abbrev pub totals_found : Option TapeState → ℕ → Result Figures Fault
+abbrev pub totals_found : Option TapeState → ℕ → Result Figures CallFault
 totals_found None letter = Err NoTape
 totals_found (Some t) letter = ok_or (totals_of t letter) (Refused UnknownParticipant)
 
@@ -29,11 +29,11 @@ abbrev pub name_row : List ℕ → NameRow
 name_row symbol = record { bytes = symbol }
 
 -- the symbol at a place: 101 without a tape, 36 if there is none
-abbrev pub symbol_found : Option TapeState → ℕ → Result (List ℕ) Fault
+abbrev pub symbol_found : Option TapeState → ℕ → Result (List ℕ) CallFault
 symbol_found None place = Err NoTape
 symbol_found (Some t) place = ok_or (slice_get t.listing.symbols place) (Refused UnknownSymbol)
 
 -- the participant at a place: 101 without a tape, 34 if there is none
-abbrev pub letter_found : Option TapeState → ℕ → Result ℕ Fault
+abbrev pub letter_found : Option TapeState → ℕ → Result ℕ CallFault
 letter_found None place = Err NoTape
 letter_found (Some t) place = ok_or (slice_get t.listing.participants place) (Refused UnknownParticipant)

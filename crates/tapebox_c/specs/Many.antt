@@ -7,7 +7,7 @@ use Rattle.tape_core.specs.Tape.{TapeState, Answers}
 use Rattle.tape_core.specs.declared.entry.Entry.{Entry}
 use Rattle.tape_core.specs.declared.refusal.Refusal.{Refusal}
 use Rattle.tapebox_c.specs.Faults.{fault_code}
-use Rattle.tapebox_c.specs.declared.fault.Fault.TheVariants.{NoMessage, Refused}
+use Rattle.tapebox_c.specs.declared.fault.CallFault.TheVariants.{NoMessage, Refused}
 use Rattle.tapebox_c.specs.declared.held.Held.{Held}
 use Rattle.tapebox_c.specs.declared.held.Held.TheVariants.{Tape}
 use Rattle.tapebox_c.specs.declared.rows.ManyRow.{ManyRow}

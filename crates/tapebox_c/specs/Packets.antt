@@ -9,7 +9,7 @@ use Rattle.tape_frames.specs.declared.packet.Packet.{Packet}
 use Rattle.tape_frames.specs.declared.packet.Packet.TheVariants.{Data, Beat, End}
 use Rattle.tape_frames.specs.declared.packet_fault.PacketFault.{PacketFault}
 use Rattle.tapebox_c.specs.Exports.{EntryTold}
-use Rattle.tapebox_c.specs.declared.fault.Fault.TheVariants.{NoEntry}
+use Rattle.tapebox_c.specs.declared.fault.CallFault.TheVariants.{NoEntry}
 use Rattle.tapebox_c.specs.declared.rows.EntryRow.{EntryRow}
 use Rattle.tapebox_c.specs.declared.rows.PacketFieldsRow.{PacketFieldsRow}
 

@@ -13,8 +13,8 @@ use Rattle.csv_days.specs.TapeRows.{tape_text}
 use Rattle.csv_days.specs.declared.table_end.TableEnd.{TableEnd}
 use Rattle.csv_days.specs.declared.table_end.TableEnd.TheVariants.{Table as OfTable, WriteFault}
 use Rattle.tapebox_c.specs.Faults.{fault_code}
-use Rattle.tapebox_c.specs.declared.fault.Fault.{Fault}
-use Rattle.tapebox_c.specs.declared.fault.Fault.TheVariants.{BadMatrix, BadTable, InUse, NoTable, OutOfMemory}
+use Rattle.tapebox_c.specs.declared.fault.CallFault.{CallFault}
+use Rattle.tapebox_c.specs.declared.fault.CallFault.TheVariants.{BadMatrix, BadTable, InUse, NoTable, OutOfMemory}
 use Rattle.tapebox_c.specs.declared.held.Held.{Held}
 use Rattle.tapebox_c.specs.declared.held.Held.TheVariants.{Table, Words}
 use Rattle.tapebox_c.specs.declared.table.Table.{Table as Messages}
@@ -28,7 +28,7 @@ text_named Tape = tape_text
 text_named Explanation = explain_text
 
 -- the fault of a table that has no text: out of memory, or another
-abbrev pub end_fault : TableEnd → Fault
+abbrev pub end_fault : TableEnd → CallFault
 end_fault end = if end_status end == 5 then OutOfMemory else BadTable
 
 -- a table was read, or is faulty and the fault is held in words; or nothing is held, and memory ran out

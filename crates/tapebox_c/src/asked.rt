@@ -2,7 +2,7 @@
 ghost use Rattle.std.specs.Prelude.{◌≡◌, Ok};
 ghost use Rattle.tapebox_c.specs.Asked.{AnswerRead, GivesPacket, ReadsAnswer, ReadsRequest, fault_row, request_due};
 
-use crate::fault::Fault;
+use crate::fault::CallFault;
 use crate::rows::{ReplyRow, RequestFieldsRow};
 use crate::sending::give_text;
 use retransmit::{AskFault, ask};
@@ -16,7 +16,7 @@ pub extern "C" fn tapebox_read_request(request: &[u8], row: &mut RequestFieldsRo
     ensures { ReadsRequest (request_due request.now) result row.old row.new }
 {
     let Ok(request) = <[u8; REQUEST_LENGTH]>::try_from(request) else {
-        return Fault::NoRequest.code();
+        return CallFault::NoRequest.code();
     };
     match decode_request(&request) {
         Ok(request) => {
@@ -27,7 +27,7 @@ pub extern "C" fn tapebox_read_request(request: &[u8], row: &mut RequestFieldsRo
             };
             0
         }
-        Err(fault) => Fault::BadRequest(fault).code(),
+        Err(fault) => CallFault::BadRequest(fault).code(),
     }
 }
 
@@ -48,7 +48,7 @@ pub extern "C" fn tapebox_read_answer(alloc: Global, answer: &[u8], row: &mut Re
         }
         Err(fault) => {
             tell_fault(fault, taken, row);
-            Fault::NotAnswered(fault).code()
+            CallFault::NotAnswered(fault).code()
         }
     }
 }
@@ -68,11 +68,11 @@ pub extern "C" fn tapebox_answer_packet(
     match told {
         Ok(packets) => {
             let Some(packet) = packets.get(place as usize) else {
-                return Fault::NoEntry.code();
+                return CallFault::NoEntry.code();
             };
             give_text(packet, row, len)
         }
-        Err(fault) => Fault::NotAnswered(fault).code(),
+        Err(fault) => CallFault::NotAnswered(fault).code(),
     }
 }
 

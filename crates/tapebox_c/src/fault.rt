@@ -11,7 +11,7 @@ use tape_frames::{PacketFault, RequestFault};
 
 /// Why a call did nothing, by the number that it returns. 0 is no fault.
 #[derive(Clone, Copy)]
-pub enum Fault {
+pub enum CallFault {
     /// The handle holds no tape.
     NoTape,
     /// The handle holds no subscriber.
@@ -56,33 +56,33 @@ pub enum Fault {
     NotAnswered(AskFault),
 }
 
-impl Fault {
+impl CallFault {
     /// The number of the fault.
     pub fn code(self) -> u32
         ensures number { result ≡ fault_code self }
     {
         match self {
-            Fault::NoTape => 101,
-            Fault::NoSubscriber => 102,
-            Fault::InUse => 103,
-            Fault::BadMatrix => 104,
-            Fault::NoEntry => 105,
-            Fault::NoLine => 106,
-            Fault::NoRequest => 107,
-            Fault::NoRoom => 108,
-            Fault::OutOfMemory => 109,
-            Fault::NoTable => 110,
-            Fault::BadTable => 111,
-            Fault::NoListing(fault) => u32::from(fault.code()),
-            Fault::NotMade(fault) => u32::from(fault.code()),
-            Fault::NoMessage(fault) => u32::from(fault.code()),
-            Fault::ExtraBytes => 23,
-            Fault::Refused(refusal) => u32::from(refusal.code()),
-            Fault::NotDelivered(fault) => u32::from(fault.code()),
-            Fault::Stopped(stop) => u32::from(stop.code()),
-            Fault::NoPacket(fault) => u32::from(fault.code()),
-            Fault::BadRequest(fault) => u32::from(fault.code()),
-            Fault::NotAnswered(fault) => u32::from(fault.code()),
+            CallFault::NoTape => 101,
+            CallFault::NoSubscriber => 102,
+            CallFault::InUse => 103,
+            CallFault::BadMatrix => 104,
+            CallFault::NoEntry => 105,
+            CallFault::NoLine => 106,
+            CallFault::NoRequest => 107,
+            CallFault::NoRoom => 108,
+            CallFault::OutOfMemory => 109,
+            CallFault::NoTable => 110,
+            CallFault::BadTable => 111,
+            CallFault::NoListing(fault) => u32::from(fault.code()),
+            CallFault::NotMade(fault) => u32::from(fault.code()),
+            CallFault::NoMessage(fault) => u32::from(fault.code()),
+            CallFault::ExtraBytes => 23,
+            CallFault::Refused(refusal) => u32::from(refusal.code()),
+            CallFault::NotDelivered(fault) => u32::from(fault.code()),
+            CallFault::Stopped(stop) => u32::from(stop.code()),
+            CallFault::NoPacket(fault) => u32::from(fault.code()),
+            CallFault::BadRequest(fault) => u32::from(fault.code()),
+            CallFault::NotAnswered(fault) => u32::from(fault.code()),
         }
     }
 }

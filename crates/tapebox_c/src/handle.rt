@@ -4,7 +4,7 @@ ghost use Rattle.std.specs.Option.{option_map};
 ghost use Rattle.std.specs.Box.{box_value};
 ghost use Rattle.tapebox_c.specs.Filling.{FillsWith};
 
-use crate::fault::Fault;
+use crate::fault::CallFault;
 use crate::held::Held;
 use crate::inside::Inside;
 use crate::loose::Loose;
@@ -81,7 +81,7 @@ impl Handle {
                 self.put(boxed);
                 0
             }
-            Err(_) => Fault::NotMade(TapeFault::OutOfMemory).code(),
+            Err(_) => CallFault::NotMade(TapeFault::OutOfMemory).code(),
         }
     }
 }

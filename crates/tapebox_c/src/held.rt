@@ -8,7 +8,7 @@ ghost use Rattle.tapebox_c.specs.Many.{HeldAdmits};
 ghost use Rattle.tapebox_c.specs.Sending.{Makes, answer_over, cut_due};
 ghost use Rattle.tapebox_c.specs.Tables.{WritesTo, text_named, text_of};
 
-use crate::fault::Fault;
+use crate::fault::CallFault;
 use crate::many::admit_each;
 use crate::readings::{
     answer_in, entry_in, packet_in, participant_in, summary_in, summary_of_in, symbol_in, totals_in,
@@ -52,16 +52,16 @@ impl Held {
     }
 
     /// Admits the message that the bytes are.
-    pub(crate) fn admit(&mut self, bytes: &[u8]) -> Result<Entry, Fault>
+    pub(crate) fn admit(&mut self, bytes: &[u8]) -> Result<Entry, CallFault>
         ensures { Admits self.old bytes.now result self.new }
     {
         let Held::Tape(tape) = self else {
-            return Err(Fault::NoTape);
+            return Err(CallFault::NoTape);
         };
         let message = whole_message(bytes)?;
         match tape.admit(message) {
             Ok(entry) => Ok(entry),
-            Err(refusal) => Err(Fault::Refused(refusal)),
+            Err(refusal) => Err(CallFault::Refused(refusal)),
         }
     }
 
@@ -76,42 +76,42 @@ impl Held {
     }
 
     /// Closes the tape.
-    pub(crate) fn close(&mut self) -> Result<(), Fault>
+    pub(crate) fn close(&mut self) -> Result<(), CallFault>
         ensures { Closes self.old result self.new }
     {
         let Held::Tape(tape) = self else {
-            return Err(Fault::NoTape);
+            return Err(CallFault::NoTape);
         };
         tape.close();
         Ok(())
     }
 
     /// The consolidated summary of a symbol, by its name.
-    pub(crate) fn summary(&self, name: &[u8]) -> Result<Summary, Fault>
+    pub(crate) fn summary(&self, name: &[u8]) -> Result<Summary, CallFault>
         ensures { result ≡ summary_found (own_tape self.now) name.now }
     {
         let Some(tape) = self.tape() else {
-            return Err(Fault::NoTape);
+            return Err(CallFault::NoTape);
         };
         match summary_in(tape, name) {
             Some(summary) => Ok(summary),
-            None => Err(Fault::Refused(Refusal::UnknownSymbol)),
+            None => Err(CallFault::Refused(Refusal::UnknownSymbol)),
         }
     }
 
     /// A participant's own summary of a symbol, by the symbol's name.
-    pub(crate) fn summary_of(&self, name: &[u8], letter: u8) -> Result<Summary, Fault>
+    pub(crate) fn summary_of(&self, name: &[u8], letter: u8) -> Result<Summary, CallFault>
         ensures { result ≡ summary_of_found (own_tape self.now) name.now letter }
     {
         let Some(tape) = self.tape() else {
-            return Err(Fault::NoTape);
+            return Err(CallFault::NoTape);
         };
         if let Some(summary) = summary_of_in(tape, name, letter) {
             return Ok(summary);
         }
         match summary_in(tape, name) {
-            Some(_) => Err(Fault::Refused(Refusal::UnknownParticipant)),
-            None => Err(Fault::Refused(Refusal::UnknownSymbol)),
+            Some(_) => Err(CallFault::Refused(Refusal::UnknownParticipant)),
+            None => Err(CallFault::Refused(Refusal::UnknownSymbol)),
         }
     }
 
@@ -184,46 +184,46 @@ impl Held {
     }
 
     /// The entry of a number.
-    pub(crate) fn entry(&self, number: u32) -> Result<Entry, Fault>
+    pub(crate) fn entry(&self, number: u32) -> Result<Entry, CallFault>
         ensures { result ≡ entry_found (own_tape self.now) number }
     {
         let Some(tape) = self.tape() else {
-            return Err(Fault::NoTape);
+            return Err(CallFault::NoTape);
         };
         match entry_in(tape, number) {
             Some(entry) => Ok(entry),
-            None => Err(Fault::NoEntry),
+            None => Err(CallFault::NoEntry),
         }
     }
 
     /// What a participant has sent, by its letter.
-    pub(crate) fn totals(&self, letter: u8) -> Result<Figures, Fault>
+    pub(crate) fn totals(&self, letter: u8) -> Result<Figures, CallFault>
         ensures { result ≡ totals_found (own_tape self.now) letter }
     {
         let Some(tape) = self.tape() else {
-            return Err(Fault::NoTape);
+            return Err(CallFault::NoTape);
         };
-        totals_in(tape, letter).ok_or(Fault::Refused(Refusal::UnknownParticipant))
+        totals_in(tape, letter).ok_or(CallFault::Refused(Refusal::UnknownParticipant))
     }
 
     /// The symbol at a place of the listing.
-    pub(crate) fn symbol(&self, place: u32) -> Result<Symbol, Fault>
+    pub(crate) fn symbol(&self, place: u32) -> Result<Symbol, CallFault>
         ensures { result ≡ symbol_found (own_tape self.now) place }
     {
         let Some(tape) = self.tape() else {
-            return Err(Fault::NoTape);
+            return Err(CallFault::NoTape);
         };
-        symbol_in(tape, place).ok_or(Fault::Refused(Refusal::UnknownSymbol))
+        symbol_in(tape, place).ok_or(CallFault::Refused(Refusal::UnknownSymbol))
     }
 
     /// The participant at a place of the listing.
-    pub(crate) fn participant(&self, place: u32) -> Result<Participant, Fault>
+    pub(crate) fn participant(&self, place: u32) -> Result<Participant, CallFault>
         ensures { result ≡ letter_found (own_tape self.now) place }
     {
         let Some(tape) = self.tape() else {
-            return Err(Fault::NoTape);
+            return Err(CallFault::NoTape);
         };
-        participant_in(tape, place).ok_or(Fault::Refused(Refusal::UnknownParticipant))
+        participant_in(tape, place).ok_or(CallFault::Refused(Refusal::UnknownParticipant))
     }
 
     /// The packet of the entries from one number on, up to another.
@@ -233,13 +233,13 @@ impl Held {
         session: u64,
         from: u32,
         to: u32,
-    ) -> Result<Packet, Fault>
+    ) -> Result<Packet, CallFault>
         ensures { result ≡ cut_due (Some version) (own_tape self.now) session from to }
     {
         let Some(tape) = self.tape() else {
-            return Err(Fault::NoTape);
+            return Err(CallFault::NoTape);
         };
-        packet_in(tape, version, session, from, to).ok_or(Fault::NoEntry)
+        packet_in(tape, version, session, from, to).ok_or(CallFault::NoEntry)
     }
 
     /// Returns the answer to a request.
@@ -249,13 +249,13 @@ impl Held {
         version: Version,
         session: u64,
         request: &[u8; REQUEST_LENGTH],
-    ) -> Result<Vec<u8>, Fault>
+    ) -> Result<Vec<u8>, CallFault>
         ensures { Makes (answer_over (Some version) (own_tape self.now) session request.now) result }
     {
         let Some(tape) = self.tape() else {
-            return Err(Fault::NoTape);
+            return Err(CallFault::NoTape);
         };
-        answer_in(alloc, tape, version, session, request).ok_or(Fault::OutOfMemory)
+        answer_in(alloc, tape, version, session, request).ok_or(CallFault::OutOfMemory)
     }
 
     /// Makes a text of the table, in place of the one before, and returns 0, or the number of the reason why there is none.
@@ -263,7 +263,7 @@ impl Held {
         ensures { WritesTo (text_named text) matrix self.old result self.new }
     {
         let Held::Table(table) = self else {
-            return Fault::NoTable.code();
+            return CallFault::NoTable.code();
         };
         table.write(alloc, text, matrix)
     }
@@ -281,7 +281,7 @@ impl Held {
 }
 
 /// The message that all the bytes are.
-pub(crate) fn whole_message(bytes: &[u8]) -> Result<Message, Fault>
+pub(crate) fn whole_message(bytes: &[u8]) -> Result<Message, CallFault>
     ensures { result ≡ whole_message bytes.now }
 {
     match decode(bytes) {
@@ -289,9 +289,9 @@ pub(crate) fn whole_message(bytes: &[u8]) -> Result<Message, Fault>
             if taken == bytes.len() {
                 Ok(message)
             } else {
-                Err(Fault::ExtraBytes)
+                Err(CallFault::ExtraBytes)
             }
         }
-        Err(fault) => Err(Fault::NoMessage(fault)),
+        Err(fault) => Err(CallFault::NoMessage(fault)),
     }
 }

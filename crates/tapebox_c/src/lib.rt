@@ -24,7 +24,7 @@ mod tapes;
 
 pub use asked::{tapebox_answer_packet, tapebox_read_answer, tapebox_read_request};
 pub use coder::{tapebox_decode, tapebox_encode};
-pub use fault::Fault;
+pub use fault::CallFault;
 pub use handle::Handle;
 pub use held::Held;
 pub use inside::Inside;

@@ -4,7 +4,7 @@ ghost use Rattle.tapebox_c.specs.Calls.{held_tape};
 ghost use Rattle.tapebox_c.specs.Exports.{told};
 ghost use Rattle.tapebox_c.specs.Listed.{letter_found, name_row, symbol_found, totals_found, totals_row};
 
-use crate::fault::Fault;
+use crate::fault::CallFault;
 use crate::handle::Handle;
 use crate::rows::{NameRow, TotalsRow};
 use std::alloc::Global;
@@ -22,7 +22,7 @@ pub extern "C" fn tapebox_totals(
     ensures kept { handle.new.inside.held ≡ handle.old.inside.held }
 {
     let Some(held) = handle.take(alloc) else {
-        return Fault::NoTape.code();
+        return CallFault::NoTape.code();
     };
     let found = held.totals(participant);
     handle.put(held);
@@ -47,7 +47,7 @@ pub extern "C" fn tapebox_symbol(
     ensures kept { handle.new.inside.held ≡ handle.old.inside.held }
 {
     let Some(held) = handle.take(alloc) else {
-        return Fault::NoTape.code();
+        return CallFault::NoTape.code();
     };
     let found = held.symbol(place);
     handle.put(held);
@@ -73,7 +73,7 @@ pub extern "C" fn tapebox_participant(
     ensures kept { handle.new.inside.held ≡ handle.old.inside.held }
 {
     let Some(held) = handle.take(alloc) else {
-        return Fault::NoTape.code();
+        return CallFault::NoTape.code();
     };
     let found = held.participant(place);
     handle.put(held);

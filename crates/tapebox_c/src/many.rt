@@ -2,7 +2,7 @@
 ghost use Rattle.std.specs.Prelude.{◌≡◌, ◌≤◌, length};
 ghost use Rattle.tapebox_c.specs.Many.{AdmitsMany, AdmitsManyIn, TurnAt};
 
-use crate::fault::Fault;
+use crate::fault::CallFault;
 use crate::handle::Handle;
 use crate::rows::ManyRow;
 use reports::{MessageFault, decode};
@@ -24,12 +24,12 @@ pub extern "C" fn tapebox_admit_many(
     ensures { AdmitsManyIn handle.old.inside.held messages.now result numbers.old numbers.new row.old row.new handle.new.inside.held }
 {
     let Some(mut held) = handle.take(alloc) else {
-        return Fault::NoTape.code();
+        return CallFault::NoTape.code();
     };
     let told = held.admit_many(messages, numbers);
     handle.put(held);
     let Some((done, code)) = told else {
-        return Fault::NoTape.code();
+        return CallFault::NoTape.code();
     };
     *row = done;
     code
@@ -47,7 +47,7 @@ pub(crate) fn admit_each(
     let mut taken = 0;
     while taken < bytes.len() {
         if answered == numbers.len() {
-            return (ManyRow { answered, taken }, Fault::NoRoom.code());
+            return (ManyRow { answered, taken }, CallFault::NoRoom.code());
         }
         match turn(tape, bytes, taken) {
             Ok((number, next)) => {
@@ -55,7 +55,10 @@ pub(crate) fn admit_each(
                 answered += 1;
                 taken = next;
             }
-            Err(fault) => return (ManyRow { answered, taken }, Fault::NoMessage(fault).code()),
+            Err(fault) => return (
+                ManyRow { answered, taken },
+                CallFault::NoMessage(fault).code(),
+            ),
         }
     }
     (ManyRow { answered, taken }, 0)
@@ -69,7 +72,7 @@ fn turn(tape: &mut Tape<IndexStore>, bytes: &[u8], at: usize) -> Result<(u32, us
     let (message, taken) = decode(&bytes[at..])?;
     let number = match tape.admit(message) {
         Ok(_) => 0,
-        Err(refusal) => Fault::Refused(refusal).code(),
+        Err(refusal) => CallFault::Refused(refusal).code(),
     };
     Ok((number, at + taken))
 }

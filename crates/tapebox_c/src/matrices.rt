@@ -3,7 +3,7 @@ ghost use Rattle.std.specs.Prelude.{◌≡◌};
 ghost use Rattle.tapebox_c.specs.Matrices.{as_condition, cells_row, cells_told, rule_letter, yes_letter};
 ghost use Rattle.tapebox_c.specs.Opening.{matrix_numbered};
 
-use crate::fault::Fault;
+use crate::fault::CallFault;
 use crate::opening::matrix_numbered;
 use crate::rows::CellsRow;
 use reports::MessageFault;
@@ -16,13 +16,13 @@ pub extern "C" fn tapebox_cells(matrix: u32, condition: &[u8], row: &mut CellsRo
     ensures { (result, row.new) ≡ cells_told (matrix_numbered matrix) (as_condition condition.now) row.old }
 {
     let Some(matrix) = matrix_numbered(matrix) else {
-        return Fault::BadMatrix.code();
+        return CallFault::BadMatrix.code();
     };
     let Some(condition) = condition_of(condition) else {
-        return Fault::NoMessage(MessageFault::BadCondition).code();
+        return CallFault::NoMessage(MessageFault::BadCondition).code();
     };
     if !condition.within(matrix) {
-        return Fault::Refused(Refusal::NotInMatrix).code();
+        return CallFault::Refused(Refusal::NotInMatrix).code();
     }
     *row = cells_row(cells(matrix, &condition));
     0

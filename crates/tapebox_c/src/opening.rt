@@ -3,7 +3,7 @@ ghost use Rattle.std.specs.Prelude.{◌≡◌, Ok, IfOk, IfErr};
 ghost use Rattle.batch.specs.Header.{header_listing};
 ghost use Rattle.tapebox_c.specs.Opening.{IsFaultOf, is_limit, matrix_numbered, subscriber_opened, tape_opened};
 
-use crate::fault::Fault;
+use crate::fault::CallFault;
 use batch::read_header;
 use sale_matrix::Matrix;
 use std::alloc::Global;
@@ -37,23 +37,23 @@ pub(crate) fn open_tape(
     participants: &[u8],
     matrix: u32,
     limit: u32,
-) -> Result<Tape<IndexStore>, Fault>
+) -> Result<Tape<IndexStore>, CallFault>
     ensures ok { IfOk result (λ t. tape_opened (matrix_numbered matrix) limit (header_listing symbols.now participants.now) ≡ Ok t) }
     ensures err { IfErr result (λ f. IsFaultOf f (tape_opened (matrix_numbered matrix) limit (header_listing symbols.now participants.now))) }
 {
     let Some(matrix) = matrix_numbered(matrix) else {
-        return Err(Fault::BadMatrix);
+        return Err(CallFault::BadMatrix);
     };
     if !is_limit(limit) {
-        return Err(Fault::NotMade(TapeFault::BadLimit));
+        return Err(CallFault::NotMade(TapeFault::BadLimit));
     }
     let listing = match read_header(alloc, symbols, participants) {
         Ok(listing) => listing,
-        Err(fault) => return Err(Fault::NoListing(fault)),
+        Err(fault) => return Err(CallFault::NoListing(fault)),
     };
     match Tape::new(alloc, listing, limit, matrix) {
         Ok(tape) => Ok(tape),
-        Err(fault) => Err(Fault::NotMade(fault)),
+        Err(fault) => Err(CallFault::NotMade(fault)),
     }
 }
 
@@ -65,22 +65,22 @@ pub(crate) fn open_subscriber(
     matrix: u32,
     limit: u32,
     session: u64,
-) -> Result<Subscriber, Fault>
+) -> Result<Subscriber, CallFault>
     ensures ok { IfOk result (λ s. subscriber_opened (matrix_numbered matrix) limit session (header_listing symbols.now participants.now) ≡ Ok s) }
     ensures err { IfErr result (λ f. IsFaultOf f (subscriber_opened (matrix_numbered matrix) limit session (header_listing symbols.now participants.now))) }
 {
     let Some(matrix) = matrix_numbered(matrix) else {
-        return Err(Fault::BadMatrix);
+        return Err(CallFault::BadMatrix);
     };
     if !is_limit(limit) {
-        return Err(Fault::NotMade(TapeFault::BadLimit));
+        return Err(CallFault::NotMade(TapeFault::BadLimit));
     }
     let listing = match read_header(alloc, symbols, participants) {
         Ok(listing) => listing,
-        Err(fault) => return Err(Fault::NoListing(fault)),
+        Err(fault) => return Err(CallFault::NoListing(fault)),
     };
     match Subscriber::new(alloc, listing, limit, session, matrix) {
         Ok(subscriber) => Ok(subscriber),
-        Err(fault) => Err(Fault::NotMade(fault)),
+        Err(fault) => Err(CallFault::NotMade(fault)),
     }
 }

@@ -3,7 +3,7 @@ ghost use Rattle.std.specs.Prelude.{◌≡◌};
 ghost use Rattle.tape_frames.specs.Reading.{packet_of};
 ghost use Rattle.tapebox_c.specs.Packets.{GivesEntry, ReadsPacket, packet_fields};
 
-use crate::fault::Fault;
+use crate::fault::CallFault;
 use crate::rows::{EntryRow, PacketFieldsRow, entry_row};
 use tape_frames::{Packet, decode_packet};
 
@@ -17,7 +17,7 @@ pub extern "C" fn tapebox_read_packet(packet: &[u8], row: &mut PacketFieldsRow) 
             *row = packet_fields(&packet);
             0
         }
-        Err(fault) => Fault::NoPacket(fault).code(),
+        Err(fault) => CallFault::NoPacket(fault).code(),
     }
 }
 
@@ -29,12 +29,12 @@ pub extern "C" fn tapebox_packet_entry(packet: &[u8], place: u32, row: &mut Entr
     match decode_packet(packet) {
         Ok(packet) => {
             let Some(entry) = packet.entries().get(place as usize) else {
-                return Fault::NoEntry.code();
+                return CallFault::NoEntry.code();
             };
             *row = entry_row(entry);
             0
         }
-        Err(fault) => Fault::NoPacket(fault).code(),
+        Err(fault) => CallFault::NoPacket(fault).code(),
     }
 }
 

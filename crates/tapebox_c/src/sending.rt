@@ -5,7 +5,7 @@ ghost use Rattle.tape_frames.specs.declared.packet.Packet.TheVariants.{Beat, End
 ghost use Rattle.tapebox_c.specs.Calls.{held_tape};
 ghost use Rattle.tapebox_c.specs.Sending.{IsPacketRow, PacketIn, PacketTold, ServesIn, TellsText, answer_due, count_due, cut_due, told_due};
 
-use crate::fault::Fault;
+use crate::fault::CallFault;
 use crate::handle::Handle;
 use crate::rows::PacketRow;
 use reports::put;
@@ -40,10 +40,10 @@ pub extern "C" fn tapebox_cut(
     ensures kept { handle.new.inside.held ≡ handle.old.inside.held }
 {
     let Some(version) = version_numbered(version) else {
-        return Fault::NoPacket(PacketFault::BadVersion).code();
+        return CallFault::NoPacket(PacketFault::BadVersion).code();
     };
     let Some(held) = handle.take(alloc) else {
-        return Fault::NoTape.code();
+        return CallFault::NoTape.code();
     };
     let found = held.cut(version, session, from, to);
     handle.put(held);
@@ -66,7 +66,7 @@ pub extern "C" fn tapebox_beat(
 {
     match entry_count(version, last) {
         Ok(last) => give_packet(alloc, &Packet::Beat { session, last }, row),
-        Err(fault) => Fault::NoPacket(fault).code(),
+        Err(fault) => CallFault::NoPacket(fault).code(),
     }
 }
 
@@ -83,7 +83,7 @@ pub extern "C" fn tapebox_end(
 {
     match entry_count(version, count) {
         Ok(count) => give_packet(alloc, &Packet::End { session, count }, row),
-        Err(fault) => Fault::NoPacket(fault).code(),
+        Err(fault) => CallFault::NoPacket(fault).code(),
     }
 }
 
@@ -102,13 +102,13 @@ pub extern "C" fn tapebox_serve(
     ensures kept { handle.new.inside.held ≡ handle.old.inside.held }
 {
     let Ok(request) = <[u8; REQUEST_LENGTH]>::try_from(request) else {
-        return Fault::NoRequest.code();
+        return CallFault::NoRequest.code();
     };
     let Some(version) = version_numbered(version) else {
-        return Fault::NoPacket(PacketFault::BadVersion).code();
+        return CallFault::NoPacket(PacketFault::BadVersion).code();
     };
     let Some(held) = handle.take(alloc) else {
-        return Fault::NoTape.code();
+        return CallFault::NoTape.code();
     };
     let told = held.answer(alloc, version, session, &request);
     handle.put(held);
@@ -133,7 +133,7 @@ fn give_packet(alloc: Global, packet: &Packet, row: &mut PacketRow) -> u32
     ensures { PacketTold packet.now result row.old row.new }
 {
     let Some(spelled) = packet_row(alloc, packet) else {
-        return Fault::OutOfMemory.code();
+        return CallFault::OutOfMemory.code();
     };
     *row = spelled;
     0
@@ -161,7 +161,7 @@ pub(crate) fn give_text(text: &[u8], row: &mut [u8], len: &mut usize) -> u32
     ensures { TellsText text.now result row.old row.new len.old len.new }
 {
     if row.len() < text.len() {
-        return Fault::NoRoom.code();
+        return CallFault::NoRoom.code();
     }
     row[..text.len()].copy_from_slice(text);
     *len = text.len();

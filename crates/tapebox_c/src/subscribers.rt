@@ -6,7 +6,7 @@ ghost use Rattle.tapebox_c.specs.Feeds.{DeliversIn, DrainsIn, MissingIn, conflic
 ghost use Rattle.tapebox_c.specs.Opening.{matrix_numbered, subscriber_opened};
 ghost use Rattle.tapebox_c.specs.declared.held.Held.TheVariants.{Subscriber as AsSubscriber};
 
-use crate::fault::Fault;
+use crate::fault::CallFault;
 use crate::handle::Handle;
 use crate::held::Held;
 use crate::opening::open_subscriber;
@@ -52,7 +52,7 @@ pub extern "C" fn tapebox_subscribe(
     ensures { OpensIn AsSubscriber handle.old.inside.held (subscriber_opened (matrix_numbered matrix) limit session (header_listing symbols.now participants.now)) result handle.new.inside.held }
 {
     if handle.is_full() {
-        return Fault::InUse.code();
+        return CallFault::InUse.code();
     }
     match open_subscriber(alloc, symbols, participants, matrix, limit, session) {
         Ok(subscriber) => handle.fill(alloc, Held::Subscriber(subscriber)),
@@ -73,10 +73,10 @@ pub extern "C" fn tapebox_deliver(
     ensures { DeliversIn handle.old.inside.held (line_numbered line) packet.now result row.old row.new handle.new.inside.held }
 {
     let Some(line) = line_numbered(line) else {
-        return Fault::NoLine.code();
+        return CallFault::NoLine.code();
     };
     let Some(mut held) = handle.take(alloc) else {
-        return Fault::NoSubscriber.code();
+        return CallFault::NoSubscriber.code();
     };
     let told = held.deliver(line, packet);
     handle.put(held);
@@ -87,9 +87,9 @@ pub extern "C" fn tapebox_deliver(
         }
         Some(Err(fault)) => {
             row.conflict = conflict_of(&fault);
-            Fault::NotDelivered(fault).code()
+            CallFault::NotDelivered(fault).code()
         }
-        None => Fault::NoSubscriber.code(),
+        None => CallFault::NoSubscriber.code(),
     }
 }
 
@@ -99,7 +99,7 @@ pub extern "C" fn tapebox_drain(alloc: Global, handle: &mut Handle, drained: &mu
     ensures { DrainsIn handle.old.inside.held result drained.old drained.new handle.new.inside.held }
 {
     let Some(mut held) = handle.take(alloc) else {
-        return Fault::NoSubscriber.code();
+        return CallFault::NoSubscriber.code();
     };
     let told = held.drain();
     handle.put(held);
@@ -110,9 +110,9 @@ pub extern "C" fn tapebox_drain(alloc: Global, handle: &mut Handle, drained: &mu
         }
         Some(Err(fault)) => {
             *drained = fault.drained;
-            Fault::Stopped(fault.why).code()
+            CallFault::Stopped(fault.why).code()
         }
-        None => Fault::NoSubscriber.code(),
+        None => CallFault::NoSubscriber.code(),
     }
 }
 
@@ -123,7 +123,7 @@ pub extern "C" fn tapebox_missing(alloc: Global, handle: &mut Handle, row: &mut 
     ensures kept { handle.new.inside.held ≡ handle.old.inside.held }
 {
     let Some(held) = handle.take(alloc) else {
-        return Fault::NoSubscriber.code();
+        return CallFault::NoSubscriber.code();
     };
     let told = held.missing();
     handle.put(held);
@@ -139,7 +139,7 @@ pub extern "C" fn tapebox_missing(alloc: Global, handle: &mut Handle, row: &mut 
             row.count = 0;
             0
         }
-        None => Fault::NoSubscriber.code(),
+        None => CallFault::NoSubscriber.code(),
     }
 }
 
@@ -150,12 +150,12 @@ pub extern "C" fn tapebox_news_of(alloc: Global, handle: &mut Handle, row: &mut 
     ensures kept { handle.new.inside.held ≡ handle.old.inside.held }
 {
     let Some(held) = handle.take(alloc) else {
-        return Fault::NoSubscriber.code();
+        return CallFault::NoSubscriber.code();
     };
     let told = held.news();
     handle.put(held);
     let Some(news) = told else {
-        return Fault::NoSubscriber.code();
+        return CallFault::NoSubscriber.code();
     };
     *row = news;
     0

@@ -3,7 +3,7 @@ ghost use Rattle.std.specs.Prelude.{◌≡◌};
 ghost use Rattle.tapebox_c.specs.Tables.{ComesTo, Tells, Writes, end_fault, run_of, text_named};
 
 use crate::ends::end_text;
-use crate::fault::Fault;
+use crate::fault::CallFault;
 use csv_days::{TableEnd, write_explained, write_messages_report, write_tape};
 use reports::Message;
 use sale_matrix::Matrix;
@@ -33,13 +33,13 @@ pub struct Table {
 }
 
 /// The fault of an end: out of memory, or another.
-pub(crate) fn end_fault(end: &TableEnd) -> Fault
+pub(crate) fn end_fault(end: &TableEnd) -> CallFault
     ensures { result ≡ end_fault end.now }
 {
     if end.status() == OUT_OF_MEMORY {
-        Fault::OutOfMemory
+        CallFault::OutOfMemory
     } else {
-        Fault::BadTable
+        CallFault::BadTable
     }
 }
 
@@ -76,7 +76,7 @@ fn told(alloc: Global, run: Result<Vec<u8>, TableEnd>) -> (u32, Vec<u8>)
     };
     match end_text(alloc, &end) {
         Ok(words) => (end_fault(&end).code(), words),
-        Err(_) => (Fault::OutOfMemory.code(), Vec::new(alloc)),
+        Err(_) => (CallFault::OutOfMemory.code(), Vec::new(alloc)),
     }
 }
 

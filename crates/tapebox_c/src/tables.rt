@@ -7,7 +7,7 @@ ghost use Rattle.tapebox_c.specs.Opening.{matrix_numbered};
 ghost use Rattle.tapebox_c.specs.Tables.{Reads, ReadsIn, WritesIn, copied, held_text, text_named};
 
 use crate::ends::fault_text;
-use crate::fault::Fault;
+use crate::fault::CallFault;
 use crate::handle::Handle;
 use crate::held::Held;
 use crate::opening::matrix_numbered;
@@ -42,17 +42,17 @@ pub extern "C" fn tapebox_read_table(alloc: Global, handle: &mut Handle, table: 
     ensures { ReadsIn handle.old.inside.held table.now result handle.new.inside.held }
 {
     if handle.is_full() {
-        return Fault::InUse.code();
+        return CallFault::InUse.code();
     }
     let Some((held, code)) = table_read(alloc, table) else {
-        return Fault::OutOfMemory.code();
+        return CallFault::OutOfMemory.code();
     };
     match Box::new(alloc, held) {
         Ok(boxed) => {
             handle.put(boxed);
             code
         }
-        Err(_) => Fault::OutOfMemory.code(),
+        Err(_) => CallFault::OutOfMemory.code(),
     }
 }
 
@@ -61,10 +61,10 @@ fn write_text(alloc: Global, handle: &mut Handle, text: Text, matrix: u32) -> u3
     ensures { WritesIn (text_named text) (matrix_numbered matrix) handle.old.inside.held result handle.new.inside.held }
 {
     let Some(matrix) = matrix_numbered(matrix) else {
-        return Fault::BadMatrix.code();
+        return CallFault::BadMatrix.code();
     };
     let Some(mut held) = handle.take(alloc) else {
-        return Fault::NoTable.code();
+        return CallFault::NoTable.code();
     };
     let code = held.write(alloc, text, matrix);
     handle.put(held);

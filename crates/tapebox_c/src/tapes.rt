@@ -7,7 +7,7 @@ ghost use Rattle.tapebox_c.specs.Rows.{summary_row};
 ghost use Rattle.tapebox_c.specs.Opening.{matrix_numbered, tape_opened};
 ghost use Rattle.tapebox_c.specs.declared.held.Held.TheVariants.{Tape as AsTape};
 
-use crate::fault::Fault;
+use crate::fault::CallFault;
 use crate::handle::Handle;
 use crate::held::Held;
 use crate::opening::open_tape;
@@ -28,7 +28,7 @@ pub extern "C" fn tapebox_open(
     ensures { OpensIn AsTape handle.old.inside.held (tape_opened (matrix_numbered matrix) limit (header_listing symbols.now participants.now)) result handle.new.inside.held }
 {
     if handle.is_full() {
-        return Fault::InUse.code();
+        return CallFault::InUse.code();
     }
     match open_tape(alloc, symbols, participants, matrix, limit) {
         Ok(tape) => handle.fill(alloc, Held::Tape(tape)),
@@ -47,7 +47,7 @@ pub extern "C" fn tapebox_admit(
     ensures { AdmitsIn handle.old.inside.held message.now result answer.old answer.new handle.new.inside.held }
 {
     let Some(mut held) = handle.take(alloc) else {
-        return Fault::NoTape.code();
+        return CallFault::NoTape.code();
     };
     let told = held.admit(message);
     handle.put(held);
@@ -66,7 +66,7 @@ pub extern "C" fn tapebox_close(alloc: Global, handle: &mut Handle) -> u32
     ensures { ClosesIn handle.old.inside.held result handle.new.inside.held }
 {
     let Some(mut held) = handle.take(alloc) else {
-        return Fault::NoTape.code();
+        return CallFault::NoTape.code();
     };
     let told = held.close();
     handle.put(held);
@@ -88,7 +88,7 @@ pub extern "C" fn tapebox_summary(
     ensures kept { handle.new.inside.held ≡ handle.old.inside.held }
 {
     let Some(held) = handle.take(alloc) else {
-        return Fault::NoTape.code();
+        return CallFault::NoTape.code();
     };
     let found = held.summary(symbol);
     handle.put(held);
@@ -114,7 +114,7 @@ pub extern "C" fn tapebox_summary_of(
     ensures kept { handle.new.inside.held ≡ handle.old.inside.held }
 {
     let Some(held) = handle.take(alloc) else {
-        return Fault::NoTape.code();
+        return CallFault::NoTape.code();
     };
     let found = held.summary_of(symbol, participant);
     handle.put(held);
@@ -153,7 +153,7 @@ pub extern "C" fn tapebox_entry(
     ensures kept { handle.new.inside.held ≡ handle.old.inside.held }
 {
     let Some(held) = handle.take(alloc) else {
-        return Fault::NoTape.code();
+        return CallFault::NoTape.code();
     };
     let found = held.entry(number);
     handle.put(held);

@@ -6,7 +6,7 @@ use corrections::TargetFault;
 use day_report::ReportFault;
 use line_ledger::{LineRefusal, NotOnTape, OpenFault, PublishFault, ViewFault};
 use reports::MessageFault;
-use retransmit::{AskFault, Refusal as RequestRefusal};
+use retransmit::{AskFault, RequestRefusal};
 use std::alloc::Global;
 use std::fmt::Display;
 use subscriber::{DeliveryFault, DrainFault, Stop};

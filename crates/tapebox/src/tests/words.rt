@@ -1,6 +1,6 @@
 //! Tests the arguments of `live` and of `follow`: each number is the field of its place.
 
-use crate::command::{Command, read_command};
+use crate::command::{ProgramCommand, read_command};
 use feed_words::{FollowWords, LiveWords, WordsFault};
 use sale_matrix::Matrix;
 use std::alloc::{AllocError, Global};
@@ -40,7 +40,7 @@ fn numbers_of_live(live: &LiveWords) -> ([usize; 2], [u16; 5], u64) {
 /// Returns the same of arguments, if they are those of `live`.
 fn live_numbers(alloc: Global, words: &[u8]) -> Option<([usize; 2], [u16; 5], u64)> {
     match read_command(alloc, words) {
-        Ok(Command::Live(live)) => Some(numbers_of_live(&live)),
+        Ok(ProgramCommand::Live(live)) => Some(numbers_of_live(&live)),
         _ => None,
     }
 }
@@ -55,7 +55,7 @@ fn numbers_of_follow(follow: &FollowWords) -> ([usize; 2], [u16; 3], u64) {
 /// Returns the same of arguments, if they are those of `follow`.
 fn follow_numbers(alloc: Global, words: &[u8]) -> Option<([usize; 2], [u16; 3], u64)> {
     match read_command(alloc, words) {
-        Ok(Command::Follow(follow)) => Some(numbers_of_follow(&follow)),
+        Ok(ProgramCommand::Follow(follow)) => Some(numbers_of_follow(&follow)),
         _ => None,
     }
 }
@@ -85,7 +85,7 @@ fn the_greatest_numbers_are_taken(rt: HostRuntime) {
 /// Returns whether arguments are those of `live`, with these ports of line A and of line B.
 fn has_ports(alloc: Global, words: &[u8], a: &[u16], b: &[u16]) -> bool {
     match read_command(alloc, words) {
-        Ok(Command::Live(live)) => live.a.as_slice() == a && live.b.as_slice() == b,
+        Ok(ProgramCommand::Live(live)) => live.a.as_slice() == a && live.b.as_slice() == b,
         _ => false,
     }
 }
@@ -109,10 +109,10 @@ fn no_connection_need_be_served(rt: HostRuntime) {
 /// Returns the matrix that arguments ask for, if they are those of a command.
 fn asked_matrix(alloc: Global, words: &[u8]) -> Option<Matrix> {
     match read_command(alloc, words) {
-        Ok(Command::Batch(matrix)) => Some(matrix),
-        Ok(Command::Live(live)) => Some(live.matrix),
-        Ok(Command::Follow(follow)) => Some(follow.matrix),
-        Ok(Command::Asked(_)) | Err(_) => None,
+        Ok(ProgramCommand::Batch(matrix)) => Some(matrix),
+        Ok(ProgramCommand::Live(live)) => Some(live.matrix),
+        Ok(ProgramCommand::Follow(follow)) => Some(follow.matrix),
+        Ok(ProgramCommand::Asked(_)) | Err(_) => None,
     }
 }
 
@@ -162,9 +162,9 @@ const LIMITS: [(&[u8], Result<u32, WordsFault>); 18] = [
 /// Returns the limit that arguments ask for.
 fn asked_limit(alloc: Global, words: &[u8]) -> Result<u32, WordsFault> {
     match read_command(alloc, words)? {
-        Command::Live(live) => Ok(live.limit),
-        Command::Follow(follow) => Ok(follow.limit),
-        Command::Batch(_) | Command::Asked(_) => Err(WordsFault::BadArguments),
+        ProgramCommand::Live(live) => Ok(live.limit),
+        ProgramCommand::Follow(follow) => Ok(follow.limit),
+        ProgramCommand::Batch(_) | ProgramCommand::Asked(_) => Err(WordsFault::BadArguments),
     }
 }
 
@@ -203,8 +203,8 @@ fn names(listing: &Listing) -> Option<([[u8; 8]; 3], [u8; 2])> {
 /// Returns the same of the names that arguments list.
 fn asked_names(alloc: Global, words: &[u8]) -> Option<([[u8; 8]; 3], [u8; 2])> {
     match read_command(alloc, words) {
-        Ok(Command::Live(live)) => names(&live.listing),
-        Ok(Command::Follow(follow)) => names(&follow.listing),
+        Ok(ProgramCommand::Live(live)) => names(&live.listing),
+        Ok(ProgramCommand::Follow(follow)) => names(&follow.listing),
         _ => None,
     }
 }
