@@ -7,7 +7,7 @@ use super::shared_days::Sent::{Cancel, CancelUnder, Reinstate, Report, ReportAs,
 use super::shared_days::{CD, EF, Sent, bytes_of, ended_len, prepared_of};
 use super::together::Meeting;
 use line_ledger::{DayName, LineSeat, Prepared, SharedTape};
-use participant_lines::{Ended, LineEnd, run_line};
+use participant_lines::{LineEnd, LineOutcome, run_line};
 use sale_matrix::Matrix;
 use std::alloc::Global;
 use std::io;
@@ -21,7 +21,7 @@ use tape_types::{Gate, NoGate};
 type Told = (u32, u64, u32);
 
 /// How a line ended: how many frames were refused, why it stopped, what the seat was told of, and how many entries the day has.
-type Figures = (u32, Ended, Told, usize);
+type Figures = (u32, LineOutcome, Told, usize);
 
 /// Returns how a line ended, after its seat is back and the day has ended.
 fn figures_at_end<D: DayName, A: Abort>(
@@ -161,7 +161,7 @@ fn a_refused_frame_is_counted_and_is_a_turn(rt: HostRuntime) {
     let alone = Meeting::of(1);
     assert_eq!(rt;
         end_of_frames(&rt, rt.alloc(), &frames, &alone),
-        Some((1, Ended::Clean, (2, 200, 3), 2))
+        Some((1, LineOutcome::Clean, (2, 200, 3), 2))
     );
     assert_eq!(rt; alone.noted(), (1, [0, 0, 3]));
 }
@@ -183,7 +183,7 @@ fn a_line_counts_what_the_tape_refuses_and_goes_on(rt: HostRuntime) {
         let sent = [Report(b'Q', 1, 100_000), refused, Report(b'Q', 3, 100_000)];
         assert_eq!(rt;
             end_of_sent(&rt, rt.alloc(), 10, &sent),
-            Some((1, Ended::Clean, (2, 200, 3), 2)),
+            Some((1, LineOutcome::Clean, (2, 200, 3), 2)),
             "refused {code}"
         );
     }
@@ -198,7 +198,7 @@ fn a_line_goes_on_when_the_tape_is_full(rt: HostRuntime) {
     ];
     assert_eq!(rt;
         end_of_sent(&rt, rt.alloc(), 1, &sent),
-        Some((2, Ended::Clean, (1, 100, 1), 1))
+        Some((2, LineOutcome::Clean, (1, 100, 1), 1))
     );
 }
 
@@ -212,7 +212,7 @@ fn a_line_cancels_and_reinstates_its_report(rt: HostRuntime) {
     ];
     assert_eq!(rt;
         end_of_sent(&rt, rt.alloc(), 10, &sent),
-        Some((1, Ended::Clean, (3, 100, 4), 3))
+        Some((1, LineOutcome::Clean, (3, 100, 4), 3))
     );
 }
 
@@ -221,7 +221,7 @@ fn a_line_brings_the_greatest_report(rt: HostRuntime) {
     let greatest = ReportAs(b"@   ", b'Q', 4_294_967_295, 999_999_999_999, 99_999_999);
     assert_eq!(rt;
         end_of_sent(&rt, rt.alloc(), 10, &[greatest]),
-        Some((0, Ended::Clean, (1, 99_999_999, 4_294_967_295), 1))
+        Some((0, LineOutcome::Clean, (1, 99_999_999, 4_294_967_295), 1))
     );
 }
 
@@ -235,10 +235,10 @@ fn an_input_ends_its_line(rt: HostRuntime) {
         end_of_front(&rt, alloc, 41),
     ];
     let wanted = [
-        Some((0, Ended::Clean, (0, 0, 0), 0)),
-        Some((0, Ended::Oversize, (0, 0, 0), 0)),
-        Some((0, Ended::Truncated, (1, 100, 1), 1)),
-        Some((0, Ended::Truncated, (1, 100, 1), 1)),
+        Some((0, LineOutcome::Clean, (0, 0, 0), 0)),
+        Some((0, LineOutcome::Oversize, (0, 0, 0), 0)),
+        Some((0, LineOutcome::Truncated, (1, 100, 1), 1)),
+        Some((0, LineOutcome::Truncated, (1, 100, 1), 1)),
     ];
     assert_eq!(rt; ends, wanted);
 }
@@ -254,6 +254,6 @@ fn a_read_that_is_interrupted_is_tried_again_and_one_that_fails_ends_its_line(rt
             end_of_failing(&rt, rt.alloc(), len, 16),
             end_of_failing(&rt, rt.alloc(), len, 64),
         ];
-        assert_eq!(rt; ends, [Some((0, Ended::ReadFault, told, many)); 2]);
+        assert_eq!(rt; ends, [Some((0, LineOutcome::ReadFault, told, many)); 2]);
     }
 }

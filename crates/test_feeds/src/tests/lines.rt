@@ -5,7 +5,9 @@ ghost use Rattle.line_ledger.specs.Days.{terms_of};
 
 use super::days::ended_day;
 use line_ledger::{Day, DayName, LineSeat, Prepared, SharedTape};
-use participant_lines::{Ended, LineEnd, Unstarted, run_lines, seats_of_ends, seats_of_lines};
+use participant_lines::{
+    LineEnd, LineOutcome, Unstarted, run_lines, seats_of_ends, seats_of_lines,
+};
 use std::alloc::Global;
 use std::io::BufRead;
 use std::marker::Brand;
@@ -22,7 +24,7 @@ type Line<'a, D> = (LineSeat<D>, &'a [u8]);
 #[derive(Clone, Copy, Debug, PartialEq, Eq)]
 pub(super) struct LineFigures {
     pub(super) refused: u32,
-    pub(super) ended: Ended,
+    pub(super) ended: LineOutcome,
     pub(super) count: u32,
     pub(super) sizes: u64,
     pub(super) last: u32,

@@ -9,7 +9,7 @@ use super::lines::{LineFigures, run_inputs};
 use super::shared_days::put;
 use super::together::Meeting;
 use line_ledger::{Day, DayName, LineSeat, Prepared, Published, SharedTape, Sighting, prepare};
-use participant_lines::Ended;
+use participant_lines::LineOutcome;
 use reports::{Content, Header, Message, Moment};
 use sale_matrix::{Condition, Matrix};
 use std::alloc::Global;
@@ -234,7 +234,7 @@ fn has_all_summaries(tape: &Tape<IndexStore>, other: &Tape<IndexStore>) -> bool 
 /// Whether a line's figures are those of the tape: it ended with its input, each message was admitted or refused, and
 /// count, sizes and last number are its participant's.
 fn is_line_of(tape: &Tape<IndexStore>, who: Participant, line: &LineFigures) -> bool {
-    line.ended == Ended::Clean
+    line.ended == LineOutcome::Clean
         && u64::from(line.count) + u64::from(line.refused) == u64::from(MESSAGES)
         && tape.count_of(who) == line.count
         && tape.sizes_of(who) == line.sizes

@@ -11,7 +11,7 @@ use line_ledger::{
     Day, DayName, EndFault, LineSeat, Prepared, PublishFault, Published, SharedTape, Sighting,
     Unended,
 };
-use participant_lines::Ended;
+use participant_lines::LineOutcome;
 use std::alloc::Global;
 use std::marker::Brand;
 use std::process::Abort;
@@ -101,7 +101,7 @@ fn counts(figures: &[LineFigures]) -> Option<(u32, u32)> {
     let [first, second] = figures else {
         return None;
     };
-    let is_clean = |line: &LineFigures| line.refused == 0 && line.ended == Ended::Clean;
+    let is_clean = |line: &LineFigures| line.refused == 0 && line.ended == LineOutcome::Clean;
     (is_clean(first) && is_clean(second)).then_some((first.count, second.count))
 }
 
@@ -277,7 +277,7 @@ fn inputs_of_all(alloc: Global) -> Option<Vec<Vec<u8>>> {
 
 /// Whether a line ended with its input, with this many frames refused and this many messages told.
 fn is_end(line: &LineFigures, refused: u32, count: u32) -> bool {
-    line.ended == Ended::Clean && line.refused == refused && line.count == count
+    line.ended == LineOutcome::Clean && line.refused == refused && line.count == count
 }
 
 /// How many lines ended as they must.

@@ -83,7 +83,7 @@ fn end_of<T: Threads + Sync>(rt: &T, alloc: Global, input: &[u8], output: &mut V
     Ended { end, is_stopped }
 }
 
-/// Runs a batch to its end twice, once with memory where the other was refused it.
+/// Runs a batch to its end twice, once with memory if the other was refused it.
 fn ends_twice<T: Threads + Abort + Print + Sync>(rt: &T, alloc: Global) -> Result<(), Fail> {
     let input = input(alloc)?;
     let mut first = Vec::with_capacity(alloc, 4_096)?;

@@ -10,7 +10,7 @@ use tape_types::{MsgNumber, Participant, Price, Symbol, TapeNumber};
 /// How many reports are recorded.
 const REPORTS: u32 = 100;
 
-/// Records a report, twice where memory was refused, which leaves it unknown.
+/// Records a report, twice if memory was refused, which leaves it unknown.
 fn record<A: Abort>(
     rt: &A,
     register: &mut Register,

@@ -10,7 +10,7 @@ use summaries::IndexStore;
 use tape_core::Tape;
 use tape_types::NoGate;
 
-/// The rows, which are made again where memory was refused for them, or for the thread that is started first.
+/// The rows, which are made again if memory was refused for them, or for the thread that is started first.
 fn made<T: Threads + Abort + Sync>(
     rt: &T,
     alloc: Global,

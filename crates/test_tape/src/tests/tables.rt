@@ -1,11 +1,12 @@
 //! Tests tables in the forms that they come in, how each fault prints, and a read and a write that fail.
 
-use csv_messages::{TableFault, TableWriteFault, read_table, write_table};
+use csv_messages::{TableFault, read_table, write_table};
 use reports::Message;
 use std::alloc::Global;
 use std::io;
 use std::io::{ErrorKind, Read, Write};
 use std::process::Abort;
+use whole_io::WritingFault;
 
 /// A message of each kind, each by its canonical row.
 const CANONICAL: &[u8] = b"\
@@ -202,5 +203,5 @@ fn a_read_and_a_write_that_fail_are_told(rt: HostRuntime) {
     assert!(rt; matches!(read_table(alloc, Fails), Err(TableFault::ReadFault)));
     let messages = read(&rt, alloc, CANONICAL);
     let failed = write_table(alloc, &messages, &mut Fails);
-    assert_eq!(rt; failed, Err(TableWriteFault::WriteFault));
+    assert_eq!(rt; failed, Err(WritingFault::WriteFault));
 }

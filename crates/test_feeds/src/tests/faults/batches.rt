@@ -2,7 +2,7 @@
 
 use super::fails_at::FailsAt;
 use super::{MOST, met_faults, text_of};
-use batch::{BatchEnd, Day, ReadInput, batch_kept, batch_over};
+use batch::{BatchDay, BatchEnd, ReadInput, batch_kept, batch_over};
 use sale_matrix::Matrix;
 use std::alloc::Global;
 use std::process::Abort;
@@ -25,7 +25,7 @@ fn input(alloc: Global) -> Result<String, Fail> {
 }
 
 /// Returns how many messages a day has answered, each by the number of its entry, or `None` if an answer is another.
-fn answered(day: &Day) -> Option<usize> {
+fn answered(day: &BatchDay) -> Option<usize> {
     let mut count: usize = 0;
     for answer in &day.answers {
         count = count.wrapping_add(1);

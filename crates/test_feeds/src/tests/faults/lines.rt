@@ -6,7 +6,7 @@ use super::days::{self, LENGTH, REPORTS};
 use super::fails_at::FailsAt;
 use super::{MOST, met_faults};
 use line_ledger::{DayName, EndFault, LineSeat, Prepared, SharedTape, prepare};
-use participant_lines::{Ended, LineEnd, run_line};
+use participant_lines::{LineEnd, LineOutcome, run_line};
 use std::alloc::Global;
 use std::io::BufReader;
 use std::marker::Brand;
@@ -19,7 +19,7 @@ use tape_types::NoGate;
 const PIECE: usize = 7;
 
 /// How a line ended: why, of how many messages its seat was told, and whether the failing read came.
-type Outcome = (Ended, u32, bool);
+type Outcome = (LineOutcome, u32, bool);
 
 /// Asserts that the day ends without a fault, with as many entries as the seat was told of.
 fn end_day<D: DayName, A: Abort>(
@@ -87,10 +87,10 @@ fn fails_at_read<W: Wait + Abort>(rt: &W, alloc: Global, bytes: &[u8], at: u32) 
     let whole = (read / LENGTH).min(REPORTS as usize);
     assert_eq!(rt; told as usize, whole, "read {at}");
     if has_failed {
-        assert!(rt; ended == Ended::ReadFault, "read {at}");
+        assert!(rt; ended == LineOutcome::ReadFault, "read {at}");
         return Some(true);
     }
-    assert!(rt; ended == Ended::Clean);
+    assert!(rt; ended == LineOutcome::Clean);
     assert_eq!(rt; told, u32::from(REPORTS));
     Some(false)
 }

@@ -3,7 +3,7 @@ ghost use Rattle.std.specs.Prelude.{take};
 
 use super::feed::{SESSION, equal_reports};
 use super::requests::{ANSWER, REQUEST, end, requests, served, source_of, told};
-use retransmit::{AskFault, Ended, Refusal, ServeEnd, serve};
+use retransmit::{AskFault, Ended, RequestRefusal, ServeEnd, serve};
 use std::alloc::{AllocError, Global};
 use std::io;
 use std::io::{ErrorKind, Read, Write};
@@ -346,7 +346,7 @@ fn a_reader_that_fails_within_an_answer_is_a_read_fault(rt: HostRuntime) {
 
 /// Whether this reader leads to one packet, and then to one of another session.
 fn is_told_in_turn<R: Read>(alloc: Global, reader: &mut R) -> bool {
-    let other_session = Err(AskFault::Refused(Refusal::OtherSession));
+    let other_session = Err(AskFault::Refused(RequestRefusal::OtherSession));
     is_told_by(alloc, reader, Ok(1)) && is_told_by(alloc, reader, other_session)
 }
 

@@ -6,7 +6,7 @@ ghost use Rattle.line_ledger.specs.Days.{terms_of};
 use super::days::{LENGTH, REPORTS, bytes_of, day, ended};
 use line_ledger::{DayName, LineSeat, Prepared, SharedTape};
 use participant_lines::{
-    Ended, LineEnd, Unstarted, run_line, run_lines, seats_of_ends, seats_of_lines,
+    LineEnd, LineOutcome, Unstarted, run_line, run_lines, seats_of_ends, seats_of_lines,
 };
 use std::alloc::Global;
 use std::marker::Brand;
@@ -47,7 +47,7 @@ fn told<D: DayName>(ends: &[LineEnd<D>]) -> u32 {
     many
 }
 
-/// Runs the lines: the seats after it, and how many messages they were told of, which are none where no line was started. Why none
+/// Runs the lines: the seats after it, and how many messages they were told of, which are none if no line was started. Why none
 /// was is printed.
 fn run_all<D: DayName + Send + Sync, T: Threads + Wait + Print + Sync>(
     rt: &T,
@@ -156,10 +156,10 @@ fn run_again<D: DayName, W: Wait + Abort>(
     } = run_line(rt, shared, 0, seat, &mut reader, &NoGate);
     assert_eq!(rt; refused, 0);
     let told = seat.count();
-    if ended == Ended::Clean {
+    if ended == LineOutcome::Clean {
         return (seat, told);
     }
-    assert_eq!(rt; ended, Ended::OutOfMemory);
+    assert_eq!(rt; ended, LineOutcome::OutOfMemory);
     let done = (told as usize).wrapping_mul(LENGTH);
     let mut reader = bytes.get(done..).unwrap_or(&[]);
     let LineEnd {
@@ -168,7 +168,7 @@ fn run_again<D: DayName, W: Wait + Abort>(
         ended,
     } = run_line(rt, shared, 0, seat, &mut reader, &NoGate);
     assert_eq!(rt; refused, 0);
-    assert_eq!(rt; ended, Ended::Clean);
+    assert_eq!(rt; ended, LineOutcome::Clean);
     (seat, told)
 }
 
