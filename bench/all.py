@@ -55,7 +55,7 @@ NEVER_FIRST = {"looks"}
 
 
 def said(*command):
-    """What a command writes, without the line's end; nothing where it fails."""
+    """What a command writes, without the line's end; nothing if it fails."""
     done = subprocess.run(command, cwd=ROOT, capture_output=True, text=True, check=False)
     return done.stdout.strip() if not done.returncode else ""
 
@@ -89,7 +89,7 @@ def as_others():
 
 
 def measure_part(name, words, target):
-    """The command of a part, how long it took, and its records; or none where it failed."""
+    """The command of a part, how long it took, and its records; or none if it failed."""
     script, *rest = words
     command = [sys.executable, "-B", str(BENCH / script), "--no-build", "--json", str(target), *rest]
     print(f"all: {name}: bench/{script} {' '.join(rest)}", flush=True)
@@ -103,7 +103,7 @@ def measure_part(name, words, target):
 
 
 def measure_all(words):
-    """All parts that are asked for, with the machine; or none where one failed."""
+    """All parts that are asked for, with the machine; or none if one failed."""
     figures = {"machine": machine(), "parts": {}}
     if figures["machine"]["drafts"] and not (words.drafts or words.quick):
         sys.exit(f"all: not proved: {', '.join(figures['machine']['drafts'])}; --drafts measures them nevertheless")

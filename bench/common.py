@@ -72,7 +72,7 @@ def run(command, source, target):
 
 
 def in_turns(name, source, commands, turns):
-    """A record of each program's runs over a file, in turns. Failed where one ends badly, or writes other than the first."""
+    """A record of each program's runs over a file, in turns. Failed if one ends badly, or writes other than the first."""
     runs = {program: [] for program in commands}
     first = None
     for program, command in [*commands.items()] * turns:

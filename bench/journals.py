@@ -6,7 +6,7 @@
 A day with a journal that is synced, one with `journal_sync = false` and one without a journal take turns. First N messages (200,000) of 15 participants
 go through `tapebox live` to `tapebox follow` at full speed: prints the seconds from the first byte sent to the end of `follow`, and a journal's bytes
 an entry. Then so many messages a second (1,000, 10,000 and 100,000) come over 4 lines for S seconds, as in bench/latency.py: prints p50 and p99 from a line to
-lines A and B, in microseconds, how many messages were lost, and how many a second were sent; where that is less than what was asked for, or near to what
+lines A and B, in microseconds, how many messages were lost, and how many a second were sent; if that is less than what was asked for, or near to what
 a day takes at full speed, the messages waited in a queue. Last a journal of N entries (4,000,000) is made, and a `live` goes on with it:
 prints the seconds from its start until it has read the journal, and until a new message is on line A, and its peak memory. The processor seconds of `live`
 stand beside each, as a machine with other work makes only the others longer.

@@ -97,7 +97,7 @@ class Retransmission(threading.Thread):
                 self.requests += 1
 
     def answer(self, answers):
-        """The next answer's bytes, none where `live` has closed."""
+        """The next answer's bytes, none if `live` has closed."""
         answer = answers.read(1)
         if answer != b"\0":
             return answer
@@ -164,7 +164,7 @@ class Programs:
 
 
 def live_run(words, symbols, own, options):
-    """Runs the day once, through the relay where there are options for it or several followers; answers the seconds, the counted retransmissions
+    """Runs the day once, through the relay if there are options for it or several followers; answers the seconds, the counted retransmissions
     and the reports' files, or ends with the reason."""
     many = words.followers
     port = free_ports(len(own) + 3 + 3 * many)

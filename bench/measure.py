@@ -1,7 +1,7 @@
 #!/usr/bin/env python3
 """Measures `tapebox` beside plain programs, over days made by a seed.
 
-    bench/measure.py [DAY[:BYTES] ..]   the batch (one, busy and hostile where no day is named)
+    bench/measure.py [DAY[:BYTES] ..]   the batch (one, busy and hostile if no day is named)
     bench/measure.py plot               the hostile day at 2, 4, 8 and 16 MB, into docs/speed.svg
     bench/measure.py feed               the way of a busy day through two lossy lines to a subscriber
     bench/measure.py rows               the rows of a wide day's report by one worker, two and four

@@ -6,7 +6,7 @@ tools/tape_to_redis.py. That adds the rows to a stream of a server of Redis, whi
 same rows go from the file into a stream. Prints the entries a second, from the first byte sent or the first row until all are in the file or
 the stream. Last, tools/board.py is given the rows of a day of 4,096 symbols, 10,000 a second; prints how late it told a page of a row at most.
 
-`tapebox` is the one of `./run --which`. Redis is left out where there is no redis-server, or no module redis for /usr/bin/python3. Needs cargo,
+`tapebox` is the one of `./run --which`. Redis is left out if there is no redis-server, or no module redis for /usr/bin/python3. Needs cargo,
 Python and Linux.
 
 Statuses: 0 if all was read; 1 if a program fails or rows are lacking; 2 if the words are others.

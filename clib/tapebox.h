@@ -63,7 +63,7 @@ typedef struct tapebox_figures {
     uint64_t trades;
 } tapebox_figures;
 
-/* An admission: the tape number, and the symbol's figures after it where the entry carries them (every kind but a report). */
+/* An admission: the tape number, and the symbol's figures after it if the entry carries them (every kind but a report). */
 typedef struct tapebox_answer {
     uint32_t number;
     uint32_t carries; /* 1 or 0; all of `after` is 0 then */
@@ -89,7 +89,7 @@ typedef struct tapebox_message {
     uint8_t bytes[44];
 } tapebox_message;
 
-/* What became of a packet's entries. `conflict` is the entry of which another is known where the packet was refused with 62, else 0. */
+/* What became of a packet's entries. `conflict` is the entry of which another is known if the packet was refused with 62, else 0. */
 typedef struct tapebox_taken {
     uint32_t fresh, repeated, beyond, conflict;
 } tapebox_taken;
@@ -100,7 +100,7 @@ typedef struct tapebox_request {
     uint8_t bytes[14];
 } tapebox_request;
 
-/* What a subscriber knows of its feed. `ended` counts only where is_ended is 1. A gap is open where more was announced than is held.
+/* What a subscriber knows of its feed. `ended` counts only if is_ended is 1. A gap is open if more was announced than is held.
  * brought_a, brought_b and brought_r are the entries that each line was the first to bring. */
 typedef struct tapebox_news {
     uint32_t held, announced, is_ended, ended, brought_a, brought_b, brought_r;
@@ -148,13 +148,13 @@ typedef struct tapebox_name {
     uint8_t bytes[8];
 } tapebox_name;
 
-/* Which figures a sale condition changes: 'Y' or 'N'; for a last also 'S' (only where its market set the last) or 'F' (only the first). */
+/* Which figures a sale condition changes: 'Y' or 'N'; for a last also 'S' (only if its market set the last) or 'F' (only the first). */
 typedef struct tapebox_cells_row {
     uint8_t high_low, last, own_high_low, own_last, volume;
 } tapebox_cells_row;
 
 /* Opens a tape. Names have single spaces between them, as in a batch's header ("AB CD", "N Q"). Refused, the first that applies:
- * 103, 104, 5 (limit), 9, 1, 2, 3 (names), and 4 or 6 where memory runs out. */
+ * 103, 104, 5 (limit), 9, 1, 2, 3 (names), and 4 or 6 if memory runs out. */
 uint32_t tapebox_open(tapebox_handle *handle, const uint8_t *symbols, size_t symbols_len, const uint8_t *participants,
                       size_t participants_len, uint32_t matrix, uint32_t limit);
 
@@ -162,8 +162,8 @@ uint32_t tapebox_open(tapebox_handle *handle, const uint8_t *symbols, size_t sym
 uint32_t tapebox_admit(tapebox_handle *handle, const uint8_t *message, size_t len, tapebox_answer *answer);
 
 /* Admits the messages that stand one after another in the bytes, in their order, and writes a number for each at the front of `numbers`, which has
- * room for `numbers_len`: 0 where it was admitted, else that of its refusal (31 to 40, 43, 44). Those that are admitted have the next tape
- * numbers in their order. Refused: 101. Stops: 108 where there is no room for another number, and 11 to 21 at bytes that begin with no message;
+ * room for `numbers_len`: 0 if it was admitted, else that of its refusal (31 to 40, 43, 44). Those that are admitted have the next tape
+ * numbers in their order. Refused: 101. Stops: 108 if there is no room for another number, and 11 to 21 at bytes that begin with no message;
  * the messages before are answered, and `row` says how many these are and how many bytes they have. */
 uint32_t tapebox_admit_many(tapebox_handle *handle, const uint8_t *messages, size_t len, uint32_t *numbers, size_t numbers_len, tapebox_many *row);
 
@@ -187,7 +187,7 @@ uint32_t tapebox_entry(tapebox_handle *handle, uint32_t number, tapebox_entry_ro
 /* What a participant has sent; zeros for one that is not listed. Refused: 101, 34 (no letter). */
 uint32_t tapebox_totals(tapebox_handle *handle, uint8_t participant, tapebox_totals_row *row);
 
-/* The symbol, or the participant's letter, at a place of the listing, from 0. Refused: 101, and 36 or 34 where there are no more. */
+/* The symbol, or the participant's letter, at a place of the listing, from 0. Refused: 101, and 36 or 34 if there are no more. */
 uint32_t tapebox_symbol(tapebox_handle *handle, uint32_t place, tapebox_name *row);
 uint32_t tapebox_participant(tapebox_handle *handle, uint32_t place, uint8_t *letter);
 
@@ -211,10 +211,10 @@ uint32_t tapebox_subscribe(tapebox_handle *handle, const uint8_t *symbols, size_
  * but for 106 and 102 writes `conflict`, and nothing else. */
 uint32_t tapebox_deliver(tapebox_handle *handle, uint32_t line, const uint8_t *packet, size_t len, tapebox_taken *row);
 
-/* Replays what is ready. `drained` is written also where it stops. Refused: 102 (nothing is written); stops: 31 to 44, 64. */
+/* Replays what is ready. `drained` is written also if it stops. Refused: 102 (nothing is written); stops: 31 to 44, 64. */
 uint32_t tapebox_drain(tapebox_handle *handle, uint32_t *drained);
 
-/* A request for the first numbers that are missing; its count is 0 where none is. Refused: 102. */
+/* A request for the first numbers that are missing; its count is 0 if none is. Refused: 102. */
 uint32_t tapebox_missing(tapebox_handle *handle, tapebox_request *row);
 
 /* What is held, announced, ended and brought. Refused: 102. */
@@ -222,12 +222,12 @@ uint32_t tapebox_news_of(tapebox_handle *handle, tapebox_news *row);
 
 /* Reads a table (docs/FORMATS.md, "A table") into a handle that holds nothing. Nothing is kept of the bytes. Refused: 103, and the handle is as it
  * was; 109 and 111, and the handle holds what is wrong in words, as `out of memory` or `row 3: size "0" is not 1 to 99999999 in at most 20 digits`;
- * or nothing, with 109, where memory runs out for these words too. A handle that holds words has to be freed before it reads another table. */
+ * or nothing, with 109, if memory runs out for these words too. A handle that holds words has to be freed before it reads another table. */
 uint32_t tapebox_read_table(tapebox_handle *handle, const uint8_t *table, size_t len);
 
 /* These three make a text of the table that the handle holds, by matrix 1 or 2, in place of the text that it had: its report, its readable tape,
  * and what became of each of its reports (docs/FORMATS.md). The table is not read again. Refused: 104 and 110, and the handle is as it was; 109,
- * and 111 for names that make no listing, and the text says so in words, or is empty where memory runs out for these. */
+ * and 111 for names that make no listing, and the text says so in words, or is empty if memory runs out for these. */
 uint32_t tapebox_report(tapebox_handle *handle, uint32_t matrix);
 uint32_t tapebox_tape(tapebox_handle *handle, uint32_t matrix);
 uint32_t tapebox_explain(tapebox_handle *handle, uint32_t matrix);

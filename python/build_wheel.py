@@ -1,6 +1,6 @@
 """The build of the package's wheel, as `pip install ./python` and `pip wheel ./python` call it (PEP 517). It needs no other package.
 
-Where the kit's `rt` is there it runs clib/build, which proves the library where it is not proved yet; else it takes the clib/libtapebox.so that
+If the kit's `rt` is there it runs clib/build, which proves the library if it is not proved yet; else it takes the clib/libtapebox.so that
 clib/build left. $TAPEBOX_LIBRARY names another library to take. The wheel holds it, so whoever installs the wheel needs neither kit nor
 compiler. Its tag is that of the C library that it needs.
 """
@@ -36,7 +36,7 @@ def built_library() -> Path:
     if shutil.which("rt"):
         subprocess.run([CLIB / "build"], check=True)
     if not library.exists():
-        raise FileNotFoundError(f"{library}: clib/build makes it, where the kit is; or $TAPEBOX_LIBRARY names another")
+        raise FileNotFoundError(f"{library}: clib/build makes it, if the kit is there; or $TAPEBOX_LIBRARY names another")
     return library
 
 

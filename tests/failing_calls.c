@@ -31,7 +31,7 @@ static unsigned long number_behind(const char **text) {
     return number;
 }
 
-// The error of this call, 0 where it does not fail.
+// The error of this call, 0 if it does not fail.
 static int error_of(const char *name, unsigned long call) {
     static const char told[] = "a call failed\n";
     const char *row = getenv("FAILING");

@@ -75,7 +75,7 @@ class Start:
 
 
 class Returning(Follower):
-    """A follower that is started again until it has ended well or the day is over: where it is killed, and where its `live` was."""
+    """A follower that is started again until it has ended well or the day is over: if it is killed, and if its `live` was."""
 
     def __init__(self, word, words, drawn, day):
         super().__init__(word, words, drawn)
@@ -340,7 +340,7 @@ class JournaledDay(Day):
                 self.check_report_of(name, one, messages, end)
 
     def check_rows(self, name, one, messages):
-        """Refuses rows that are not the front of the journal's tape, or not all of it where the follower ended well."""
+        """Refuses rows that are not the front of the journal's tape, or not all of it if the follower ended well."""
         rows = one.written[: one.written.rfind(b"\n") + 1]
         numbers = [int(row.partition(b",")[0]) for row in rows.splitlines()[1:]]
         if numbers != [*range(1, len(numbers) + 1)] or messages_of_rows(rows) != messages[: len(numbers)]:
@@ -361,7 +361,7 @@ class JournaledDay(Day):
 
 
 def journal_of(text):
-    """What a plain reader finds in a journal's bytes, or nothing where they do not have a whole header."""
+    """What a plain reader finds in a journal's bytes, or nothing if they do not have a whole header."""
     try:
         return read_front(text)
     except NoHeader:

@@ -64,7 +64,7 @@ start() {
     running="$running $name:$!"
 }
 
-# Takes the ended programs out of those that run. Ends where one has failed, or where the time is over.
+# Takes the ended programs out of those that run. Ends if one has failed, or if the time is over.
 look() {
     still=
     failed=
@@ -116,7 +116,7 @@ session = $session
 END
 }
 
-# Whether the relay alone is left, or nothing where there is none.
+# Whether the relay alone is left, or nothing if there is none.
 ended() {
     look
     [ "$running" = "${relay:+ $relay}" ]

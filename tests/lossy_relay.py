@@ -114,7 +114,7 @@ class Line:
             self.count_later()
 
     def send(self, packet, times):
-        """Sends a packet on, or lets it wait where the line is late."""
+        """Sends a packet on, or lets it wait if the line is late."""
         if self.late_seconds:
             self.late.extend(times * [(time.monotonic() + self.late_seconds, packet)])
         else:
@@ -149,7 +149,7 @@ class Line:
             self.send_now(self.late.popleft()[1], 1)
 
     def times(self):
-        """When the next packet that is held back goes on, and the next that is late, where there are any."""
+        """When the next packet that is held back goes on, and the next that is late, if there are any."""
         return [held.until for held in itertools.islice(self.held, 1)] + [until for until, _ in itertools.islice(self.late, 1)]
 
     def release(self):
@@ -211,7 +211,7 @@ def arguments():
     if len(words.out) % 2:
         parser.error("a port of line A has one of line B")
     if min(words.lose) == 100:
-        parser.error("where both lines lose everything no follower can end")
+        parser.error("if both lines lose everything no follower can end")
     return words
 
 

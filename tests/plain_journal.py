@@ -91,7 +91,7 @@ def read_header(data):
     digest = hashlib.sha256(data[: cursor.at]).digest()
     if cursor.take(DIGEST, NoHeader) != digest:
         raise NoHeader("a damaged header")
-    # Names are names only where the digest is right.
+    # Names are names only if the digest is right.
     return Journal(session, matrix, limit, tuple(name.decode().rstrip() for name in symbols), participants.decode(), cursor.at, digest)
 
 
@@ -110,7 +110,7 @@ def packet_front(session, first):
 
 
 def take_packet(cursor, size, front):
-    """The bytes of the packet of this size that begins so. Torn where they are cut off; Damaged where no packet has that size, or a shorter or another one stands there."""
+    """The bytes of the packet of this size that begins so. Torn if they are cut off; Damaged if no packet has that size, or a shorter or another one stands there."""
     left = cursor.data[cursor.at : cursor.at + size]
     if size > LONGEST_PACKET or len(left) < size and (begins_with_packet(left) or left[: len(front)] != front[: len(left)]):
         raise Damaged(f"a length of {size} before {cursor.at}")
@@ -157,7 +157,7 @@ def read_front(data):
 
 
 def read(data):
-    """The journal of these bytes. A ValueError where they are none, or end within a group."""
+    """The journal of these bytes. A ValueError if they are none, or end within a group."""
     journal = read_front(data)
     if journal.fault:
         raise journal.fault

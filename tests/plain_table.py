@@ -206,7 +206,7 @@ def batch(messages):
 
 
 def dollars(price):
-    """A price in dollars: with two decimals where it is whole cents, else with four."""
+    """A price in dollars: with two decimals if it is whole cents, else with four."""
     text = f"{price // 10_000}.{price % 10_000:04}"
     return text.removesuffix("00") if price % 100 == 0 else text
 

@@ -4,7 +4,7 @@
     tests/play_rows.py rows/*.rows                          over plain rules in Python
     tests/play_rows.py --over library_feed rows/*.rows      over the proved code, by the static library (clib/build)
 
-Statuses: 0 if all answers are as wanted; 1 if one differs; 2 for bad arguments, or where the module or a file can't be read.
+Statuses: 0 if all answers are as wanted; 1 if one differs; 2 for bad arguments, or if the module or a file can't be read.
 """
 
 import argparse

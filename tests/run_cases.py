@@ -2,7 +2,7 @@
 """run_cases.py: runs all cases, and names at the end each that was skipped, and why, and which programs were drafts.
 
 The programs are those that ./run takes: the proved ones, or drafts, which it compiles here if there are none of this tree. Cases of a
-program that is only built with its proofs are skipped where the programs are drafts.
+program that is only built with its proofs are skipped if the programs are drafts.
 
 Statuses: 0 if none fails; 1 if one does, or a program does not compile; 2 if there are words.
 """

@@ -2,8 +2,8 @@
 """Makes the stored outputs anew by plain programs, and says what changed: stored_outputs.py [--check]
 
 Each is made of its input beside it or of a sample, and none by tapebox: answers and reports of batches, and the pictures of REPORTS, by the plain
-tape (tests/plain_tape.py) and tools/plot_day.py; what decode_lines reads, by a plain program of bench/, where cargo is; and the tables beside the
-captures, by tshark, where that is. What example_day and bench_feed write has no plain twin, and what pages show of commands is compared by their cases:
+tape (tests/plain_tape.py) and tools/plot_day.py; what decode_lines reads, by a plain program of bench/, if cargo is there; and the tables beside the
+captures, by tshark, if that is there. What example_day and bench_feed write has no plain twin, and what pages show of commands is compared by their cases:
 neither is made here. With --check nothing is written.
 
 Statuses: 0 if all are as they were; 1 if one is not, which is written anew, or if a plain program fails; 2 if the words are others.

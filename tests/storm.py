@@ -15,7 +15,7 @@ At its end
 - `live` has ended with status 0 and a report, and said of each participant how many messages were admitted; its control socket is gone;
 - each follower that ended with status 0 has that report byte for byte, or a tape that is recorded as it should be and has its report's figures;
 - each other one ended with a status that it may have, and wrote no report, or the one of the first entries that it said, or the front of a tape. A follower
-  that is neither killed nor given up has to end well, and reads as many packets of either line where nothing is lost;
+  that is neither killed nor given up has to end well, and reads as many packets of either line if nothing is lost;
 - the tape has, for each participant, the messages that a plain tape admits of what was sent, in their order, or the front of them if the
   day was ended.
 
@@ -65,7 +65,7 @@ def tried_with_journal(seed):
 def main():
     parser = argparse.ArgumentParser(description=__doc__, formatter_class=argparse.RawDescriptionHelpFormatter)
     parser.add_argument("--at-once", type=int, default=1, metavar="N", help="run so many days at once (1)")
-    parser.add_argument("--journal", action="store_true", help="each day keeps a journal, and goes on where `live` is killed")
+    parser.add_argument("--journal", action="store_true", help="each day keeps a journal, and goes on if `live` is killed")
     parser.add_argument("--program", metavar="FILE", help="the program, in place of the one of ./run")
     parser.add_argument("seeds", nargs="+", type=int, metavar="SEED", help="the seed of a day")
     words, wrong = parser.parse_args(), 0

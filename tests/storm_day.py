@@ -307,7 +307,7 @@ class Day:
             return self.play(words, [port for pair in self.pairs for port in pair])
 
     def words_in_a_row(self):
-        """What `live` and its followers are given where there is no file."""
+        """What `live` and its followers are given if there is no file."""
         names = [",".join(SYMBOLS), ",".join(self.plan.participants)]
         terms = [self.retransmission, SESSION, self.matrix, LIMIT_OF_TAPE]
         self.followers = [self.follower(word, [*names, *pair, *terms], drawn) for (word, drawn), pair in zip(self.drawn, self.pairs)]
@@ -324,7 +324,7 @@ class Day:
         return self.half_open + sum(it.starts for it in self.followers)
 
     def words_of_file(self):
-        """What they are given where a file has the day: `live` has the relay's ports, and its followers have their own."""
+        """What they are given if a file has the day: `live` has the relay's ports, and its followers have their own."""
         self.followers = []
         for place, (word, drawn) in enumerate(self.drawn, 2):
             more = ["--partial"] if word == "follow" and drawn.random() < 0.6 else []

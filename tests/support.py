@@ -45,7 +45,7 @@ LISTENING = "0A"
 
 
 class Program(os.PathLike):
-    """A program of the crates. It is looked for when it is first called, and where it is not proved its draft is compiled then."""
+    """A program of the crates. It is looked for when it is first called, and if it is not proved its draft is compiled then."""
 
     all = []
 
@@ -181,7 +181,7 @@ def str_or_bytes(word):
 
 @contextlib.contextmanager
 def started(words, program=TAPEBOX, **options):
-    """A program that runs beside the case, and is killed where it still runs after it."""
+    """A program that runs beside the case, and is killed if it still runs after it."""
     need(program)
     for stream in ("stdout", "stderr"):
         options.setdefault(stream, subprocess.PIPE)
@@ -286,7 +286,7 @@ def report(who, number, symbol="AB", price="10.00"):
 
 
 def report_rows(written):
-    """The rows of a report by their columns. A batch's answers may stand before it; where there is no report there are none."""
+    """The rows of a report by their columns. A batch's answers may stand before it; if there is no report there are none."""
     lines = written.decode().splitlines()
     return [*csv.DictReader(lines[lines.index(HEADINGS) :])] if HEADINGS in lines else []
 

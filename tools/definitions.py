@@ -16,7 +16,7 @@ ROOT = Path(__file__).resolve().parent.parent
 CRATES = ROOT / "crates"
 WIDTH = 150
 
-# A comment and what it is over, which is a definition where a name is found.
+# A comment and what it is over, which is a definition if a name is found.
 COMMENTED = re.compile(r"((?:^--.*\n)+)(?:(?:abbrev |unfoldable )?pub (?:record |data )?(\S+))?", re.MULTILINE)
 
 

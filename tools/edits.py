@@ -127,7 +127,7 @@ def function_around(lines, at):
 
 
 def changed_functions(crate, texts):
-    """The functions that an edit changes, or None where it changes something else. An edit's texts are single lines."""
+    """The functions that an edit changes, or None if it changes something else. An edit's texts are single lines."""
     found = set()
     for path, text in texts.items():
         before = Path(crate.folder, path).read_text(encoding="utf-8").split("\n")

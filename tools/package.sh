@@ -7,7 +7,7 @@ Builds Debian's package of the program and its tools: package.sh [--unproved FIL
 
 Writes tapebox_VERSION_amd64.deb into FOLDER, or the current one, and prints its path. VERSION is the program's own, which CHANGELOG.md has to
 begin with. The package has the proved program as it is, byte for byte, a manual page and completion for bash of its own help, the dissector
-in Wireshark's folder, the tools, samples and pages, the page for a browser where web/build has built it, and units for systemd. The same tree
+in Wireshark's folder, the tools, samples and pages, the page for a browser if web/build has built it, and units for systemd. The same tree
 gives the same bytes. dpkg-deb, gzip and Python are needed.
 
     --unproved FILE   packs this program in the place of the proved one, and says so: VERSION~unproved

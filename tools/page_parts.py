@@ -1,7 +1,7 @@
 #!/usr/bin/env python3
 """page_parts.py: writes the parts of pages that come from the tree: the counts in docs/TESTED.md, and the lines to which docs/MESSAGE.md links.
 
-Run it where tests/cases/test_pages.py says so, as after a function moved or a test was added. Everything is read from the files as they stand; nothing
+Run it if tests/cases/test_pages.py says so, as after a function moved or a test was added. Everything is read from the files as they stand; nothing
 is proved or run.
 
 Statuses: 0 if both are written; 1 if a page has no marks, or links to a function that is not in the file; 2 if there are words.

@@ -5,9 +5,9 @@ REPORT is what `tapebox` writes, with or without the answers of a batch before t
 symbol has a panel with a row for its consolidated figures and one for each participant: a bar from the low to the high, a ring at the
 open, a dot at the last, and the volume as a bar of its own. The first line counts the answers, refused ones by their names.
 
-TAPE is what `tapebox tape` writes, or another table whose column `tape` has each row's tape number, and anything else where the row was
+TAPE is what `tapebox tape` writes, or another table whose column `tape` has each row's tape number, and anything else if the row was
 refused. The picture has the symbol's trades by tape number and price: a dot for each that stands, a cross for one that was cancelled, and
-for one that was corrected a ring at each price that it had, with a line to the last one. Where the table has a column `last`, a line
+for one that was corrected a ring at each price that it had, with a line to the last one. If the table has a column `last`, a line
 follows it.
 
 FILE is what `tapebox explain` writes of the same table by the same matrix. The trades that set the symbol's open, high, low and last have
@@ -128,7 +128,7 @@ def dollars(price):
 
 
 def scale(least, most, ends):
-    """The function from a value between two others to its place between two ends, in the middle where the two are one."""
+    """The function from a value between two others to its place between two ends, in the middle if the two are one."""
     start, stop = ends
     if least == most:
         return lambda value: (start + stop) / 2

@@ -4,10 +4,10 @@
 A crate is proved once all below it are, and of those that can be begun the one with the longest chain of others above it comes first. A
 line on standard error tells of each that is proved, and one a minute what is being proved. What is proved is kept, crate by crate:
 stopped by Ctrl-C, by a signal to end, or by a crate that is not proved, it says what is left, and goes on there the next time. It drives
-the module that the `rt` of the kit is made of. Where a kit's rt is made otherwise it says so and does nothing: `rt run` then proves one
+the module that the `rt` of the kit is made of. If a kit's rt is made otherwise it says so and does nothing: `rt run` then proves one
 crate after the other.
 
-Statuses: 0 where all are proved, or left to `rt run`; 1 where a crate is not proved; 2 where a word names no program of the repository.
+Statuses: 0 if all are proved, or left to `rt run`; 1 if a crate is not proved; 2 if a word names no program of the repository.
 """
 
 import argparse

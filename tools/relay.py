@@ -10,7 +10,7 @@ addresses of IP version 4, and are looked up once.
 Nothing is asked for again and nothing is remembered. What comes is kept until it has gone on, so the relay itself loses nothing unless
 it is held up for so long that the system's buffer for its port is full. It looks at no datagram, so it passes on what strangers send too:
 keep them off the port. Runs until it is told to end (SIGTERM or SIGINT). Then it passes on what has come, and prints how many datagrams did,
-how many found no room, where Linux tells, and how many were sent to each target and how many the system did not take.
+how many found no room, if Linux tells, and how many were sent to each target and how many the system did not take.
 
 Statuses: 0 if it is told to end; 1 if the port can't be had, or a host is not known; 2 if the words are others.
 """
@@ -94,7 +94,7 @@ class Relay:
         self.send(targets, len(self.waiting))
 
     def lost(self):
-        """How many datagrams found no room, where Linux tells."""
+        """How many datagrams found no room, if Linux tells."""
         number = str(os.fstat(self.receiver.fileno()).st_ino)
         with contextlib.suppress(OSError):
             rows = (row.split() for row in Path("/proc/net/udp").read_text(encoding="ascii").splitlines())

@@ -82,7 +82,7 @@ end
 -- A field has one protocol, but each of the three shows those that it needs.
 feed.fields, feed.experts = f, experts
 
--- Notes that a unit is refused where something does not hold, at the item to blame, and the number at the unit's root for filters.
+-- Notes that a unit is refused if something does not hold, at the item to blame, and the number at the unit's root for filters.
 -- Tells whether the unit is not refused so far; once it is, nothing more is noted.
 local function check(unit, holds, number, item, why)
     if holds or unit.fault then return not unit.fault end
@@ -106,7 +106,7 @@ local function dollars(range)
     return text, text:gsub("0?0$", ""), number / 10000, number >= 1 and number <= PRICE_MOST
 end
 
--- What a condition's codes mean, or nothing where one is not of its position.
+-- What a condition's codes mean, or nothing if one is not of its position.
 local function meaning(codes)
     local meanings = {}
     for position, known in ipairs(CODES) do
@@ -204,7 +204,7 @@ local function show_packet(root, tvb)
     check(unit, PACKETS[letter], 53, root:add(f["packet.kind"], tvb(1, 1), kind, "Kind: " .. kind .. " (" .. letter .. ")"))
     root:add(f.session, tvb(2, 8))
     local number_item, count_item = root:add(f["packet.number"], tvb(10, 4)), root:add(f["packet.count"], tvb(14, 1))
-    -- There are no limits where the version is refused.
+    -- There are no limits if the version is refused.
     check(unit, unit.fault or (count > 0) == is_data and count <= limits.entries, 54, count_item)
     check(unit, unit.fault or is_data or number <= limits.number, 54, number_item)
     local session, at = tostring(tvb(2, 8):uint64()), not unit.fault and HEADER
@@ -294,7 +294,7 @@ local function joined(tvb, pinfo, direction)
 end
 
 -- Leaves what begins at a place to later segments, and tells whether that is for Wireshark to do: it may be told to join none, and it joins
--- none where the capture lacks bytes, so that nobody knows where the next unit begins.
+-- none if the capture lacks bytes, so that nobody knows where the next unit begins.
 local function leave_rest(pinfo, direction, proto, title, tvb, at, missing, is_whole)
     local is_joined = is_whole and pinfo.can_desegment > 0
     if is_joined then pinfo.desegment_offset, pinfo.desegment_len = at, missing or DESEGMENT_ONE_MORE_SEGMENT end
@@ -303,8 +303,8 @@ local function leave_rest(pinfo, direction, proto, title, tvb, at, missing, is_w
     return is_joined
 end
 
--- Cuts what a direction of a connection brings into units, and has each shown. `measure` tells how long the unit at a place is, or nil where
--- that takes more bytes; where no unit begins, it takes all that are there, and tells the refusal. `show` tells what a unit says.
+-- Cuts what a direction of a connection brings into units, and has each shown. `measure` tells how long the unit at a place is, or nil if
+-- that takes more bytes; if no unit begins, it takes all that are there, and tells the refusal. `show` tells what a unit says.
 local function show_units(proto, tvb, pinfo, tree, title, measure, show)
     local direction = direction_of(pinfo)
     local since = decide(pinfo, function() return passed_since[direction] end)

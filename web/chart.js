@@ -139,7 +139,7 @@ function drawLast(pen, inks, { width, x, y }, steps) {
   pen.globalAlpha = 1;
 }
 
-// A trade: a cross where it was cancelled, a ring where it never makes the last, else a dot.
+// A trade: a cross if it was cancelled, a ring if it never makes the last, else a dot.
 function drawTrade(pen, inks, at, index) {
   const { rows, px, py } = points, [x, y] = [px[index], py[index]], size = rows.length > MANY ? 2.2 : 3.6;
   const isCancelled = state.explain.cancelled[at] > 0, isRing = cellsShown().last[at] === 0;

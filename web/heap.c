@@ -27,7 +27,7 @@ static struct head *head_of(void *at) { return (struct head *)((u8 *)at - HEAD);
 
 OF_HEADS static usize room_of(void *at) { return head_of(at)->size - HEAD; }
 
-// Grows the memory by so many pages, or where the host allows no more than are needed by these.
+// Grows the memory by so many pages, or, if the host allows no more than are needed, by these.
 static int grow(usize needed) {
     usize pages = needed < PAGES_AT_ONCE ? PAGES_AT_ONCE : needed;
     if (__builtin_wasm_memory_grow(0, pages) == (usize)-1) {
@@ -38,7 +38,7 @@ static int grow(usize needed) {
     return 1;
 }
 
-// Moves the end of all blocks by so many bytes, and gives where they begin; 0 where there is no more memory.
+// Moves the end of all blocks by so many bytes, and gives where they begin; 0 if there is no more memory.
 static u8 *more(usize size) {
     if (!next) {
         next = &__heap_base + (HEAD - (usize)&__heap_base % HEAD) % HEAD;

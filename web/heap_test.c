@@ -4,7 +4,7 @@
 // memory may be refused, and must change nothing then.
 // Built with AddressSanitizer, for which all bytes of a block beyond its request, and all of one that was given back, are out of bounds.
 //
-// Statuses: 0; 1 where the heap is wrong, with the line of this file on standard error; 2 for other words.
+// Statuses: 0; 1 if the heap is wrong, with the line of this file on standard error; 2 for other words.
 #include "heap_host.h"
 
 enum { BLOCKS = 300 };
@@ -23,7 +23,7 @@ static size_t some_size(void) { return below(400) ? below((size_t)1 << below(21)
 
 static size_t some_alignment(void) { return (size_t)1 << below(5); }
 
-// The bytes that are handed out: as many as were asked for, or a value's alignment where these are none.
+// The bytes that are handed out: as many as were asked for, or a value's alignment if these are none.
 static size_t handed(size_t size, size_t alignment) { return size ? size : alignment; }
 
 static void close_block(struct block block) {

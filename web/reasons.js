@@ -2,7 +2,7 @@
 
 const REASONS = JSON.parse(byId("words").textContent);
 
-// The words of a reason, with these parts of a report where the words name them.
+// The words of a reason, with these parts of a report if the words name them.
 function worded(reason, parts) {
   return REASONS[reason].split(/\{(\w+)\}/).map((piece, at) => (at % 2 ? parts[piece] : piece)).filter((piece) => piece !== "");
 }

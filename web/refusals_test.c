@@ -5,7 +5,7 @@
 // the table's bytes stay, all memory is given back once the text is freed, and the next call makes the whole text.
 // Each request and each answer is held to what the kit says of its heap.
 //
-// Statuses: 0; 1 where that does not hold, with the line on standard error; 2 for other words.
+// Statuses: 0; 1 if that does not hold, with the line on standard error; 2 for other words.
 #define rattle_alloc heap_alloc
 #define rattle_realloc heap_realloc
 #define rattle_dealloc heap_dealloc

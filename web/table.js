@@ -21,7 +21,7 @@ function link(text, go) {
 const whole = (number) => number.toLocaleString("en-US");
 const counted = (number, name) => `${whole(number)} ${name}${number === 1 ? "" : "s"}`;
 
-// A price of ten-thousandths in dollars, with two decimals, or four where it is not whole cents.
+// A price of ten-thousandths in dollars, with two decimals, or four if it is not whole cents.
 function dollars(price) {
   const text = String(price).padStart(5, "0"), decimals = price % 100 === 0 ? text.slice(-4, -2) : text.slice(-4);
   return `${whole(Number(text.slice(0, -4)))}.${decimals}`;

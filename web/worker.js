@@ -88,7 +88,7 @@ function keyIn(text, from, to) {
 
 // ## The report
 
-// The report with its symbols: by row the symbol's place among them, and the participant's letter, 0 where the row is the consolidated one.
+// The report with its symbols: by row the symbol's place among them, and the participant's letter, 0 if the row is the consolidated one.
 function reportIndex(text) {
   const count = rowsOf(text), ids = new Map(), symbols = [];
   const index = { text, count, sym: new Uint16Array(count), who: new Uint8Array(count) };
@@ -165,7 +165,7 @@ function setsIn(text, from, to) {
   return sets;
 }
 
-// The explanation, and by tape number its row, counted from 1; 0 where the message is no report.
+// The explanation, and by tape number its row, counted from 1; 0 if the message is no report.
 function explainIndex(text, ids, admitted) {
   const count = rowsOf(text), words = () => new Uint32Array(count), bytes = () => new Uint8Array(count);
   const index = { text, count, sym: new Uint16Array(count), tape: words(), row: words(), who: bytes(), number: words(), price: new Float64Array(count) };
@@ -202,7 +202,7 @@ function say(run, what, more, transfer = []) {
   postMessage({ run, what, ...more }, transfer);
 }
 
-// Says why a table has no text. There are no words for it where memory ran out.
+// Says why a table has no text. There are no words for it if memory ran out.
 function sayFault(run, text) {
   say(run, "fault", { text: new TextDecoder().decode(text) || "out of memory" });
 }

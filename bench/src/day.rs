@@ -151,7 +151,7 @@ impl<K: Keep> Day<K> {
         })
     }
 
-    /// The change that puts this content, where the day's matrix has its condition.
+    /// The change that puts this content, if the day's matrix has its condition.
     fn put(&self, content: Content) -> Result<Change, &'static str> {
         let cells = self.matrix.cells(content.condition);
         let cells = cells.ok_or("44 NotInMatrix")?;

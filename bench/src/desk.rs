@@ -25,7 +25,7 @@ pub enum TableWord {
 /// How many bytes of the tape are written at once.
 const PIECE: usize = 65_536;
 
-/// Reads a table, and writes what is asked for; `Ok(Err(BadTable))` where it is none, and then nothing is written.
+/// Reads a table, and writes what is asked for; `Ok(Err(BadTable))` if it is none, and then nothing is written.
 pub fn desk(
     word: TableWord,
     matrix: Matrix,

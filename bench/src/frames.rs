@@ -292,7 +292,7 @@ impl Request {
         bytes
     }
 
-    /// The request that the bytes spell; `None` where the count is none of a request.
+    /// The request that the bytes spell; `None` if the count is none of a request.
     pub fn read(bytes: &[u8; 14]) -> Option<Self> {
         let count = u16::from_be_bytes([bytes[12], bytes[13]]);
         (1..=COUNT_MOST).contains(&count).then_some(Request {

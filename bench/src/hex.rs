@@ -54,7 +54,7 @@ impl<'a> Lines<'a> {
         Some(line.strip_suffix(b"\n").unwrap_or(line))
     }
 
-    /// The next line as a message line; `Err` where it is none.
+    /// The next line as a message line; `Err` if it is none.
     pub fn next_message(&mut self, line: &mut Line) -> Option<Result<(), ()>> {
         let rest = &self.input[self.at..];
         if rest.is_empty() {
@@ -111,7 +111,7 @@ fn decode(text: &[u8], front: &mut [u8; LONGEST]) -> usize {
     count + behind.map_while(byte).count()
 }
 
-/// The bytes that all the digits spell; `None` where they spell none.
+/// The bytes that all the digits spell; `None` if they spell none.
 pub fn bytes(digits: &[u8]) -> Option<Vec<u8>> {
     let (pairs, []) = digits.as_chunks::<2>() else {
         return None;

@@ -40,7 +40,7 @@ pub struct LatencyFigures {
 }
 
 impl LatencyFigures {
-    /// So many thousandths of the messages that came took no longer than this, in nanoseconds; 0 where none came.
+    /// So many thousandths of the messages that came took no longer than this, in nanoseconds; 0 if none came.
     pub fn within(&self, thousandths: usize) -> u64 {
         let rank = (self.nanos.len() * thousandths).div_ceil(1_000);
         match self.nanos.get(rank.saturating_sub(1)) {

@@ -154,7 +154,7 @@ impl Matrix {
         })
     }
 
-    /// The least cells over the four codes; `None` where the matrix does not have one in its position.
+    /// The least cells over the four codes; `None` if the matrix does not have one in its position.
     pub fn cells(self, codes: [u8; 4]) -> Option<Cells> {
         let table = self.by_code();
         let first = table[0][codes[0] as usize]?;

@@ -57,7 +57,7 @@ pub struct Store {
     prices: BTreeSet<(u64, NonZeroU32)>,
     /// The places of the effects that always become the last.
     always: BTreeSet<NonZeroU32>,
-    /// The places of the effects that become the last only under a condition: where there is none, or after their own
+    /// The places of the effects that become the last only under a condition: if there is none, or after their own
     /// participant's.
     setters: BTreeSet<NonZeroU32>,
     /// The places of the effects that become the last behind their own participant's, by participant.
@@ -143,7 +143,7 @@ impl Store {
     }
 }
 
-/// Exchanges one key for another, where they differ.
+/// Exchanges one key for another, if they differ.
 fn exchange<K: Ord>(keys: &mut BTreeSet<K>, old: Option<K>, new: Option<K>) {
     if old == new {
         return;

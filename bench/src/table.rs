@@ -49,7 +49,7 @@ impl<'a> Fields<'a> {
     }
 }
 
-/// Where a table has its columns: the column of each field of a row, and none where it is a remark.
+/// Where a table has its columns: the column of each field of a row, and none if it is a remark.
 struct Header(Vec<Option<Column>>);
 
 impl Header {

@@ -52,7 +52,7 @@ pub fn write_figures(figures: &Summary, text: &mut Vec<u8>) {
     write_number(figures.trades.into(), text);
 }
 
-/// Adds a price in dollars: with two decimals where it is whole cents, else with four.
+/// Adds a price in dollars: with two decimals if it is whole cents, else with four.
 pub fn write_price(price: u64, text: &mut Vec<u8>) {
     write_number(price / 10_000, text);
     text.push(b'.');

@@ -13,7 +13,7 @@ typedef struct names {
     char symbols[65536], participants[256];
 } names;
 
-/* The next line of standard input without its end, or 0 where there is none. */
+/* The next line of standard input without its end, or 0 if there is none. */
 static int next_line(char *line, int size) {
     if (!fgets(line, size, stdin)) return 0;
     line[strcspn(line, "\n")] = 0;

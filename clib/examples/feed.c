@@ -4,7 +4,7 @@
 
 enum { VERSION = 2, SESSION = 7, LINE_A = 0, LINE_B = 1, RETRANSMISSION = 2 };
 
-/* Ends the program where a call was refused. */
+/* Ends the program if a call was refused. */
 static int is_fine(const char *call, uint32_t refused) {
     if (refused) fprintf(stderr, "%s: refused %" PRIu32 "\n", call, refused);
     return !refused;

@@ -14,7 +14,7 @@ static text_call *call_of(const char *word) {
     return strcmp(word, "explain") ? NULL : tapebox_explain;
 }
 
-/* All of a file, and how many bytes it has; NULL where memory runs out or a read fails. */
+/* All of a file, and how many bytes it has; NULL if memory runs out or a read fails. */
 static uint8_t *read_all(FILE *file, size_t *len) {
     size_t room = 1 << 16;
     uint8_t *bytes = malloc(room);

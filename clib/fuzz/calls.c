@@ -2,7 +2,7 @@
  * subscriber or a table.
  *
  * The library is not compiled for AddressSanitizer, so each thing that a call is given lies at the end of pages of its own, with a page behind
- * it that nothing can be read from or written to. Where a call answers what its page excludes, the harness ends by abort(). It prints how often
+ * it that nothing can be read from or written to. If a call answers what its page excludes, the harness ends by abort(). It prints how often
  * each call was made when it ends well. tests/cases/test_fuzz.py builds it, makes a corpus and runs it. */
 #define _GNU_SOURCE
 #include "../tapebox.h"

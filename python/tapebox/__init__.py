@@ -3,7 +3,7 @@
     with tapebox.Tape.from_csv("samples/morning.csv") as tape:
         print(tape.summary("AB").last.price)
 
-The calls are those of the C library (clib/tapebox.h), which is proved; nothing is proved of this package. Where a call is refused it raises
+The calls are those of the C library (clib/tapebox.h), which is proved; nothing is proved of this package. If a call is refused it raises
 `Refused`, which has the refusal's number and name (docs/RULES.md). The library is found by $TAPEBOX_LIBRARY, else beside this file, else
 where clib/build leaves it in the repository.
 """

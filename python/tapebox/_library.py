@@ -163,12 +163,12 @@ def checked(code: int) -> None:
 
 
 def small(number: int) -> int:
-    """The number, or 0, which every call refuses, where no field can have it."""
+    """The number, or 0, which every call refuses, if no field can have it."""
     return number if 0 <= number < 1 << 32 else 0
 
 
 def great(number: int) -> int:
-    """The number, or the greatest of its field, which no packet can tell, where no field can have it."""
+    """The number, or the greatest of its field, which no packet can tell, if no field can have it."""
     return number if 0 <= number < 1 << 32 else NUMBER_MOST
 
 

@@ -70,7 +70,7 @@ def end(session: int, count: int, version: int = 2) -> bytes:
 def read_answer(text: bytes) -> tuple[list[bytes], int]:
     """The packets of the answer at the front of the bytes, and how many bytes it has.
 
-    `Refused` has the code 74 where the answer goes on after the bytes, 76 where it is none, and 77 where the request was refused, which
+    `Refused` has the code 74 if the answer goes on after the bytes, 76 if it is none, and 77 if the request was refused, which
     its `refusal` says why.
     """
     reply, row, length, packets = _library.Reply(), ctypes.create_string_buffer(LONGEST_PACKET), ctypes.c_size_t(), []

@@ -2,10 +2,11 @@
 
 import ctypes
 from collections.abc import Callable, Iterable, Iterator
-from typing import TYPE_CHECKING, NoReturn, Self
+from typing import TYPE_CHECKING
 
 from . import _library
 from ._library import LONGEST_ANSWER, NUMBER_MOST, checked, letter_of, library, session_of, small
+from ._owned import Owned
 from .records import Entry, Summary, Totals, entry_of, summary_of
 from .refusals import Refused
 
@@ -17,14 +18,16 @@ NO_NAMES = b" "
 
 
 def line_of(names: Iterable[str]) -> bytes:
-    """The names with spaces between them. `NO_NAMES` where one is empty or has a space, so that it is refused and not taken for two."""
+    """The names with spaces between them. `NO_NAMES` if one is empty or has a space, so that it is refused and not taken for two."""
     listed = list(names)
     return NO_NAMES if any(not name or " " in name for name in listed) else " ".join(listed).encode()
 
 
-class Held:
+class Held(Owned):
     """A tape, or a subscriber's own. It is freed by `free`, by the end of a `with`, or with the object. `len` is how many entries it has,
     and its iterator gives them in order, also those that come while it runs."""
+
+    KIND = "a tape"
 
     def __init__(
         self, opener: Callable[..., int], symbols: Iterable[str], participants: Iterable[str], matrix: int, limit: int, *rest: int
@@ -32,29 +35,6 @@ class Held:
         self._handle = _library.Handle(False, None)
         first, second = line_of(symbols), line_of(participants)
         checked(opener(self._handle, first, len(first), second, len(second), small(matrix), small(limit), *rest))
-
-    def free(self) -> None:
-        """Frees it. Every later call is refused by 101 or 102."""
-        library.tapebox_free(self._handle)
-
-    def __del__(self) -> None:
-        if hasattr(self, "_handle"):
-            self.free()
-
-    def __enter__(self) -> Self:
-        return self
-
-    def __exit__(self, *why: object) -> None:
-        self.free()
-
-    def __copy__(self) -> NoReturn:
-        raise TypeError("a tape cannot be copied")
-
-    def __deepcopy__(self, known: object) -> NoReturn:
-        self.__copy__()
-
-    def __reduce__(self) -> NoReturn:
-        self.__copy__()
 
     def __len__(self) -> int:
         return library.tapebox_count(self._handle)
@@ -66,7 +46,7 @@ class Held:
             yield self.entry(number)
 
     def summary(self, symbol: str, participant: str | None = None) -> Summary:
-        """The figures of a symbol, or of a participant in it. `Refused` has 36 or 34 where the one or the other is not listed."""
+        """The figures of a symbol, or of a participant in it. `Refused` has 36 or 34 if the one or the other is not listed."""
         row, name = _library.Figures(), symbol.encode()
         if participant is None:
             checked(library.tapebox_summary(self._handle, name, len(name), row))
@@ -85,7 +65,7 @@ class Held:
                     yield symbol, who, own
 
     def entry(self, number: int) -> Entry:
-        """The entry of a tape number, from 1. `Refused` has 105 where there is none."""
+        """The entry of a tape number, from 1. `Refused` has 105 if there is none."""
         row = _library.EntryRow()
         checked(library.tapebox_entry(self._handle, small(number), row))
         return entry_of(row)
@@ -99,7 +79,7 @@ class Held:
         return pandas.DataFrame.from_records([row_of(entry) for entry in self], columns=list(COLUMNS))
 
     def totals(self, participant: str) -> Totals:
-        """What a participant has sent, zeros for one that is not listed. `Refused` has 34 where it is no letter."""
+        """What a participant has sent, zeros for one that is not listed. `Refused` has 34 if it is no letter."""
         row = _library.Totals()
         checked(library.tapebox_totals(self._handle, letter_of(participant), row))
         return Totals(row.shares, row.messages, row.last)

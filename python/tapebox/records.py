@@ -25,7 +25,7 @@ class Mark:
 
 @dataclass(frozen=True)
 class Summary:
-    """The figures of a symbol, or of a participant in it. A mark is None where no report that stands sets it."""
+    """The figures of a symbol, or of a participant in it. A mark is None if no report that stands sets it."""
 
     open: Mark | None
     high: Mark | None
@@ -91,7 +91,7 @@ class Message:
 
     @staticmethod
     def decode(text: bytes) -> "Message":
-        """The message that all the bytes are. `Refused` has 11 to 21, or 23 where bytes follow the message."""
+        """The message that all the bytes are. `Refused` has 11 to 21, or 23 if bytes follow the message."""
         fields = _library.Fields()
         checked(library.tapebox_decode(text, len(text), fields))
         kind = chr(fields.kind)
@@ -123,13 +123,13 @@ class Entry:
 
 
 def dollars(price: int) -> Decimal:
-    """A price of the library in dollars: with two decimals where it is whole cents, else with four."""
+    """A price of the library in dollars: with two decimals if it is whole cents, else with four."""
     text = f"{price // PER_DOLLAR}.{price % PER_DOLLAR:04}"
     return Decimal(text.removesuffix("00") if price % 100 == 0 else text)
 
 
 def ten_thousandths(price: Decimal | None) -> int:
-    """A price in dollars as the library has it. `Refused` has 19 where no number of the library is that price."""
+    """A price in dollars as the library has it. `Refused` has 19 if no number of the library is that price."""
     exact = Decimal(price or 0)
     try:
         scaled = EXACT.multiply(exact, PER_DOLLAR)

@@ -47,7 +47,7 @@ class Subscriber(Held):
         return Taken(row.fresh, row.repeated, row.beyond)
 
     def drain(self) -> int:
-        """Replays what is ready, and gives how many entries that were. `Refused` has 31 to 44 where an entry is not that of an honest
+        """Replays what is ready, and gives how many entries that were. `Refused` has 31 to 44 if an entry is not that of an honest
         tape, and after it 64."""
         drained = ctypes.c_uint32()
         code = library.tapebox_drain(self._handle, drained)
@@ -90,7 +90,7 @@ class Subscriber(Held):
         return news.ended if news.is_ended else None
 
     def take(self, line: str, packet: bytes) -> None:
-        """Takes a packet of a line, and drops it where it is refused by 51 to 63: bytes that are none of the session's change nothing. `Refused`
+        """Takes a packet of a line, and drops it if it is refused by 51 to 63: bytes that are none of the session's change nothing. `Refused`
         has 64 after a drain that stopped, 106 for a line that is none, and 102 once it was freed."""
         try:
             self.deliver(line, packet)

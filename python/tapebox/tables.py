@@ -17,14 +17,14 @@ DEFAULTS = {"kind": "report", "moment": "0", "target": ""}
 FIELDS = ("kind", "participant", "number", "moment", "symbol", "target", "price", "size", "condition")
 # The columns of a frame of entries: prices are `Decimal`. The last six are the summary that the entry carries; a report carries none.
 COLUMNS = ("tape", *FIELDS, "open", "high", "low", "last", "volume", "trades")
-# Each column whose field is at fault where a message is refused for it.
+# Each column whose field is at fault when a message is refused for it.
 AT_FAULT = {13: "kind", 15: "participant", 16: "number", 17: "symbol", 18: "target", 19: "price", 20: "size", 21: "condition"}
 # The row of the columns' names counts as the first.
 FIRST_ROW = 2
 
 
 class BadTable(ValueError):
-    """A file is no table of messages. `row` is the row at fault, where the header row is the first, and `column` its column or None."""
+    """A file is no table of messages. `row` is the row at fault, counted with the header row as the first, and `column` its column or None."""
 
     def __init__(self, row: int, column: str | None, why: str) -> None:
         self.row, self.column = row, column
@@ -41,14 +41,14 @@ class RefusedRow:
 
 
 def whole(fields: dict[str, str], column: str) -> int:
-    """A field of digits, 0 where it is empty."""
+    """A field of digits, 0 if it is empty."""
     if not re.fullmatch("[0-9]{0,20}", fields[column]):
         raise ValueError(column)
     return int(fields[column] or 0)
 
 
 def price_of(fields: dict[str, str]) -> Decimal | None:
-    """The price, None where it is empty."""
+    """The price, None if it is empty."""
     if not re.fullmatch(r"([0-9]{1,20}(\.[0-9]{1,4})?)?", fields["price"]):
         raise ValueError("price")
     return Decimal(fields["price"]) if fields["price"] else None
@@ -106,7 +106,7 @@ def messages_of(records: Iterator[list[str]]) -> Iterator[tuple[Message, bytes]]
 
 
 def read_table(path: str | os.PathLike[str]) -> list[tuple[Message, bytes]]:
-    """The messages of a table's file, each with its bytes. It is a `BadTable` also where it has no row."""
+    """The messages of a table's file, each with its bytes. It is a `BadTable` also if it has no row."""
     with open(path, newline="", encoding="utf-8-sig", errors="replace") as file:
         try:
             messages = list(messages_of(record for record in csv.reader(file) if record))

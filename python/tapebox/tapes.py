@@ -54,8 +54,8 @@ class Tape(Held):
         return self._answer.number
 
     def admit_many(self, messages: bytes) -> Sequence[int]:
-        """Admits the messages that stand one after another in the bytes, and gives for each 0 where it was admitted, else the number of its refusal,
-        as a view of numbers. Those that are admitted have the next tape numbers in their order. At bytes that begin with no message, and where
+        """Admits the messages that stand one after another in the bytes, and gives for each 0 if it was admitted, else the number of its refusal,
+        as a view of numbers. Those that are admitted have the next tape numbers in their order. At bytes that begin with no message, and if
         a part of a message is left, `Refused` has 11 to 21, and `taken`, how many bytes were answered before."""
         # One more than the messages that fit, so that the bytes after the last of them are looked at too.
         room = len(messages) // SHORTEST_MESSAGE + 1

@@ -11,46 +11,25 @@ A table that is asked for more than one is read once as a `Table`:
 
 import ctypes
 from collections.abc import Callable
-from typing import NoReturn, Self
 
 from . import _library
 from ._library import library, small
+from ._owned import Owned
 from .refusals import Refused
 
 
-class Table:
+class Table(Owned):
     """A table that was read of its bytes. It is freed by `free`, by the end of a `with`, or with the object.
 
     `Refused` has 111 for bytes that are no table, and `why` then says what is wrong, as `row 3: size "0" is not 1 to 99999999 in at most 20
-    digits`. It has 109 where memory runs out, as in each call.
+    digits`. It has 109 if memory runs out, as in each call.
     """
+
+    KIND = "a table"
 
     def __init__(self, table: bytes) -> None:
         self._handle = _library.Handle(False, None)
         self._checked(library.tapebox_read_table(self._handle, table, len(table)))
-
-    def free(self) -> None:
-        """Frees it. Every later call is refused by 110."""
-        library.tapebox_free(self._handle)
-
-    def __del__(self) -> None:
-        if hasattr(self, "_handle"):
-            self.free()
-
-    def __enter__(self) -> Self:
-        return self
-
-    def __exit__(self, *why: object) -> None:
-        self.free()
-
-    def __copy__(self) -> NoReturn:
-        raise TypeError("a table cannot be copied")
-
-    def __deepcopy__(self, known: object) -> NoReturn:
-        self.__copy__()
-
-    def __reduce__(self) -> NoReturn:
-        self.__copy__()
 
     def report(self, matrix: int = 1) -> str:
         """The report, as `tapebox report` writes it. `Refused` has 104 for a matrix that is neither 1 nor 2, and 111 for too many symbols."""

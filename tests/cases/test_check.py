@@ -64,7 +64,7 @@ class Checks(Case):
         self.assert_fault(desk("report", given=table), (2, f"tapebox: {faults[0]}\n".encode()))
 
     def test_lines_of_the_file(self):
-        """FORMATS, "The faults of a table": the line in which a row begins is told where it is not the row's number: behind blank lines and line ends in
+        """FORMATS, "The faults of a table": the line in which a row begins is told if it is not the row's number: behind blank lines and line ends in
         quotes, for each way to end a line."""
         for end in (b"\n", b"\r\n", b"\r"):
             with self.subTest(end):

@@ -165,7 +165,7 @@ class GoneReaders(Rising):
                 self.assert_ends_quietly(words, given, 0)
 
     def test_after_a_line(self):
-        """The same where the first line was read, as by `head -1`."""
+        """The same once the first line was read, as by `head -1`."""
         for word in ("tape", "explain", "encode"):
             with self.subTest(word):
                 self.assert_ends_quietly([word], self.table(self.ROWS), 1)
@@ -197,7 +197,7 @@ class RefusedMemory(Case):
             self.assertGreater(ends["no lines"], 0, ends)
 
     def refused_requests(self, word, given):
-        """How often a word wrote nothing and told want of memory, where each request that is met is refused in turn; else the request was not missed."""
+        """How often a word wrote nothing and told want of memory, when each request that is met is refused in turn; else the request was not missed."""
         whole, refused = desk(word, given=given), 0
         for request in range(1, self.MOST):
             was_met, ended = run_refused([word], request, given=given)

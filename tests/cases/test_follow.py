@@ -81,7 +81,7 @@ class Follower:
         self.connection.settimeout(LIMIT)
 
     def request(self):
-        """The first number and the count of the next request; none where the follower closes."""
+        """The first number and the count of the next request; none if the follower closes."""
         taken = b""
         while len(taken) < REQUEST.size and (more := self.connection.recv(REQUEST.size - len(taken))):
             taken += more
@@ -122,7 +122,7 @@ class Answers(Case):
 
     def test_answers_that_are_none(self):
         """OPERATING, "Statuses", 3 and 7: a follower that is refused, or answered by bytes that are no answer or lack the first entry asked for,
-        disagrees; where the connection ends instead, a read has failed."""
+        disagrees; if the connection ends instead, a read has failed."""
         for answer, fault in [(b"\x48", DISAGREES), (b"\x05", DISAGREES), (self.SECOND, DISAGREES), (b"", READ_FAULT)]:
             with self.subTest(answer.hex()):
                 self.assert_fault(self.follow(answer), fault)
@@ -136,7 +136,7 @@ class Answers(Case):
             self.assert_fault(ended(peer.follow), WRITE_FAULT)
 
     def test_a_connection_that_is_lost(self):
-        """OPERATING: a follower whose connection ends after an answer opens another, and asks there for what is missing. Where that one ends
+        """OPERATING: a follower whose connection ends after an answer opens another, and asks there for what is missing. If that one ends
         before an answer, a read has failed, or a write."""
         for answers, ends in [(True, [(0, b"")]), (False, [READ_FAULT, WRITE_FAULT])]:
             with self.subTest(answers), follower() as peer:
@@ -243,7 +243,7 @@ class LateLines(Case):
         return asked
 
     def asked(self, count, send):
-        """What a follower asks for of a day of so many reports, where this function sends the packets by the two lines given."""
+        """What a follower asks for of a day of so many reports, when this function sends the packets by the two lines given."""
         with follower() as peer, ThreadPoolExecutor() as pool:
             asked = pool.submit(self.answer, peer)
             send(peer.by_a, peer.by_b)
@@ -254,7 +254,7 @@ class LateLines(Case):
 
     @tried(5)
     def test_a_line_that_brings_the_rest_later(self):
-        """OPERATING: what line A lost and B brings a millisecond later is not asked for, but where the machine is held up."""
+        """OPERATING: what line A lost and B brings a millisecond later is not asked for, unless the machine is held up."""
 
         def send(line_a, line_b):
             for number in range(1, self.REPORTS, 2):
@@ -630,7 +630,7 @@ class Gone(Case):
                 yield live, follow, participant
 
     def test_killed(self):
-        """OPERATING, "What you see": where a signal ends `live` in mid-day, a follower that is not asking ends too."""
+        """OPERATING, "What you see": if a signal ends `live` in mid-day, a follower that is not asking ends too."""
         for serves in (0, 1):
             with self.subTest(serves), self.day(serves) as (live, follow, _):
                 time.sleep(0.5)
@@ -671,7 +671,7 @@ class LossyDays(Case):
         self.assert_traded(done.stdout, trades, volume)
 
     def test_lossy_lines(self):
-        """README, "Two minutes: a lossy day": both reports are equal where packets of both lines are lost, and where all of line A or B is."""
+        """README, "Two minutes: a lossy day": both reports are equal if packets of both lines are lost, and if all of line A or B is."""
         for lose in ("30", "100,10", "0,100"):
             with self.subTest(lose):
                 self.assert_day(LOSE=lose)

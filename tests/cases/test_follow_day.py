@@ -48,7 +48,7 @@ class Conflicts(Case):
     """Packets of the session that tell otherwise of a number."""
 
     def test_a_forged_entry_that_came_first(self):
-        """OPERATING: where another entry came first, the true one has the retransmission asked, and the number is named."""
+        """OPERATING: if another entry came first, the true one has the retransmission asked, and the number is named."""
         with day() as peer:
             peer.by_a(entries(1, 1, "99.00"))
             peer.by_a(entries(1, 1))
@@ -75,7 +75,7 @@ class Conflicts(Case):
         self.assertIn(b"tapebox: line A: 3 packets, 1 dropped: 1 with another entry\n", end.said)
 
     def test_stray_packets_far_apart(self):
-        """OPERATING, "What `follow` does": each number of which a stray packet tells otherwise is asked for, also where the answer takes several packets."""
+        """OPERATING, "What `follow` does": each number of which a stray packet tells otherwise is asked for, also if the answer takes several packets."""
         for price, status in [("10.00", 0), ("99.00", DISAGREES[0])]:
             with self.subTest(price), day() as peer:
                 for first in (1, 9, 17, 26):

@@ -76,7 +76,7 @@ def inputs_of_rows():
 @unittest.skipUnless(shutil.which(CLANG), "there is no clang")
 class Fuzzed(Case):
     def built(self, folder):
-        """The harness under AddressSanitizer; the case is skipped where clang has no runtime for it."""
+        """The harness under AddressSanitizer; the case is skipped if clang has no runtime for it."""
         kit = Path(shutil.which("rt")).resolve().parent.parent
         flags = ["-std=c11", "-g", "-O1", "-Wall", "-Wextra", "-Werror", "-fsanitize=fuzzer,address,undefined"]
         probe = folder / "probe.c"

@@ -133,7 +133,7 @@ class Trades(Imports):
         self.assert_table(text, wanted)
 
     def test_conditions(self):
-        """IMPORT: spaces are blanks, and a blank first code is `@`, also where the spaces at the end are cut off."""
+        """IMPORT: spaces are blanks, and a blank first code is `@`, also if the spaces at the end are cut off."""
         texts = {"": "@___", " ": "@___", "    ": "@___", "@": "@___", " F": "@F__", "  ZI": "@_ZI", "@F I": "@F_I", "C   ": "C___", " 4T ": "@4T_"}
         wanted = [f"{at},report,N,{at - 1},{OPENING},AB,,10.00,100,{codes}" for at, codes in enumerate(texts.values(), 2)]
         self.assert_table(taq(*({"codes": codes} for codes in texts)), wanted)

@@ -22,7 +22,7 @@ ARCHIVE = CRATES / "tapebox_c" / "out" / "libtapebox_c.a"
 HEADER = CLIB / "tapebox.h"
 COMPILER = os.environ.get("CC", "cc")
 TABLES = sorted(SAMPLES.glob("*.csv"))
-# The header's structs by the names that the Python package has for them, and its fields where they have another name.
+# The header's structs by the names that the Python package has for them, and its fields if they have another name.
 STRUCTS = {
     "Mark": "mark",
     "Figures": "figures",
@@ -102,7 +102,7 @@ def others():
 
 
 def compiled(folder, source, *flags, compiler=COMPILER):
-    """A program of this C text, or none where it does not compile."""
+    """A program of this C text, or none if it does not compile."""
     (folder / "source.c").write_text(source, encoding="utf-8")
     words = [*shlex.split(compiler), "-std=c11", "-Wall", "-Wextra", "-Werror", "-o", folder / "compiled", folder / "source.c", *flags]
     done = subprocess.run(words, stdout=subprocess.DEVNULL, stderr=subprocess.DEVNULL, check=False)
@@ -362,7 +362,7 @@ class Package(Linked):
         self.assert_writes(run(["-B", "-c", code], **options), b"{'cancel': 8, 'correct': 5, 'reinstate': 2, 'report': 21}\n")
 
     def test_the_wheel(self):
-        """python/README.md: the wheel holds the library, which needs the C library alone, and its files are those of its record; where it is
+        """python/README.md: the wheel holds the library, which needs the C library alone, and its files are those of its record; if it is
         installed, and nothing else of the repository is, what the page shows is written."""
         with tempfile.TemporaryDirectory() as name:
             environment = os.environ | {"TAPEBOX_LIBRARY": str(self.library), "PYTHONPATH": ""}

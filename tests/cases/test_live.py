@@ -78,7 +78,7 @@ class Listeners(Case):
 
     @staticmethod
     def has_all(packets, kind, count):
-        """Whether each line brought so many packets of a kind, where one is named."""
+        """Whether each line brought so many packets of a kind, if one is named."""
         return kind is not None and all(sum(packet[1:2] == kind for _, packet in taken) >= count for taken in packets)
 
 
@@ -267,7 +267,7 @@ class Peers(Case):
         self.assert_traded(end.written, 4)
 
     def test_a_stray_connection(self):
-        """OPERATING, "What you see": the first connection to a participant's port is that participant's, whoever it is: where it
+        """OPERATING, "What you see": the first connection to a participant's port is that participant's, whoever it is: if it
         ends without a message, the day has none of the participant."""
         port = free_ports(5)
         with started(["live", "AB", "N,Q", port, port + 2, port + 3, port + 4, 0, self.SESSION]) as day:
@@ -410,7 +410,7 @@ class Workers(Case):
         return end.said.count(self.THREAD)
 
     def test_the_workers_of_the_report(self):
-        """OPERATING: four workers make the report, three of them in threads of their own. One symbol has one worker. Where a thread
+        """OPERATING: four workers make the report, three of them in threads of their own. One symbol has one worker. If a thread
         can't be started for the report, the first of which is only tried, the day is reported all the same."""
         own = self.threads("A")
         self.assertEqual(self.threads(self.SYMBOLS) - own, 3)

@@ -1,4 +1,4 @@
-"""What is written and said where memory, threads or files run out."""
+"""What is written and said when memory, threads or files run out."""
 
 import contextlib
 import errno
@@ -191,7 +191,7 @@ class FewThreads(Case):
                 return ended_by_itself(day), ended(follow)
 
     def test_the_follower_of_lines_without_threads(self):
-        """OPERATING: where the lines were not started the follower gets no end, and ends with status 3; where they were, both write the
+        """OPERATING: if the lines were not started the follower gets no end, and ends with status 3; if they were, both write the
         same report."""
         kinds = Counter()
         every = ports(5 * self.MOST)

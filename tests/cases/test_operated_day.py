@@ -354,7 +354,7 @@ class Missing(Case):
                     self.assertEqual(over.said.decode(), f"tapebox: line {line.upper()} {port}: address in use\n")
 
     def test_nobody_at_the_control_socket(self):
-        """OPERATING: `status` and `end` name the control socket where no day is."""
+        """OPERATING: `status` and `end` name the control socket if no day is there."""
         for word in ("status", "end"):
             with self.subTest(word), day() as it:
                 asked = run([word, it.path])

@@ -51,7 +51,7 @@ NUMBER = re.compile(r"^(?!status_)\w+_code \(?([\w.]+)(?: \w+\))? = (\d+)$", re.
 NAME = re.compile(r"[A-Za-z_]\w*")
 # A constant of the code, with the sum or the product that it is.
 CONSTANT = re.compile(r"^ *(?:pub(?:\(crate\))? )?const (\w+): \w+ = ([\w +*/]+);$", re.MULTILINE)
-# Numbers that pages print where they speak of a limit: the words around each, and the name of its constant.
+# Numbers that pages print when they speak of a limit: the words around each, and the name of its constant.
 PRINTED = {
     "docs/FORMATS.md": [
         "and it is 0 or above {LONGEST_BODY} |", "so each entry up to {NUMBER_MOST_ONE} can be sent in either version", "session 7, {TAPE_MOST} entries so far",
@@ -260,7 +260,7 @@ class Pages(unittest.TestCase):
                     self.assertIn(f"**`{path.relative_to(CRATES)}`**", printed)
 
     def test_parts_from_the_tree(self):
-        """docs/TESTED.md and docs/MESSAGE.md: the counts, and the lines that are linked, are those of the tree; run tools/page_parts.py where this fails."""
+        """docs/TESTED.md and docs/MESSAGE.md: the counts, and the lines that are linked, are those of the tree; run tools/page_parts.py if this fails."""
         for page, written in [(page_parts.TESTED, page_parts.counted), (page_parts.MESSAGE, page_parts.linked)]:
             with self.subTest(page.name):
                 self.assertEqual(text_of(page).splitlines(), written(text_of(page)).splitlines())
@@ -279,7 +279,7 @@ class Pages(unittest.TestCase):
                     self.assertLessEqual(set(named), known)
 
     def test_printed_numbers_are_those_of_the_code(self):
-        """Where a page prints a limit's number, it is the value of the constant in the code."""
+        """If a page prints a limit's number, it is the value of the constant in the code."""
         for page, phrases in PRINTED.items():
             text = " ".join(text_of(ROOT / page).split())
             for phrase in phrases:
@@ -304,7 +304,7 @@ class Pages(unittest.TestCase):
 
     @unittest.skipUnless((ROOT / "docs" / "speed.json").exists(), "bench/all.py has not measured yet")
     def test_speeds_are_those_that_were_measured(self):
-        """docs/SPEED.md: what is between its marks is what bench/all.py wrote of the figures in docs/speed.json; run it with --page where this fails."""
+        """docs/SPEED.md: what is between its marks is what bench/all.py wrote of the figures in docs/speed.json; run it with --page if this fails."""
         page, figures = text_of(ROOT / "docs" / "SPEED.md"), json.loads(text_of(ROOT / "docs" / "speed.json"))
         self.assertEqual(page.splitlines(), speed_page.written(page, figures).splitlines())
         marked = {mark[2] for mark in speed_page.MARKED.finditer(page)}
@@ -312,7 +312,7 @@ class Pages(unittest.TestCase):
 
     @unittest.skipUnless((ROOT / "docs" / "speed.json").exists(), "bench/all.py has not measured yet")
     def test_other_pages_have_these_speeds(self):
-        """README, "Three figures", and docs/SCALE.md: what is between their marks comes of the same figures; run bench/all.py --page where this fails."""
+        """README, "Three figures", and docs/SCALE.md: what is between their marks comes of the same figures; run bench/all.py --page if this fails."""
         figures = json.loads(text_of(ROOT / "docs" / "speed.json"))
         for name, writers in speed_page.OTHERS.items():
             page = text_of(ROOT / name)

@@ -150,7 +150,7 @@ class PlainAnswers:
 
 
 def plain_price(mark):
-    """The price of a figure or a report in dollars, or nothing where there is no figure."""
+    """The price of a figure or a report in dollars, or nothing if there is no figure."""
     return plain_table.dollars(mark.price) if mark else ""
 
 

@@ -97,7 +97,7 @@ A packets 1..1 -> fresh 1
 drain -> 1
 held -> all 1
 """
-# What the player answers where rules answer otherwise, or entries differ: what is otherwise in the plain rules, and the steps.
+# What the player answers if rules answer otherwise, or entries differ: what is otherwise in the plain rules, and the steps.
 OTHERS = [
     ({"Subscriber": OtherSummaries}, HELD.replace("all 1", "all 1 with other summaries")),
     ({}, f"{HELD}tape AB / N\nN 1 report AB 10.01 100 @___ -> 1\nheld -> others\n"),

@@ -1,4 +1,4 @@
-"""tools/send_day.py, as it ends where a line is closed at the other end."""
+"""tools/send_day.py, as it ends when a line is closed at the other end."""
 
 import contextlib
 import os

@@ -99,7 +99,7 @@ class Page(PageCase):
                 self.assertEqual(shown, f"{bad + 1}  {table_of([rows[bad]]).decode()}")
 
     def test_faults(self):
-        """web/README: the row of a fault is shown where blank rows stand before it, and the header row where that is at fault."""
+        """web/README: the row of a fault is shown when blank rows stand before it, and the header row when that is at fault."""
         head = b"kind,participant,number,symbol,target,price,size,condition\n"
         good = b"report,N,1,AB,,10.00,100,@___\n"
         worse = good.replace(b"AB", b"ab")
@@ -151,7 +151,7 @@ class Page(PageCase):
         self.assert_texts(SAMPLES / "morning.csv", 1)
 
     def test_memory_runs_out(self):
-        """web/README: where the browser has no more memory for a table, the page says so, and the next table is made."""
+        """web/README: if the browser has no more memory for a table, the page says so, and the next table is made."""
         # Fewer pages than 100,000 rows need.
         little = Browser("--js-flags=--wasm-max-mem-pages=300")
         self.addCleanup(little.close)
@@ -165,7 +165,7 @@ class Page(PageCase):
         self.assertEqual(little.value("[state.tape.count, document.getElementById('fault').hidden].join()"), "37,true")
 
     def test_an_old_browser(self):
-        """web/README: where the browser does not take the module, the page names the browsers that do."""
+        """web/README: if the browser does not take the module, the page names the browsers that do."""
         # Of no browser is this a module.
         self.browser.value("worker.postMessage({ bytes: new Uint8Array(4) })")
         self.browser.wait("a word on it", lambda: self.browser.value("state.broken"))
@@ -196,7 +196,7 @@ class Page(PageCase):
 
 class Build(Case):
     def test_without_the_kit(self):
-        """web/build: where the kit lacks what it takes it says so, ends with 3 and makes nothing."""
+        """web/build: if the kit lacks what it takes it says so, ends with 3 and makes nothing."""
         with tempfile.TemporaryDirectory() as folder:
             Path(folder, "python3").symlink_to(sys.executable)
             before = PAGE.exists() and PAGE.stat().st_mtime_ns

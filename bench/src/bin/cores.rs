@@ -1,6 +1,6 @@
 //! `cores`: how long one thread, two and four take for a loop each, which touches no memory; prints a figure a line.
 //!
-//! Four threads take as long as one where the machine has four cores of its own for them.
+//! Four threads take as long as one if the machine has four cores of its own for them.
 
 use std::hint::black_box;
 use std::thread;

@@ -6,7 +6,7 @@ use std::io;
 use std::net::{Ipv4Addr, TcpListener};
 use std::process::ExitCode;
 
-/// The first port, and one behind the last, and the ports of lines A and B; `None` where the words are no such.
+/// The first port, and one behind the last, and the ports of lines A and B; `None` if the words are no such.
 fn ports() -> Option<(u16, u16, [u16; 2])> {
     let words: Vec<String> = std::env::args().skip(1).collect();
     let numbers: Vec<u16> = words.iter().map_while(|word| word.parse().ok()).collect();

@@ -1,10 +1,10 @@
 //! `latency PORT LINES A B RATE MESSAGES`: how long messages take from the lines of `tapebox live` or `forward`, which listen from PORT on,
-//! to lines A and B, where so many are sent a second; prints a figure a line, times in microseconds.
+//! to lines A and B, when so many are sent a second; prints a figure a line, times in microseconds.
 
 use bench::{Course, latency};
 use std::process::ExitCode;
 
-/// What is asked for; `None` where the words are no such.
+/// What is asked for; `None` if the words are no such.
 fn course() -> Option<Course> {
     let words: Vec<String> = std::env::args().skip(1).collect();
     let [first_port, lines, a, b, rate, messages] = words.as_slice() else {

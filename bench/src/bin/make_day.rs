@@ -99,7 +99,7 @@ enum Change {
     Reinstate,
 }
 
-/// Changes as often as they come where nothing else decides.
+/// Changes as often as they come if nothing else decides.
 const CHANGES: [Change; 8] = [
     Change::Cancel,
     Change::Cancel,
