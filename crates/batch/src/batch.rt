@@ -78,10 +78,8 @@ fn report<T: Threads + Sync>(rt: &T, alloc: Global, tape: &DayTape) -> Result<Ve
         return Err(AllocError);
     };
     let mut text = Vec::new(alloc);
-    match write_report(alloc, &rows, &mut text) {
-        Ok(()) => Ok(text),
-        Err(_) => Err(AllocError),
-    }
+    write_report(alloc, &rows, &mut text).map_err(|_| AllocError)?;
+    Ok(text)
 }
 
 /// Writes a day: its answers, then the report of its tape unless memory ran out at one of the lines.

@@ -77,10 +77,7 @@ pub fn read_names(
     let (Some(known), Some(who)) = (known, who) else {
         return Err(HeaderFault::BadListing(listing_fault(separator, symbols, participants)));
     };
-    match Listing::new(alloc, &known, &who) {
-        Ok(listing) => Ok(listing),
-        Err(fault) => Err(HeaderFault::BadListing(fault)),
-    }
+    Listing::new(alloc, &known, &who).map_err(HeaderFault::BadListing)
 }
 
 /// The listing of a batch, from the symbols of its first line and the participants of its second, with single spaces between

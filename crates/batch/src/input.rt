@@ -72,10 +72,8 @@ impl<B: BufRead> Input<B> {
         ensures fits { OnOk result (self.new.taken ≤ INPUT_MOST) }
         ensures err { IfErr result (EndsReading (B.remaining self.old.left) self.old.taken) }
     {
-        let len = match self.left.skip_until(b'\n') {
-            Ok(len) => len,
-            Err(error) => return Err(ReadEnd::from(ReadFault::of(&error))),
-        };
+        let skipped = self.left.skip_until(b'\n');
+        let len = skipped.map_err(|error| ReadFault::of(&error))?;
         self.count(len)?;
         Ok(len > 0)
     }

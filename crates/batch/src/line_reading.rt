@@ -24,11 +24,8 @@ pub fn take_line<B: BufRead>(reader: &mut B, line: &mut Vec<u8>) -> Result<usize
     ensures end { IfOk result (λ len. len ≡ 0 → IsAtEnd (B.remaining reader.old) × (line.new.items ≡ [])) }
 {
     line.clear();
-    match reader.read_until(b'\n', line) {
-        Ok(len) => {
-            drop_line_feed(line);
-            Ok(len)
-        }
-        Err(error) => Err(ReadFault::of(&error)),
-    }
+    let taken = reader.read_until(b'\n', line);
+    let len = taken.map_err(|error| ReadFault::of(&error))?;
+    drop_line_feed(line);
+    Ok(len)
 }

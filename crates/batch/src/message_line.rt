@@ -23,10 +23,7 @@ fn spelled_message(digits: &[u8]) -> Result<(Message, usize), BatchRefusal>
     if !are_digits(rest) {
         return Err(BatchRefusal::BadLine);
     }
-    match decode(&row[..len]) {
-        Ok(read) => Ok(read),
-        Err(fault) => Err(BatchRefusal::BadMessage(fault)),
-    }
+    decode(&row[..len]).map_err(BatchRefusal::BadMessage)
 }
 
 /// The letter of a line, and the digits after the one space.

@@ -23,20 +23,14 @@ pub fn put_line(writer: &mut Writer<Vec<u8>>, fields: &ByteRecord) -> Result<(),
     ensures start { OnOk result (IsAtLineStart writer.new) }
     ensures text { OnOk result (lines_text writer.new ≡ lines_text writer.old ++ row_text default_writer (fields_of fields.now)) }
 {
-    match writer.write_byte_record(fields) {
-        Ok(()) => Ok(()),
-        Err(_) => Err(AllocError),
-    }
+    writer.write_byte_record(fields).map_err(|_| AllocError)
 }
 
 /// Returns the lines that were written. `AllocError` if memory runs out.
 pub fn into_text(writer: Writer<Vec<u8>>) -> Result<Vec<u8>, AllocError>
     ensures { IfOk result (λ text. text.items ≡ lines_text writer) }
 {
-    match writer.into_inner() {
-        Ok(text) => Ok(text),
-        Err(_) => Err(AllocError),
-    }
+    writer.into_inner().map_err(|_| AllocError)
 }
 
 /// Returns the line of these fields, such as that of the columns' names. `AllocError` if memory runs out.

@@ -1,6 +1,7 @@
 pub mod CheckLemmas
 pub mod ColumnLemmas
 pub mod CutLemmas
+pub mod MappedResults
 pub mod NumeralLemmas
 pub mod PlaceLemmas
 pub mod PriceSpelling

@@ -55,10 +55,8 @@ pub(crate) fn next_record<R: Read>(
         → HasRead R.remaining reader.old input records → AreTableRecords input records) }
     ensures fault { IfErr result (λ fault. (fault ≡ ReadFault) ⊎ (fault ≡ OutOfMemory)) }
 {
-    match reader.read_byte_record(fields) {
-        Ok(found) => Ok(found),
-        Err(error) => Err(failed_read(error.kind())),
-    }
+    let read = reader.read_byte_record(fields);
+    read.map_err(|error| failed_read(error.kind()))
 }
 
 /// Returns the message of a record.

@@ -1,9 +1,10 @@
 //! Why a table was not read.
 ghost use Rattle.std.specs.Prelude.{◌≡◌, Some};
 ghost use Rattle.csv_messages.specs.FaultLines.{table_fault_text};
-ghost use Rattle.csv_messages.specs.declared.table_fault.TableFault.TheVariants.{Header};
+ghost use Rattle.csv_messages.specs.declared.table_fault.TableFault.TheVariants.{Header, OutOfMemory};
 
 use crate::{ColumnFault, RowFault};
+use std::alloc::AllocError;
 use std::fmt;
 use thiserror::Error;
 
@@ -21,6 +22,14 @@ pub enum TableFault {
     ReadFault,
     /// Memory ran out.
     OutOfMemory,
+}
+
+impl From<AllocError> for TableFault {
+    ghost from_gives = { λ _ table. table ≡ OutOfMemory };
+
+    fn from(_error: AllocError) -> TableFault {
+        TableFault::OutOfMemory
+    }
 }
 
 impl From<ColumnFault> for TableFault {

@@ -8,8 +8,8 @@ use Rattle.std.specs.declared.net.ipv4_addr.Ipv4Addr.{Ipv4Addr}
 use Rattle.std.specs.declared.net.socket_addr.SocketAddr.{SocketAddr}
 use Rattle.day_control.specs.declared.control_fault.ControlFault.{ControlFault}
 use Rattle.day_control.specs.declared.control_fault.ControlFault.TheVariants.{NotASocket, InUse}
-use Rattle.day_control.specs.declared.standing.Standing.{Standing}
-use Rattle.day_control.specs.declared.standing.Standing.TheVariants.{Nothing, OtherFile, Deserted, Answered}
+use Rattle.day_control.specs.declared.standing.Occupant.{Occupant}
+use Rattle.day_control.specs.declared.standing.Occupant.TheVariants.{Nothing, OtherFile, Deserted, Answered}
 
 -- the address is that of a port on 127.0.0.1, which no other machine reaches
 pub record IsHere (address : SocketAddr) (port : ℕ) : Type 0 where
@@ -33,7 +33,7 @@ abbrev pub IsPrivate : ℕ → Type 0
 IsPrivate mode = bit_and mode 63 ≡ 0
 
 -- whether what is at a path is removed before a socket is made there: only a socket that nobody answers at
-abbrev pub cleared : Standing → Result Bool ControlFault
+abbrev pub cleared : Occupant → Result Bool ControlFault
 cleared Nothing = Ok false
 cleared Deserted = Ok true
 cleared OtherFile = Err NotASocket

@@ -72,10 +72,10 @@ fn serve_next<O: Operator, R: Read, W: Write>(
     let mut row = [0; LINE_ROOM];
     match read_line(reader, &mut row) {
         LineRead::Line(len) => answer(operator, ControlCommand::of_line(&row[..len]), writer, room),
-        LineRead::TooLong => match answer_unknown(writer) {
-            Ok(()) => Err(ControlOutcome::TooLong),
-            Err(ended) => Err(ended),
-        },
+        LineRead::TooLong => {
+            answer_unknown(writer)?;
+            Err(ControlOutcome::TooLong)
+        }
         LineRead::Nothing => Err(ControlOutcome::Clean),
         LineRead::Part => Err(ControlOutcome::Truncated),
         LineRead::Fault => Err(ControlOutcome::ReadFault),

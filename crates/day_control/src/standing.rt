@@ -2,7 +2,7 @@
 ghost use Rattle.std.specs.Prelude.{◌≡◌, ◌≢◌, ◌↔◌, IsTrue};
 ghost use Rattle.std.specs.IoError.{error_kind};
 ghost use Rattle.day_control.specs.Places.{IsPrivate, cleared, folder_of};
-ghost use Rattle.day_control.specs.declared.standing.Standing.TheVariants.{Answered, Deserted, Nothing};
+ghost use Rattle.day_control.specs.declared.standing.Occupant.TheVariants.{Answered, Deserted, Nothing};
 
 use crate::ControlFault;
 use std::fs;
@@ -21,7 +21,7 @@ const OTHERS: u32 = 0o077;
 
 /// What is at a path.
 #[derive(Clone, Copy, Debug, PartialEq, Eq)]
-pub(crate) enum Standing {
+pub(crate) enum Occupant {
     /// Nothing.
     Nothing,
     /// A file that is no socket.
@@ -40,42 +40,42 @@ fn is_private(mode: u32) -> bool
 }
 
 /// Returns whether what is at a path is to be removed before a socket is made there: only a socket that nobody answers at.
-fn clears(standing: Standing) -> Result<bool, ControlFault>
-    ensures { result ≡ cleared standing }
+fn clears(occupant: Occupant) -> Result<bool, ControlFault>
+    ensures { result ≡ cleared occupant }
 {
-    match standing {
-        Standing::Nothing => Ok(false),
-        Standing::OtherFile => Err(ControlFault::NotASocket),
-        Standing::Deserted => Ok(true),
-        Standing::Answered => Err(ControlFault::InUse),
+    match occupant {
+        Occupant::Nothing => Ok(false),
+        Occupant::OtherFile => Err(ControlFault::NotASocket),
+        Occupant::Deserted => Ok(true),
+        Occupant::Answered => Err(ControlFault::InUse),
     }
 }
 
 /// What a socket is if no connection could be made to it: only one that refuses the connection, or has meanwhile gone, is
 /// nobody's.
-fn standing_unconnected(error: &Error) -> Standing
+fn occupant_unconnected(error: &Error) -> Occupant
     ensures deserted { error_kind error.now ≡ ErrorKind.ConnectionRefused → result ≡ Deserted }
     ensures gone { error_kind error.now ≡ ErrorKind.NotFound → result ≡ Nothing }
     ensures answered { error_kind error.now ≢ ErrorKind.ConnectionRefused → error_kind error.now ≢ ErrorKind.NotFound → result ≡ Answered }
 {
     match error.kind() {
-        ErrorKind::ConnectionRefused => Standing::Deserted,
-        ErrorKind::NotFound => Standing::Nothing,
-        _ => Standing::Answered,
+        ErrorKind::ConnectionRefused => Occupant::Deserted,
+        ErrorKind::NotFound => Occupant::Nothing,
+        _ => Occupant::Answered,
     }
 }
 
 /// Looks at what is at a path.
-fn look<R: Files + Net>(rt: &R, path: &str) -> Result<Standing, ControlFault> {
+fn look<R: Files + Net>(rt: &R, path: &str) -> Result<Occupant, ControlFault> {
     match fs::symlink_metadata(rt, path) {
-        Ok(found) if !found.file_type().is_socket() => return Ok(Standing::OtherFile),
+        Ok(found) if !found.file_type().is_socket() => return Ok(Occupant::OtherFile),
         Ok(_) => {}
-        Err(error) if error.kind() == ErrorKind::NotFound => return Ok(Standing::Nothing),
+        Err(error) if error.kind() == ErrorKind::NotFound => return Ok(Occupant::Nothing),
         Err(_) => return Err(ControlFault::Unopened),
     }
     match UnixStream::connect(rt, path) {
-        Ok(_) => Ok(Standing::Answered),
-        Err(error) => Ok(standing_unconnected(&error)),
+        Ok(_) => Ok(Occupant::Answered),
+        Err(error) => Ok(occupant_unconnected(&error)),
     }
 }
 

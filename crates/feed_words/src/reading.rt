@@ -97,10 +97,7 @@ fn push_port(ports: &mut Vec<u16>, word: &[u8]) -> Result<(), WordsFault>
     ensures memory { (port : ℕ) → IsPort word.now port → IfErr result (λ fault. fault ≡ OutOfMemory) }
 {
     let port = port_of(word)?;
-    match ports.push(port) {
-        Ok(()) => Ok(()),
-        Err(_) => Err(WordsFault::OutOfMemory),
-    }
+    ports.push(port).map_err(|_| WordsFault::OutOfMemory)
 }
 
 /// Returns the index of the comma that ends the first port, or `None` if there is none.

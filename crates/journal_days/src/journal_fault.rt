@@ -1,7 +1,9 @@
 //! The reasons why a journal has no day.
+ghost use Rattle.journal_days.specs.Days.{IsEntryFault, IsHeaderFault};
 
 use day_journal::{JournalHeaderFault, ReplayFault};
 use sale_matrix::Matrix;
+use tape_core::Refusal;
 
 /// Why a journal has no day: the first reason from its front.
 #[derive(Clone, Copy, Debug, PartialEq, Eq)]
@@ -22,4 +24,29 @@ pub enum JournalFault {
     },
     /// Memory ran out.
     OutOfMemory,
+}
+
+impl From<JournalHeaderFault> for JournalFault {
+    ghost from_gives = { λ fault journal. IsHeaderFault fault journal };
+
+    fn from(fault: JournalHeaderFault) -> JournalFault {
+        match fault {
+            JournalHeaderFault::OutOfMemory => JournalFault::OutOfMemory,
+            fault => JournalFault::Header(fault),
+        }
+    }
+}
+
+impl From<ReplayFault> for JournalFault {
+    ghost from_gives = { λ fault journal. IsEntryFault fault journal };
+
+    fn from(fault: ReplayFault) -> JournalFault {
+        match fault {
+            ReplayFault::Refused {
+                refusal: Refusal::OutOfMemory,
+                ..
+            } => JournalFault::OutOfMemory,
+            fault => JournalFault::Entry(fault),
+        }
+    }
 }

@@ -2,15 +2,13 @@
 ghost use Rattle.std.specs.Prelude.{◌≡◌, IfErr, IfOk, OnOk};
 ghost use Rattle.day_journal.specs.Journals.{groups_at};
 ghost use Rattle.day_journal.specs.Replays.{with_entries};
-ghost use Rattle.journal_days.specs.Days.{EndsDay, IsDay, IsEntryFault, IsFault, IsHeaderFault, IsMatrixFault, StopsEntries, StopsNext, TakesNext, begins_journal, entries_of};
+ghost use Rattle.journal_days.specs.Days.{EndsDay, IsDay, IsFault, IsMatrixFault, StopsEntries, StopsNext, TakesNext, begins_journal, entries_of};
 
 use crate::{JournalDay, JournalFault, JournalTape};
-use day_journal::{
-    GroupReader, JournalEnd, JournalHeaderFault, Next, ReplayFault, read_header, replay_entries,
-};
+use day_journal::{GroupReader, JournalEnd, Next, read_header, replay_entries};
 use sale_matrix::Matrix;
 use std::alloc::Global;
-use tape_core::{Entry, Refusal, Tape};
+use tape_core::{Entry, Tape};
 
 /// The first bytes of every journal.
 const FRONT: [u8; 8] = *b"tapejrnl";
@@ -22,29 +20,6 @@ pub fn is_journal(bytes: &[u8]) -> bool
 {
     let front = &bytes[..bytes.len().min(FRONT.len())];
     front == FRONT.as_slice()
-}
-
-/// The fault of a journal for a fault of its header.
-fn header_fault(fault: JournalHeaderFault) -> JournalFault
-    ensures { IsHeaderFault fault result }
-{
-    match fault {
-        JournalHeaderFault::OutOfMemory => JournalFault::OutOfMemory,
-        fault => JournalFault::Header(fault),
-    }
-}
-
-/// The fault of a journal for an entry at which its replay stopped.
-fn entry_fault(fault: ReplayFault) -> JournalFault
-    ensures { IsEntryFault fault result }
-{
-    match fault {
-        ReplayFault::Refused {
-            refusal: Refusal::OutOfMemory,
-            ..
-        } => JournalFault::OutOfMemory,
-        fault => JournalFault::Entry(fault),
-    }
 }
 
 /// The fault of a journal with this matrix, if another one was asked for.
@@ -71,10 +46,8 @@ fn replay_next(
             let replayed = replay_entries(tape, entries.as_slice());
             // What a tape holds is legal, wherever the replay stopped.
             let _legal = tape.entries();
-            match replayed {
-                Ok(()) => Ok(None),
-                Err(fault) => Err(entry_fault(fault)),
-            }
+            replayed?;
+            Ok(None)
         }
         Ok(Next::End(end)) => Ok(Some(end)),
         Err(_) => Err(JournalFault::OutOfMemory),
@@ -94,10 +67,8 @@ fn replay_groups(
 {
     let mut entries = Vec::new(alloc);
     for turn in 0..turns {
-        match replay_next(groups, &mut entries, tape) {
-            Ok(None) => {}
-            Ok(Some(end)) => return Ok(end),
-            Err(fault) => return Err(fault),
+        if let Some(end) = replay_next(groups, &mut entries, tape)? {
+            return Ok(end);
         }
     }
     // Each group has some bytes, so the end comes first; no clause says so.
@@ -132,10 +103,7 @@ pub fn read_day(
     ensures day { IfOk result (IsDay asked bytes.now) }
     ensures fault { IfErr result (IsFault asked bytes.now) }
 {
-    let header = match read_header(alloc, bytes) {
-        Ok(header) => header,
-        Err(fault) => return Err(header_fault(fault)),
-    };
+    let header = read_header(alloc, bytes)?;
     if let Some(fault) = matrix_fault(asked, header.matrix) {
         return Err(fault);
     }

@@ -157,10 +157,8 @@ fn bytes_of<F: JournalDisk>(alloc: Global, disk: &mut F) -> Result<Vec<u8>, Star
     ensures bytes { IfOk result (λ bytes. IfSome (F.contents disk.old) (λ held. bytes.items ≡ held)) }
     ensures fault { IfErr result IsUnread }
 {
-    match disk.read_whole(alloc) {
-        Ok(bytes) => Ok(bytes),
-        Err(error) => Err(fault_of_reading(error.kind())),
-    }
+    let read = disk.read_whole(alloc);
+    read.map_err(|error| fault_of_reading(error.kind()))
 }
 
 /// Starts the journal of a day with these terms. If none was begun, a new one is: its header is written and kept. A journal of

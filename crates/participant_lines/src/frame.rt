@@ -92,10 +92,8 @@ fn spelled(frame: &[u8]) -> Spelled
     requires { IsFrame frame.now }
     ensures { IsSpelled frame.now result }
 {
-    match decode(frame) {
-        Ok((message, _)) => Ok(message),
-        Err(fault) => Err(fault),
-    }
+    let (message, _) = decode(frame)?;
+    Ok(message)
 }
 
 /// The frame at the front of some bytes, if it is there whole.

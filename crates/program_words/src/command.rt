@@ -141,10 +141,7 @@ fn asked_after(word: Word, rest: &[u8]) -> Option<Asked>
     if are_in_a_row(word, rest) {
         return None;
     }
-    let asked = match given(word, rest) {
-        Ok(given) => asked_with(word, &given),
-        Err(wrong) => Err(wrong),
-    };
+    let asked = given(word, rest).and_then(|given| asked_with(word, &given));
     match asked {
         Ok(asked) => Some(asked),
         Err(wrong) => Some(Asked::Wrong(word, wrong)),

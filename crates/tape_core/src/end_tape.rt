@@ -76,13 +76,11 @@ impl EndTape {
         if !matrix_has(self.matrix, message) {
             return Err(Refusal::NotInMatrix);
         }
-        match targets::locate(&self.register, message) {
-            Ok(change) => Ok(EndRoute {
-                number: number_after(count),
-                change,
-            }),
-            Err(refused) => Err(refused),
-        }
+        let change = targets::locate(&self.register, message)?;
+        Ok(EndRoute {
+            number: number_after(count),
+            change,
+        })
     }
 
     /// Appends a message's entry and returns its number. If memory runs out, nothing is changed.

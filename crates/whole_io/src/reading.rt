@@ -33,8 +33,7 @@ pub fn read_all<R: Read>(alloc: Global, reader: &mut R) -> Result<Vec<u8>, ReadF
     ensures all { IfSome (R.remaining reader.old) (λ all. IfOk result (λ bytes. bytes.items ≡ all)) }
 {
     let mut bytes = Vec::new(alloc);
-    match reader.read_to_end(&mut bytes) {
-        Ok(_) => Ok(bytes),
-        Err(error) => Err(ReadFault::of(&error)),
-    }
+    let read = reader.read_to_end(&mut bytes);
+    read.map_err(|error| ReadFault::of(&error))?;
+    Ok(bytes)
 }

@@ -35,10 +35,7 @@ pub fn write_text<W: Write>(writer: &mut W, text: &[u8]) -> Result<(), WriteFaul
 pub fn flush<W: Write>(writer: &mut W) -> Result<(), WriteFault>
     ensures kept { Keeps (W.contents writer.old) (W.contents writer.new) }
 {
-    match writer.flush() {
-        Ok(()) => Ok(()),
-        Err(_) => Err(WriteFault),
-    }
+    writer.flush().map_err(|_| WriteFault)
 }
 
 /// Writes all of a text and flushes the writer. Returns whether no write and no flush failed.

@@ -1,4 +1,4 @@
-use Rattle.std.proofs.Common.{◌≡◌, ◌∙◌, ap, arith, length-take, sym, refl, take}
+use Rattle.std.proofs.Common.{◌≡◌, ◌∙◌, ap, arith, length-take, rules, sym, refl, take}
 use Rattle.reports.specs.Reading.{message_at}
 use Rattle.batch.specs.MessageLine.{from_bytes, hex_bytes, spelled_message}
 use Rattle.batch.proofs.HexLemmas.{hex_bytes-odd}
@@ -31,8 +31,7 @@ front_read c =
     let all = rest-or_longest digits front rest bytes split (omega arith) (omega arith) in
     spelled-Some digits front rest bytes split (omega arith) (omega arith) all c.in-Some.ensures.bytes (sym c.if-not-are_digits.ensures)
 
-pub returns-in-Ok : goal.returns-in-Ok
-returns-in-Ok c = ap from_bytes c.in-Ok.ensures.exact ∙ front_read (goal.at.returns-in-Ok c).After-decode
-
-pub returns-in-Err : goal.returns-in-Err
-returns-in-Err c = ap from_bytes c.in-Err.ensures.exact ∙ front_read (goal.at.returns-in-Err c).After-decode
+pub returns : goal.returns
+returns c =
+    let mapped : c.map_err.result ≡ from_bytes c.decode.result = search rules in
+    mapped ∙ ap from_bytes c.decode.ensures.exact ∙ front_read (goal.at.returns c).After-decode

@@ -1,4 +1,5 @@
 use Rattle.std.proofs.Common.{◌≡◌, ◌≤◌, arith, length, length-take-le, rules, take}
+use Rattle.std.proofs.lemmas.Result.{err_from_is_err_and}
 use Rattle.day_control.specs.Commands.{command_of}
 use Rattle.day_control.specs.Serving.{IsWhole}
 use Rattle.day_control.proofs.ServeLemmas.{Serves-none, nothing_read, read_answered, read_failed, too_long_failed}
@@ -28,8 +29,8 @@ returns-in-Line-clause-err g c =
     (g.R.Read.remaining c.args.reader.now) (g.R.Read.remaining c.read_line.new.reader) (g.W.Write.contents c.args.writer.now)
     (g.W.Write.contents c.answer.new.writer) (take len row) whole c.in-Line.ensures.2 command c.answer.ensures.err
 
-pub returns-in-Ok-clause-err : goal.returns-in-Ok-clause-err
-returns-in-Ok-clause-err g c =
+pub returns-in_ok-answer_unknown-in-TooLong-clause-err : goal.returns-in_ok-answer_unknown-in-TooLong-clause-err
+returns-in_ok-answer_unknown-in-TooLong-clause-err g c =
     let row = c.read_line.new.row in
     let size : length row ≡ 65 = search rules in
     let had = g.R.Read.remaining c.args.reader.now in
@@ -40,16 +41,18 @@ returns-in-Ok-clause-err g c =
       Serves-none (g.O.Operator.calls c.args.operator.now) had held,
       (c.in-TooLong.ensures.0, size),
       c.in-TooLong.ensures.1,
-      c.in-Ok.ensures.ok,
+      c.in_ok-answer_unknown-in-TooLong.ensures.ok,
     )
 
-pub returns-in-Err-clause-err : goal.returns-in-Err-clause-err
-returns-in-Err-clause-err g c =
+pub returns-in_err-answer_unknown-in-TooLong-clause-err : goal.returns-in_err-answer_unknown-in-TooLong-clause-err
+returns-in_err-answer_unknown-in-TooLong-clause-err g c =
     let row = c.read_line.new.row in
     let size : length row ≡ 65 = search rules in
-    too_long_failed c.in-Err.ended (g.O.Operator.calls c.args.operator.now) (g.R.Read.remaining c.args.reader.now) (g.R.Read.remaining c.read_line.new.reader)
-    (g.W.Write.contents c.args.writer.now) (g.W.Write.contents c.answer_unknown.new.writer) row (c.in-TooLong.ensures.0, size) c.in-TooLong.ensures.1
-    c.in-Err.ensures.err.0 c.in-Err.ensures.err.1
+    let failed = c.in_err-answer_unknown-in-TooLong in
+    let p = err_from_is_err_and c.from_residual.result c.from_residual.ensures.1 in
+    rw (p.1, p.2) (too_long_failed failed.field-0.0 (g.O.Operator.calls c.args.operator.now) (g.R.Read.remaining c.args.reader.now)
+    (g.R.Read.remaining c.read_line.new.reader) (g.W.Write.contents c.args.writer.now) (g.W.Write.contents c.answer_unknown.new.writer) row
+    (c.in-TooLong.ensures.0, size) c.in-TooLong.ensures.1 failed.ensures.err.0 failed.ensures.err.1)
 
 pub returns-in-Nothing-clause-err : goal.returns-in-Nothing-clause-err
 returns-in-Nothing-clause-err g c = (

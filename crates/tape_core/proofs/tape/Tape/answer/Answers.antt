@@ -1,4 +1,5 @@
 use Rattle.std.proofs.Common.{◌∙◌, sym}
+use Rattle.std.proofs.lemmas.Result.{IfOk-weaker}
 use Rattle.tape_core.specs.Lemmas.Answered.{answer-entry, answer-refused, tape_after-admitted, tape_after-refused}
 use Rattle.tape_core.proofs.tape.Tape.answer.Goals as goal
 
@@ -9,11 +10,12 @@ returns-in-Ok-clause-tape g c =
 pub returns-in-Ok-clause-answer : goal.returns-in-Ok-clause-answer
 returns-in-Ok-clause-answer g c = answer-entry c.args.self.now c.args.message c.in-Ok.entry c.in-Ok.ensures.answers.0 c.in-Ok.ensures.answers.1
 
-pub returns-else-is_out_of_memory-clause-tape : goal.returns-else-is_out_of_memory-clause-tape
-returns-else-is_out_of_memory-clause-tape g c =
-    c.in-Err.ensures.answers.1
-    ∙ sym (tape_after-refused c.args.self.now c.args.message c.in-Err.refusal c.in-Err.ensures.answers.0 (λ e. cc (c.if-is_out_of_memory.ensures.memory.1 e)))
+pub returns-in-Err-clause-tape : goal.returns-in-Err-clause-tape
+returns-in-Err-clause-tape g c = IfOk-weaker c.answer_of.result _ _
+    (λ _ is. c.in-Err.ensures.answers.1 ∙ sym (tape_after-refused c.args.self.now c.args.message c.in-Err.refusal c.in-Err.ensures.answers.0 is.1))
+    c.answer_of.ensures.answer
 
-pub returns-else-is_out_of_memory-clause-answer : goal.returns-else-is_out_of_memory-clause-answer
-returns-else-is_out_of_memory-clause-answer g c =
-    sym (answer-refused c.args.self.now c.args.message c.in-Err.refusal c.in-Err.ensures.answers.0 (λ e. cc (c.if-is_out_of_memory.ensures.memory.1 e)))
+pub returns-in-Err-clause-answer : goal.returns-in-Err-clause-answer
+returns-in-Err-clause-answer g c = IfOk-weaker c.answer_of.result _ _
+    (λ _ is. is.0 ∙ sym (answer-refused c.args.self.now c.args.message c.in-Err.refusal c.in-Err.ensures.answers.0 is.1))
+    c.answer_of.ensures.answer
