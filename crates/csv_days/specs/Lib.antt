@@ -1,5 +1,6 @@
 pub mod Accounts
 pub mod Checks
+pub mod DayTexts
 pub mod Days
 pub mod EndDays
 pub mod EndTexts

@@ -9,11 +9,7 @@ use Rattle.tape_core.specs.Answers.{answers}
 use Rattle.csv_days.specs.Days.{MakeListing, first_tape}
 use Rattle.csv_days.specs.Refusals.{AreRefusals}
 use Rattle.csv_days.specs.StaleRows.{first_stale}
-use Rattle.csv_days.specs.Explained.{explain_text}
-use Rattle.csv_days.specs.TapeRows.{tape_text}
 use Rattle.csv_days.specs.declared.refusals.Refusals.{Refusals}
-use Rattle.csv_days.specs.declared.strict.RowsText.{RowsText}
-use Rattle.csv_days.specs.declared.strict.RowsText.TheVariants.{Tape, Explained}
 
 -- whether a tape admits all these messages
 abbrev pub admits_all : TapeState → List Message → Bool
@@ -22,11 +18,6 @@ admits_all t messages = list_all is_ok (answers t messages)
 -- what a strict run writes of messages: the text, or nothing if the tape refuses one
 unfoldable pub strictly : (Matrix → List Message → List ℕ) → Matrix → List Message → List ℕ
 strictly text matrix messages = if admits_all (first_tape matrix messages) messages then text matrix messages else []
-
--- a text that is written of messages whose tape refuses none of them
-abbrev pub strict_text : RowsText → Matrix → List Message → List ℕ
-strict_text Tape = tape_text
-strict_text Explained = explain_text
 
 -- the names of messages make a listing, and these are the rows that their tape refuses, with the first stale one
 pub record IsToldOf (matrix : Matrix) (messages : List Message) (refusals : Refusals) : Type 0 where

@@ -44,15 +44,13 @@ impl TableDay {
         ensures end { IfErr result (λ end. (end ≢ WriteFault) × IsMessagesEnd messages.now end) }
     {
         let listing = listing_of(alloc, messages)?;
-        match Tape::new(alloc, listing, TAPE_MOST, matrix) {
-            Ok(tape) => Ok(TableDay {
-                alloc,
-                tape,
-                refusals: Refusals::none(),
-                row: FIRST_ROW,
-            }),
-            Err(_) => Err(TableEnd::OutOfMemory),
-        }
+        let tape = Tape::new(alloc, listing, TAPE_MOST, matrix).map_err(|_| TableEnd::OutOfMemory)?;
+        Ok(TableDay {
+            alloc,
+            tape,
+            refusals: Refusals::none(),
+            row: FIRST_ROW,
+        })
     }
 
     /// Answers the next row's message.

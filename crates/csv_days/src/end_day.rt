@@ -1,8 +1,5 @@
 //! Answers the rows of a table of which only the end of the day is asked, as for a report: no entry is kept.
-ghost use Rattle.std.specs.Prelude.{◌≡◌, ◌∷◌, [], IfOk, OnOk};
-ghost use Rattle.tape_core.specs.Ending.{IsKeptFor, KeepsEnd, ListsNames};
-ghost use Rattle.tape_core.specs.Tape.{TapeState};
-ghost use Rattle.tape_core.specs.Answers.{answer, tape_after};
+ghost use Rattle.std.specs.Prelude.{◌∷◌, [], OnOk};
 
 use crate::Refusals;
 use crate::day_names::DayNames;
@@ -11,7 +8,7 @@ use csv_messages::FIRST_ROW;
 use reports::Message;
 use sale_matrix::Matrix;
 use std::alloc::{AllocError, Global};
-use tape_core::{EndTape, TapeAnswer};
+use tape_core::EndTape;
 
 /// A table's day of which only the end is asked: what is kept of its tape, the names in the rows so far, and what the tape has
 /// refused.
@@ -27,23 +24,6 @@ pub struct EndDay {
     pub refusals: Refusals,
     /// The number of the next row.
     pub row: u64,
-}
-
-/// Answers a message: it is admitted, or it is refused and the tape is as it was.
-fn answer(tape: &mut EndTape, message: Message) -> Result<TapeAnswer, AllocError>
-    requires kept { IsKeptFor tape.old message }
-    ensures tape { OnOk result ((t : TapeState) → KeepsEnd t tape.old → ListsNames t.listing message → KeepsEnd (tape_after t message) tape.new) }
-    ensures answer { IfOk result (λ answered. (t : TapeState) → KeepsEnd t tape.old → ListsNames t.listing message → answered ≡ answer t message) }
-{
-    match tape.admit(message) {
-        Ok(number) => Ok(Ok(number)),
-        Err(refusal) => {
-            if refusal.is_out_of_memory() {
-                return Err(AllocError);
-            }
-            Ok(Err(refusal))
-        }
-    }
 }
 
 impl EndDay {
@@ -69,7 +49,7 @@ impl EndDay {
     {
         self.names.add(&message)?;
         let greatest = self.numbers.of(message.header().participant);
-        let answered = answer(&mut self.tape, message)?;
+        let answered = self.tape.answer(message)?;
         self.refusals.count(&answered, self.row, &message, greatest);
         self.numbers.note(&answered, &message);
         match self.row.checked_add(1) {

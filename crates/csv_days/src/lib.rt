@@ -6,6 +6,7 @@ mod check;
 mod day;
 mod day_names;
 mod day_reading;
+mod day_text;
 mod end_day;
 mod entry_rows;
 mod explain;
@@ -28,12 +29,12 @@ mod told_fault;
 
 pub use check::check_over;
 pub use day::TableTape;
+pub use day_text::{DayText, write_day_text};
 pub use entry_rows::{EntryRows, rows_of_entries, write_head};
 pub use explain::{
     explain_over, rows_add_up, rows_of_figures, rows_of_reports, write_explained,
     write_explained_head,
 };
-pub use messages_report::write_messages_report;
 pub use naming::listing_of;
 pub use refusals::{Refusals, RefusedRows};
 pub use report::report_over;

@@ -5,22 +5,20 @@ ghost use Rattle.csv_messages.specs.Tables.{FIRST_ROW};
 ghost use Rattle.reports.specs.declared.message.Message.{Message as Sent};
 ghost use Rattle.whole_io.specs.Writing.{WritesPrefix};
 ghost use Rattle.sale_matrix.specs.declared.matrix.Matrix.{Matrix as Columns};
-ghost use Rattle.tape_core.specs.Answers.{answers};
-ghost use Rattle.csv_days.specs.Days.{day_text, first_tape};
+ghost use Rattle.csv_days.specs.Days.{day_text};
+ghost use Rattle.csv_days.specs.DayTexts.{text_named};
 ghost use Rattle.csv_days.specs.EndDays.{HasEnded, IsEnding};
 ghost use Rattle.csv_days.specs.Explained.{explain_text};
-ghost use Rattle.csv_days.specs.Refusals.{AreRefusals, RefusesNone};
-ghost use Rattle.csv_days.specs.StaleRows.{first_stale};
-ghost use Rattle.csv_days.specs.Strict.{IsListed, IsToldOf, strict_text, strictly};
+ghost use Rattle.csv_days.specs.Refusals.{RefusesNone};
+ghost use Rattle.csv_days.specs.Strict.{IsListed, IsToldOf, strictly};
 ghost use Rattle.csv_days.specs.TableEnds.{IsMessagesEnd, IsTableEnd, WritesTable, WritesTablePart};
 ghost use Rattle.csv_days.specs.TapeRows.{tape_text};
 ghost use Rattle.csv_days.specs.declared.table_end.TableEnd.TheVariants.{OutOfMemory, WriteFault as TableWriteFault};
 
 use crate::day_reading::read_day;
 use crate::end_day::EndDay;
-use crate::explain::write_explained;
 use crate::report::write_report_of;
-use crate::{Refusals, TableEnd, write_tape};
+use crate::{DayText, Refusals, TableEnd, write_day_text};
 use csv_messages::read_table;
 use reports::Message;
 use sale_matrix::Matrix;
@@ -72,41 +70,9 @@ fn write_report_if_admitted<W: Write>(
     }
 }
 
-/// A text of a table's messages that is written while they are answered once more.
-#[derive(Clone, Copy)]
-enum RowsText {
-    /// The readable tape.
-    Tape,
-    /// The explanation of the reports.
-    Explained,
-}
-
-/// Writes a text of messages, and returns what their tape refuses.
-fn write_rows_text<W: Write>(
-    text: RowsText,
-    alloc: Global,
-    matrix: Matrix,
-    messages: &[Message],
-    writer: &mut W,
-) -> Result<Refusals, TableEnd>
-    requires few { length messages.now + FIRST_ROW < 2 ^ 64 }
-    ensures refused { IfOk result (AreRefusals (answers (first_tape matrix messages.now) messages.now)) }
-    ensures stale { IfOk result (λ refusals. refusals.stale ≡ first_stale (first_tape matrix messages.now) messages.now) }
-    ensures written { OnOk result (Appends (W.contents writer.old) (W.contents writer.new) (strict_text text matrix messages.now)) }
-    ensures end { IfErr result (IsMessagesEnd messages.now) }
-    ensures silent { result ≢ Err TableWriteFault → result ≢ Err OutOfMemory → OnErr result (writer.new ≡ writer.old) }
-    ensures prefix { (result ≡ Err TableWriteFault) ⊎ (result ≡ Err OutOfMemory)
-        → WritesPrefix (strict_text text matrix messages.now) (W.contents writer.old) (W.contents writer.new) }
-{
-    match text {
-        RowsText::Tape => write_tape(alloc, matrix, messages, writer),
-        RowsText::Explained => write_explained(alloc, matrix, messages, writer),
-    }
-}
-
 /// Writes a text of messages if their tape refuses none of them, and returns what it refuses.
 fn write_if_admitted<W: Write>(
-    text: RowsText,
+    text: DayText,
     alloc: Global,
     matrix: Matrix,
     messages: &[Message],
@@ -114,37 +80,38 @@ fn write_if_admitted<W: Write>(
 ) -> Result<Refusals, TableEnd>
     requires few { length messages.now + FIRST_ROW < 2 ^ 64 }
     ensures told { IfOk result (IsToldOf matrix messages.now) }
-    ensures written { OnOk result (Appends (W.contents writer.old) (W.contents writer.new) (strictly (strict_text text) matrix messages.now)) }
+    ensures written { OnOk result (Appends (W.contents writer.old) (W.contents writer.new) (strictly (text_named text) matrix messages.now)) }
     ensures unwritten { IfOk result (λ refusals. RefusesNone refusals ⊎ (writer.new ≡ writer.old)) }
     ensures end { IfErr result (IsMessagesEnd messages.now) }
     ensures silent { result ≢ Err TableWriteFault → result ≢ Err OutOfMemory → OnErr result (writer.new ≡ writer.old) }
     ensures prefix { (result ≡ Err TableWriteFault) ⊎ (result ≡ Err OutOfMemory)
-        → WritesPrefix (strictly (strict_text text) matrix messages.now) (W.contents writer.old) (W.contents writer.new) }
+        → WritesPrefix (strictly (text_named text) matrix messages.now) (W.contents writer.old) (W.contents writer.new) }
 {
     let told = refusals_of(alloc, matrix, messages)?;
     if told.is_empty() {
-        write_rows_text(text, alloc, matrix, messages, writer)
+        write_day_text(text, alloc, matrix, messages, writer)
     } else {
         Ok(told)
     }
 }
 
-/// Reads a table whole, and writes a text of its messages if their tape refuses none of them.
+/// Reads a table whole, and writes a text of its messages if their tape refuses none of them. A report needs no second answers
+/// (`report_strict_over`).
 fn strict_over<R: Read + Drop, W: Write>(
-    text: RowsText,
+    text: DayText,
     alloc: Global,
     matrix: Matrix,
     reader: R,
     writer: &mut W,
 ) -> Result<Refusals, TableEnd>
     ensures written { IfSome (R.remaining reader) (λ input. IfOk result (λ refusals.
-        WritesTable (strictly (strict_text text)) matrix input refusals (W.contents writer.old) (W.contents writer.new))) }
+        WritesTable (strictly (text_named text)) matrix input refusals (W.contents writer.old) (W.contents writer.new))) }
     ensures listed { IfSome (R.remaining reader) (λ input. OnOk result (IsListed input)) }
     ensures end { IfSome (R.remaining reader) (λ input. IfErr result (IsTableEnd input)) }
     ensures unwritten { IfOk result (λ refusals. RefusesNone refusals ⊎ (writer.new ≡ writer.old)) }
     ensures silent { result ≢ Err TableWriteFault → result ≢ Err OutOfMemory → OnErr result (writer.new ≡ writer.old) }
     ensures prefix { (result ≡ Err TableWriteFault) ⊎ (result ≡ Err OutOfMemory)
-        → IfSome (R.remaining reader) (λ input. WritesTablePart (strictly (strict_text text)) matrix input (W.contents writer.old) (W.contents writer.new)) }
+        → IfSome (R.remaining reader) (λ input. WritesTablePart (strictly (text_named text)) matrix input (W.contents writer.old) (W.contents writer.new)) }
 {
     let messages = read_table(alloc, reader)?;
     write_if_admitted(text, alloc, matrix, &messages, writer)
@@ -192,7 +159,7 @@ pub fn tape_strict_over<R: Read + Drop, W: Write>(
     ensures prefix { (result ≡ Err TableWriteFault) ⊎ (result ≡ Err OutOfMemory)
         → IfSome (R.remaining reader) (λ input. WritesTablePart (strictly tape_text) matrix input (W.contents writer.old) (W.contents writer.new)) }
 {
-    strict_over(RowsText::Tape, alloc, matrix, reader, writer)
+    strict_over(DayText::Tape, alloc, matrix, reader, writer)
 }
 
 /// Does what `explain_over` does if the tape refuses no row of the table. If it refuses one, nothing is written, and what it
@@ -215,5 +182,5 @@ pub fn explain_strict_over<R: Read + Drop, W: Write>(
     ensures prefix { (result ≡ Err TableWriteFault) ⊎ (result ≡ Err OutOfMemory)
         → IfSome (R.remaining reader) (λ input. WritesTablePart (strictly explain_text) matrix input (W.contents writer.old) (W.contents writer.new)) }
 {
-    strict_over(RowsText::Explained, alloc, matrix, reader, writer)
+    strict_over(DayText::Explanation, alloc, matrix, reader, writer)
 }

@@ -139,15 +139,11 @@ impl TableCheck {
     {
         for number in FIRST_ROW..u64::MAX {
             let Some(row) = rows.next()? else {
-                return match self.end_at(alloc, number - FIRST_ROW) {
-                    Ok(()) => Ok(()),
-                    Err(_) => Err(TableFault::OutOfMemory),
-                };
+                self.end_at(alloc, number - FIRST_ROW)?;
+                return Ok(());
             };
             let line = rows.line();
-            if self.add_row(alloc, number, row, line).is_err() {
-                return Err(TableFault::OutOfMemory);
-            }
+            self.add_row(alloc, number, row, line)?;
         }
         Err(TableFault::OutOfMemory)
     }
@@ -159,21 +155,11 @@ impl TableCheck {
         ensures fault { IfErr result (λ fault. (fault ≡ ReadFault) ⊎ (fault ≡ OutOfMemory)) }
     {
         let mut check = TableCheck::none(alloc);
-        let fault = match RowReader::open(alloc, reader) {
-            Ok(mut rows) => {
-                return match check.add_rows(alloc, &mut rows) {
-                    Ok(()) => Ok(check),
-                    Err(fault) => Err(fault),
-                };
-            }
-            Err(fault) => fault,
-        };
-        if is_of_reading(&fault) {
-            return Err(fault);
+        match RowReader::open(alloc, reader) {
+            Ok(mut rows) => check.add_rows(alloc, &mut rows)?,
+            Err(fault) if is_of_reading(&fault) => return Err(fault),
+            Err(fault) => check.add_only(alloc, fault)?,
         }
-        match check.add_only(alloc, fault) {
-            Ok(()) => Ok(check),
-            Err(_) => Err(TableFault::OutOfMemory),
-        }
+        Ok(check)
     }
 }

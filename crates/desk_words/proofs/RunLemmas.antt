@@ -7,8 +7,8 @@ use Rattle.csv_days.specs.TableEnds.{IsTableEnd, WritesTable}
 use Rattle.csv_days.specs.declared.refusals.Refusals.{Refusals}
 use Rattle.csv_days.specs.declared.table_end.TableEnd.{TableEnd}
 use Rattle.csv_days.specs.declared.table_end.TableEnd.TheVariants.{Table, Listing, OutOfMemory, WriteFault}
-use Rattle.desk_words.specs.declared.day_texts.DayText.{DayText}
-use Rattle.desk_words.specs.declared.day_texts.DayText.TheVariants.{Report, Tape, Explain}
+use Rattle.csv_days.specs.declared.day_text.DayText.{DayText}
+use Rattle.csv_days.specs.declared.day_text.DayText.TheVariants.{Explanation, Report, Tape}
 use Rattle.desk_words.specs.Program.{Comes, ComesToCheck, refuses_any, run_status}
 
 -- a run of a table, by what it wrote and how it ended
@@ -37,7 +37,7 @@ pub part_day : (text : DayText) (run : Result Refusals TableEnd) (P Q : Type 0) 
 part_day text run P Q at_fault other report (inl fault) = inr (at_fault fault)
 part_day Report run P Q at_fault other report (inr memory) = inl (report refl memory)
 part_day Tape run P Q at_fault other report (inr memory) = inr (other (λ is. cc is) memory)
-part_day Explain run P Q at_fault other report (inr memory) = inr (other (λ is. cc is) memory)
+part_day Explanation run P Q at_fault other report (inr memory) = inr (other (λ is. cc is) memory)
 
 -- a part was written, as of a known input
 pub part_known : (input : Option (List ℕ)) (K : Type 0) (Q : List ℕ → Type 0) → IfSome input Q → IfSome input (λ bytes. K ⊎ Q bytes)

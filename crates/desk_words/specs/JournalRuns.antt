@@ -20,14 +20,14 @@ use Rattle.csv_days.specs.TapeRows.{tape_text}
 use Rattle.whole_io.specs.declared.writing_fault.WritingFault.{WritingFault}
 use Rattle.whole_io.specs.declared.writing_fault.WritingFault.TheVariants as writing
 use Rattle.desk_words.specs.JournalLines.{no_day_line, no_day_status, no_table_line, verdict_line, verdict_status, written_line, written_status}
-use Rattle.desk_words.specs.declared.day_texts.DayText.{DayText}
-use Rattle.desk_words.specs.declared.day_texts.DayText.TheVariants.{Report, Tape, Explain}
+use Rattle.csv_days.specs.declared.day_text.DayText.{DayText}
+use Rattle.csv_days.specs.declared.day_text.DayText.TheVariants.{Explanation, Report, Tape}
 
 -- a text of a journal's day, by the journal's own matrix
 abbrev pub day_text : DayText → JournalDay → List ℕ
 day_text Report day = report_text (report_rows day.tape)
 day_text Tape day = tape_text day.tape.matrix (messages_in day.tape.entries)
-day_text Explain day = explain_text day.tape.matrix (messages_in day.tape.entries)
+day_text Explanation day = explain_text day.tape.matrix (messages_in day.tape.entries)
 
 -- an input was not read to its end: nothing was written, and only the reason was said
 abbrev pub Unread : {W : Type 0} → ℕ → W → W → Option (List ℕ) → Option (List ℕ) → Type 0
@@ -93,7 +93,7 @@ AnswersJournal (command.Report asked strict) code input writer_old writer_new ol
 AnswersJournal (command.Tape asked strict) code input writer_old writer_new old new errors_old errors_new said_old said_new =
     Reads (λ bytes. RunsDay Tape asked bytes code writer_old writer_new old new errors_old errors_new said_old said_new) input code writer_old writer_new said_old said_new
 AnswersJournal (command.Explain asked strict) code input writer_old writer_new old new errors_old errors_new said_old said_new =
-    Reads (λ bytes. RunsDay Explain asked bytes code writer_old writer_new old new errors_old errors_new said_old said_new) input code writer_old writer_new said_old said_new
+    Reads (λ bytes. RunsDay Explanation asked bytes code writer_old writer_new old new errors_old errors_new said_old said_new) input code writer_old writer_new said_old said_new
 AnswersJournal (command.Verify asked) code input writer_old writer_new old new errors_old errors_new said_old said_new =
     Reads (λ bytes. RunsFound asked bytes code writer_old writer_new old new errors_old errors_new said_old said_new) input code writer_old writer_new said_old said_new
 AnswersJournal command.Check code input writer_old writer_new old new errors_old errors_new said_old said_new =

@@ -1,4 +1,3 @@
-pub mod DayTexts
 pub mod JournalLines
 pub mod JournalRuns
 pub mod Outputs

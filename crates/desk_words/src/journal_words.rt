@@ -11,9 +11,9 @@ ghost use Rattle.desk_words.specs.JournalRuns.{AnswersJournal, Reads, RunsDay, R
 ghost use Rattle.desk_words.specs.Outputs.{IsQuietIfGone};
 
 use crate::Output;
-use crate::day_texts::DayText;
 use crate::saying::{say_ended, say_status};
 use crate::telling::say_told;
+use csv_days::DayText;
 use journal_days::{
     JournalDay, JournalFault, JournalVerdict, fault_text, read_day, verdict_text, verify_journal,
     write_journal_explained, write_journal_report, write_journal_tape,
@@ -50,7 +50,7 @@ fn write_journal_text<W: Write>(
     match text {
         DayText::Report => write_journal_report(alloc, day, writer),
         DayText::Tape => write_journal_tape(alloc, day, writer),
-        DayText::Explain => write_journal_explained(alloc, day, writer),
+        DayText::Explanation => write_journal_explained(alloc, day, writer),
     }
 }
 
@@ -298,7 +298,7 @@ pub(crate) fn run_journal<R: Read, W: Output, E: Write>(
         Command::Report(asked, _) => run_day(alloc, DayText::Report, asked, reader, writer, errors),
         Command::Tape(asked, _) => run_day(alloc, DayText::Tape, asked, reader, writer, errors),
         Command::Explain(asked, _) => {
-            run_day(alloc, DayText::Explain, asked, reader, writer, errors)
+            run_day(alloc, DayText::Explanation, asked, reader, writer, errors)
         }
         Command::Verify(asked) => run_found(alloc, asked, reader, writer, errors),
         Command::Check | Command::Convert(_) => say_no_table(alloc, errors),

@@ -2,7 +2,6 @@
 //! or the day's bytes. It also writes the readable tape of a running day as its entries come.
 #![tactic(auto)]
 
-mod day_texts;
 mod inputs;
 mod journal_words;
 mod output;
@@ -23,6 +22,6 @@ pub use output::{Output, PipeWriter};
 pub use progress::{ClearedWriter, ProgressLine, ToldReader, ToldWriter};
 pub use run_status::{ended_status, fault_status};
 pub use saying::{say, say_ended, say_status};
-pub use telling::{say_followed, say_open_fault, say_told};
+pub use telling::{say_followed, say_socket_fault, say_told};
 pub use watched_file::watch_file;
 pub use watching::{watch, watch_row};

@@ -1,22 +1,21 @@
 //! Writes the texts of a table, which is read as it comes, and turns their ends into statuses and lines on standard error.
 ghost use Rattle.std.specs.Prelude.{◌≡◌, ◌≢◌, ◌⊎◌, Err, IfErr, IfOk, IfSome, OnErr, OnOk, true};
+ghost use Rattle.csv_days.specs.DayTexts.{text_named};
 ghost use Rattle.csv_days.specs.Refusals.{RefusesNone};
 ghost use Rattle.csv_days.specs.Strict.{IsListed};
 ghost use Rattle.csv_days.specs.TableEnds.{IsTableEnd, WritesTable, WritesTablePart};
 ghost use Rattle.csv_days.specs.declared.table_end.TableEnd.TheVariants.{OutOfMemory, WriteFault};
 ghost use Rattle.program_words.specs.Statuses.{status_code};
-ghost use Rattle.desk_words.specs.DayTexts.{table_day_text};
 ghost use Rattle.desk_words.specs.Outputs.{IsQuietIfGone};
 ghost use Rattle.desk_words.specs.Program.{AnswersTable, RunsCheck, RunsTable, table_matrix, text_by};
 ghost use Rattle.desk_words.specs.VerifyRuns.{RunsVerify};
 ghost use Rattle.desk_words.specs.TextRuns.{RunsText, decoded, encoded, kind_of, line_of};
 
 use crate::Output;
-use crate::day_texts::DayText;
 use crate::saying::{end_check, end_decoded, end_run, end_text, say_end};
 use crate::verdict_lines::write_verdict;
 use csv_days::{
-    Refusals, TableEnd, check_over, explain_over, explain_strict_over, report_over,
+    DayText, Refusals, TableEnd, check_over, explain_over, explain_strict_over, report_over,
     report_strict_over, tape_over, tape_strict_over,
 };
 use message_texts::{decode_over, encode_over, line_over};
@@ -44,16 +43,16 @@ fn write_table_text<R: Read, W: Write>(
     writer: &mut W,
 ) -> Result<Refusals, TableEnd>
     ensures written { IfSome (R.remaining reader.old) (λ input. IfOk result (λ refusals.
-        WritesTable (text_by strict (table_day_text text)) (table_matrix asked) input refusals (W.contents writer.old) (W.contents writer.new))) }
+        WritesTable (text_by strict (text_named text)) (table_matrix asked) input refusals (W.contents writer.old) (W.contents writer.new))) }
     ensures listed { strict ≡ true → IfSome (R.remaining reader.old) (λ input. OnOk result (IsListed input)) }
     ensures unwritten { strict ≡ true → IfOk result (λ refusals. RefusesNone refusals ⊎ (writer.new ≡ writer.old)) }
     ensures end { IfSome (R.remaining reader.old) (λ input. IfErr result (IsTableEnd input)) }
     ensures silent { result ≢ Err WriteFault → result ≢ Err OutOfMemory → OnErr result (writer.new ≡ writer.old) }
     ensures report { text ≡ DayText.Report → result ≡ Err OutOfMemory → writer.new ≡ writer.old }
     ensures memory { text ≢ DayText.Report → result ≡ Err OutOfMemory
-        → IfSome (R.remaining reader.old) (λ input. WritesTablePart (text_by strict (table_day_text text)) (table_matrix asked) input (W.contents writer.old) (W.contents writer.new)) }
+        → IfSome (R.remaining reader.old) (λ input. WritesTablePart (text_by strict (text_named text)) (table_matrix asked) input (W.contents writer.old) (W.contents writer.new)) }
     ensures prefix { result ≡ Err WriteFault
-        → IfSome (R.remaining reader.old) (λ input. WritesTablePart (text_by strict (table_day_text text)) (table_matrix asked) input (W.contents writer.old) (W.contents writer.new)) }
+        → IfSome (R.remaining reader.old) (λ input. WritesTablePart (text_by strict (text_named text)) (table_matrix asked) input (W.contents writer.old) (W.contents writer.new)) }
 {
     let matrix = table_matrix(asked);
     match (text, strict) {
@@ -61,8 +60,8 @@ fn write_table_text<R: Read, W: Write>(
         (DayText::Report, true) => report_strict_over(alloc, matrix, reader, writer),
         (DayText::Tape, false) => tape_over(alloc, matrix, reader, writer),
         (DayText::Tape, true) => tape_strict_over(alloc, matrix, reader, writer),
-        (DayText::Explain, false) => explain_over(alloc, matrix, reader, writer),
-        (DayText::Explain, true) => explain_strict_over(alloc, matrix, reader, writer),
+        (DayText::Explanation, false) => explain_over(alloc, matrix, reader, writer),
+        (DayText::Explanation, true) => explain_strict_over(alloc, matrix, reader, writer),
     }
 }
 
@@ -77,7 +76,7 @@ fn run_day<R: Read, W: Output, E: Write>(
     errors: &mut E,
 ) -> Status
     ensures memory { text ≡ DayText.Report → status_code result ≡ 5 → writer.new ≡ writer.old }
-    ensures runs { RunsTable strict (table_day_text text) (table_matrix asked) (R.remaining reader.old) (W.contents writer.old) (W.contents writer.new) (status_code result)
+    ensures runs { RunsTable strict (text_named text) (table_matrix asked) (R.remaining reader.old) (W.contents writer.old) (W.contents writer.new) (status_code result)
         writer.old writer.new errors.old errors.new (E.contents errors.old) (E.contents errors.new) }
     ensures gone { IsQuietIfGone (W.reader_gone writer.new) result errors.old errors.new }
 {
@@ -210,7 +209,15 @@ pub(crate) fn run_rows<R: Read, W: Output, E: Write>(
             run_day(alloc, DayText::Tape, by, strict, reader, writer, errors)
         }
         Command::Explain(by, strict) => {
-            run_day(alloc, DayText::Explain, by, strict, reader, writer, errors)
+            run_day(
+                alloc,
+                DayText::Explanation,
+                by,
+                strict,
+                reader,
+                writer,
+                errors,
+            )
         }
         Command::Check => run_check(alloc, reader, writer, errors),
         Command::Verify(asked) => run_verify(alloc, table_matrix(asked), reader, writer, errors),

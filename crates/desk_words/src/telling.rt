@@ -1,6 +1,6 @@
 //! Writes the program's own lines to standard error, such as those about a running day that a file describes.
 ghost use Rattle.std.specs.Prelude.{◌≡◌, IfOk, IsTrue, OnOk};
-ghost use Rattle.feed_ends.specs.OpenFaults.{open_fault_text};
+ghost use Rattle.feed_ends.specs.SocketFaults.{socket_fault_text};
 ghost use Rattle.whole_io.specs.Writing.{WritesPrefix};
 ghost use Rattle.desk_words.specs.Tellings.{told_line};
 
@@ -30,8 +30,8 @@ pub fn say_told<E: Write>(alloc: Global, errors: &mut E, what: &[u8])
 }
 
 /// Says which socket could not be opened, unless there is no memory for the line.
-pub fn say_open_fault<E: Write>(alloc: Global, errors: &mut E, fault: SocketFault)
-    ensures { WritesPrefix (told_line (open_fault_text fault)) (E.contents errors.old) (E.contents errors.new) }
+pub fn say_socket_fault<E: Write>(alloc: Global, errors: &mut E, fault: SocketFault)
+    ensures { WritesPrefix (told_line (socket_fault_text fault)) (E.contents errors.old) (E.contents errors.new) }
 {
     if let Ok(text) = fault.text(alloc) {
         say_told(alloc, errors, &text);
@@ -50,6 +50,6 @@ pub fn say_followed<E: Write>(alloc: Global, errors: &mut E, end: &FollowEnd) ->
         return false;
     };
     let fault = SocketFault::new(SocketPlace::Retransmission, port, kind);
-    say_open_fault(alloc, errors, fault);
+    say_socket_fault(alloc, errors, fault);
     true
 }

@@ -20,7 +20,7 @@ use std::sync::Wait;
 use std::thread::Threads;
 
 /// How a day ended whose rows were written.
-struct Rows<W> {
+struct RowsEnd<W> {
     /// How it was followed, or `None` if the names of the columns could not be written.
     end: Option<FollowEnd>,
     /// The fault that ended it, if any.
@@ -36,7 +36,7 @@ fn watch_rows<T, W>(
     terms: FollowTerms,
     sockets: FollowSockets,
     writer: W,
-) -> Rows<W>
+) -> RowsEnd<W>
 where
     T: Threads + Wait + Net<Listener = TcpListener, Stream = TcpStream> + Sync,
     W: Write + Send + Drop,
@@ -45,7 +45,7 @@ where
 {
     let mut writer = writer;
     if let Err(fault) = write_head(alloc, &mut writer) {
-        return Rows {
+        return RowsEnd {
             end: None,
             ended: Err(sink_fault(fault).fault()),
             writer,
@@ -61,7 +61,7 @@ where
         mut writer,
     } = sink;
     let ended = flushed(end.outcome(), &mut writer);
-    Rows {
+    RowsEnd {
         end: Some(end),
         ended,
         writer,
@@ -92,7 +92,7 @@ where
         say_status(errors, Status::OutOfMemory);
         return (Status::OutOfMemory, None);
     };
-    let Rows {
+    let RowsEnd {
         end,
         ended,
         writer: buffer,

@@ -28,10 +28,7 @@ const FIRST_LINE: u64 = 3;
 fn read_line(number: u64, line: &[u8]) -> Result<Message, TextEnd>
     ensures { result ≡ line_read number line.now }
 {
-    match read_message(line) {
-        Ok(message) => Ok(message),
-        Err(refusal) => Err(TextEnd::Line(number, LineFault::Message(refusal))),
-    }
+    read_message(line).map_err(|refusal| TextEnd::Line(number, LineFault::Message(refusal)))
 }
 
 /// The messages of the lines that are left after a header, each taken in the memory of the previous one.

@@ -29,10 +29,8 @@ fn compare(alloc: Global, beside: &Beside, rows: Rows) -> Result<Result<Rows, Di
     if beside.left() == beside.behind.as_slice() {
         return Ok(Ok(rows));
     }
-    match Difference::behind(alloc, beside.recorded, beside.same, &beside.behind) {
-        Ok(difference) => Ok(Err(difference)),
-        Err(_) => Err(TableEnd::OutOfMemory),
-    }
+    let difference = Difference::behind(alloc, beside.recorded, beside.same, &beside.behind)?;
+    Ok(Err(difference))
 }
 
 /// Answers the messages of lines anew, and compares the readable tape of them with the lines.

@@ -1,6 +1,6 @@
 -- Defines the results of the calls that read a packet.
 use Rattle.std.specs.Prelude.{◌≡◌, ℕ, length, ok_or, slice_get, Result, Ok, Err}
-use Rattle.tape_frames.specs.EntryRows.{first_number}
+use Rattle.tape_frames.specs.PacketEntries.{first_number}
 use Rattle.tape_frames.specs.Kinds.{DATA, BEAT, END}
 use Rattle.tape_frames.specs.Packets.{entries_of}
 use Rattle.tape_frames.specs.Versions.{version_byte}

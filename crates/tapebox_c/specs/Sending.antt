@@ -2,7 +2,7 @@
 use Rattle.std.specs.Prelude.{◌≡◌, ◌⊎◌, ◌==◌, ◌||◌, ◌++◌, ℕ, nat_le, nat_lt, Bool, true, false, List, length, take, drop, min, ok_or, replicate, Option, None, Some, Result, Ok, Err, Vec, if◌then◌else◌}
 use Rattle.tape_core.specs.Tape.{TapeState}
 use Rattle.tape_core.specs.declared.entry.Entry.{Entry}
-use Rattle.tape_frames.specs.EntryRows.{CountState}
+use Rattle.tape_frames.specs.PacketEntries.{CountState}
 use Rattle.tape_frames.specs.Limits.{LONGEST_PACKET, REQUEST_LENGTH}
 use Rattle.tape_frames.specs.Spelling.{packet_text}
 use Rattle.tape_frames.specs.Versions.{number_most}

@@ -5,11 +5,8 @@ use Rattle.reports.specs.declared.message.Message.{Message}
 use Rattle.csv_messages.specs.FaultLines.{table_fault_text}
 use Rattle.csv_messages.specs.Tables.{IsTable, IsTableFault}
 use Rattle.csv_messages.specs.declared.table_fault.TableFault.{TableFault}
-use Rattle.csv_days.specs.Days.{day_text}
 use Rattle.csv_days.specs.EndTexts.{end_status, end_text}
-use Rattle.csv_days.specs.Explained.{explain_text}
 use Rattle.csv_days.specs.TableEnds.{IsMessagesEnd}
-use Rattle.csv_days.specs.TapeRows.{tape_text}
 use Rattle.csv_days.specs.declared.table_end.TableEnd.{TableEnd}
 use Rattle.csv_days.specs.declared.table_end.TableEnd.TheVariants.{Table as OfTable, WriteFault}
 use Rattle.tapebox_c.specs.Faults.{fault_code}
@@ -18,14 +15,6 @@ use Rattle.tapebox_c.specs.declared.fault.CallFault.TheVariants.{BadMatrix, BadT
 use Rattle.tapebox_c.specs.declared.held.Held.{Held}
 use Rattle.tapebox_c.specs.declared.held.Held.TheVariants.{Table, Words}
 use Rattle.tapebox_c.specs.declared.table.Table.{Table as Messages}
-use Rattle.tapebox_c.specs.declared.table.Text.{Text}
-use Rattle.tapebox_c.specs.declared.table.Text.TheVariants.{Explanation, Report, Tape}
-
--- a text of messages by its name
-abbrev pub text_named : Text → Matrix → List Message → List ℕ
-text_named Report = day_text
-text_named Tape = tape_text
-text_named Explanation = explain_text
 
 -- the fault of a table that has no text: out of memory, or another
 abbrev pub end_fault : TableEnd → CallFault

@@ -1,12 +1,13 @@
 //! What a handle holds, and what each call does to it.
 ghost use Rattle.std.specs.Prelude.{◌≡◌, Some, option_copied};
+ghost use Rattle.csv_days.specs.DayTexts.{text_named};
 ghost use Rattle.tapebox_c.specs.Calls.{Admits, own_tape, whole_message, Closes};
 ghost use Rattle.tapebox_c.specs.Exports.{count_told, entry_found, summary_found, summary_of_found};
 ghost use Rattle.tapebox_c.specs.Feeds.{DeliversTo, DrainsTo, Misses, held_news};
 ghost use Rattle.tapebox_c.specs.Listed.{letter_found, symbol_found, totals_found};
 ghost use Rattle.tapebox_c.specs.Many.{HeldAdmits};
 ghost use Rattle.tapebox_c.specs.Sending.{Makes, answer_over, cut_due};
-ghost use Rattle.tapebox_c.specs.Tables.{WritesTo, text_named, text_of};
+ghost use Rattle.tapebox_c.specs.Tables.{WritesTo, text_of};
 
 use crate::fault::CallFault;
 use crate::many::admit_each;
@@ -14,8 +15,9 @@ use crate::readings::{
     answer_in, entry_in, packet_in, participant_in, summary_in, summary_of_in, symbol_in, totals_in,
 };
 use crate::rows::{ManyRow, NewsRow};
-use crate::table::{Table, Text};
+use crate::table::Table;
 use arbitration::{Line, Taken};
+use csv_days::DayText;
 use reports::{Message, decode};
 use sale_matrix::Matrix;
 use scratch_fold::Summary;
@@ -259,7 +261,7 @@ impl Held {
     }
 
     /// Makes a text of the table, in place of the one before, and returns 0, or the number of the reason why there is none.
-    pub(crate) fn write(&mut self, alloc: Global, text: Text, matrix: Matrix) -> u32
+    pub(crate) fn write(&mut self, alloc: Global, text: DayText, matrix: Matrix) -> u32
         ensures { WritesTo (text_named text) matrix self.old result self.new }
     {
         let Held::Table(table) = self else {
@@ -284,14 +286,9 @@ impl Held {
 pub(crate) fn whole_message(bytes: &[u8]) -> Result<Message, CallFault>
     ensures { result ≡ whole_message bytes.now }
 {
-    match decode(bytes) {
-        Ok((message, taken)) => {
-            if taken == bytes.len() {
-                Ok(message)
-            } else {
-                Err(CallFault::ExtraBytes)
-            }
-        }
-        Err(fault) => Err(CallFault::NoMessage(fault)),
+    let (message, taken) = decode(bytes).map_err(CallFault::NoMessage)?;
+    if taken != bytes.len() {
+        return Err(CallFault::ExtraBytes);
     }
+    Ok(message)
 }

@@ -41,7 +41,7 @@ pub use sending::{tapebox_beat, tapebox_cut, tapebox_end, tapebox_serve};
 pub use subscribers::{
     tapebox_deliver, tapebox_drain, tapebox_missing, tapebox_news_of, tapebox_subscribe,
 };
-pub use table::{Table, Text};
+pub use table::Table;
 pub use tables::{
     tapebox_explain, tapebox_read_table, tapebox_report, tapebox_tape, tapebox_text_copy,
     tapebox_text_length,

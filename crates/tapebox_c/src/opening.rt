@@ -47,14 +47,8 @@ pub(crate) fn open_tape(
     if !is_limit(limit) {
         return Err(CallFault::NotMade(TapeFault::BadLimit));
     }
-    let listing = match read_header(alloc, symbols, participants) {
-        Ok(listing) => listing,
-        Err(fault) => return Err(CallFault::NoListing(fault)),
-    };
-    match Tape::new(alloc, listing, limit, matrix) {
-        Ok(tape) => Ok(tape),
-        Err(fault) => Err(CallFault::NotMade(fault)),
-    }
+    let listing = read_header(alloc, symbols, participants).map_err(CallFault::NoListing)?;
+    Tape::new(alloc, listing, limit, matrix).map_err(CallFault::NotMade)
 }
 
 /// Makes a subscriber that holds nothing. Its errors are those of a tape.
@@ -75,12 +69,6 @@ pub(crate) fn open_subscriber(
     if !is_limit(limit) {
         return Err(CallFault::NotMade(TapeFault::BadLimit));
     }
-    let listing = match read_header(alloc, symbols, participants) {
-        Ok(listing) => listing,
-        Err(fault) => return Err(CallFault::NoListing(fault)),
-    };
-    match Subscriber::new(alloc, listing, limit, session, matrix) {
-        Ok(subscriber) => Ok(subscriber),
-        Err(fault) => Err(CallFault::NotMade(fault)),
-    }
+    let listing = read_header(alloc, symbols, participants).map_err(CallFault::NoListing)?;
+    Subscriber::new(alloc, listing, limit, session, matrix).map_err(CallFault::NotMade)
 }

@@ -1,27 +1,17 @@
 //! A table that was read, and the text that was last made of it.
 ghost use Rattle.std.specs.Prelude.{◌≡◌};
-ghost use Rattle.tapebox_c.specs.Tables.{ComesTo, Tells, Writes, end_fault, run_of, text_named};
+ghost use Rattle.csv_days.specs.DayTexts.{text_named};
+ghost use Rattle.tapebox_c.specs.Tables.{ComesTo, Tells, Writes, end_fault, run_of};
 
 use crate::ends::end_text;
 use crate::fault::CallFault;
-use csv_days::{TableEnd, write_explained, write_messages_report, write_tape};
+use csv_days::{DayText, TableEnd, write_day_text};
 use reports::Message;
 use sale_matrix::Matrix;
 use std::alloc::Global;
 
 /// The status of an end for which memory ran out.
 const OUT_OF_MEMORY: u8 = 5;
-
-/// The kinds of a table's texts.
-#[derive(Clone, Copy)]
-pub enum Text {
-    /// Its report.
-    Report,
-    /// Its readable tape.
-    Tape,
-    /// What became of each of its reports.
-    Explanation,
-}
 
 /// A table that was read.
 #[derive(Drop)]
@@ -46,19 +36,14 @@ pub(crate) fn end_fault(end: &TableEnd) -> CallFault
 /// Returns a text of messages, or why they have none. A write into memory fails only if memory runs out.
 fn text_of(
     alloc: Global,
-    text: Text,
+    text: DayText,
     matrix: Matrix,
     messages: &[Message],
 ) -> Result<Vec<u8>, TableEnd>
     ensures { ComesTo (text_named text) matrix messages.now (run_of result) }
 {
     let mut writer = Vec::new(alloc);
-    let written = match text {
-        Text::Report => write_messages_report(alloc, matrix, messages, &mut writer),
-        Text::Tape => write_tape(alloc, matrix, messages, &mut writer),
-        Text::Explanation => write_explained(alloc, matrix, messages, &mut writer),
-    };
-    match written {
+    match write_day_text(text, alloc, matrix, messages, &mut writer) {
         Ok(_) => Ok(writer),
         Err(TableEnd::WriteFault) => Err(TableEnd::OutOfMemory),
         Err(end) => Err(end),
@@ -82,7 +67,7 @@ fn told(alloc: Global, run: Result<Vec<u8>, TableEnd>) -> (u32, Vec<u8>)
 
 impl Table {
     /// Makes a text of the table, in place of the one before, and returns 0, or the number of the reason why there is none.
-    pub(crate) fn write(&mut self, alloc: Global, text: Text, matrix: Matrix) -> u32
+    pub(crate) fn write(&mut self, alloc: Global, text: DayText, matrix: Matrix) -> u32
         ensures { Writes (text_named text) matrix self.old result self.new }
     {
         // The former text is dropped first, so that two are never held.

@@ -1,18 +1,19 @@
 //! The calls of a table: it is read once, and its texts are made from what was read, one at a time.
 ghost use Rattle.std.specs.Prelude.{◌≡◌, ◌++◌, IfSome, Some, drop, length};
+ghost use Rattle.csv_days.specs.DayTexts.{text_named};
 ghost use Rattle.csv_days.specs.Days.{day_text};
 ghost use Rattle.csv_days.specs.Explained.{explain_text};
 ghost use Rattle.csv_days.specs.TapeRows.{tape_text};
 ghost use Rattle.tapebox_c.specs.Opening.{matrix_numbered};
-ghost use Rattle.tapebox_c.specs.Tables.{Reads, ReadsIn, WritesIn, copied, held_text, text_named};
+ghost use Rattle.tapebox_c.specs.Tables.{Reads, ReadsIn, WritesIn, copied, held_text};
 
 use crate::ends::fault_text;
 use crate::fault::CallFault;
 use crate::handle::Handle;
 use crate::held::Held;
 use crate::opening::matrix_numbered;
-use crate::table::{Table, Text, end_fault};
-use csv_days::TableEnd;
+use crate::table::{Table, end_fault};
+use csv_days::{DayText, TableEnd};
 use csv_messages::read_table;
 use std::alloc::Global;
 
@@ -57,7 +58,7 @@ pub extern "C" fn tapebox_read_table(alloc: Global, handle: &mut Handle, table: 
 }
 
 /// Makes a text of the table that the handle holds by a matrix, 1 or 2, in place of the one before.
-fn write_text(alloc: Global, handle: &mut Handle, text: Text, matrix: u32) -> u32
+fn write_text(alloc: Global, handle: &mut Handle, text: DayText, matrix: u32) -> u32
     ensures { WritesIn (text_named text) (matrix_numbered matrix) handle.old.inside.held result handle.new.inside.held }
 {
     let Some(matrix) = matrix_numbered(matrix) else {
@@ -77,7 +78,7 @@ fn write_text(alloc: Global, handle: &mut Handle, text: Text, matrix: u32) -> u3
 pub extern "C" fn tapebox_report(alloc: Global, handle: &mut Handle, matrix: u32) -> u32
     ensures { WritesIn day_text (matrix_numbered matrix) handle.old.inside.held result handle.new.inside.held }
 {
-    write_text(alloc, handle, Text::Report, matrix)
+    write_text(alloc, handle, DayText::Report, matrix)
 }
 
 /// Makes the readable tape of the table, as `tapebox_report` makes its report.
@@ -85,7 +86,7 @@ pub extern "C" fn tapebox_report(alloc: Global, handle: &mut Handle, matrix: u32
 pub extern "C" fn tapebox_tape(alloc: Global, handle: &mut Handle, matrix: u32) -> u32
     ensures { WritesIn tape_text (matrix_numbered matrix) handle.old.inside.held result handle.new.inside.held }
 {
-    write_text(alloc, handle, Text::Tape, matrix)
+    write_text(alloc, handle, DayText::Tape, matrix)
 }
 
 /// Makes a text of what became of each report of the table and which figures it sets, as `tapebox_report` makes the table's
@@ -94,7 +95,7 @@ pub extern "C" fn tapebox_tape(alloc: Global, handle: &mut Handle, matrix: u32) 
 pub extern "C" fn tapebox_explain(alloc: Global, handle: &mut Handle, matrix: u32) -> u32
     ensures { WritesIn explain_text (matrix_numbered matrix) handle.old.inside.held result handle.new.inside.held }
 {
-    write_text(alloc, handle, Text::Explanation, matrix)
+    write_text(alloc, handle, DayText::Explanation, matrix)
 }
 
 /// Returns how many bytes the handle's text has, 0 if it holds none.

@@ -9,6 +9,10 @@ pub returns-clause-refused : goal.returns-clause-refused
 returns-clause-refused g c =
     c.write_report_of.ensures.refused c.args.matrix c.args.messages.now (c.in_ok-answer_all.ensures.more c.args.matrix [] c.new-day.ensures.day)
 
+pub returns-clause-stale : goal.returns-clause-stale
+returns-clause-stale g c =
+    c.write_report_of.ensures.stale c.args.matrix c.args.messages.now (c.in_ok-answer_all.ensures.more c.args.matrix [] c.new-day.ensures.day)
+
 pub returns-clause-written : goal.returns-clause-written
 returns-clause-written g c =
     c.write_report_of.ensures.written c.args.matrix c.args.messages.now (c.in_ok-answer_all.ensures.more c.args.matrix [] c.new-day.ensures.day)

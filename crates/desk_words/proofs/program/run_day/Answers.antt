@@ -1,7 +1,7 @@
 use Rattle.std.proofs.Common.{◌∙◌, sym}
 use Rattle.csv_days.specs.declared.table_end.TableEnd.TheVariants.{OutOfMemory, WriteFault}
 use Rattle.desk_words.proofs.RunLemmas.{comes_of, part_day, report_at_five, silent_else}
-use Rattle.desk_words.specs.DayTexts.{table_day_text}
+use Rattle.csv_days.specs.DayTexts.{text_named}
 use Rattle.desk_words.specs.Program.{table_matrix, text_by}
 use Rattle.desk_words.proofs.program.run_day.Goals as goal
 
@@ -14,7 +14,7 @@ pub returns-clause-runs : goal.returns-clause-runs
 returns-clause-runs g c = record {
   run = c.write_table_text-run.result;
   status_is = c.end_run.ensures.status;
-  comes = comes_of (text_by c.args.strict (table_day_text c.args.text)) (table_matrix c.args.asked) (g.R.Read.remaining c.args.reader.now) (g.W.Write.contents c.args.writer.now)
+  comes = comes_of (text_by c.args.strict (text_named c.args.text)) (table_matrix c.args.asked) (g.R.Read.remaining c.args.reader.now) (g.W.Write.contents c.args.writer.now)
       (g.W.Write.contents c.write_table_text-run.new.writer) c.write_table_text-run.result c.write_table_text-run.ensures.written
       c.write_table_text-run.ensures.end;
   part = part_day c.args.text c.write_table_text-run.result _ _ c.write_table_text-run.ensures.prefix c.write_table_text-run.ensures.memory

@@ -1,5 +1,5 @@
 use Rattle.whole_io.specs.Lemmas.WriteLemmas.{WritesUpTo-none}
-use Rattle.desk_words.proofs.telling.say_open_fault.Goals as goal
+use Rattle.desk_words.proofs.telling.say_socket_fault.Goals as goal
 
 -- nothing is said
 pub returns-in_default : goal.returns-in_default

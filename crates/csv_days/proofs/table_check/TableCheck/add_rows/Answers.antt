@@ -5,12 +5,12 @@ use Rattle.csv_days.specs.Checks.{HasNoted}
 use Rattle.csv_days.proofs.ToldLemmas.{on-ok}
 use Rattle.csv_days.proofs.table_check.TableCheck.add_rows.Goals as goal
 
-pub returns-in-Ok-clause-check : goal.returns-in-Ok-clause-check
-returns-in-Ok-clause-check g c = λ input start.
+pub returns-in_default-clause-check : goal.returns-in_default-clause-check
+returns-in_default-clause-check g c = λ input start.
     let (read, has, count, noted) = c.loop-number.invariant.noted input start in
     let all = rw c.in_default.is at c.in_ok-row.ensures.row in
     let (names, whole, named) = all input read has in
-    (names ∷ read, inl whole, c.in-Ok.ensures c.loop-number.rows.columns names read named (omega (arith, count)) noted)
+    (names ∷ read, inl whole, c.in_ok-end_at.ensures c.loop-number.rows.columns names read named (omega (arith, count)) noted)
 
 pub loop-number-preserved : goal.loop-number-preserved
 loop-number-preserved g c =
