@@ -11,7 +11,7 @@ use Rattle.std.proofs.lemmas.Option.{slice_get-get_or, slice_get_past, slice_get
 use Rattle.tape_core.specs.declared.entry.Entry.{Entry}
 use Rattle.tape_core.specs.Laws.{entry_eq}
 use Rattle.tape_core.specs.Lemmas.Equality.{entry-Decides}
-use Rattle.tape_frames.specs.EntryRows.{IsNumberedFrom}
+use Rattle.tape_frames.specs.PacketEntries.{IsNumberedFrom}
 use Rattle.tape_frames.specs.Lemmas.Numbers.{number_at_place}
 use Rattle.arbitration.specs.Windows.{flat}
 use Rattle.arbitration.specs.Deliveries.{known_entry, Agrees, IsLeastConflict}

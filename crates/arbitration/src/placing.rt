@@ -1,7 +1,7 @@
 //! Puts the entries of a packet into their slots and counts the outcomes.
 ghost use Rattle.std.specs.Prelude.{◌≡◌, ◌+◌, ◌≤◌, ◌∷◌, [], is_some, count_by};
 ghost use Rattle.tape_types.specs.Ranges.{TAPE_MOST};
-ghost use Rattle.tape_frames.specs.EntryRows.{IsEmptyOrRow};
+ghost use Rattle.tape_frames.specs.PacketEntries.{IsEmptyOrRow};
 ghost use Rattle.arbitration.specs.Counts.{fresh_count, placing_of, taken_of};
 ghost use Rattle.arbitration.specs.Deliveries.{slots_after};
 

@@ -1,7 +1,7 @@
 //! Finds the reasons to refuse a packet: a conflicting entry, or a number past the end.
 ghost use Rattle.std.specs.Prelude.{◌≡◌, ◌+◌, ◌≤◌, ◌↔◌, ◌||◌, length, IsTrue, MatchOption, All};
 ghost use Rattle.tape_types.specs.Ranges.{TAPE_MOST};
-ghost use Rattle.tape_frames.specs.EntryRows.{IsEmptyOrRow};
+ghost use Rattle.tape_frames.specs.PacketEntries.{IsEmptyOrRow};
 ghost use Rattle.arbitration.specs.Deliveries.{Agrees, IsLeastConflict, is_beyond, is_other_end};
 
 use std::collections::VecDeque;

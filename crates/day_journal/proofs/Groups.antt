@@ -11,7 +11,7 @@ use Rattle.reports.specs.Fields.{number_at}
 use Rattle.reports.specs.Lemmas.Fields.{AreBytes, AreBytes-drop, AreBytes-take, number_reader, wide16, wide32}
 use Rattle.sha2.proofs.Facts256.{length-sha256}
 use Rattle.tape_core.specs.declared.entry.Entry.{Entry}
-use Rattle.tape_frames.specs.EntryRows.{IsNumberedFrom, first_number}
+use Rattle.tape_frames.specs.PacketEntries.{IsNumberedFrom, first_number}
 use Rattle.tape_frames.specs.Limits.{ENTRIES_MOST, HEADER_LENGTH, LONGEST_PACKET}
 use Rattle.tape_frames.specs.Spelling.{IsPacket, entry_text, packet_text}
 use Rattle.tape_frames.specs.Reading.{packet_of}

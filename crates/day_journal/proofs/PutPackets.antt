@@ -7,7 +7,7 @@ use Rattle.tape_core.specs.declared.entry.Entry.{Entry}
 use Rattle.tape_frames.specs.declared.packet.Packet.{Packet}
 use Rattle.tape_frames.specs.declared.packet.Packet.TheVariants.{Data}
 use Rattle.tape_frames.specs.declared.version.Version.TheVariants.{Two}
-use Rattle.tape_frames.specs.EntryRows.{IsNumberedFrom}
+use Rattle.tape_frames.specs.PacketEntries.{IsNumberedFrom}
 use Rattle.tape_frames.specs.Lemmas.Numbers.{IsNumberedFrom-append, IsNumberedFrom-take}
 use Rattle.tape_frames.specs.Limits.{ENTRIES_MOST}
 use Rattle.tape_frames.specs.Sources.{cut_of, sendable}

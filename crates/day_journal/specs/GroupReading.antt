@@ -10,7 +10,7 @@ use Rattle.tape_frames.specs.declared.packet.Packet.TheVariants.{Data}
 use Rattle.tape_frames.specs.declared.packet_fault.PacketFault.{PacketFault}
 use Rattle.tape_frames.specs.declared.version.Version.{Version}
 use Rattle.tape_frames.specs.declared.version.Version.TheVariants.{One, Two}
-use Rattle.tape_frames.specs.EntryRows.{RowState, first_number}
+use Rattle.tape_frames.specs.PacketEntries.{RowState, first_number}
 use Rattle.tape_frames.specs.Kinds.{DATA}
 use Rattle.tape_frames.specs.Limits.{ENTRIES_MOST, LONGEST_PACKET}
 use Rattle.tape_frames.specs.Reading.{packet_of}

@@ -11,7 +11,7 @@ use crate::group_putting::chained;
 use crate::limits::{DATA, DIGEST_LENGTH, PACKET_FRONT_LENGTH};
 use reports::{Unread, put};
 use tape_core::Entry;
-use tape_frames::{ENTRIES_MOST, EntryRow, LONGEST_PACKET, Packet, Version, decode_packet};
+use tape_frames::{ENTRIES_MOST, LONGEST_PACKET, Packet, PacketEntries, Version, decode_packet};
 
 /// Reads the group at the front, which follows this many entries and this digest, and returns its own digest. Its entries
 /// replace those of the vector.
@@ -181,14 +181,12 @@ fn read_row(
     if !is_next(session, number, own, &row) {
         return Err(GroupFault::Damaged);
     }
-    match entries.extend_from_slice(row.entries()) {
-        Ok(()) => Ok(()),
-        Err(_) => Err(GroupFault::OutOfMemory),
-    }
+    let extended = entries.extend_from_slice(row.entries());
+    extended.map_err(|_| GroupFault::OutOfMemory)
 }
 
 /// Whether a packet of this session has the entries from this number on, in the second version.
-fn is_next(session: u64, number: u32, own: u64, row: &EntryRow) -> bool
+fn is_next(session: u64, number: u32, own: u64, row: &PacketEntries) -> bool
     ensures { result ≡ is_next session number own row.now }
 {
     let entries = row.entries();

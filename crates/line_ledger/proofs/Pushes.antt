@@ -4,7 +4,7 @@ use Rattle.std.proofs.Math.Nat.{eq-or-lt_of_le}
 use Rattle.std.proofs.lemmas.Option.{slice_get_within}
 use Rattle.std.proofs.lemmas.List.{append-nil, append_assoc, get_or_append_left, get_or_push, get_or-take, length-take, length-map, map-append, take-map}
 use Rattle.tape_core.specs.declared.entry.Entry.{Entry}
-use Rattle.tape_frames.specs.EntryRows.{Carries, HasNoLaterPlaces}
+use Rattle.tape_frames.specs.PacketEntries.{Carries, HasNoLaterPlaces}
 use Rattle.tape_frames.specs.Sources.{BeginsWith, IsPublished}
 use Rattle.tape_frames.specs.Lemmas.GrowingRows.{IsNumberedFrom-push}
 use Rattle.tape_frames.specs.Lemmas.Sources.{IsPublished-take}

@@ -4,7 +4,7 @@ ghost use Rattle.tape_core.specs.declared.entry.Entry.{Entry};
 ghost use Rattle.tape_core.specs.Tape.{TapeState};
 ghost use Rattle.tape_frames.specs.declared.packet.Packet.TheVariants.{Data, Beat};
 ghost use Rattle.tape_frames.specs.declared.version.Version.{Version};
-ghost use Rattle.tape_frames.specs.EntryRows.{CountState};
+ghost use Rattle.tape_frames.specs.PacketEntries.{CountState};
 ghost use Rattle.tape_frames.specs.Sources.{BeginsWith, cut_of};
 ghost use Rattle.line_ledger.specs.declared.told.Told.{Told};
 ghost use Rattle.line_ledger.specs.Cells.{TokenState, FirstTokens, HaveAll, shown};

@@ -1,7 +1,7 @@
 //! Reads the published entries from the cells, as a source of packets that takes no lock.
 ghost use Rattle.std.specs.Prelude.{◌≡◌, ◌≤◌, ◌↔◌, [], take, length, OnOk, OnErr, IsTrue};
 ghost use Rattle.scratch_fold.specs.Places.{HasPlacesUpTo, IsPlacedUpTo};
-ghost use Rattle.tape_frames.specs.EntryRows.{Carries, HasNoLaterPlaces};
+ghost use Rattle.tape_frames.specs.PacketEntries.{Carries, HasNoLaterPlaces};
 ghost use Rattle.tape_frames.specs.Sources.{BeginsWith, IsPublished};
 ghost use Rattle.line_ledger.specs.Cells.{FirstTokens, shown};
 ghost use Rattle.line_ledger.specs.Publishing.{GoesOn};

@@ -5,7 +5,7 @@ use Rattle.std.specs.Option.{option_or}
 use Rattle.std.specs.Prelude.{count_by, nat_lt, IfOk, IsSomeAnd, OnErr}
 use Rattle.summaries.specs.Lemmas.LastLaw.{option_or-none}
 use Rattle.tape_core.specs.declared.entry.Entry.{Entry}
-use Rattle.tape_frames.specs.EntryRows.{IsNumberedFrom, first_number, last_number}
+use Rattle.tape_frames.specs.PacketEntries.{IsNumberedFrom, first_number, last_number}
 use Rattle.tape_frames.specs.Headers.{last_entry_of}
 use Rattle.tape_frames.specs.Packets.{last_of}
 use Rattle.tape_frames.specs.Spelling.{IsPacket}

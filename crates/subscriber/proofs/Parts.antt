@@ -3,7 +3,7 @@ use Rattle.std.proofs.Common.{◌≡◌, ℕ, suc, ◌+◌, ◌≤◌, List, [],
 use Rattle.std.specs.Prelude.{slice_get}
 use Rattle.std.proofs.lemmas.Option.{none-some, slice_get_within}
 use Rattle.tape_core.specs.declared.entry.Entry.{Entry}
-use Rattle.tape_frames.specs.EntryRows.{IsNumberedFrom, last_number}
+use Rattle.tape_frames.specs.PacketEntries.{IsNumberedFrom, last_number}
 use Rattle.arbitration.specs.Deliveries.{entry_numbered}
 use Rattle.tape_frames.specs.Cuts.{IsPartOf}
 use Rattle.tape_frames.specs.Lemmas.Numbers.{IsNumberedFrom-append, slice_get-append-add, slice_get-append-lt, number_at_place}

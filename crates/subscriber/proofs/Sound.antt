@@ -18,7 +18,7 @@ use Rattle.tape_core.specs.Lemmas.LegalNext.{IsLegal-with_message, admissible}
 use Rattle.tape_core.specs.Lemmas.LegalPrefix.{refusal-next, entry-next}
 use Rattle.tape_frames.specs.declared.packet.Packet.{Packet}
 use Rattle.tape_frames.specs.declared.packet.Packet.TheVariants.{Data, Beat, End}
-use Rattle.tape_frames.specs.EntryRows.{last_number}
+use Rattle.tape_frames.specs.PacketEntries.{last_number}
 use Rattle.tape_frames.specs.Packets.{session_of, entries_of, last_of, end_of}
 use Rattle.tape_frames.specs.Lemmas.Legal.{legal-IsPublished}
 use Rattle.tape_frames.specs.Lemmas.Numbers.{slice_get-append-add, slice_get-append-lt}

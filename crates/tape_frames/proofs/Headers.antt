@@ -4,7 +4,7 @@ use Rattle.std.proofs.lemmas.Bool.{cond-true, cond-false, ne_eqb}
 use Rattle.std.specs.Int.{w8, w32, w64, to_be_bytes}
 use Rattle.std.specs.Prelude.{flat_map, length}
 use Rattle.reports.specs.Lemmas.Fields.{number_reader, ok_is, wide8, wide32, wide64}
-use Rattle.tape_frames.specs.EntryRows.{first_number}
+use Rattle.tape_frames.specs.PacketEntries.{first_number}
 use Rattle.tape_frames.specs.Kinds.{DATA, BEAT, END}
 use Rattle.tape_frames.specs.Lemmas.Versions.{number_most-within, version_byte-fits}
 use Rattle.tape_frames.specs.Spelling.{IsPacket, Spells, entry_text, header_text, packet_text}

@@ -2,7 +2,7 @@
 use Rattle.std.specs.Prelude.{ℕ, ◌==◌, if◌then◌else◌, List, Option, Some, None, Result, Ok}
 use Rattle.std.specs.Int.{w8, w32, w64}
 use Rattle.reports.specs.Fields.{◌>>=◌, number_at}
-use Rattle.tape_frames.specs.EntryRows.{first_number, last_number}
+use Rattle.tape_frames.specs.PacketEntries.{first_number, last_number}
 use Rattle.tape_frames.specs.declared.header.PacketHeader.{PacketHeader}
 use Rattle.tape_frames.specs.declared.packet.Packet.{Packet}
 use Rattle.tape_frames.specs.declared.packet.Packet.TheVariants.{Data, Beat, End}

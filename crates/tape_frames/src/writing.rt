@@ -3,7 +3,7 @@ ghost use Rattle.std.specs.Prelude.{◌≡◌, ◌+◌, ◌*◌, ◌≤◌, ◌+
 ghost use Rattle.reports.specs.ByteRows.{Puts};
 ghost use Rattle.tape_frames.specs.Limits.{ENTRIES_MOST, HEADER_LENGTH, MARK_LENGTH, SUMMARY_LENGTH, LONGEST_ENTRY, LONGEST_PACKET, ALL_MARKS};
 ghost use Rattle.scratch_fold.specs.Places.{HasPlacesUpTo, IsPlacedUpTo};
-ghost use Rattle.tape_frames.specs.EntryRows.{Carries, FitsIn};
+ghost use Rattle.tape_frames.specs.PacketEntries.{Carries, FitsIn};
 ghost use Rattle.tape_frames.specs.Packets.{version_of};
 ghost use Rattle.tape_frames.specs.Versions.{longest_packet, number_most};
 ghost use Rattle.tape_frames.specs.Spelling.{IsEntry, IsFigure, IsMark, IsPacket, IsSummary, entry_text};

@@ -6,7 +6,7 @@ use Rattle.std.proofs.lemmas.List.{take_more}
 use Rattle.std.proofs.lemmas.List.Sums.{count_by-le-length}
 use Rattle.std.specs.Prelude.{is_some, count_by, replicate}
 use Rattle.tape_core.specs.declared.entry.Entry.{Entry}
-use Rattle.tape_frames.specs.EntryRows.{IsNumberedFrom}
+use Rattle.tape_frames.specs.PacketEntries.{IsNumberedFrom}
 use Rattle.arbitration.specs.Lemmas.Numbers.{number_is_new}
 use Rattle.arbitration.specs.Lemmas.Slots.{placing-slots_after}
 use Rattle.arbitration.specs.Counts.{placing_of, is_fresh, is_repeated, is_too_far, taken_of, taken_with, fresh_count, brought_with}

@@ -9,7 +9,7 @@ use Rattle.std.specs.Prelude.{All, slice_get, IfSome}
 use Rattle.tape_core.specs.declared.entry.Entry.{Entry}
 use Rattle.tape_frames.specs.Lemmas.Numbers.{number_at_place, IsNumberedFrom-append}
 use Rattle.tape_frames.specs.Packets.{entries_of, last_of, end_of, HasNumbers}
-use Rattle.tape_frames.specs.EntryRows.{IsNumberedFrom, IsEmptyOrRow, first_number}
+use Rattle.tape_frames.specs.PacketEntries.{IsNumberedFrom, IsEmptyOrRow, first_number}
 use Rattle.tape_frames.specs.declared.packet.Packet.{Packet}
 use Rattle.tape_frames.specs.declared.packet.Packet.TheVariants.{Data, Beat, End}
 use Rattle.arbitration.specs.Lemmas.Slots.{other_number}

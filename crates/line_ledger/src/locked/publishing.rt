@@ -70,10 +70,8 @@ impl<D: DayName> Locked<D> {
         if !row.is_vacant(next) {
             return Err(PublishFault::Unpublished(next));
         }
-        match Vec::with_capacity(self.alloc, many as usize) {
-            Ok(room) => Ok((many, room)),
-            Err(_) => Err(PublishFault::OutOfMemory),
-        }
+        let room = Vec::with_capacity(self.alloc, many as usize);
+        Ok((many, room.map_err(|_| PublishFault::OutOfMemory)?))
     }
 
     /// Sets the next cell to the tape's next entry, and counts it.

@@ -20,7 +20,7 @@ use Rattle.tape_core.specs.declared.entry.Entry.{Entry}
 use Rattle.tape_frames.specs.declared.packet_fault.PacketFault.{PacketFault}
 use Rattle.tape_frames.specs.declared.packet_fault.PacketFault.TheVariants.{Short, BadEntry, NotInOrder}
 use Rattle.tape_frames.specs.declared.version.Version.{Version}
-use Rattle.tape_frames.specs.EntryRows.{CarriesFor, IsNumberedFrom}
+use Rattle.tape_frames.specs.PacketEntries.{CarriesFor, IsNumberedFrom}
 use Rattle.tape_frames.specs.Versions.{IsNumberIn, number_most}
 use Rattle.tape_frames.specs.Lemmas.Versions.{number_most-within}
 use Rattle.tape_frames.specs.Spelling.{IsEntry, IsSummary, carried_text, entry_text}

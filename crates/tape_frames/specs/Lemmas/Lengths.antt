@@ -14,7 +14,7 @@ use Rattle.tape_frames.specs.Kinds.{DATA}
 use Rattle.tape_frames.specs.declared.version.Version.{Version}
 use Rattle.tape_frames.specs.Limits.{HEADER_LENGTH, SUMMARY_LENGTH, LONGEST_ENTRY}
 use Rattle.tape_frames.specs.Lengths.{EntryLengths, PacketLengths, RequestLengths, entry_length}
-use Rattle.tape_frames.specs.EntryRows.{CarriesFor, RowState, first_number}
+use Rattle.tape_frames.specs.PacketEntries.{CarriesFor, RowState, first_number}
 use Rattle.tape_frames.specs.Versions.{entries_most, longest_packet}
 use Rattle.tape_frames.specs.Lemmas.Versions.{entries_most-within}
 use Rattle.tape_frames.specs.Spelling as frames

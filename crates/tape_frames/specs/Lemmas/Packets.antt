@@ -23,7 +23,7 @@ use Rattle.tape_frames.specs.declared.version.Version.{Version}
 use Rattle.tape_frames.specs.declared.version.Version.TheVariants.{One, Two}
 use Rattle.tape_frames.specs.Limits.{HEADER_LENGTH}
 use Rattle.tape_types.specs.Ranges.{TAPE_MOST}
-use Rattle.tape_frames.specs.EntryRows.{Carries, CountState, FitsIn, IsNumberedFrom, IsRow, RowFits, RowState, first_number}
+use Rattle.tape_frames.specs.PacketEntries.{Carries, CountState, FitsIn, IsNumberedFrom, IsRow, RowFits, RowState, first_number}
 use Rattle.tape_frames.specs.Versions.{entries_most, number_most, version_byte, version_of_byte}
 use Rattle.tape_frames.specs.Lemmas.Versions.{entries_most-within, number_most-within, version_byte-fits}
 use Rattle.tape_frames.specs.Spelling.{IsEntry, IsMark, IsPacket, IsSummary, OnePacketSpelling, Spells, entry_text, header_text, packet_text}

@@ -8,7 +8,7 @@ use Rattle.std.proofs.lemmas.List.Elements.{All-take}
 use Rattle.std.proofs.lemmas.Option.{get_or_from_slice_get, slice_get-get_or, slice_get_within}
 use Rattle.tape_core.specs.declared.entry.Entry.{Entry}
 use Rattle.tape_frames.specs.declared.version.Version.{Version}
-use Rattle.tape_frames.specs.EntryRows.{Carries, HasNoLaterPlaces, IsNumberedFrom}
+use Rattle.tape_frames.specs.PacketEntries.{Carries, HasNoLaterPlaces, IsNumberedFrom}
 use Rattle.tape_frames.specs.Sources.{IsPublished, cut_of, sendable}
 use Rattle.tape_frames.specs.Versions.{entries_most, number_most}
 use Rattle.tape_frames.specs.Lemmas.Numbers.{IsNumberedFrom-take, number_at_place}

@@ -7,7 +7,7 @@ use Rattle.std.specs.Prelude.{IfSome}
 use Rattle.tape_core.specs.declared.entry.Entry.{Entry}
 use Rattle.tape_frames.specs.declared.version.Version.{Version}
 use Rattle.tape_frames.specs.declared.version.Version.TheVariants.{One, Two}
-use Rattle.tape_frames.specs.EntryRows.{FitsIn, HasNoLaterPlaces}
+use Rattle.tape_frames.specs.PacketEntries.{FitsIn, HasNoLaterPlaces}
 use Rattle.tape_frames.specs.Limits.{ENTRIES_MOST, LONGEST_PACKET}
 use Rattle.tape_frames.specs.Versions.{CanBegin, entries_most, longest_packet, number_most, version_byte}
 use Rattle.tape_types.specs.Ranges.{TAPE_MOST}

@@ -3,7 +3,7 @@ use Rattle.std.specs.Prelude.{count_by, is_some}
 use Rattle.arbitration.specs.declared.taken.Taken.{Taken}
 use Rattle.arbitration.specs.Counts.{fresh_count, taken_with, placing_of}
 use Rattle.arbitration.specs.Deliveries.{slots_after}
-use Rattle.tape_frames.specs.EntryRows.{first_number}
+use Rattle.tape_frames.specs.PacketEntries.{first_number}
 use Rattle.arbitration.specs.Lemmas.Numbers.{row_numbers}
 use Rattle.arbitration.specs.Lemmas.Slots.{slots_after-none, turn_slots}
 use Rattle.arbitration.specs.Lemmas.Counts.{turn_taken, fresh_more}

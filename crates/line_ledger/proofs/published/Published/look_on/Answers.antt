@@ -1,6 +1,6 @@
 use Rattle.std.proofs.Common.{rules, ◌≡◌, ◌+◌, ◌++◌, [], ◌∷◌, ℕ, length, subst, ap, ◌∙◌, arith}
 use Rattle.tape_core.specs.declared.entry.Entry.{Entry}
-use Rattle.tape_frames.specs.EntryRows.{Carries, HasNoLaterPlaces}
+use Rattle.tape_frames.specs.PacketEntries.{Carries, HasNoLaterPlaces}
 use Rattle.line_ledger.specs.Cells.{TokenState}
 use Rattle.line_ledger.proofs.Pushes.{first_push, published_push}
 use Rattle.line_ledger.proofs.published.Published.look_on.Goals as goal
