@@ -13,7 +13,7 @@ use tape_types::{Participant, Symbol};
 use toml::Value;
 
 /// What can stand in a list of a day's file.
-pub(crate) trait Entry: Copy {
+pub(crate) trait ListEntry: Copy {
     /// The entry that a value is at a place, or its fault.
     ghost entry: { FilePlace → Data → Result Self Fault };
 
@@ -22,7 +22,7 @@ pub(crate) trait Entry: Copy {
         ensures { Gives (λ entry. entry) result (entry place (view value.now)) };
 }
 
-impl Entry for Symbol {
+impl ListEntry for Symbol {
     ghost use Rattle.day_files.specs.Entries.{symbol_at};
 
     ghost entry = { symbol_at };
@@ -32,7 +32,7 @@ impl Entry for Symbol {
     }
 }
 
-impl Entry for Participant {
+impl ListEntry for Participant {
     ghost use Rattle.day_files.specs.Entries.{participant_at};
 
     ghost entry = { participant_at };
@@ -46,7 +46,7 @@ impl Entry for Participant {
 }
 
 /// A port.
-impl Entry for u16 {
+impl ListEntry for u16 {
     ghost use Rattle.day_files.specs.Entries.{port_at};
 
     ghost entry = { port_at };
@@ -70,7 +70,7 @@ pub(crate) fn text_of(place: FilePlace, value: &Value) -> Result<&str, DayFault>
 }
 
 /// Returns the entries of the list at a key, of which there is one or more.
-pub(crate) fn entries_of<E: Entry>(
+pub(crate) fn entries_of<E: ListEntry>(
     alloc: Global,
     key: DayKey,
     value: &Value,

@@ -1,4 +1,4 @@
 pub mod Addresses
 pub mod Faults
-pub mod OpenFaults
 pub mod Reports
+pub mod SocketFaults

@@ -40,5 +40,5 @@ place_text place.Sender port = codes "the sender's socket"
 place_text place.Control port = codes "control " ++ decimal port
 
 -- which socket could not be opened, and why, in words
-abbrev pub open_fault_text : SocketFault → List ℕ
-open_fault_text fault = place_text fault.place fault.port ++ codes ": " ++ cause_text fault.cause
+abbrev pub socket_fault_text : SocketFault → List ℕ
+socket_fault_text fault = place_text fault.place fault.port ++ codes ": " ++ cause_text fault.cause

@@ -1,6 +1,6 @@
 //! The causes of a socket that is not opened, each with its text.
 ghost use Rattle.std.specs.Prelude.{◌≡◌};
-ghost use Rattle.feed_ends.specs.OpenFaults.{cause_of, cause_text};
+ghost use Rattle.feed_ends.specs.SocketFaults.{cause_of, cause_text};
 
 use std::io::ErrorKind;
 

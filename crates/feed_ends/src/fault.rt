@@ -52,13 +52,13 @@ impl Fault {
     }
 }
 
-/// Returns the day's fault for a tape that is not made: `Disagrees` for a bad limit, `Memory` if memory ran out.
-pub fn fault_of_tape(fault: TapeFault) -> Fault
-    ensures limit { fault ≡ BadLimit → result ≡ Disagrees }
-    ensures memory { fault ≡ TapeOutOfMemory → result ≡ Memory }
-{
-    match fault {
-        TapeFault::BadLimit => Fault::Disagrees,
-        TapeFault::OutOfMemory => Fault::Memory,
+impl From<TapeFault> for Fault {
+    ghost from_gives = { λ fault day. (fault ≡ BadLimit → day ≡ Disagrees) × (fault ≡ TapeOutOfMemory → day ≡ Memory) };
+
+    fn from(fault: TapeFault) -> Fault {
+        match fault {
+            TapeFault::BadLimit => Fault::Disagrees,
+            TapeFault::OutOfMemory => Fault::Memory,
+        }
     }
 }

@@ -11,7 +11,7 @@ mod socket_fault;
 
 pub use address::here;
 pub use cause::Cause;
-pub use fault::{Fault, fault_of_tape};
+pub use fault::Fault;
 pub use place::SocketPlace;
 pub use report::write_day;
 pub use socket_fault::SocketFault;

@@ -1,6 +1,6 @@
 //! The sockets of a day, by what they are for, and their text.
 ghost use Rattle.std.specs.Prelude.{◌≡◌, ◌++◌, OnOk, decimal};
-ghost use Rattle.feed_ends.specs.OpenFaults.{place_text};
+ghost use Rattle.feed_ends.specs.SocketFaults.{place_text};
 
 use std::alloc::AllocError;
 use tape_types::Participant;

@@ -1,6 +1,6 @@
 //! The error of a socket that could not be opened, and its text.
 ghost use Rattle.std.specs.Prelude.{◌≡◌, IfOk};
-ghost use Rattle.feed_ends.specs.OpenFaults.{cause_of, open_fault_text};
+ghost use Rattle.feed_ends.specs.SocketFaults.{cause_of, socket_fault_text};
 
 use crate::{Cause, SocketPlace};
 use std::alloc::{AllocError, Global};
@@ -31,7 +31,7 @@ impl SocketFault {
 
     /// Returns the fault in words, without a line feed: `port 23001 (Q): address in use`. It fails if memory runs out.
     pub fn text(self, alloc: Global) -> Result<Vec<u8>, AllocError>
-        ensures { IfOk result (λ text. text.items ≡ open_fault_text self) }
+        ensures { IfOk result (λ text. text.items ≡ socket_fault_text self) }
     {
         let mut text = Vec::new(alloc);
         self.place.push(&mut text, self.port)?;

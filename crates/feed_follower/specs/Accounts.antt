@@ -16,12 +16,12 @@ abbrev pub one_more : ℕ → ℕ
 one_more n = min (n + 1) (2 ^ 64 - 1)
 
 -- a line's counts after one more packet
-abbrev pub counted : Heard → LineCounts → LineCounts
-counted Taken c = record c { packets = one_more c.packets }
-counted NoPacket c = record c { packets = one_more c.packets; no_packet = one_more c.no_packet }
-counted Foreign c = record c { packets = one_more c.packets; foreign = one_more c.foreign }
-counted (Conflict n) c = record c { packets = one_more c.packets; conflict = one_more c.conflict }
-counted PastEnd c = record c { packets = one_more c.packets; past_end = one_more c.past_end }
+abbrev pub with_heard : Heard → LineCounts → LineCounts
+with_heard Taken c = record c { packets = one_more c.packets }
+with_heard NoPacket c = record c { packets = one_more c.packets; no_packet = one_more c.no_packet }
+with_heard Foreign c = record c { packets = one_more c.packets; foreign = one_more c.foreign }
+with_heard (Conflict n) c = record c { packets = one_more c.packets; conflict = one_more c.conflict }
+with_heard PastEnd c = record c { packets = one_more c.packets; past_end = one_more c.past_end }
 
 -- how many packets were dropped
 abbrev pub dropped : LineCounts → ℕ
@@ -29,9 +29,9 @@ dropped c = c.no_packet + c.foreign + c.conflict + c.past_end
 
 -- an account after one more packet of a line
 abbrev pub account_with : Line → Heard → FollowAccount → FollowAccount
-account_with A heard a = record a { a = counted heard a.a }
-account_with B heard a = record a { b = counted heard a.b }
-account_with R heard a = record a { retransmission = counted heard a.retransmission }
+account_with A heard a = record a { a = with_heard heard a.a }
+account_with B heard a = record a { b = with_heard heard a.b }
+account_with R heard a = record a { retransmission = with_heard heard a.retransmission }
 
 -- the counts of a line that brought nothing
 abbrev pub no_counts : LineCounts

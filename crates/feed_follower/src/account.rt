@@ -1,6 +1,6 @@
 //! Counts what a follower heard of a day, and what became of it.
 ghost use Rattle.std.specs.Prelude.{◌≡◌};
-ghost use Rattle.feed_follower.specs.Accounts.{account_with, counted, dropped, new_account, once_asked, once_differing, once_other};
+ghost use Rattle.feed_follower.specs.Accounts.{account_with, with_heard, dropped, new_account, once_asked, once_differing, once_other};
 
 use crate::heard::Heard;
 use arbitration::Line;
@@ -62,7 +62,7 @@ impl LineCounts {
 
     /// Counts a packet by what became of it.
     fn count(&mut self, heard: Heard)
-        ensures { self.new ≡ counted heard self.old }
+        ensures { self.new ≡ with_heard heard self.old }
     {
         self.packets = self.packets.saturating_add(1);
         match heard {

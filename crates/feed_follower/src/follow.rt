@@ -16,7 +16,7 @@ use crate::followed::Followed;
 use crate::follower::{Follower, subscribe};
 use crate::held_name::HeldName;
 use crate::requester::Requester;
-use crate::run::{Ready, Run, follow_at_once};
+use crate::run::{ReadyRun, Run, follow_at_once};
 use crate::{EntrySink, FollowAccount, FollowFault, FollowSockets, FollowTerms};
 use feed_ends::{Fault, write_day};
 use sale_matrix::Matrix;
@@ -52,10 +52,10 @@ impl Ways {
 
 /// What a run has once it is connected, before it has a sink.
 #[derive(Drop)]
-struct Started<'a> {
+struct StartedRun<'a> {
     requester: Requester,
     subscriber: Subscriber,
-    ready: Ready<'a>,
+    ready: ReadyRun<'a>,
 }
 
 /// Returns the lines of a run, with another handle of the requester's connection.
@@ -63,8 +63,8 @@ fn ready<'a>(
     alloc: Global,
     sockets: &'a FollowSockets,
     requester: &Requester,
-) -> Result<Ready<'a>, Fault> {
-    Ready::new(alloc, sockets, requester.handle()?)
+) -> Result<ReadyRun<'a>, Fault> {
+    ReadyRun::new(alloc, sockets, requester.handle()?)
 }
 
 /// Connects to the retransmission and makes a subscriber that holds nothing. It connects before it allocates, so that a sender
@@ -74,7 +74,7 @@ fn start<'a, R: Net<Listener = TcpListener, Stream = TcpStream> + Wait>(
     alloc: Global,
     terms: FollowTerms,
     sockets: &'a FollowSockets,
-) -> Result<Started<'a>, FollowFault>
+) -> Result<StartedRun<'a>, FollowFault>
     ensures listed { IfOk result (λ started. started.subscriber.tape.listing ≡ terms.listing) }
     ensures by_matrix { IfOk result (λ started. started.subscriber.tape.matrix ≡ terms.matrix) }
     ensures limited { IfOk result (λ started. started.subscriber.tape.limit ≡ terms.limit) }
@@ -90,7 +90,7 @@ fn start<'a, R: Net<Listener = TcpListener, Stream = TcpStream> + Wait>(
         terms.session,
     )?;
     let ready = ready(alloc, sockets, &requester)?;
-    Ok(Started {
+    Ok(StartedRun {
         requester,
         subscriber,
         ready,

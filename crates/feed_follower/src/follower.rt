@@ -20,7 +20,7 @@ ghost use Rattle.feed_follower.specs.declared.follow_fault.FollowFault.TheVarian
 ghost use Rattle.feed_follower.specs.Sinks.{GivesPart, HasAll, HasPart, IsTapeOf, rows_of};
 ghost use Rattle.feed_follower.specs.declared.silence.TheConstants.{SILENT_MOST};
 ghost use Rattle.feed_follower.specs.Nexts.{IsNext, ahead_of, asked_of};
-ghost use Rattle.feed_follower.specs.declared.follower.Next.TheVariants.{Connect, End, Read as ReadOn};
+ghost use Rattle.feed_follower.specs.declared.follower.NextStep.TheVariants.{Connect, End, Read as ReadOn};
 ghost use Rattle.feed_ends.specs.declared.fault.Fault.{Fault};
 ghost use Rattle.feed_ends.specs.declared.fault.Fault.TheVariants.{Disagrees, Read};
 
@@ -34,7 +34,7 @@ use crate::requester::Answered;
 use crate::silence::Silence;
 use crate::{EntrySink, FollowAccount, FollowFault};
 use arbitration::Line;
-use feed_ends::{Fault, fault_of_tape};
+use feed_ends::Fault;
 use sale_matrix::Matrix;
 use std::alloc::Global;
 use std::marker::PhantomData;
@@ -45,7 +45,7 @@ use tape_types::{Listing, TAPE_MOST};
 
 /// What a run waits for, or has to do next.
 #[derive(Clone, Copy)]
-pub(crate) enum Next {
+pub(crate) enum NextStep {
     /// Wait for packets of the lines.
     Read,
     /// Wait for this number, which is missing and which a line may still bring.
@@ -60,14 +60,18 @@ pub(crate) enum Next {
     End,
 }
 
-impl Next {
+impl NextStep {
     /// Returns the first missing number that is to be asked for, if one is.
     fn asked(&self) -> Option<u32>
         ensures { result ≡ asked_of self.now }
     {
         match self {
-            Next::Ask(request) => Some(request.from),
-            Next::Read | Next::Wait(_) | Next::Settle(_) | Next::Connect | Next::End => None,
+            NextStep::Ask(request) => Some(request.from),
+            NextStep::Read
+            | NextStep::Wait(_)
+            | NextStep::Settle(_)
+            | NextStep::Connect
+            | NextStep::End => None,
         }
     }
 }
@@ -118,10 +122,7 @@ pub(crate) fn subscribe(
         × (subscriber.tape.entries ≡ [])) }
     ensures session { IfOk result (λ subscriber. subscriber.window.session ≡ session) }
 {
-    match Subscriber::new(alloc, listing, limit, session, matrix) {
-        Ok(subscriber) => Ok(subscriber),
-        Err(fault) => Err(fault_of_tape(fault)),
-    }
+    Ok(Subscriber::new(alloc, listing, limit, session, matrix)?)
 }
 
 /// Copies a listing. `Memory` if memory runs out.
@@ -488,7 +489,7 @@ impl<N: HeldName, S: EntrySink> Follower<N, S> {
 
     /// Takes what came by a line, unless the run is over, and returns what is next. It returns `Wait` only if the requester
     /// sleeps, so once for each wait, to the thread that wakes it.
-    pub(crate) fn deliver(&mut self, line: Line, bytes: &[u8]) -> Next
+    pub(crate) fn deliver(&mut self, line: Line, bytes: &[u8]) -> NextStep
         ensures end { self.new.has_restarted ≡ false → IsSome self.new.over → result ≡ End }
         ensures connect { self.new.has_restarted ≡ true → result ≡ Connect }
         ensures rung { ¬ (result ≡ ReadOn) → self.new.is_asleep ≡ false }
@@ -500,8 +501,8 @@ impl<N: HeldName, S: EntrySink> Follower<N, S> {
             self.settle(taken);
         }
         match self.next() {
-            Next::Read => Next::Read,
-            Next::Wait(_) if !self.is_asleep => Next::Read,
+            NextStep::Read => NextStep::Read,
+            NextStep::Wait(_) if !self.is_asleep => NextStep::Read,
             next => {
                 self.is_asleep = false;
                 next
@@ -628,7 +629,7 @@ impl<N: HeldName, S: EntrySink> Follower<N, S> {
 
     /// Returns what is next for the requester, which then sleeps until it is rung if nothing is missing. A line that is behind
     /// what it asks for was waited for in vain.
-    pub(crate) fn next_to_ask(&mut self) -> Next
+    pub(crate) fn next_to_ask(&mut self) -> NextStep
         ensures asleep { IsTrue self.new.is_asleep ↔ (result ≡ ReadOn) }
         ensures going { self.old.has_restarted ≡ false → self.old.over ≡ None → IsNext self.old.subscriber self.old.positions self.old.conflicts self.old.session result }
         ensures late_a { IfSome (asked_of result) (λ n. IsBehind n self.old.positions.a → self.new.positions.a.awaited_from ≡ n) }
@@ -638,7 +639,7 @@ impl<N: HeldName, S: EntrySink> Follower<N, S> {
         if let Some(number) = next.asked() {
             self.positions.asked(number);
         }
-        self.is_asleep = matches!(next, Next::Read);
+        self.is_asleep = matches!(next, NextStep::Read);
         next
     }
 
@@ -651,26 +652,26 @@ impl<N: HeldName, S: EntrySink> Follower<N, S> {
 
     /// Returns what is next. A new subscriber gets its connection, which the retransmission awaits, even if the run is over by
     /// then.
-    fn next(&self) -> Next
+    fn next(&self) -> NextStep
         ensures connect { self.now.has_restarted ≡ true → result ≡ Connect }
         ensures end { self.now.has_restarted ≡ false → IsSome self.now.over → result ≡ End }
         ensures going { self.now.has_restarted ≡ false → self.now.over ≡ None → IsNext self.now.subscriber self.now.positions self.now.conflicts self.now.session result }
     {
         if self.has_restarted {
-            return Next::Connect;
+            return NextStep::Connect;
         }
         if self.over.is_some() {
-            return Next::End;
+            return NextStep::End;
         }
         let ahead = ahead_of(&self.subscriber);
         match self.subscriber.missing() {
             Some(request) if self.positions.may_bring(request.from, ahead) => {
-                Next::Wait(request.from)
+                NextStep::Wait(request.from)
             }
-            Some(request) => Next::Ask(request),
+            Some(request) => NextStep::Ask(request),
             None => match self.conflicts.request(self.session) {
-                Some(request) => Next::Settle(request),
-                None => Next::Read,
+                Some(request) => NextStep::Settle(request),
+                None => NextStep::Read,
             },
         }
     }

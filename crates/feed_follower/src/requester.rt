@@ -6,7 +6,7 @@ ghost use Rattle.feed_follower.specs.declared.requester.Answered.TheVariants.{Be
 ghost use Rattle.retransmit.specs.declared.ask_fault.AskFault.TheVariants.{OutOfMemory as AskOutOfMemory, ReadFault, Refused, WriteFault};
 ghost use Rattle.retransmit.specs.declared.refusal.RequestRefusal.TheVariants.{Beyond as RefusedBeyond};
 
-use crate::follower::Next;
+use crate::follower::NextStep;
 use crate::held_name::HeldName;
 use crate::run::Run;
 use crate::tries::{PAUSE, Tries, tries_within};
@@ -333,18 +333,18 @@ impl Requester {
         let mut requester = self;
         for _ in rt.forever() {
             match run.next_to_ask(rt) {
-                Next::Read => {
+                NextStep::Read => {
                     run.rest(rt, Duration::from_millis(LOOK));
                     requester.look(rt, run);
                 }
-                Next::Wait(number) => {
+                NextStep::Wait(number) => {
                     run.rest(rt, Duration::from_millis(TURN));
                     run.waited(rt, number);
                 }
-                Next::Ask(request) => requester.ask_missing(rt, run, &request),
-                Next::Settle(request) => requester.ask_again(rt, run, &request),
-                Next::Connect => requester.reconnect(rt, run),
-                Next::End => break,
+                NextStep::Ask(request) => requester.ask_missing(rt, run, &request),
+                NextStep::Settle(request) => requester.ask_again(rt, run, &request),
+                NextStep::Connect => requester.reconnect(rt, run),
+                NextStep::End => break,
             }
         }
     }

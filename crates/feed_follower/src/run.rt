@@ -1,8 +1,8 @@
 //! Runs a follower: two threads read the lines until the run is over, beside the requester of what the lines lack.
 ghost use Rattle.std.specs.Prelude.{◌≡◌, ◌↔◌, IsTrue};
-ghost use Rattle.feed_follower.specs.declared.follower.Next.TheVariants.{End};
+ghost use Rattle.feed_follower.specs.declared.follower.NextStep.TheVariants.{End};
 
-use crate::follower::{Follower, Next};
+use crate::follower::{Follower, NextStep};
 use crate::held_name::HeldName;
 use crate::inbox::Inbox;
 use crate::lines::{FollowedLine, ROOM};
@@ -24,7 +24,7 @@ const TAKEN_AT_ONCE: u32 = 64;
 
 /// What a run has before it has its follower.
 #[derive(Drop)]
-pub(crate) struct Ready<'a> {
+pub(crate) struct ReadyRun<'a> {
     connection: TcpStream,
     kept: Inbox,
     a: FollowedLine<'a>,
@@ -44,18 +44,18 @@ pub(crate) struct Run<'a, N: HeldName, S: EntrySink> {
     b: FollowedLine<'a>,
 }
 
-impl<'a> Ready<'a> {
+impl<'a> ReadyRun<'a> {
     /// The lines of these sockets, another handle of the requester's connection, and an empty inbox. `Memory` if there is none
     /// for it.
     pub(crate) fn new(
         alloc: Global,
         sockets: &'a FollowSockets,
         connection: TcpStream,
-    ) -> Result<Ready<'a>, Fault> {
+    ) -> Result<ReadyRun<'a>, Fault> {
         let a = FollowedLine::new(Line::A, &sockets.a)?;
         let b = FollowedLine::new(Line::B, &sockets.b)?;
         let kept = Inbox::nothing(alloc).map_err(|_| Fault::Memory)?;
-        Ok(Ready {
+        Ok(ReadyRun {
             connection,
             kept,
             a,
@@ -66,7 +66,11 @@ impl<'a> Ready<'a> {
 
 impl<'a, N: HeldName, S: EntrySink> Run<'a, N, S> {
     /// The run of a follower.
-    pub(crate) fn new(alloc: Global, follower: Follower<N, S>, ready: Ready<'a>) -> Run<'a, N, S> {
+    pub(crate) fn new(
+        alloc: Global,
+        follower: Follower<N, S>,
+        ready: ReadyRun<'a>,
+    ) -> Run<'a, N, S> {
         Run {
             shared: SharedFollower::new(alloc, follower, ready.kept),
             connection: Mutex::new(ready.connection),
@@ -86,16 +90,16 @@ impl<'a, N: HeldName, S: EntrySink> Run<'a, N, S> {
     }
 
     /// Wakes the threads that have something to do next. Returns whether the run is over.
-    fn tell<R: Wait>(&self, rt: &R, next: &Next) -> bool
+    fn tell<R: Wait>(&self, rt: &R, next: &NextStep) -> bool
         ensures { IsTrue result ↔ (next.now ≡ End) }
     {
         match next {
-            Next::Read => false,
-            Next::Wait(_) | Next::Ask(_) | Next::Settle(_) | Next::Connect => {
+            NextStep::Read => false,
+            NextStep::Wait(_) | NextStep::Ask(_) | NextStep::Settle(_) | NextStep::Connect => {
                 self.bell.unpark();
                 false
             }
-            Next::End => {
+            NextStep::End => {
                 self.end(rt);
                 true
             }
@@ -145,15 +149,15 @@ impl<'a, N: HeldName, S: EntrySink> Run<'a, N, S> {
     }
 
     /// Delivers what is kept, at most `TAKEN_AT_ONCE` datagrams, and returns what is next.
-    fn take_kept<R: Wait>(&self, rt: &R, follower: &mut Follower<N, S>) -> Next {
-        let mut told = Next::Read;
+    fn take_kept<R: Wait>(&self, rt: &R, follower: &mut Follower<N, S>) -> NextStep {
+        let mut told = NextStep::Read;
         for _turn in 0..TAKEN_AT_ONCE {
             let Some(datagram) = self.shared.next_kept(rt) else {
                 break;
             };
             match follower.deliver(datagram.line, &datagram.bytes) {
-                Next::Read => {}
-                Next::End => return Next::End,
+                NextStep::Read => {}
+                NextStep::End => return NextStep::End,
                 next => told = next,
             }
         }
@@ -180,7 +184,7 @@ impl<'a, N: HeldName, S: EntrySink> Run<'a, N, S> {
     }
 
     /// Returns what is next for the requester.
-    pub(crate) fn next_to_ask<R: Wait>(&self, rt: &R) -> Next {
+    pub(crate) fn next_to_ask<R: Wait>(&self, rt: &R) -> NextStep {
         let mut turn = self.shared.turn(rt);
         let next = turn.follower.next_to_ask();
         self.work_off(rt, turn.end());

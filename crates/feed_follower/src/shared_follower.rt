@@ -3,10 +3,10 @@
 //! Nothing may stay kept while no thread has the follower. So a thread that had it, or kept something for it, owes a look at
 //! what is kept after that: an `Owed`, which can't be dropped.
 ghost use Rattle.std.specs.Prelude.{◌≡◌, []};
-ghost use Rattle.feed_follower.specs.declared.follower.Next.TheVariants.{End};
+ghost use Rattle.feed_follower.specs.declared.follower.NextStep.TheVariants.{End};
 
 use crate::EntrySink;
-use crate::follower::{Follower, Next};
+use crate::follower::{Follower, NextStep};
 use crate::held_name::HeldName;
 use crate::inbox::{Datagram, Inbox};
 use arbitration::Line;
@@ -50,7 +50,7 @@ impl Owed {
     }
 
     /// Settles the debt, since the run is over and what is kept is not delivered any more.
-    pub(crate) fn see_end(self, next: &Next)
+    pub(crate) fn see_end(self, next: &NextStep)
         requires { next.now ≡ End }
     {
         // For the proof alone: only clauses speak of it.

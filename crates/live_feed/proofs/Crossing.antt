@@ -7,7 +7,7 @@ use Rattle.seen_cells.proofs.Seen.TheSendSync.{the_send as seen_send}
 use Rattle.line_ledger.specs.contracts.sighting.Sighting as sighting
 use Rattle.line_ledger.specs.contracts.sighting.Sighting.TheInside as inside
 use Rattle.feed_ends.specs.contracts.fault.Fault as fault
-use Rattle.live_feed.specs.contracts.sender.Sent as sent
+use Rattle.live_feed.specs.contracts.sender.SenderEnd as sent
 use Rattle.feed_ends.proofs.fault.Fault.TheSendSync.{the_send as fault_send}
 
 -- the parts of a sighting

@@ -7,7 +7,7 @@ use Rattle.std.proofs.lemmas.List.{same_lists}
 use Rattle.std.proofs.lemmas.List.Elements.{All-append, All-drop, All-take}
 use Rattle.day_journal.specs.Groups.{pending}
 use Rattle.tape_core.specs.declared.entry.Entry.{Entry}
-use Rattle.tape_frames.specs.EntryRows.{Carries, HasNoLaterPlaces, IsNumberedFrom}
+use Rattle.tape_frames.specs.PacketEntries.{Carries, HasNoLaterPlaces, IsNumberedFrom}
 use Rattle.tape_frames.specs.Lemmas.Numbers.{IsNumberedFrom-take, number_at_place, slice_get-append-add, slice_get-append-lt}
 use Rattle.tape_frames.specs.Sources.{IsPublished, entry_of}
 use Rattle.tape_types.specs.Ranges.{TAPE_MOST}

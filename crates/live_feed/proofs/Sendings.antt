@@ -10,7 +10,7 @@ use Rattle.tape_frames.specs.declared.packet.Packet.{Packet}
 use Rattle.tape_frames.specs.declared.packet.Packet.TheVariants.{Data}
 use Rattle.tape_frames.specs.declared.version.Version.{Version}
 use Rattle.tape_frames.specs.declared.version.Version.TheVariants.{Two}
-use Rattle.tape_frames.specs.EntryRows.{IsNumberedFrom, IsRow, first_number, last_number}
+use Rattle.tape_frames.specs.PacketEntries.{IsNumberedFrom, IsRow, first_number, last_number}
 use Rattle.tape_frames.specs.Lemmas.Numbers.{number_at_place}
 use Rattle.tape_frames.specs.Packets.{HasNumbers, last_of}
 use Rattle.tape_frames.specs.Sources.{cut_of, sendable}

@@ -5,7 +5,7 @@ use Rattle.std.specs.Io.KnownBytes.{Appends, Keeps}
 use Rattle.day_journal.specs.Journals.{AreGroups, groups_text}
 use Rattle.day_journal.specs.Writers.{WriterState, with_group}
 use Rattle.tape_core.specs.declared.entry.Entry.{Entry}
-use Rattle.tape_frames.specs.EntryRows.{Carries, HasNoLaterPlaces, IsNumberedFrom}
+use Rattle.tape_frames.specs.PacketEntries.{Carries, HasNoLaterPlaces, IsNumberedFrom}
 use Rattle.tape_types.specs.Ranges.{TAPE_MOST}
 
 -- a journal: the writer of its groups, the bytes that its file has and those that are kept, if they are known, the entries that

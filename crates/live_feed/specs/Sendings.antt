@@ -3,7 +3,7 @@ use Rattle.std.specs.Prelude.{◌≡◌, ℕ, List}
 use Rattle.tape_core.specs.declared.entry.Entry.{Entry}
 use Rattle.tape_frames.specs.declared.packet.Packet.TheVariants.{Beat, Data, End}
 use Rattle.tape_frames.specs.declared.version.Version.TheVariants.{Two}
-use Rattle.tape_frames.specs.EntryRows.{last_number}
+use Rattle.tape_frames.specs.PacketEntries.{last_number}
 use Rattle.tape_frames.specs.Sources.{cut_of}
 use Rattle.tape_frames.specs.Spelling.{packet_text}
 

@@ -1,6 +1,6 @@
 //! A subscriber's connection whose requests and answers are counted.
 
-use crate::followers::Follower;
+use crate::followers::ServedFollower;
 use crate::request_flag::Requests;
 use std::io;
 use std::io::{Read, Write};
@@ -10,14 +10,14 @@ use std::net::TcpStream;
 #[derive(Drop)]
 pub(crate) struct CountedRequests<'a> {
     pub(crate) requests: Requests<'a>,
-    pub(crate) follower: Option<&'a Follower>,
+    pub(crate) follower: Option<&'a ServedFollower>,
 }
 
 /// What answers are written to. What is written is counted if the connection is counted, and a flush ends an answer.
 #[derive(Drop)]
 pub(crate) struct CountedAnswers<'a> {
     pub(crate) connection: &'a TcpStream,
-    pub(crate) follower: Option<&'a Follower>,
+    pub(crate) follower: Option<&'a ServedFollower>,
 }
 
 impl Read for CountedRequests<'_> {

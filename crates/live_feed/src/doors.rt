@@ -61,10 +61,11 @@ fn doors_of(alloc: Global, listeners: Vec<TcpListener>) -> Result<Vec<Door>, Fau
 /// Returns a connection that came, if one did. Its reads end by themselves after a while if nothing comes.
 fn connection_at(listener: &TcpListener) -> Result<Option<TcpStream>, Fault> {
     match listener.accept() {
-        Ok((stream, _)) => match stream.set_read_timeout(Some(Duration::from_millis(READ_WAIT))) {
-            Ok(()) => Ok(Some(stream)),
-            Err(_) => Err(Fault::Read),
-        },
+        Ok((stream, _)) => {
+            let limited = stream.set_read_timeout(Some(Duration::from_millis(READ_WAIT)));
+            limited.map_err(|_| Fault::Read)?;
+            Ok(Some(stream))
+        }
         Err(error) if error.kind() == ErrorKind::WouldBlock || is_transient(&error) => Ok(None),
         Err(_) => Err(Fault::Read),
     }
@@ -157,10 +158,7 @@ fn reader_at<R: Wait>(
     let Ok(slot) = Arc::try_clone(slot) else {
         return Err(Fault::Memory);
     };
-    match BufReader::new(alloc, LineInput::with_slot(stream, slot)) {
-        Ok(reader) => Ok(reader),
-        Err(_) => Err(Fault::Memory),
-    }
+    BufReader::new(alloc, LineInput::with_slot(stream, slot)).map_err(|_| Fault::Memory)
 }
 
 /// Returns what all lines are read from, in their order.

@@ -13,7 +13,7 @@ const SECOND: u64 = 1_000_000_000;
 
 /// One connection that is counted. Its thread counts without a lock, and an operator reads what was counted so far.
 #[derive(Drop)]
-pub(crate) struct Follower {
+pub(crate) struct ServedFollower {
     /// In whole seconds after the day's start.
     since: u64,
     /// How many bytes of requests were read.
@@ -26,10 +26,10 @@ pub(crate) struct Follower {
     is_given_up: AtomicBool,
 }
 
-impl Follower {
+impl ServedFollower {
     /// A connection that is served since this many seconds after the day's start, and asked for nothing yet.
-    fn new(since: u64) -> Follower {
-        Follower {
+    fn new(since: u64) -> ServedFollower {
+        ServedFollower {
             since,
             asked: AtomicU64::new(0),
             answered: AtomicU64::new(0),
@@ -94,7 +94,7 @@ struct Came {
     /// Whether no connection is waited for any longer.
     is_given_up: bool,
     /// The connections that are counted, in the order in which they came.
-    followers: Vec<Arc<Follower>>,
+    followers: Vec<Arc<ServedFollower>>,
 }
 
 impl Came {
@@ -136,9 +136,9 @@ impl Followers {
 
     /// Adds a connection that came, which is counted from then on. If memory runs out it counts as having come and is served
     /// all the same, but what it asks for is not counted.
-    pub(crate) fn enter<R: Wait + Clock>(&self, rt: &R) -> Option<Arc<Follower>> {
+    pub(crate) fn enter<R: Wait + Clock>(&self, rt: &R) -> Option<Arc<ServedFollower>> {
         let since = nanos_of(rt).saturating_sub(self.began) / SECOND;
-        let follower = Arc::new(self.alloc, Follower::new(since));
+        let follower = Arc::new(self.alloc, ServedFollower::new(since));
         let mut came = self.came.lock(rt);
         came.many = came.many.saturating_add(1);
         let follower = follower.ok()?;

@@ -261,10 +261,8 @@ fn live<R: Threads + Wait + Clock + Sync, L: Loss + Sync, W: Write>(
 
 /// Returns a handle by which a listener can be shut down, which its own type can't do.
 pub(crate) fn closing_of(listener: &TcpListener) -> Result<TcpStream, Fault> {
-    match listener.try_clone() {
-        Ok(handle) => Ok(TcpStream::from(OwnedFd::from(handle))),
-        Err(_) => Err(Fault::Read),
-    }
+    let handle = listener.try_clone().map_err(|_| Fault::Read)?;
+    Ok(TcpStream::from(OwnedFd::from(handle)))
 }
 
 /// Runs a day as `live_over` does. Returns `Ok` for its status 0, and else the fault of its status.

@@ -10,7 +10,7 @@ use crate::account::LineAccount;
 use crate::line_input::Reader;
 use crate::line_slot::LineSlot;
 use crate::live::end_day;
-use crate::restoring::{Past, restore};
+use crate::restoring::{JournalPast, restore};
 use crate::seated::{SeatedLine, Waiting, seated_lines};
 use feed_ends::Fault;
 use line_ledger::{DayName, LineSeat, Prepared, SharedTape};
@@ -51,7 +51,7 @@ fn restore_seats<D: DayName, R: Wait>(
     alloc: Global,
     shared: SharedTape<D>,
     seats: Vec<LineSeat<D>>,
-    past: Option<&Past>,
+    past: Option<&JournalPast>,
 ) -> Result<(SharedTape<D>, Vec<LineSeat<D>>), Fault>
     requires each { IsOneEach D.terms.listing.participants seats.items }
     ensures whos { IfOk result (λ opened. whos opened.1.items ≡ whos seats.items) }
@@ -79,7 +79,7 @@ fn open_seats<D: DayName, R: Wait>(
     rt: &R,
     alloc: Global,
     prepared: Prepared,
-    past: Option<&Past>,
+    past: Option<&JournalPast>,
 ) -> Result<(SharedTape<D>, Vec<LineSeat<D>>), Fault>
     requires name { prepared.blank.name ≡ D.name }
     requires parts { prepared.blank.parts ≡ D.parts }
@@ -103,7 +103,7 @@ pub(crate) fn open_lines<D: DayName, R: Wait>(
     prepared: Prepared,
     readers: Vec<Reader>,
     slots: Vec<Arc<LineSlot>>,
-    past: Option<&Past>,
+    past: Option<&JournalPast>,
 ) -> Result<(SharedTape<D>, Waiting<D>), Fault>
     requires name { prepared.blank.name ≡ D.name }
     requires parts { prepared.blank.parts ≡ D.parts }

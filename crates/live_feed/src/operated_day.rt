@@ -21,7 +21,7 @@ use crate::live::{closing_of, finish_day};
 use crate::opening::open_lines;
 use crate::operation::Operation;
 use crate::patience::Watch;
-use crate::restoring::Past;
+use crate::restoring::JournalPast;
 use crate::running::{Joined, Reported, run_and_report};
 use crate::seated::Ran;
 use crate::sender::room_for_a_packet;
@@ -75,7 +75,7 @@ pub struct LiveEnd {
 
 /// How the run of a day ended.
 #[derive(Drop)]
-struct Held {
+struct RunEnd {
     result: Result<(), Fault>,
     is_whole: bool,
     accounts: Vec<LineAccount>,
@@ -84,12 +84,12 @@ struct Held {
 }
 
 /// The end of a day that was not run, with this fault.
-fn not_held(alloc: Global, fault: Fault) -> Held
+fn not_held(alloc: Global, fault: Fault) -> RunEnd
     ensures result { result.result ≡ Err fault }
     ensures unwritten { result.is_whole ≡ false }
     ensures kept { result.journal_failed ≡ false }
 {
-    Held {
+    RunEnd {
         result: Err(fault),
         is_whole: false,
         accounts: Vec::new(alloc),
@@ -142,7 +142,7 @@ fn held_of<D: DayName>(
     is_whole: bool,
     given_up: u32,
     journal_failed: bool,
-) -> Held
+) -> RunEnd
     requires seats { IsOneEach D.terms.listing.participants joined.ran.seats.items }
     requires tokens { FirstTokens shared joined.sent.tokens.items }
     requires whole { joined.sent.fault ≡ None → is_whole ≡ true }
@@ -154,7 +154,7 @@ fn held_of<D: DayName>(
     match finish_day(shared, joined) {
         Ok(ended) => {
             drop(ended);
-            Held {
+            RunEnd {
                 result: Ok(()),
                 is_whole,
                 accounts,
@@ -162,7 +162,7 @@ fn held_of<D: DayName>(
                 journal_failed,
             }
         }
-        Err(fault) => Held {
+        Err(fault) => RunEnd {
             result: Err(fault),
             is_whole,
             accounts,
@@ -184,7 +184,7 @@ fn journal_failed<J: JournalFile>(keeper: &Option<Keeper<J>>) -> bool
 
 /// What a day has before it runs.
 #[derive(Drop)]
-struct Ready {
+struct ReadyDay {
     prepared: Prepared,
     text: Vec<u8>,
     slots: Vec<Arc<LineSlot>>,
@@ -202,12 +202,12 @@ fn run_named<
 >(
     rt: &R,
     feed: &Feed<'_, L>,
-    ready: Ready,
-    past: Option<Past>,
+    ready: ReadyDay,
+    past: Option<JournalPast>,
     keeper: &mut Option<Keeper<J>>,
     watch: &Watch<'_>,
     writer: &mut W,
-) -> Held
+) -> RunEnd
     requires name { ready.prepared.blank.name ≡ D.name }
     requires parts { ready.prepared.blank.parts ≡ D.parts }
     requires terms { terms_of ready.prepared.tape ≡ D.terms }
@@ -220,7 +220,7 @@ fn run_named<
     ensures journal { result.journal_failed ≡ true → FailsEarly result.is_whole result.result }
     ensures failed { HasFailed keeper.new → result.journal_failed ≡ true }
 {
-    let Ready {
+    let ReadyDay {
         prepared,
         mut text,
         slots,
@@ -245,12 +245,12 @@ fn run_named<
 fn run_prepared<R: Threads + Wait + Clock + Sync, L: Loss + Sync, J: JournalFile + Send, W: Write>(
     rt: &R,
     feed: &Feed<'_, L>,
-    ready: Ready,
-    past: Option<Past>,
+    ready: ReadyDay,
+    past: Option<JournalPast>,
     keeper: &mut Option<Keeper<J>>,
     watch: &Watch<'_>,
     writer: &mut W,
-) -> Held
+) -> RunEnd
     requires many { vec_len ready.readers ≡ length ready.prepared.tape.listing.participants }
     requires kept { ¬ HasFailed keeper.old }
     ensures report { result.is_whole ≡ true → WritesItsReport ready.prepared.tape.listing ready.prepared.tape.matrix ready.prepared.tape.limit
@@ -268,7 +268,7 @@ fn keeper_of<J: JournalFile>(
     alloc: Global,
     session: u64,
     journal: Option<DayJournal<J>>,
-) -> (Option<Keeper<J>>, Option<Past>)
+) -> (Option<Keeper<J>>, Option<JournalPast>)
     ensures kept { ¬ HasFailed result.0 }
 {
     let Some(
@@ -283,7 +283,7 @@ fn keeper_of<J: JournalFile>(
     };
     let keeper = Keeper::new(alloc, groups, file);
     let past = match restored {
-        Some(restored) => Some(Past {
+        Some(restored) => Some(JournalPast {
             restored,
             session,
             held: keeper.held(),
@@ -318,7 +318,7 @@ fn ready_day<R: Threads + Wait + Clock>(
     terms: LiveTerms,
     lines: Vec<TcpListener>,
     operation: &Operation,
-) -> Result<Ready, Fault>
+) -> Result<ReadyDay, Fault>
     ensures many { IfOk result (λ ready. vec_len ready.readers ≡ length terms.listing.participants) }
     ensures listed { IfOk result (λ ready. ready.prepared.tape.listing ≡ terms.listing) }
     ensures by_matrix { IfOk result (λ ready. ready.prepared.tape.matrix ≡ terms.matrix) }
@@ -332,7 +332,7 @@ fn ready_day<R: Threads + Wait + Clock>(
     let connect_within = terms.connect_within;
     let prepared = prepare_day(alloc, terms.listing, terms.limit, terms.matrix)?;
     match readers_of(rt, alloc, operation, connect_within, lines) {
-        Ok(readers) => Ok(Ready {
+        Ok(readers) => Ok(ReadyDay {
             prepared,
             text,
             slots,
@@ -346,13 +346,13 @@ fn ready_day<R: Threads + Wait + Clock>(
 }
 
 /// The end of a day that was run, with its account.
-fn end_of(alloc: Global, held: Held) -> LiveEnd
+fn end_of(alloc: Global, held: RunEnd) -> LiveEnd
     ensures result { result.result ≡ held.result }
     ensures is_whole { result.is_whole ≡ held.is_whole }
     ensures account { HasAccount result.account.items }
     ensures journal { result.journal_failed ≡ held.journal_failed }
 {
-    let Held {
+    let RunEnd {
         result,
         is_whole,
         accounts,

@@ -40,14 +40,9 @@ pub(crate) fn publish<D: DayName, R: Wait>(
     ensures most { IfOk result (λ set. set ≤ most) }
     ensures unwritten { result ≢ Err WriteFault }
 {
-    let set = match shared.publish(rt, most) {
-        Ok(set) => set,
-        Err(fault) => return Err(fault_of_publication(fault)),
-    };
-    match published.refresh() {
-        Ok(()) => Ok(set),
-        Err(_) => Err(Fault::Memory),
-    }
+    let set = shared.publish(rt, most).map_err(fault_of_publication)?;
+    published.refresh().map_err(|_| Fault::Memory)?;
+    Ok(set)
 }
 
 /// Publishes entries that the journal keeps and that were not published yet, `most` at most. Returns how many cells were set.

@@ -11,7 +11,7 @@ use crate::clock::nanos_of;
 use crate::feed::Feed;
 use crate::patience::{Watch, is_enough};
 use crate::seated::Ran;
-use crate::sender::{PAUSE_BEFORE_LATER_END, Sent, send_first_ends, send_to_both, spell_end};
+use crate::sender::{PAUSE_BEFORE_LATER_END, SenderEnd, send_first_ends, send_to_both, spell_end};
 use crate::serving::Serving;
 use feed_ends::{Fault, write_day};
 use line_ledger::{DayName, LineSeat, SharedTape, Sighting};
@@ -27,7 +27,7 @@ use tape_core::Tape;
 #[derive(Drop)]
 pub(crate) struct Ending {
     /// The sender, with the fault that kept the end or the report back.
-    pub(crate) sent: Sent,
+    pub(crate) sent: SenderEnd,
     /// Whether the report was written whole and flushed.
     pub(crate) is_whole: bool,
     /// How many connections were still served when they were given up after the end.
@@ -60,7 +60,7 @@ fn end_and_write<D: DayName, R: Threads + Wait + Clock + Sync, L, W: Write>(
     feed: &Feed<'_, L>,
     shared: &SharedTape<D>,
     seats: &[LineSeat<D>],
-    sent: &Sent,
+    sent: &SenderEnd,
     text: &mut Vec<u8>,
     writer: &mut W,
 ) -> Result<Option<Fault>, Fault>
@@ -106,7 +106,7 @@ fn repeat_end_within<R: Wait + Clock, L>(
     feed: &Feed<'_, L>,
     serving: &Serving<'_>,
     watch: &Watch<'_>,
-    sent: &Sent,
+    sent: &SenderEnd,
     end: &[u8],
 ) -> u32
     requires whole { sent.now.fault ≡ None }
@@ -140,7 +140,7 @@ pub(crate) fn end_and_report<D: DayName, R: Threads + Wait + Clock + Sync, L, W:
     serving: &Serving<'_>,
     watch: &Watch<'_>,
     ran: &Ran<D>,
-    sent: Sent,
+    sent: SenderEnd,
     text: &mut Vec<u8>,
     writer: &mut W,
 ) -> Ending

@@ -19,7 +19,7 @@ use tape_types::Participant;
 
 /// What a journal had when the day began, and how it is read.
 #[derive(Drop)]
-pub(crate) struct Past {
+pub(crate) struct JournalPast {
     /// Its bytes.
     pub(crate) restored: Restored,
     /// The session of the day.
@@ -144,7 +144,7 @@ pub(crate) fn restore<D: DayName, R: Wait>(
     alloc: Global,
     shared: &SharedTape<D>,
     seats: &mut Vec<LineSeat<D>>,
-    past: &Past,
+    past: &JournalPast,
 ) -> Result<(), Fault>
     ensures whos { whos seats.new.items ≡ whos seats.old.items }
     ensures restored { OnOk result (Restores past.now.session past.now.restored.digest past.now.restored.from past.now.restored.journal.items past.now.held

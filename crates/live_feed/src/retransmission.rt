@@ -6,7 +6,7 @@ ghost use Rattle.retransmit.specs.declared.serve_end.Ended.TheVariants.{OutOfMem
 use crate::accepting::next_connection;
 use crate::counted::{CountedAnswers, CountedRequests};
 use crate::feed::Feed;
-use crate::followers::Follower;
+use crate::followers::ServedFollower;
 use crate::request_flag::Requests;
 use crate::serving::Serving;
 use feed_ends::Fault;
@@ -39,7 +39,7 @@ fn answer_all<D: DayName, R: Wait, L>(
     shared: &SharedTape<D>,
     serving: &Serving<'_>,
     connection: &TcpStream,
-    follower: Option<&Follower>,
+    follower: Option<&ServedFollower>,
 ) -> Option<Fault>
     ensures few { IfSome result (λ fault. fault ≡ Memory) }
 {

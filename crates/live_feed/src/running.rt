@@ -15,7 +15,7 @@ use crate::patience::Watch;
 use crate::reporting::{Ending, end_and_report};
 use crate::retransmission::{Served, serve_all};
 use crate::seated::{Ran, Waiting, run_all};
-use crate::sender::{Sent, send_end, send_entries};
+use crate::sender::{SenderEnd, send_end, send_entries};
 use crate::serving::Serving;
 use crate::{JournalFile, Loss, MemoryJournal};
 use feed_ends::Fault;
@@ -28,7 +28,7 @@ use std::thread::{Threads, join_mut};
 /// The outcome of the lines and of the sender. The seats must be spent.
 struct RanAndSent<D: DayName> {
     ran: Ran<D>,
-    sent: Sent,
+    sent: SenderEnd,
 }
 
 /// The outcome of the lines, of the sender and of the report. The seats must be spent.
@@ -42,7 +42,7 @@ pub(crate) struct Joined<D: DayName> {
     /// The lines.
     pub(crate) ran: Ran<D>,
     /// The sender.
-    pub(crate) sent: Sent,
+    pub(crate) sent: SenderEnd,
     /// The retransmission.
     pub(crate) served: Served,
 }

@@ -39,7 +39,7 @@ pub(crate) const PAUSE_BEFORE_LATER_END: u64 = 1_000;
 
 /// The outcome of the sender.
 #[derive(Drop)]
-pub(crate) struct Sent {
+pub(crate) struct SenderEnd {
     /// What was seen of each entry that it found published, in order. What it sent was cut from these entries.
     pub(crate) tokens: Vec<Sighting>,
     /// The number of the last entry that was sent, which the end says.
@@ -48,22 +48,19 @@ pub(crate) struct Sent {
     pub(crate) fault: Option<Fault>,
 }
 
-impl Sent {
+impl SenderEnd {
     /// The same with this fault, or with none.
-    pub(crate) fn with_fault(self, fault: Option<Fault>) -> Sent
+    pub(crate) fn with_fault(self, fault: Option<Fault>) -> SenderEnd
         ensures { result ≡ record self { fault = fault } }
     {
-        Sent { fault, ..self }
+        SenderEnd { fault, ..self }
     }
 }
 
 /// Allocates the text of one packet, before a day starts: a sender without it could send no end, and subscribers would wait for
 /// one.
 pub(crate) fn room_for_a_packet(alloc: Global) -> Result<Vec<u8>, Fault> {
-    match Vec::with_capacity(alloc, LONGEST_PACKET) {
-        Ok(room) => Ok(room),
-        Err(_) => Err(Fault::Memory),
-    }
+    Vec::with_capacity(alloc, LONGEST_PACKET).map_err(|_| Fault::Memory)
 }
 
 /// Sends bytes to each port of a line. A failed send is a lost packet.
@@ -85,10 +82,7 @@ fn spell(packet: &Packet, text: &mut Vec<u8>) -> Result<(), Fault>
     ensures fault { IfErr result (λ fault. fault ≡ Memory) }
 {
     text.clear();
-    match write_packet(packet, text) {
-        Ok(()) => Ok(()),
-        Err(_) => Err(Fault::Memory),
-    }
+    write_packet(packet, text).map_err(|_| Fault::Memory)
 }
 
 /// A number of entries as a packet says it.
@@ -313,7 +307,7 @@ pub(crate) fn send_entries<D: DayName, R: Wait + Clock, L: Loss, J: JournalFile>
     keeper: &mut Option<Keeper<J>>,
     serving: &Serving<'_>,
     text: &mut Vec<u8>,
-) -> Sent
+) -> SenderEnd
     ensures first { FirstTokens shared.now result.tokens.items }
     ensures whole { result.fault ≡ None → length result.tokens.items ≡ result.number }
     ensures journal { result.fault ≡ None → Runs keeper.old keeper.new (shown result.tokens.items) }
@@ -326,7 +320,7 @@ pub(crate) fn send_entries<D: DayName, R: Wait + Clock, L: Loss, J: JournalFile>
         serving.stop_lines();
         serving.give_up(rt, feed.closing);
     }
-    Sent {
+    SenderEnd {
         tokens: published.into_sightings(),
         number,
         fault,
@@ -334,7 +328,11 @@ pub(crate) fn send_entries<D: DayName, R: Wait + Clock, L: Loss, J: JournalFile>
 }
 
 /// Replaces `text` with the end of a day that was sent whole.
-pub(crate) fn spell_end<L>(feed: &Feed<'_, L>, sent: &Sent, text: &mut Vec<u8>) -> Result<(), Fault>
+pub(crate) fn spell_end<L>(
+    feed: &Feed<'_, L>,
+    sent: &SenderEnd,
+    text: &mut Vec<u8>,
+) -> Result<(), Fault>
     requires whole { sent.now.fault ≡ None }
     requires many { length sent.now.tokens.items ≡ sent.now.number }
     ensures { OnOk result (text.new.items ≡ end_text feed.now.session sent.now.number) }
@@ -347,7 +345,7 @@ pub(crate) fn spell_end<L>(feed: &Feed<'_, L>, sent: &Sent, text: &mut Vec<u8>) 
 }
 
 /// Sends the end of a day that was sent whole three times on each line, with a pause before each time. No line loses it.
-pub(crate) fn send_first_ends<R: Clock, L>(rt: &R, feed: &Feed<'_, L>, sent: &Sent, end: &[u8])
+pub(crate) fn send_first_ends<R: Clock, L>(rt: &R, feed: &Feed<'_, L>, sent: &SenderEnd, end: &[u8])
     requires whole { sent.now.fault ≡ None }
     requires many { length sent.now.tokens.items ≡ sent.now.number }
     requires end { end.now ≡ end_text feed.now.session sent.now.number }
@@ -366,7 +364,7 @@ fn repeat_end<R: Wait + Clock, L>(
     rt: &R,
     feed: &Feed<'_, L>,
     serving: &Serving<'_>,
-    sent: &Sent,
+    sent: &SenderEnd,
     end: &[u8],
 )
     requires whole { sent.now.fault ≡ None }
@@ -388,7 +386,7 @@ fn send_ends<R: Wait + Clock, L>(
     rt: &R,
     feed: &Feed<'_, L>,
     serving: &Serving<'_>,
-    sent: &Sent,
+    sent: &SenderEnd,
     text: &mut Vec<u8>,
 ) -> Result<(), Fault>
     requires whole { sent.now.fault ≡ None }
@@ -408,10 +406,10 @@ pub(crate) fn send_end<R: Wait + Clock, L>(
     rt: &R,
     feed: &Feed<'_, L>,
     serving: &Serving<'_>,
-    sent: Sent,
+    sent: SenderEnd,
     lines: Option<Fault>,
     text: &mut Vec<u8>,
-) -> Sent
+) -> SenderEnd
     requires whole { sent.fault ≡ None → length sent.tokens.items ≡ sent.number }
     ensures same { (result.tokens ≡ sent.tokens) × (result.number ≡ sent.number) }
     ensures met { ((sent.fault ≡ None) × (lines ≡ None)) ⊎ IsLeast (sent.fault ∷ lines ∷ []) result.fault }

@@ -15,7 +15,7 @@ use std::time::Duration;
 
 /// The connections that are served.
 #[derive(Drop)]
-struct Served {
+struct ServedConnections {
     /// Whether the sender gave the day up: none is served any more.
     is_given_up: bool,
     /// The connections in the order in which they came, each until it ends.
@@ -36,7 +36,7 @@ pub(crate) struct Serving<'a> {
     is_on: AtomicBool,
     /// Whether memory ran out while a connection was served.
     is_out_of_memory: AtomicBool,
-    served: Mutex<Served>,
+    served: Mutex<ServedConnections>,
     /// Wakes the sender.
     parker: Parker,
 }
@@ -54,7 +54,7 @@ impl<'a> Serving<'a> {
             requested: RequestFlag::new(),
             is_on: AtomicBool::new(false),
             is_out_of_memory: AtomicBool::new(false),
-            served: Mutex::new(Served {
+            served: Mutex::new(ServedConnections {
                 is_given_up: false,
                 connections: Vec::new(alloc),
             }),
@@ -94,10 +94,9 @@ impl<'a> Serving<'a> {
             return Ok(None);
         }
         let place = served.connections.len();
-        match served.connections.push(Some(connection)) {
-            Ok(()) => Ok(Some(place)),
-            Err(_) => Err(Fault::Memory),
-        }
+        let pushed = served.connections.push(Some(connection));
+        pushed.map_err(|_| Fault::Memory)?;
+        Ok(Some(place))
     }
 
     /// Removes the connection at this place, which has ended.

@@ -2,7 +2,7 @@
 ghost use Rattle.std.specs.Prelude.{◌≡◌, IfOk, vec_len};
 
 use crate::line_input::{LineInput, Reader};
-use feed_ends::{Fault, fault_of_tape};
+use feed_ends::Fault;
 use line_ledger::{Prepared, prepare};
 use sale_matrix::Matrix;
 use std::alloc::Global;
@@ -23,14 +23,8 @@ pub(crate) fn prepare_day(
     ensures by_matrix { IfOk result (λ prepared. prepared.tape.matrix ≡ matrix) }
     ensures limited { IfOk result (λ prepared. prepared.tape.limit ≡ limit) }
 {
-    let tape: Tape<IndexStore> = match Tape::new(alloc, listing, limit, matrix) {
-        Ok(tape) => tape,
-        Err(fault) => return Err(fault_of_tape(fault)),
-    };
-    match prepare(alloc, tape) {
-        Ok(prepared) => Ok(prepared),
-        Err(_) => Err(Fault::Memory),
-    }
+    let tape: Tape<IndexStore> = Tape::new(alloc, listing, limit, matrix)?;
+    prepare(alloc, tape).map_err(|_| Fault::Memory)
 }
 
 /// Waits for one connection at a listener, to be read in large pieces, and closes the listener.
@@ -38,10 +32,7 @@ fn accept(alloc: Global, listener: TcpListener) -> Result<Reader, Fault> {
     let Ok((stream, _)) = listener.accept() else {
         return Err(Fault::Read);
     };
-    match BufReader::new(alloc, LineInput::of(stream)) {
-        Ok(reader) => Ok(reader),
-        Err(_) => Err(Fault::Memory),
-    }
+    BufReader::new(alloc, LineInput::of(stream)).map_err(|_| Fault::Memory)
 }
 
 /// Waits for one connection at each listener, in their order. Each listener is closed once its connection has come, so that

@@ -19,13 +19,18 @@ use std::sync::Wait;
 use std::thread::Threads;
 
 /// What a day has before it is followed.
-struct Ready {
+struct ReadyFollower {
     terms: FollowTerms,
     sockets: FollowSockets,
 }
 
 /// Opens the sockets of a follower. If one can't be opened, that is said and its status returned.
-fn ready_day<T, E>(rt: &T, alloc: Global, day: FollowFile, errors: &mut E) -> Result<Ready, Status>
+fn ready_follower<T, E>(
+    rt: &T,
+    alloc: Global,
+    day: FollowFile,
+    errors: &mut E,
+) -> Result<ReadyFollower, Status>
 where
     T: Net<Listener = TcpListener, Stream = TcpStream>,
     E: Write,
@@ -52,7 +57,7 @@ where
         session: words.session,
         connect_within,
     };
-    Ok(Ready { terms, sockets })
+    Ok(ReadyFollower { terms, sockets })
 }
 
 /// Says what was heard of a day, unless there is no memory for it, and then how it ended, and returns the status. `reader_gone`
@@ -90,8 +95,8 @@ where
     E: Write,
     ensures { FollowsDay day.words.listing day.words.matrix day.words.limit is_partial result writer.old writer.new (W.contents writer.old) (W.contents writer.new) }
 {
-    match ready_day(rt, alloc, day, errors) {
-        Ok(Ready { terms, sockets }) => {
+    match ready_follower(rt, alloc, day, errors) {
+        Ok(ReadyFollower { terms, sockets }) => {
             let (end, _sink) = follow_day(rt, alloc, terms, sockets, is_partial, NoSink, writer);
             let (reader_gone, cause) = (writer.reader_is_gone(), writer.write_cause());
             say_follow_end(alloc, errors, &end, reader_gone, cause)
@@ -117,8 +122,10 @@ where
     ensures whole { result.0 ≡ Done → WritesWhole W.contents day.words.listing day.words.matrix day.words.limit writer result.1 }
     ensures part { WritesSome W.contents day.words.listing day.words.matrix day.words.limit writer result.1 }
 {
-    match ready_day(rt, alloc, day, errors) {
-        Ok(Ready { terms, sockets }) => watch_file(rt, alloc, terms, sockets, writer, errors),
+    match ready_follower(rt, alloc, day, errors) {
+        Ok(ReadyFollower { terms, sockets }) => watch_file(
+            rt, alloc, terms, sockets, writer, errors,
+        ),
         Err(status) => (status, Some(writer)),
     }
 }

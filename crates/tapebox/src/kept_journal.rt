@@ -96,15 +96,13 @@ fn start<R: Files<File = File>>(
 ) -> Result<(Started, FileJournal), JournalFileFault> {
     let held = hold_journal(rt, &place.path)?;
     let mut file = FileJournal::new(held, place.is_synced);
-    match start_journal(alloc, &terms_of(words), &mut file) {
-        Ok(started) => {
-            if place.is_synced && started.past.is_none() {
-                sync_folder(rt, &place.path);
-            }
-            Ok((started, file))
-        }
-        Err(fault) => Err(JournalFileFault::Unstarted(fault, file.cause())),
+    let started = start_journal(alloc, &terms_of(words), &mut file).map_err(
+        |fault| JournalFileFault::Unstarted(fault, file.cause()),
+    )?;
+    if place.is_synced && started.past.is_none() {
+        sync_folder(rt, &place.path);
     }
+    Ok((started, file))
 }
 
 /// Opens and holds the journal of a day, and says where the day is continued. If it is not opened, that is said and its status

@@ -31,7 +31,7 @@ use std::thread::{Threads, join_mut};
 
 /// What a day has once its sockets are open.
 #[derive(Drop)]
-struct Ready {
+struct OpenDay {
     terms: LiveTerms,
     sockets: LiveSockets,
     operation: Operation,
@@ -128,7 +128,7 @@ where
 }
 
 /// Opens the sockets of a day. If one can't be opened or memory runs out, that is said and its status returned.
-fn ready_day<T, E>(rt: &T, alloc: Global, day: LiveFile, errors: &mut E) -> Result<Ready, Status>
+fn open_day<T, E>(rt: &T, alloc: Global, day: LiveFile, errors: &mut E) -> Result<OpenDay, Status>
 where
     T: Clock + Net<Listener = TcpListener, Stream = TcpStream>,
     E: Write,
@@ -166,7 +166,7 @@ where
         connect_within,
         followers_wait,
     };
-    Ok(Ready {
+    Ok(OpenDay {
         terms,
         sockets,
         operation,
@@ -240,11 +240,11 @@ where
     E: Write,
     ensures { RunsDay (WritesItsReport day.words.listing day.words.matrix day.words.limit) result writer.old writer.new (W.contents writer.old) (W.contents writer.new) }
 {
-    let Ready {
+    let OpenDay {
         terms,
         sockets,
         operation,
-    } = match ready_day(rt, alloc, day, errors) {
+    } = match open_day(rt, alloc, day, errors) {
         Ok(ready) => ready,
         Err(status) => return status,
     };

@@ -2,7 +2,7 @@
 ghost use Rattle.std.specs.Prelude.{◌≡◌, [], IfOk};
 ghost use Rattle.desk_words.specs.RunStatuses.{ended_status};
 ghost use Rattle.desk_words.specs.Tellings.{told_line};
-ghost use Rattle.feed_ends.specs.OpenFaults.{open_fault_text};
+ghost use Rattle.feed_ends.specs.SocketFaults.{socket_fault_text};
 ghost use Rattle.program_words.specs.Statuses.{status_text};
 ghost use Rattle.program_words.specs.declared.status.Status.TheVariants.{OutOfMemory, ReadFault};
 ghost use Rattle.whole_io.specs.Writing.{WritesPrefix};
@@ -10,7 +10,7 @@ ghost use Rattle.tapebox.specs.Files.{named_line};
 ghost use Rattle.tapebox.specs.Outlets.{day_end_text, write_fault_text};
 
 use crate::write_cause::WriteCause;
-use desk_words::{ended_status, say_open_fault, say_status, say_told};
+use desk_words::{ended_status, say_socket_fault, say_status, say_told};
 use feed_ends::{Fault, SocketFault};
 use program_words::Status;
 use std::alloc::{AllocError, Global};
@@ -19,9 +19,9 @@ use std::io::Write;
 /// Says which socket could not be opened, unless there is no memory for the line, and returns the status.
 pub fn say_unopened<E: Write>(alloc: Global, errors: &mut E, fault: SocketFault) -> Status
     ensures status { result ≡ ReadFault }
-    ensures said { WritesPrefix (told_line (open_fault_text fault)) (E.contents errors.old) (E.contents errors.new) }
+    ensures said { WritesPrefix (told_line (socket_fault_text fault)) (E.contents errors.old) (E.contents errors.new) }
 {
-    say_open_fault(alloc, errors, fault);
+    say_socket_fault(alloc, errors, fault);
     Status::ReadFault
 }
 

@@ -7,4 +7,4 @@ use Rattle.day_files.proofs.entry.entries_of.Goals as goal
 pub loop-item-init : goal.loop-item-init
 loop-item-init g c =
     rw (c.new-entries.ensures.items, c.deref-item-items.ensures.value)
-    (with_front-nil _ ∙ entries_at_list g.E.Entry.entry c.args.key (view c.args.value.now) c.in-Some.list.now.items c.in-Some.ensures (search rules))
+    (with_front-nil _ ∙ entries_at_list g.E.ListEntry.entry c.args.key (view c.args.value.now) c.in-Some.list.now.items c.in-Some.ensures (search rules))

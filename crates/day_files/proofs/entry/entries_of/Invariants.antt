@@ -7,5 +7,5 @@ use Rattle.day_files.proofs.entry.entries_of.Given as goal
 -- the entries so far and those of the values that are left are those of the list
 abbrev pub invariant-loop-item : goal.invariant-loop-item
 invariant-loop-item g l =
-    with_front l.entries.items (each_entry g.E.Entry.entry l.fn.key (length l.entries.items + 1) (items_view (drop l.item-index l.item-items)))
-    ≡ entries_at g.E.Entry.entry l.fn.key (view l.fn.value)
+    with_front l.entries.items (each_entry g.E.ListEntry.entry l.fn.key (length l.entries.items + 1) (items_view (drop l.item-index l.item-items)))
+    ≡ entries_at g.E.ListEntry.entry l.fn.key (view l.fn.value)
