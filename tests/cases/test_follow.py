@@ -493,9 +493,8 @@ class HeldUp(Case):
         self.assertEqual(len({end.written for end in ends}), 1)
         self.assert_traded(ends[0].written, self.REPORTS)
 
-    def test_stopped_for_a_while(self):
-        """OPERATING, "What you see": a follower that a signal stops for 400 milliseconds before the first
-        report loses what its sockets can't hold, and gets it again, and one of the ends."""
+    def assert_outlives_a_stop(self, seconds):
+        """A follower that a signal stops for so long, before the first report, ends with the whole day's report."""
         line, a, b, retransmission = ports(4)
         with started(["live", "AB", "N", line, a, b, retransmission, 1, SESSION]) as live, connect(line) as participant:
             with started(["follow", "AB", "N", a, b, retransmission, SESSION]) as follow:
@@ -504,24 +503,19 @@ class HeldUp(Case):
                 follow.send_signal(signal.SIGSTOP)
                 participant.sendall(reports("N", self.REPORTS))
                 participant.close()
-                time.sleep(0.4)
+                time.sleep(seconds)
                 follow.send_signal(signal.SIGCONT)
                 self.assert_equal_reports(live, follow)
+
+    def test_stopped_for_a_while(self):
+        """OPERATING, "What you see": a follower that a signal stops for 400 milliseconds before the first
+        report loses what its sockets can't hold, and gets it again, and one of the ends."""
+        self.assert_outlives_a_stop(seconds=0.4)
 
     def test_stopped_beyond_the_third_end(self):
         """OPERATING, "What you see": a follower that is stopped for five seconds, in which the three ends went, gets
         a later one."""
-        line, a, b, retransmission = ports(4)
-        with started(["live", "AB", "N", line, a, b, retransmission, 1, SESSION]) as live, connect(line) as participant:
-            with started(["follow", "AB", "N", a, b, retransmission, SESSION]) as follow:
-                wait_bound(follow, a, b)
-                wait_connected(follow, retransmission, 1)
-                follow.send_signal(signal.SIGSTOP)
-                participant.sendall(reports("N", self.REPORTS))
-                participant.close()
-                time.sleep(5)
-                follow.send_signal(signal.SIGCONT)
-                self.assert_equal_reports(live, follow)
+        self.assert_outlives_a_stop(seconds=5)
 
     def test_started_after_the_third_end(self):
         """OPERATING, "What you see": a follower that starts after the three ends gets a later one, and asks for all."""
