@@ -5,7 +5,7 @@ ghost use Rattle.std.specs.Vec.{vec_capacity};
 ghost use Rattle.line_ledger.specs.Days.{terms_of};
 ghost use Rattle.line_ledger.specs.Ends.{IsOneEach, whos};
 
-use crate::watch::{Watch, watch_on};
+use crate::watch::{Watchers, watch_on};
 use line_ledger::{DayName, EndFault, LineSeat, Prepared, SharedTape};
 use participant_lines::{Unstarted, run_lines, seats_of_ends, seats_of_lines};
 use std::alloc::Global;
@@ -162,7 +162,7 @@ fn run_beside<D: DayName + Send + Sync, R: Clock + Threads + Wait + Sync>(
     shared: &SharedTape<D>,
     seats: Vec<LineSeat<D>>,
     inputs: &[Vec<u8>],
-    beside: Watch,
+    beside: Watchers,
 ) -> (Vec<LineSeat<D>>, Option<u64>)
     ensures seats { whos result.0.items ≡ whos seats.items }
 {
@@ -184,7 +184,7 @@ fn look_after<D: DayName + Send + Sync, R: Clock + Threads + Wait + Sync>(
     rt: &R,
     alloc: Global,
     shared: &SharedTape<D>,
-    after: Watch,
+    after: Watchers,
 ) -> Option<(u64, Duration)> {
     let over = AtomicBool::new(false);
     let began = Instant::now(rt);
@@ -198,8 +198,8 @@ fn run_named_day<D: DayName + Send + Sync, R: Clock + Threads + Wait + Sync>(
     alloc: Global,
     prepared: Prepared,
     inputs: &[Vec<u8>],
-    beside: Watch,
-    after: Watch,
+    beside: Watchers,
+    after: Watchers,
 ) -> Option<DayRun>
     requires name { prepared.blank.name ≡ D.name }
     requires parts { prepared.blank.parts ≡ D.parts }
@@ -231,8 +231,8 @@ pub fn run_day<R: Clock + Threads + Wait + Sync>(
     alloc: Global,
     prepared: Prepared,
     inputs: &[Vec<u8>],
-    beside: Watch,
-    after: Watch,
+    beside: Watchers,
+    after: Watchers,
 ) -> Option<DayRun> {
     run_named_day::<Brand, R>(rt, alloc, prepared, inputs, beside, after)
 }

@@ -4,7 +4,7 @@
 use crate::day;
 use crate::figures::{Figure, lesser, per_second, print, ratio};
 use crate::line_day::{DayRun, run_day};
-use crate::watch::{ALONE, BESIDE, NOBODY, Watch};
+use crate::watch::{ALONE, BESIDE, NOBODY, Watchers};
 use anyhow::{Context, ensure};
 use line_ledger::prepare;
 use reports::Message;
@@ -21,7 +21,7 @@ const RUNS: u32 = 5;
 
 /// The figures of one run, or the least of several.
 #[derive(Clone, Copy)]
-struct Run {
+struct MeasuredRun {
     /// The time of the tape alone.
     alone: Duration,
     /// The time of the lines.
@@ -46,7 +46,7 @@ fn measure_lines<R: AllocGlobal + Clock + Print + Threads + Wait + Sync>(
     messages: &[Message],
     inputs: &[Vec<u8>],
 ) -> anyhow::Result<()> {
-    let Run {
+    let MeasuredRun {
         alone,
         lines,
         entries,
@@ -75,15 +75,15 @@ fn least_of_runs<R: AllocGlobal + Clock + Threads + Wait + Sync>(
     input: &[u8],
     messages: &[Message],
     inputs: &[Vec<u8>],
-) -> anyhow::Result<Run> {
-    let mut least = Run {
+) -> anyhow::Result<MeasuredRun> {
+    let mut least = MeasuredRun {
         alone: Duration::MAX,
         lines: Duration::MAX,
         entries: 0,
     };
     for _ in 0..RUNS {
         let next = run_both(rt, input, messages, inputs)?;
-        least = Run {
+        least = MeasuredRun {
             alone: lesser(least.alone, next.alone),
             lines: lesser(least.lines, next.lines),
             entries: next.entries,
@@ -98,14 +98,14 @@ fn run_both<R: AllocGlobal + Clock + Threads + Wait + Sync>(
     input: &[u8],
     messages: &[Message],
     inputs: &[Vec<u8>],
-) -> anyhow::Result<Run> {
+) -> anyhow::Result<MeasuredRun> {
     let (alone, entries) = time_alone(rt, input, messages)?;
     let day = run_lines_of(rt, input, inputs, NOBODY, NOBODY)?;
     ensure!(
         day.entries == entries,
         "the lines made a tape of another length"
     );
-    Ok(Run {
+    Ok(MeasuredRun {
         alone,
         lines: day.time,
         entries,
@@ -144,8 +144,8 @@ fn run_lines_of<R: AllocGlobal + Clock + Threads + Wait + Sync>(
     rt: &R,
     input: &[u8],
     inputs: &[Vec<u8>],
-    beside: Watch,
-    after: Watch,
+    beside: Watchers,
+    after: Watchers,
 ) -> anyhow::Result<DayRun> {
     let tape = day::empty_tape_of_lines(rt.alloc(), input).context(day::NO_DAY)?;
     let prepared = prepare(rt.alloc(), tape)?;

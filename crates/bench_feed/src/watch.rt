@@ -17,7 +17,7 @@ const PAUSE_MILLIS: u64 = 1;
 
 /// The threads that watch a day.
 #[derive(Clone, Copy)]
-pub struct Watch {
+pub struct Watchers {
     /// How many threads publish.
     publishers: usize,
     /// How many threads look.
@@ -27,21 +27,21 @@ pub struct Watch {
 }
 
 /// No thread.
-pub const NOBODY: Watch = Watch {
+pub const NOBODY: Watchers = Watchers {
     publishers: 0,
     readers: 0,
     looks: 0,
 };
 
 /// One thread that publishes and four that look, while lines run.
-pub const BESIDE: Watch = Watch {
+pub const BESIDE: Watchers = Watchers {
     publishers: 1,
     readers: 4,
     looks: u64::MAX,
 };
 
 /// Four threads that look while no lines run.
-pub const ALONE: Watch = Watch {
+pub const ALONE: Watchers = Watchers {
     publishers: 0,
     readers: 4,
     looks: 1_048_576,
@@ -92,7 +92,7 @@ pub fn watch_on<D: DayName + Send + Sync, R: Clock + Threads + Wait + Sync>(
     alloc: Global,
     shared: &SharedTape<D>,
     over: &AtomicBool,
-    who: Watch,
+    who: Watchers,
 ) -> Option<u64> {
     let work = |thread: usize| -> u64 {
         if thread < who.publishers {
