@@ -4,7 +4,7 @@
 A crate's must-fail edits go to .ci/untried/ in the copy, where nothing tries them, if .ci/refused.txt has the crate as it is, but for an eighth of such
 crates. Which eighth it is moves on with each commit of the record: so each is tried again within eight of these, and a false record doesn't last.
 All are due if git does not tell how many there are. Of what is due a run tries so many edits that it ends in time, at least those of one crate. The others
-wait for another run, which begins at another crate; tools/edits.py tries them at any time.
+wait for another run, which begins at another crate; dev/edits.py tries them at any time.
 What git ignores is not copied. Lines for a reader go to the file NAMES: the crates whose edits are tried, those whose edits wait, if there are any, and
 those that are taken from the record. Statuses: 0; 2 for bad words.
 """
@@ -17,7 +17,7 @@ from pathlib import Path
 
 ROOT = Path(__file__).resolve().parent.parent
 sys.dont_write_bytecode = True
-sys.path.insert(0, str(ROOT / "tools"))
+sys.path.insert(0, str(ROOT / "dev"))
 
 import edits
 

@@ -6,7 +6,7 @@ tables from them into docs/SPEED.md and docs/speed.svg, with the commit, the kit
 show of them. That takes some 20 minutes once the
 programs are built, on a machine with no other work; run it by `chrt -r 10` to keep other work away. --quick takes smaller days, one turn and no figure of growth, and
 with it or --only the figures and the page go into bench/target/ alone. --drafts takes programs that are not proved, and the page says so. --page
-writes the page again from the figures that are there.
+writes the pages and the plot again from the figures that are there.
 
 Statuses: 0 if all was measured; 1 if a part failed, and then nothing is written; 2 if the words are others.
 """
@@ -27,31 +27,23 @@ from common import BENCH, ROOT, build_plain, located
 PAGE = ROOT / "docs" / "SPEED.md"
 FIGURES = ROOT / "docs" / "speed.json"
 TRIED = BENCH / "target"
-PROGRAMS = ["tapebox", "bench_feed"]
+PROGRAMS = ["tapebox"]
 # What git puts behind the commit of a tree with changes.
 CHANGED = "-dirty"
 # Of each part its script, its words, and those with --quick.
 PARTS = {
     "batch": ("measure.py", "", "--turns 1 one:1000000 busy:1000000 hostile:1000000"),
-    "growth": ("measure.py", "--turns 5 plot", ""),
+    "growth": ("measure.py", "--turns 5 growth", ""),
     "counts": ("measure.py", "counts", ""),
-    "feed": ("measure.py", "--turns 5 feed", "--turns 1 feed"),
-    "rows": ("measure.py", "--turns 11 rows", "--turns 1 rows"),
-    "lines": ("measure.py", "--turns 3 lines", "--turns 1 lines"),
-    "looks": ("measure.py", "--turns 3 looks", "--turns 1 looks"),
     "tables": ("tables.py", "", "--turns 1 one:1000000 busy:1000000"),
     "table_growth": ("tables.py", "growth", ""),
     "peers": ("tables.py", "peers", "--turns 1 peers busy:1000000"),
     "live": ("live_load.py", "--lines 1,4,15,26 --turns 3", "--messages 20000"),
     "late": ("live_load.py", "--late --turns 2", ""),
     "long": ("long_day.py", "", "--messages 100000"),
-    "readers": ("readers.py", "", "--turns 1 --messages 20000"),
     "latency": ("latency.py", "", "--turns 1 --seconds 0.2 --lines 4 --rates 1000,10000"),
-    "journals": ("journals.py", "", "--turns 1 --messages 20000 --seconds 0.2 --rates 1000,10000 --entries 100000"),
 }
 WITHOUT_TURNS = {"counts", "long"}
-# Its readers never wait, and in the real-time class would leave the lines no processor.
-NEVER_FIRST = {"looks"}
 
 
 def said(*command):
@@ -83,19 +75,13 @@ def machine():
     }
 
 
-def as_others():
-    """Leaves the real-time class."""
-    os.sched_setscheduler(0, os.SCHED_OTHER, os.sched_param(0))
-
-
 def measure_part(name, words, target):
     """The command of a part, how long it took, and its records; or none if it failed."""
     script, *rest = words
     command = [sys.executable, "-B", str(BENCH / script), "--no-build", "--json", str(target), *rest]
     print(f"all: {name}: bench/{script} {' '.join(rest)}", flush=True)
     began = time.monotonic()
-    begin = as_others if name in NEVER_FIRST else None
-    if subprocess.run(command, cwd=ROOT, check=False, preexec_fn=begin).returncode:
+    if subprocess.run(command, cwd=ROOT, check=False).returncode:
         print(f"all: {name} FAILED", flush=True)
         return None
     seconds = round(time.monotonic() - began, 1)
@@ -114,8 +100,7 @@ def measure_all(words):
             continue
         if words.turns and name not in WITHOUT_TURNS:
             rest += f" --turns {words.turns}"
-        svg = ["--svg", str(TRIED / "speed.svg")] if name == "growth" and words.is_tried else []
-        figures["parts"][name] = measure_part(name, [script, *rest.split(), *svg], TRIED / "part.json")
+        figures["parts"][name] = measure_part(name, [script, *rest.split()], TRIED / "part.json")
     return figures if all(figures["parts"].values()) else None
 
 
@@ -141,7 +126,7 @@ def arguments():
     parser.add_argument("--only", type=parts, metavar="PART,..", help=f"of {', '.join(PARTS)}")
     parser.add_argument("--turns", type=int, metavar="N", help="how often each program runs, in place of each part's own number")
     parser.add_argument("--drafts", action="store_true", help="takes programs that are not proved")
-    parser.add_argument("--page", action="store_true", help="measures nothing, and writes the page from docs/speed.json")
+    parser.add_argument("--page", action="store_true", help="measures nothing, and writes the pages and the plot from docs/speed.json")
     words = parser.parse_args()
     words.is_tried = words.quick or words.only
     return words
@@ -149,7 +134,8 @@ def arguments():
 
 def main():
     words = arguments()
-    page, kept = (TRIED / "SPEED.md", TRIED / "speed.json") if words.is_tried else (PAGE, FIGURES)
+    folder = TRIED if words.is_tried else PAGE.parent
+    page, kept, svg = (folder / name for name in (PAGE.name, FIGURES.name, "speed.svg"))
     if words.page:
         figures = json.loads(kept.read_text(encoding="utf-8"))
     else:
@@ -163,6 +149,9 @@ def main():
         kept.write_text(text_of(figures), encoding="utf-8")
     written = [page]
     page.write_text(speed_page.written(PAGE.read_text(encoding="utf-8"), figures), encoding="utf-8")
+    if drawn := speed_page.drawing(figures):
+        svg.write_text(drawn, encoding="utf-8")
+        written.append(svg)
     if not words.is_tried:
         for other in (ROOT / name for name in speed_page.OTHERS):
             other.write_text(speed_page.written(other.read_text(encoding="utf-8"), figures), encoding="utf-8")

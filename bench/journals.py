@@ -19,7 +19,6 @@ Statuses: 0 if all was measured; 1 if a program fails or two reports differ; 2 i
 
 import argparse
 import contextlib
-import json
 import os
 import socket
 import string
@@ -29,45 +28,35 @@ import time
 from pathlib import Path
 
 from common import DAYS, RELEASE, Failed, add_words, located, measured, shown
-from latency import Load, numbers
-from live_load import HOST, Programs, bound, busy_day, send_all, wait_bound
+from latency import SYMBOLS, Load, numbers
+from live_load import HOST, SAID, Day, Programs, bound, busy_day, send_all, wait_bound
 from long_day import PARTICIPANTS, Participant, peak_bytes, send_day
 from long_day import SYMBOLS as LONG_SYMBOLS
 
-from free_ports import free_ports
 from send_day import connect
 
-# As many participants as the busy day has, and as many lines and symbols as a pace is tried with.
-BUSY, LINES, SYMBOLS = 15, 4, [f"SYM{at}" for at in range(400)]
-SESSION, LIMIT, LIMIT_MOST = 1, 1_048_576, 16_777_216
+# As many participants as the busy day has, as many lines as a pace is tried with, and the greatest limit.
+BUSY, LINES, LIMIT_MOST = 15, 4, 16_777_216
+# The reports of both programs.
+LIVE, FOLLOW = DAYS / "journals.live", DAYS / "journals.follow"
 KINDS = {"synced": {"journal_sync": True}, "not synced": {"journal_sync": False}, "none": None}
 # Where the kind and the number of a packet stand, and how many seconds one may take.
 KIND, NUMBER, ROOM, PATIENCE = slice(1, 2), slice(10, 14), 2_048, 600
 
 
-class Day:
-    """A day's file, by the names of its listing, and its ports in a row."""
+def journal_of(words):
+    """Where a day's journal is."""
+    return words.folder.resolve() / "journals.journal"
 
-    def __init__(self, words, symbols, participants, kind, **more):
-        self.journal, lines = words.folder / "journals.journal", len(participants)
-        port = free_ports(lines + 3)
-        self.ports, (self.a, self.b, self.retransmission) = range(port, port + lines), range(port + lines, port + lines + 3)
-        keys = {"symbols": symbols, "participants": list(participants), "port": port, "a": [self.a], "b": [self.b], "retransmission": self.retransmission}
-        keys |= {"followers": 0, "session": SESSION, "limit": LIMIT} | more
-        keys |= {} if KINDS[kind] is None else {"journal": str(self.journal.resolve())} | KINDS[kind]
-        self.file = DAYS / "journals.toml"
-        self.file.write_text("".join(f"{key} = {json.dumps(value)}\n" for key, value in keys.items()))
 
-    def start(self, programs, tapebox, word):
-        """Starts a word of the program on the day: its report and what it says go into files."""
-        written, said = (programs.ending.enter_context(open(DAYS / f"journals.{word}.{what}", "wb")) for what in ("report", "said"))
-        program = subprocess.Popen([tapebox, word, self.file], stdout=written, stderr=said)
-        programs.started.append(program)
-        return program
+def day_of(words, symbols, participants, kind, **keys):
+    """A day of these names with a journal of this kind."""
+    return Day(symbols, participants, **keys, **({} if KINDS[kind] is None else {"journal": str(journal_of(words))} | KINDS[kind]))
 
-    def report(self, word):
-        """What it has written."""
-        return (DAYS / f"journals.{word}.report").read_bytes()
+
+def said():
+    """What `live` said."""
+    return Path(f"{LIVE}{SAID}").read_text(encoding="utf-8")
 
 
 def processor_seconds(program):
@@ -82,36 +71,36 @@ def ended_well(live, *others):
     live.returncode = os.waitstatus_to_exitcode(status)
     statuses = [program.wait() for program in (live, *others)]
     if any(statuses):
-        raise Failed(f"statuses {statuses}: {(DAYS / 'journals.live.said').read_text()}")
+        raise Failed(f"statuses {statuses}: {said()}")
     return used.ru_utime + used.ru_stime
 
 
 def full_speed(words, kind, day):
     """The seconds of a day at full speed, the processor seconds of its `live`, and the bytes of its journal, if it has one."""
     _, symbols, own = day
-    of = Day(words, symbols, list(own), kind, followers=1)
-    of.journal.unlink(missing_ok=True)
+    of, journal = day_of(words, symbols, own, kind), journal_of(words)
+    journal.unlink(missing_ok=True)
     with contextlib.ExitStack() as ending:
         programs = Programs(ending)
-        live = of.start(programs, words.tapebox, "live")
+        live = programs.start(LIVE, words.tapebox, "live", of.file)
         wait_bound(live, "tcp", of.retransmission)
-        follow = of.start(programs, words.tapebox, "follow")
+        follow = programs.start(FOLLOW, words.tapebox, "follow", of.file)
         wait_bound(follow, "udp", of.a, of.b)
         began = send_all(own, of.ports[0])
         follow.wait()
         seconds = time.perf_counter() - began
         taken = ended_well(live, follow)
-    if of.report("live") != of.report("follow"):
+    if LIVE.read_bytes() != FOLLOW.read_bytes():
         raise Failed(f"{kind}: the reports differ")
-    return seconds, taken, of.journal.stat().st_size if of.journal.exists() else 0
+    return seconds, taken, journal.stat().st_size if journal.exists() else 0
 
 
 def at_pace(words, kind, load):
     """The figures of a day whose messages come at an even pace."""
-    of = Day(words, SYMBOLS, string.ascii_uppercase[: load.lines], kind)
-    of.journal.unlink(missing_ok=True)
+    of = day_of(words, SYMBOLS, string.ascii_uppercase[: load.lines], kind, followers=0)
+    journal_of(words).unlink(missing_ok=True)
     with contextlib.ExitStack() as ending:
-        live = of.start(Programs(ending), words.tapebox, "live")
+        live = Programs(ending).start(LIVE, words.tapebox, "live", of.file)
         wait_bound(live, "tcp", *of.ports)
         asked = [RELEASE / "latency", of.ports[0], load.lines, of.a, of.b, load.rate, load.messages]
         told = subprocess.run(list(map(str, asked)), capture_output=True, text=True, check=False)
@@ -123,14 +112,14 @@ def at_pace(words, kind, load):
 
 def make_journal(words, participants):
     """Makes a journal of so many entries."""
-    of = Day(words, LONG_SYMBOLS, PARTICIPANTS, "not synced", limit=LIMIT_MOST)
-    of.journal.unlink(missing_ok=True)
+    of = day_of(words, LONG_SYMBOLS, PARTICIPANTS, "not synced", followers=0, limit=LIMIT_MOST)
+    journal_of(words).unlink(missing_ok=True)
     with contextlib.ExitStack() as ending:
-        live = of.start(Programs(ending), words.tapebox, "live")
+        live = Programs(ending).start(LIVE, words.tapebox, "live", of.file)
         wait_bound(live, "tcp", *of.ports)
         send_day(participants, connect(list(PARTICIPANTS), of.ports[0]), words.entries)
         ended_well(live)
-    return of.journal.stat().st_size
+    return journal_of(words).stat().st_size
 
 
 def wait_sent(receiver, number):
@@ -145,19 +134,19 @@ def wait_listening(live, port):
     """Waits until the port is bound, without a rest that would be measured."""
     while not bound("tcp", port):
         if live.poll() is not None:
-            raise Failed(f"live ended with status {live.returncode}: {(DAYS / 'journals.live.said').read_text()}")
+            raise Failed(f"live ended with status {live.returncode}: {said()}")
         time.sleep(0.001)
 
 
 def goes_on(words, participants):
     """The seconds until a `live` has read a journal, and until it has sent a new message, its processor seconds at either moment, and its peak memory."""
-    of = Day(words, LONG_SYMBOLS, PARTICIPANTS, "synced", limit=LIMIT_MOST)
+    of = day_of(words, LONG_SYMBOLS, PARTICIPANTS, "synced", followers=0, limit=LIMIT_MOST)
     held = sum(participant.number for participant in participants.values())
     with contextlib.ExitStack() as ending, socket.socket(socket.AF_INET, socket.SOCK_DGRAM) as receiver:
         receiver.bind((HOST, of.a))
         receiver.settimeout(PATIENCE)
         began = time.perf_counter()
-        live = of.start(Programs(ending), words.tapebox, "live")
+        live = Programs(ending).start(LIVE, words.tapebox, "live", of.file)
         # The sockets are opened once the journal is read.
         wait_listening(live, of.ports[-1])
         read, taken = time.perf_counter() - began, processor_seconds(live)
@@ -213,7 +202,7 @@ def records(words):
         for part in (of_full_speed, of_paces, of_restarts):
             yield from part(words)
     finally:
-        (words.folder / "journals.journal").unlink(missing_ok=True)
+        journal_of(words).unlink(missing_ok=True)
 
 
 def main():

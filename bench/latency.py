@@ -22,13 +22,10 @@ import sys
 from dataclasses import dataclass
 
 from common import DAYS, RELEASE, Failed, add_words, located, measured
-from live_load import Programs, wait_bound
-
-from free_ports import free_ports
+from live_load import Day, Programs, wait_bound
 
 # As many symbols as the sender's reports are of.
-SYMBOLS = ",".join(f"SYM{at}" for at in range(400))
-SESSION = "1"
+SYMBOLS = [f"SYM{at}" for at in range(400)]
 PERCENTILES = ("p50", "p90", "p99", "p99.9")
 
 
@@ -41,22 +38,20 @@ class Load:
     messages: int
 
 
-def words_of(name, tapebox, load, port):
-    """The command that starts a program, which listens on the ports from this one on and sends to the two after those."""
-    a, b, retransmission = range(port + load.lines, port + load.lines + 3)
+def words_of(name, tapebox, day):
+    """The command that starts a program, which listens on the participants' ports of a day and sends to its lines."""
     if name == "forward":
-        return [RELEASE / "forward", port, load.lines, a, b]
-    participants = ",".join(string.ascii_uppercase[: load.lines])
-    return [tapebox, "live", SYMBOLS, participants, port, a, b, retransmission, 0, SESSION]
+        return [RELEASE / "forward", day.ports[0], len(day.ports), day.a, day.b]
+    return [tapebox, "live", day.file]
 
 
 def figures_of(name, tapebox, load):
     """The figures of a run through this program, by their names."""
-    port = free_ports(load.lines + 3)
+    day = Day(SYMBOLS, string.ascii_uppercase[: load.lines], followers=0)
     with contextlib.ExitStack() as ending:
-        program = Programs(ending).start(DAYS / "latency.report", *words_of(name, tapebox, load, port))
-        wait_bound(program, "tcp", *range(port, port + load.lines))
-        words = [port, load.lines, port + load.lines, port + load.lines + 1, load.rate, load.messages]
+        program = Programs(ending).start(DAYS / "latency.report", *words_of(name, tapebox, day))
+        wait_bound(program, "tcp", *day.ports)
+        words = [day.ports[0], load.lines, day.a, day.b, load.rate, load.messages]
         told = subprocess.run([RELEASE / "latency", *map(str, words)], capture_output=True, text=True, check=False)
         status = program.wait()
     if told.returncode or status:

@@ -3,7 +3,7 @@
 
     bench/live_load.py [--messages N] [--lines N,..] [--turns N] [--seed N] [--lose P] [--late] [--followers N] [--no-build] [--json FILE]
 
-The day is that of `make_day busy`, or of `busy4` and so on for another number of lines, without the lines that no participant's line can
+Both are given by a day's file. The day is that of `make_day busy`, or of `busy4` and so on for another number of lines, without the lines that no participant's line can
 bring (an odd digit, a letter that is not listed), up to N messages. It runs straight and through tests/lossy_relay.py with P percent lost on each
 line; with --late in place of these through the relay with line B in time, late or dead, each without a loss and with one in a hundred packets of
 a line lost. `tapebox` is the one of `./run --which`. Prints for each run the seconds from the first byte sent to the end of `follow`, the messages a second, how many entries the answers
@@ -20,6 +20,7 @@ Statuses: 0 if all reports are equal; 1 if not, or a program fails; 2 if the wor
 
 import argparse
 import contextlib
+import json
 import socket
 import subprocess
 import sys
@@ -30,12 +31,16 @@ from pathlib import Path
 from common import DAYS, RELEASE, ROOT, Failed, add_words, located, make, measured, run, told
 
 TESTS = ROOT / "tests"
-sys.path[:0] = [str(ROOT / "tools"), str(TESTS)]
+sys.path.insert(0, str(TESTS))
+
+import folders  # noqa: F401
 from free_ports import free_ports
 from send_day import HOST, connect, parse_batch
 from support import report_rows
 
-SESSION = "1"
+SESSION = 1
+# Behind the name of a program's output, that of the file with its standard error.
+SAID = ".said"
 LIMIT_SECONDS = 600
 BINDING_SECONDS = 10
 REQUEST_BYTES = 14
@@ -153,8 +158,9 @@ class Programs:
         ending.callback(timer.cancel)
 
     def start(self, written, *words):
-        file = self.ending.enter_context(open(written, "wb"))
-        program = subprocess.Popen([str(word) for word in words], stdout=file)
+        """Starts a program that writes this file, and whose standard error goes into one beside it."""
+        output, said = (self.ending.enter_context(open(f"{written}{suffix}", "wb")) for suffix in ("", SAID))
+        program = subprocess.Popen([str(word) for word in words], stdout=output, stderr=said)
         self.started.append(program)
         return program
 
@@ -163,38 +169,56 @@ class Programs:
             program.kill()
 
 
+class Day:
+    """The file of a day of these names: its ports are those of the participants, one each of lines A and B and of the retransmission, and some to
+    spare."""
+
+    def __init__(self, symbols, participants, spare=0, **keys):
+        lines = len(participants)
+        port = free_ports(lines + 3 + spare)
+        self.ports, (self.a, self.b, self.retransmission, *self.spare) = range(port, port + lines), range(port + lines, port + lines + 3 + spare)
+        self.keys = {"symbols": list(symbols), "participants": list(participants), "port": port, "a": [self.a], "b": [self.b]}
+        self.keys |= {"retransmission": self.retransmission, "followers": 1, "session": SESSION} | keys
+        self.file = self.write("day.toml")
+
+    def write(self, name, **keys):
+        """Writes a file of the day in which these keys are others."""
+        file = DAYS / name
+        file.write_text("".join(f"{key} = {json.dumps(value)}\n" for key, value in (self.keys | keys).items()))
+        return file
+
+
 def live_run(words, symbols, own, options):
     """Runs the day once, through the relay if there are options for it or several followers; answers the seconds, the counted retransmissions
     and the reports' files, or ends with the reason."""
     many = words.followers
-    port = free_ports(len(own) + 3 + 3 * many)
-    retransmission, sent_a, sent_b, *ports = range(port + len(own), port + len(own) + 3 + 3 * many)
-    asked, lines = ports[:many], ports[many:]
-    names = [",".join(symbols), ",".join(own)]
+    day = Day(symbols, own, spare=3 * many, followers=many)
+    asked, lines = day.spare[:many], day.spare[many:]
     reports = [DAYS / f"live.{program}" for program in ("live", *(f"follow{at}" for at in range(many)))]
     is_relayed = options or many > 1
     with contextlib.ExitStack() as ending:
         programs = Programs(ending)
-        ways = (sent_a, sent_b) if is_relayed else lines
-        live = programs.start(reports[0], words.tapebox, "live", *names, port, *ways, retransmission, many, SESSION)
-        wait_bound(live, "tcp", retransmission)
+        ways = (day.a, day.b) if is_relayed else lines
+        live = programs.start(reports[0], words.tapebox, "live", day.write("live.toml", a=[ways[0]], b=[ways[1]]))
+        wait_bound(live, "tcp", day.retransmission)
         if is_relayed:
-            relaying = [TESTS / "lossy_relay.py", *options, "--seed", words.seed, sent_a, sent_b, *lines]
+            relaying = [TESTS / "lossy_relay.py", *options, "--seed", words.seed, *ways, *lines]
             relay = programs.start(DAYS / "live.relay", sys.executable, *relaying)
-            wait_bound(relay, "udp", sent_a, sent_b)
-        counted = [Retransmission(own_port, retransmission) for own_port in asked]
+            wait_bound(relay, "udp", *ways)
+        counted = [Retransmission(own_port, day.retransmission) for own_port in asked]
         follows = []
         for at in range(many):
             counted[at].start()
             own_lines = lines[2 * at : 2 * at + 2]
-            follows.append(programs.start(reports[1 + at], words.tapebox, "follow", *names, *own_lines, asked[at], SESSION))
+            followed = day.write(f"follow{at}.toml", a=own_lines[:1], b=own_lines[1:], retransmission=asked[at])
+            follows.append(programs.start(reports[1 + at], words.tapebox, "follow", followed))
             wait_bound(follows[at], "udp", *own_lines)
-        began = send_all(own, port)
+        began = send_all(own, day.ports[0])
         followed = [follow.wait() for follow in follows]
         seconds = time.perf_counter() - began
         lived = live.wait()
         if any(followed) or lived:
-            sys.exit(f"follow ended with status {followed} and live with {lived} (-9: killed after {LIMIT_SECONDS} seconds)")
+            sys.exit(f"follow ended with status {followed} and live with {lived} (-9: killed after {LIMIT_SECONDS} seconds): see {DAYS}/*{SAID}")
         if is_relayed:
             relay.terminate()
             relay.wait()

@@ -22,16 +22,14 @@ from collections import deque
 from pathlib import Path
 
 from common import Failed, add_words, located, measured
-from live_load import Programs, wait_bound
+from live_load import Day, Programs, wait_bound
 
 import plain_table
-from free_ports import free_ports
 from send_day import connect
 from support import report_rows
 
 PARTICIPANTS = "ABCDEFGHIJKLMNO"
 SYMBOLS = [f"SYM{number}" for number in range(400)]
-SESSION = "1"
 # How many messages a participant sends at once, and how many of its last reports a message may name.
 PIECE = 1_000
 NAMED = 64
@@ -145,19 +143,17 @@ def arguments():
 def records(words):
     """The one record of the day."""
     tapebox = located("tapebox")["tapebox"]
-    port = free_ports(len(PARTICIPANTS) + 3)
-    a, b, retransmission = range(port + len(PARTICIPANTS), port + len(PARTICIPANTS) + 3)
-    names = [",".join(SYMBOLS), ",".join(PARTICIPANTS)]
+    day = Day(SYMBOLS, PARTICIPANTS, limit=words.limit)
     participants = {letter: Participant(letter, words.seed) for letter in PARTICIPANTS}
     with contextlib.ExitStack() as ending, tempfile.TemporaryDirectory() as folder:
         reports = [Path(folder) / "live", Path(folder) / "follow"]
         programs = Programs(ending)
-        live = programs.start(reports[0], tapebox, "live", *names, port, a, b, retransmission, 1, SESSION, 1, words.limit)
-        wait_bound(live, "tcp", retransmission)
-        follow = programs.start(reports[1], tapebox, "follow", *names, a, b, retransmission, SESSION, 1, words.limit)
-        wait_bound(follow, "udp", a, b)
+        live = programs.start(reports[0], tapebox, "live", day.file)
+        wait_bound(live, "tcp", day.retransmission)
+        follow = programs.start(reports[1], tapebox, "follow", day.file)
+        wait_bound(follow, "udp", day.a, day.b)
         began = time.perf_counter()
-        tenths = send_day(participants, connect(list(PARTICIPANTS), port), words.messages)
+        tenths = send_day(participants, connect(list(PARTICIPANTS), day.ports[0]), words.messages)
         peaks = wait_all([live, follow])
         seconds = time.perf_counter() - began
         written = [report.read_bytes() for report in reports]

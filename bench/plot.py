@@ -1,6 +1,7 @@
 """The plot of a batch's time over its length, as an SVG."""
 
-# The lengths that are drawn, in MiB.
+MEBIBYTE = 1_048_576
+# The lengths that the axis names, in MiB.
 MEGABYTES = (2, 4, 8, 16)
 # The plot's frame in its own units.
 WIDTH, HEIGHT = 640, 380
@@ -27,9 +28,11 @@ STYLE = """  <style>
 
 
 def drawing(seconds):
-    """The plot as an SVG: seconds by program at each of the lengths. Its colours follow the reader's scheme, light or dark."""
-    step = next(step for step in (0.05, 0.1, 0.2, 0.5, 1, 2, 5) if max(map(max, seconds.values())) <= 6 * step)
-    lines = int(max(map(max, seconds.values())) / step) + 1
+    """The plot as an SVG: of each program its seconds over the bytes of the input. Its colours follow the reader's scheme, light or dark."""
+    ways = {name: [(round(length / MEBIBYTE), value) for length, value in sorted(own.items())] for name, own in seconds.items()}
+    most = max(value for way in ways.values() for _, value in way)
+    step = next(step for step in (0.05, 0.1, 0.2, 0.5, 1, 2, 5) if most <= 6 * step)
+    lines = int(most / step) + 1
     top = lines * step
 
     def x(megabytes):
@@ -54,15 +57,14 @@ def drawing(seconds):
         drawn.append(f'  <text x="{at}" y="{BOTTOM + 21}" text-anchor="middle">{megabytes}</text>\n')
     drawn.append(f'  <text x="{(LEFT + RIGHT) / 2}" y="{BOTTOM + 42}" text-anchor="middle">megabytes (MiB) of input</text>\n')
     drawn.append(f'  <text transform="translate(18 {(TOP + BOTTOM) / 2}) rotate(-90)" text-anchor="middle">processor seconds</text>\n')
-    ends = sorted(((y(own[-1]), name) for name, own in seconds.items()), reverse=True)
+    ends = sorted(((y(way[-1][1]), name) for name, way in ways.items()), reverse=True)
     below = BOTTOM
     for end, name in ends:
-        own = seconds[name]
-        points = [(x(megabytes), y(value)) for megabytes, value in zip(MEGABYTES, own)]
+        points = [(x(megabytes), y(value)) for megabytes, value in ways[name]]
         way = " ".join(f"{across:.1f},{down:.1f}" for across, down in points)
         drawn.append(f'  <polyline class="line {name}" points="{way}"/>\n')
         for across, down in points:
             drawn.append(f'  <circle class="mark {name}" cx="{across:.1f}" cy="{down:.1f}" r="3"/>\n')
         below = min(end + 4, below - 18)
-        drawn.append(f'  <text class="{name}" x="{RIGHT + 12}" y="{below:.1f}">{name} {own[-1]:.2f} s</text>\n')
+        drawn.append(f'  <text class="{name}" x="{RIGHT + 12}" y="{below:.1f}">{name} {ways[name][-1][1]:.2f} s</text>\n')
     return "".join(drawn) + "</svg>\n"

@@ -24,7 +24,7 @@ import time
 import urllib.request
 
 from common import DAYS, ROOT, Failed, add_words, located, measured, shown
-from live_load import HOST, SESSION, Programs, busy_day, send_all, wait_bound
+from live_load import HOST, Day, Programs, busy_day, send_all, wait_bound
 from tables import OWN_PYTHON, make_table
 
 from free_ports import free_ports
@@ -61,20 +61,17 @@ def stream():
 def watched(tapebox, day, adding=None):
     """Runs a day with `watch`, into a file or into a command; returns the seconds and the rows' file."""
     _, symbols, own = day
-    names, rows = [",".join(symbols), ",".join(own)], DAYS / "readers.csv"
-    port = free_ports(len(own) + 3)
-    a, b, retransmission = range(port + len(own), port + len(own) + 3)
+    of, rows = Day(symbols, own), DAYS / "readers.csv"
     with contextlib.ExitStack() as ending:
         programs = Programs(ending)
-        live = programs.start(DAYS / "readers.report", tapebox, "live", *names, port, a, b, retransmission, 1, SESSION)
-        wait_bound(live, "tcp", retransmission)
+        live = programs.start(DAYS / "readers.report", tapebox, "live", of.file)
+        wait_bound(live, "tcp", of.retransmission)
         file = ending.enter_context(open(rows if adding is None else DAYS / "readers.none", "wb"))
-        words = [tapebox, "watch", *names, a, b, retransmission, SESSION]
-        watch = subprocess.Popen(list(map(str, words)), stdout=subprocess.PIPE if adding else file)
+        watch = subprocess.Popen([tapebox, "watch", of.file], stdout=subprocess.PIPE if adding else file, stderr=subprocess.DEVNULL)
         reader = subprocess.Popen(list(map(str, adding)), stdin=watch.stdout) if adding else watch
         programs.started += [watch, reader]
-        wait_bound(watch, "udp", a, b)
-        began = send_all(own, port)
+        wait_bound(watch, "udp", of.a, of.b)
+        began = send_all(own, of.ports[0])
         ended = reader.wait()
         seconds = time.perf_counter() - began
         if ended or watch.wait() or live.wait():

@@ -1,6 +1,11 @@
-/* A tape, its sender, its subscriber and the texts of a table in a process of your own: the calls of the static library libtapebox_c.a.
+/* A tape, its sender, its subscriber and the texts of a table in a process of your own: the calls of the static library libtapebox.a, which
+ * clib/build makes, and which is all that a program links:
  *
- * Each call is proved (crates/tapebox_c): it is safe, it returns, and it answers as written here, as long as its caller keeps these,
+ *     cc -I clib PROGRAM.c clib/libtapebox.a
+ *     c++ -std=c++17 -I clib PROGRAM.cpp clib/libtapebox.a
+ *     rustc --edition 2024 -L clib -l static=tapebox PROGRAM.rs
+ *
+ * Unless the library is a draft (clib/build --draft), each call is proved (crates/tapebox_c): it is safe, it returns, and it answers as written here, as long as its caller keeps these,
  * which nothing checks:
  *
  * 1. A pointer to a struct points to one, written by its owner alone, and no two pointers of a call point to the same. A pointer to
@@ -24,20 +29,91 @@
 extern "C" {
 #endif
 
-/* Refusals of the calls themselves, besides those of docs/RULES.md. */
-enum {
-    TAPEBOX_NO_TAPE = 101,       /* the handle holds no tape (for a summary or an entry: no subscriber either) */
-    TAPEBOX_NO_SUBSCRIBER = 102, /* the handle holds no subscriber */
-    TAPEBOX_IN_USE = 103,        /* the handle holds something already */
-    TAPEBOX_BAD_MATRIX = 104,    /* the matrix is neither 1 nor 2 */
-    TAPEBOX_NO_ENTRY = 105,      /* the tape, the packet or the answer has none of that number or place */
-    TAPEBOX_NO_LINE = 106,       /* the line is none of 0, 1 and 2 */
-    TAPEBOX_NO_REQUEST = 107,    /* a request has 14 bytes */
-    TAPEBOX_NO_ROOM = 108,       /* the row is shorter than the answer */
-    TAPEBOX_OUT_OF_MEMORY = 109, /* memory ran out for a packet, an answer, a table or a text */
-    TAPEBOX_NO_TABLE = 110,      /* the handle holds no table */
-    TAPEBOX_BAD_TABLE = 111      /* the bytes are no table, or have no row or too many symbols; the handle's text says which, and where */
-};
+/* Each refusal: its number, its constant behind TAPEBOX_, and its name in docs/RULES.md. A name that several have ends in its number, except 109. */
+#define TAPEBOX_REFUSALS(ROW) \
+    ROW(1, EMPTY, "Empty") \
+    ROW(2, TOO_MANY, "TooMany") \
+    ROW(3, REPEATED, "Repeated") \
+    ROW(4, OUT_OF_MEMORY_4, "OutOfMemory") \
+    ROW(5, BAD_LIMIT, "BadLimit") \
+    ROW(6, OUT_OF_MEMORY_6, "OutOfMemory") \
+    ROW(9, BAD_HEADER, "BadHeader") \
+    ROW(11, OVERSIZE, "Oversize") \
+    ROW(12, SHORT_12, "Short") \
+    ROW(13, BAD_KIND_13, "BadKind") \
+    ROW(14, BAD_LENGTH, "BadLength") \
+    ROW(15, BAD_PARTICIPANT, "BadParticipant") \
+    ROW(16, BAD_NUMBER, "BadNumber") \
+    ROW(17, BAD_SYMBOL, "BadSymbol") \
+    ROW(18, BAD_TARGET, "BadTarget") \
+    ROW(19, BAD_PRICE, "BadPrice") \
+    ROW(20, BAD_SIZE, "BadSize") \
+    ROW(21, BAD_CONDITION, "BadCondition") \
+    ROW(23, EXTRA_BYTES, "ExtraBytes") \
+    ROW(31, CLOSED, "Closed") \
+    ROW(32, FULL, "Full") \
+    ROW(33, WRONG_LINE, "WrongLine") \
+    ROW(34, UNKNOWN_PARTICIPANT, "UnknownParticipant") \
+    ROW(35, STALE, "Stale") \
+    ROW(36, UNKNOWN_SYMBOL, "UnknownSymbol") \
+    ROW(37, NO_SUCH_REPORT, "NoSuchReport") \
+    ROW(38, OTHER_SYMBOL, "OtherSymbol") \
+    ROW(39, CANCELLED, "Cancelled") \
+    ROW(40, OUT_OF_MEMORY_40, "OutOfMemory") \
+    ROW(41, WRONG_NUMBER, "WrongNumber") \
+    ROW(42, OTHER_SUMMARY, "OtherSummary") \
+    ROW(43, STANDING, "Standing") \
+    ROW(44, NOT_IN_MATRIX, "NotInMatrix") \
+    ROW(51, SHORT_51, "Short") \
+    ROW(52, BAD_VERSION, "BadVersion") \
+    ROW(53, BAD_KIND_53, "BadKind") \
+    ROW(54, BAD_COUNT, "BadCount") \
+    ROW(55, BAD_ENTRY, "BadEntry") \
+    ROW(56, NOT_IN_ORDER, "NotInOrder") \
+    ROW(57, TRAILING, "Trailing") \
+    ROW(61, FOREIGN, "Foreign") \
+    ROW(62, CONFLICT, "Conflict") \
+    ROW(63, PAST_END, "PastEnd") \
+    ROW(64, FAILED, "Failed") \
+    ROW(71, OTHER_SESSION, "OtherSession") \
+    ROW(72, BEYOND, "Beyond") \
+    ROW(73, BAD_SPAN, "BadSpan") \
+    ROW(74, READ_FAULT, "ReadFault") \
+    ROW(76, BAD_ANSWER, "BadAnswer") \
+    ROW(77, REFUSED, "Refused") \
+    ROW(78, OUT_OF_MEMORY_78, "OutOfMemory") \
+    ROW(101, NO_TAPE, "NoTape") /* the handle holds no tape (for a summary or an entry: no subscriber either) */ \
+    ROW(102, NO_SUBSCRIBER, "NoSubscriber") /* the handle holds no subscriber */ \
+    ROW(103, IN_USE, "InUse") /* the handle holds something already */ \
+    ROW(104, BAD_MATRIX, "BadMatrix") /* the matrix is neither 1 nor 2 */ \
+    ROW(105, NO_ENTRY, "NoEntry") /* the tape, the packet or the answer has none of that number or place */ \
+    ROW(106, NO_LINE, "NoLine") /* the line is none of 0, 1 and 2 */ \
+    ROW(107, NO_REQUEST, "NoRequest") /* a request has 14 bytes */ \
+    ROW(108, NO_ROOM, "NoRoom") /* the row is shorter than the answer */ \
+    ROW(109, OUT_OF_MEMORY, "OutOfMemory") /* memory ran out for a packet, an answer, a table or a text */ \
+    ROW(110, NO_TABLE, "NoTable") /* the handle holds no table */ \
+    ROW(111, BAD_TABLE, "BadTable") /* the bytes are no table, or have no row or too many symbols; the handle's text says which, and where */ \
+    ROW(112, BUSY, "Busy") /* another thread's call is using the handle: of the Python package alone */
+
+#define TAPEBOX_CONSTANT(code, constant, name) TAPEBOX_##constant = code,
+enum { TAPEBOX_REFUSALS(TAPEBOX_CONSTANT) TAPEBOX_ADMITTED = 0 };
+#undef TAPEBOX_CONSTANT
+
+/* Returns the name of a refusal's number: "Admitted" for 0, "?" for a number that no call returns. */
+static inline const char *tapebox_refusal_name(uint32_t code) {
+#define TAPEBOX_NAME(number, constant, name) case number: return name;
+    switch (code) {
+        case TAPEBOX_ADMITTED: return "Admitted";
+        TAPEBOX_REFUSALS(TAPEBOX_NAME)
+        default: return "?";
+    }
+#undef TAPEBOX_NAME
+}
+
+/* The version of this header, 100 times the first number and the second, and that of the library. A library serves the headers of its first number
+ * that are not newer. */
+#define TAPEBOX_VERSION 100
+uint32_t tapebox_version(void);
 
 /* How many bytes the longest packet and the longest answer to a request have. */
 #define TAPEBOX_LONGEST_PACKET 1823
@@ -137,7 +213,7 @@ typedef struct tapebox_many {
     size_t answered, taken;
 } tapebox_many;
 
-/* What a participant has sent: the shares of its reports, how many messages of every kind, and its greatest number. */
+/* What a participant has sent: the shares of its reports as first reported, how many messages of every kind, and its greatest number. */
 typedef struct tapebox_totals_row {
     uint64_t shares;
     uint32_t messages, last;
@@ -170,7 +246,7 @@ uint32_t tapebox_admit_many(tapebox_handle *handle, const uint8_t *messages, siz
 /* Closes a tape: it admits nothing more. Refused: 101. */
 uint32_t tapebox_close(tapebox_handle *handle);
 
-/* These ten read a tape, or a subscriber's own tape. */
+/* The calls from here to tapebox_serve read a tape, or a subscriber's own tape. */
 
 /* The consolidated figures of a symbol, by its name without padding. Refused: 101, 36. */
 uint32_t tapebox_summary(tapebox_handle *handle, const uint8_t *symbol, size_t len, tapebox_figures *row);

@@ -1,7 +1,7 @@
 """The build of the package's wheel, as `pip install ./python` and `pip wheel ./python` call it (PEP 517). It needs no other package.
 
-If the kit's `rt` is there it runs clib/build, which proves the library if it is not proved yet; else it takes the clib/libtapebox.so that
-clib/build left. $TAPEBOX_LIBRARY names another library to take. The wheel holds it, so whoever installs the wheel needs neither kit nor
+If the kit's `rt` is there it runs `clib/build --draft`, which takes the proved library if it was built from exactly this tree, and else compiles one
+without proofs and says so. Without the kit it takes the clib/libtapebox.so that clib/build left. $TAPEBOX_LIBRARY names another library to take. The wheel holds it, so whoever installs the wheel needs neither kit nor
 compiler. Its tag is that of the C library that it needs.
 """
 
@@ -34,7 +34,7 @@ def built_library() -> Path:
         return Path(named)
     library = CLIB / "libtapebox.so"
     if shutil.which("rt"):
-        subprocess.run([CLIB / "build"], check=True)
+        subprocess.run([CLIB / "build", "--draft"], check=True)
     if not library.exists():
         raise FileNotFoundError(f"{library}: clib/build makes it, if the kit is there; or $TAPEBOX_LIBRARY names another")
     return library

@@ -8,8 +8,10 @@ import random
 import struct
 import sys
 import tempfile
+import threading
 import unittest
 import unittest.mock
+from dataclasses import replace
 from decimal import Decimal
 
 HERE = os.path.dirname(os.path.abspath(__file__))
@@ -143,6 +145,76 @@ class Cases(unittest.TestCase):
         self.assertEqual((call(0), row.answered, row.taken), (108, 0, 0))
         self.assertEqual((call(3), list(numbers), row.answered, row.taken), (0, [35, 35, 0], 3, len(text)))
 
+    def test_many_messages(self) -> None:
+        """Many messages are encoded and decoded as each of them is, and the first fault of many is refused with how far it came."""
+        messages = [Message.decode(entry.message) for entry in morning()]
+        text = b"".join(message.encode() for message in messages)
+        self.assertEqual((tapebox.encode_many(messages), tapebox.decode_many(text), tapebox.decode_many(bytearray(text))), (text, messages, messages))
+        self.assertEqual((tapebox.encode_many([]), tapebox.decode_many(b"")), (b"", []))
+        good = messages[0]
+        for code, message in (
+            (13, replace(good, kind="Z")), (15, replace(good, participant="n")), (15, replace(good, participant="NN")), (16, replace(good, number=0)),
+            (16, replace(good, number=-1)), (17, replace(good, symbol="ab")), (17, replace(good, symbol="A" * 9)), (19, replace(good, price=Decimal("0.00001"))),
+            (19, replace(good, price=Decimal(0))), (20, replace(good, size=1 << 40)), (21, replace(good, condition="@")),
+            (18, Message("X", "N", 1, "AB", 0)), (18, Message("X", "N", 1, "AB", 1 << 33)),
+        ):
+            with self.subTest(message):
+                self.refused(code, message.encode)
+                with self.assertRaises(Refused) as told:
+                    tapebox.encode_many([good, message, good])
+                self.assertEqual((told.exception.code, told.exception.taken), (code, len(good.encode())))
+        for cut in range(1, 40):
+            with self.assertRaises(Refused) as told:
+                tapebox.decode_many(text[:-cut] if cut < 28 else text[:28] + text[28 + cut :])
+
+    def test_buffers(self) -> None:
+        """Bytes may lie in any buffer. They are read where they lie if they can be written to."""
+        row = bytearray(b"?" + REPORT + b"?")
+        part = memoryview(row)[1:-1]
+        for text in (REPORT, bytearray(REPORT), memoryview(REPORT), part):
+            with self.subTest(type(text)), Tape(["AB"], "NQ") as tape:
+                self.assertEqual((tape.admit(text), list(tape.admit_many(text)), Message.decode(text)), (1, [35], Message.decode(REPORT)))
+                sent = tape.packet(1, session=7)
+                with Subscriber(["AB"], "NQ", 7) as subscriber:
+                    subscriber.deliver("A", memoryview(bytearray(sent)))
+                    self.assertEqual((subscriber.drain(), subscriber.entry(1)), (1, tape.entry(1)))
+        self.refused(12, Message.decode, bytearray())
+        # Nothing is kept of the buffer.
+        part.release()
+        row.clear()
+        self.assertRaises(TypeError, Message.decode, "text")
+
+    def test_prices_that_are_floats(self) -> None:
+        with Tape(["AB"], "NQ") as tape:
+            self.assertRaises(TypeError, tape.report, "N", 1, "AB", 10.05, 100, "@___")
+            self.assertRaises(TypeError, tapebox.encode_many, [Message("R", "N", 1, "AB", 0, 10.05, 100, "@___")])
+            self.assertEqual([tape.report("N", n, "AB", price, 100, "@___") for n, price in enumerate((Decimal("10.05"), "10.05", 10), 1)], [1, 2, 3])
+
+    def test_a_busy_handle(self) -> None:
+        """A call of a handle that another thread's call is using is refused by 112, and changes nothing; calls of other handles go on meanwhile."""
+        tape, other = morning(), morning()
+        many, went_on, busy = tapebox.encode_many(Message("R", "N", n, "AB", 0, Decimal(1), 1, "@___") for n in range(100, 200_000)), 0, 0
+        thread = threading.Thread(target=tape.admit_many, args=(many,))
+        before = len(tape)
+        thread.start()
+        while thread.is_alive():
+            went_on += len(other) == before
+            try:
+                len(tape)
+            except Refused as refusal:
+                busy += refusal.code == 112
+        thread.join()
+        self.assertEqual(len(tape), before + 199_900)
+        self.assertGreater(min(busy, went_on), 1)
+        handle = tape._use()
+        for call in (tape.admit, tape.admit_many):
+            self.refused(112, call, REPORT)
+        for call in (tape.__len__, tape.close, tape.free, lambda: next(iter(tape))):
+            self.refused(112, call)
+        self.assertIs(handle, tape._handle)
+        tape._lock.release()
+        self.assertEqual(len(tape), before + 199_900)
+
     def test_tables(self) -> None:
         head = "participant,number,symbol,target,price,size,condition,#desk\n"
         rows = "N,1,AB,,10.00,100,@___,x\n"
@@ -169,7 +241,7 @@ class Cases(unittest.TestCase):
         frame = unittest.mock.Mock()
         with unittest.mock.patch.dict(sys.modules, {"pandas": frame}):
             made = morning().to_frame()
-        self.assertIs(made, frame.DataFrame.from_records.return_value)
+        self.assertIs(made, frame.DataFrame.from_records.return_value.astype.return_value)
         [rows], named = frame.DataFrame.from_records.call_args
         self.assertEqual(named, {"columns": list(COLUMNS)})
         self.assertEqual(rows[6][:7] + rows[6][10:], (7, "cancel", "N", 4, 0, "AB", 2, *map(Decimal, ("10.00", "10.10", "10.00", "10.10")), 300, 2))

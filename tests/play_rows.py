@@ -15,6 +15,7 @@ import sys
 from dataclasses import dataclass
 from pathlib import Path
 
+import folders  # noqa: F401
 import plain_table
 from plain_tape import Refused
 
@@ -23,7 +24,7 @@ LIMIT, SESSION = 1_048_576, 7
 WAYS = [(1, 1), (2, 2), (1, 2), (2, 1)]
 COUNTS = ("fresh", "repeated", "beyond")
 # The steps that a word names, besides those that a subscriber takes.
-STEPS = "tape close last summary totals entry listing bytes spell length read fronts serve fetch cells codes conditions subscriber".split()
+STEPS = "tape close last summary totals entry listing bytes spell length read fronts verify serve fetch cells codes conditions subscriber".split()
 PLAIN = "plain_feed"
 
 
@@ -276,6 +277,11 @@ class Stage:
                 return self.rules.encode(row_of(words.next(), words.number(), words))
             case "request":
                 return b"".join(words.number().to_bytes(size, "big") for size in (8, 4, 2))
+            case "journal":
+                sizes = [words.number()]
+                while words.peek().isdigit():
+                    sizes.append(words.number())
+                return self.rules.journal(self.tape, sizes)
             case "packet" | "beat" | "end":
                 first, last = words.range()
                 session, version = words.named("session", self.session), words.version() if words.takes("version") else version
@@ -342,6 +348,10 @@ class Stage:
     def take_length(self, words):
         """How many bytes there are."""
         return str(len(self.bytes_of(words)))
+
+    def take_verify(self, words):
+        """What is found of a journal's bytes."""
+        return self.rules.verify(self.bytes_of(words))
 
     # What bytes are read as.
 

@@ -12,6 +12,7 @@ import sys
 import unittest
 from pathlib import Path
 
+import folders  # noqa: F401
 from support import locate_all
 
 

@@ -2,9 +2,8 @@
 """Makes the stored outputs anew by plain programs, and says what changed: stored_outputs.py [--check]
 
 Each is made of its input beside it or of a sample, and none by tapebox: answers and reports of batches, and the pictures of REPORTS, by the plain
-tape (tests/plain_tape.py) and tools/plot_day.py; what decode_lines reads, by a plain program of bench/, if cargo is there; and the tables beside the
-captures, by tshark, if that is there. What example_day and bench_feed write has no plain twin, and what pages show of commands is compared by their cases:
-neither is made here. With --check nothing is written.
+tape (tests/plain/plain_tape.py) and tools/plot_day.py; and the tables beside the captures, by tshark, if that is there. What example_day writes has no plain
+twin, and what pages show of commands is compared by their cases: neither is made here. With --check nothing is written.
 
 Statuses: 0 if all are as they were; 1 if one is not, which is written anew, or if a plain program fails; 2 if the words are others.
 """
@@ -18,6 +17,7 @@ import subprocess
 import sys
 import tempfile
 
+import folders  # noqa: F401
 import plain_explain
 import plain_table
 from plain_tape import Refused, Tape, decode, fold
@@ -115,11 +115,6 @@ def pictures():
 
 def outputs():
     """Each stored output of a program or a tool, with what it is made anew to."""
-    if shutil.which("cargo"):
-        from cases import test_twin
-
-        crate = CRATES / "decode_lines"
-        yield crate / "stdout", test_twin.plain_run("read_lines", given=(crate / "stdin").read_bytes()).written
     for day in STORED_DAYS:
         yield day.with_suffix(".out"), batch(day.read_bytes())
     crate = CRATES / "tapebox"

@@ -38,6 +38,7 @@ import sys
 import time
 from concurrent.futures import ThreadPoolExecutor
 
+import folders  # noqa: F401
 from journaled_day import JournaledDay
 from storm_day import Day, Taken, Wrong
 from support import TAPEBOX

@@ -190,6 +190,8 @@ def values_of(table):
             raise Fault(f"{key}: missing")
     if len(values["b"]) != len(values["a"]):
         raise Fault("b: not as many ports as a")
+    if len({*values["a"], *values["b"]}) < len(values["a"] + values["b"]):
+        raise Fault("a and b: a port stands twice")
     if values["port"] + len(values["participants"]) > PORTS:
         raise Fault("port: the last participant's is past 65535")
     return values

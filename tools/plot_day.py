@@ -59,13 +59,15 @@ STYLE = """
       .last { fill: #f0a35e; }
     }
 """
-TAPE_STYLE = """    .cancelled { fill: none; stroke: #c0392b; stroke-width: 2; }
-    .former { fill: none; stroke: #1a66c2; stroke-width: 1.5; }
-    .moved { stroke: #1a66c2; stroke-opacity: .6; }
+TAPE_STYLE = """    .stands { fill: #1a66c2; }
+    .cancelled { fill: none; stroke: #c0392b; stroke-width: 2; }
+    .former { fill: none; stroke: #b4540a; stroke-width: 1.5; }
+    .moved { stroke: #b4540a; stroke-opacity: .6; }
     .follows { fill: none; stroke: #8b94a1; }
     @media (prefers-color-scheme: dark) {
+      .stands { fill: #6db1ff; }
       .cancelled { stroke: #ff8a7a; }
-      .former, .moved { stroke: #6db1ff; }
+      .former, .moved { stroke: #f0a35e; }
     }
 """
 MARK_STYLE = """    .mark circle { fill: none; stroke: #333a44; stroke-width: 1.5; }
@@ -338,7 +340,7 @@ def draw_trade(trade, x, place):
         yield f'<line class="moved" x1="{x:.1f}" y1="{place(price):.1f}" x2="{x:.1f}" y2="{latest:.1f}"/>'
         yield f'<circle class="former" cx="{x:.1f}" cy="{place(price):.1f}" r="3.5"/>'
     if trade.stands:
-        yield f'<circle class="last" cx="{x:.1f}" cy="{latest:.1f}" r="3.5"/>'
+        yield f'<circle class="stands" cx="{x:.1f}" cy="{latest:.1f}" r="3.5"/>'
     else:
         yield f'<path class="cancelled" d="M{x - 4:.1f} {latest - 4:.1f}l8 8m0 -8l-8 8"/>'
     yield "</g>"
@@ -350,7 +352,7 @@ def tape_legend(symbol, trades, has_lasts):
     words = f"{symbol}: {len(trades):,} trades, {stand:,} stand, {len(trades) - stand:,} cancelled, {corrected:,} corrected"
     return [
         f'<text x="{EDGE}" y="22">{escape(words)}</text>',
-        '<circle class="last" cx="96" cy="40" r="3.5"/><text class="small" x="106" y="44">stands</text>',
+        '<circle class="stands" cx="96" cy="40" r="3.5"/><text class="small" x="106" y="44">stands</text>',
         '<path class="cancelled" d="M172 36l8 8m0 -8l-8 8"/><text class="small" x="186" y="44">cancelled</text>',
         '<line class="moved" x1="266" y1="34" x2="266" y2="46"/><circle class="former" cx="266" cy="34" r="3.5"/>'
         '<text class="small" x="276" y="44">price before a correction</text>',

@@ -16,8 +16,8 @@ have another order between participants. Connecting is tried for ten seconds. Af
 
     TAPEBOX   the program (the one that ./run finds, or else the installed one)
 
-Statuses: 0 if all was sent, or printed; 1 if the table can't be read, at its first bad row, or the day's file, at its first fault, and
-then nothing is sent, or if nothing listens; 2 if the words are others; 3 if a line was closed at the other end before all of its messages
+Statuses: 0 if all was sent, or printed; 1 if the table can't be read, at its first bad row, or the day's file, at its first fault, or if the
+program is missing or fails, and then nothing is sent, or if nothing listens; 2 if the words are others; 3 if a line was closed at the other end before all of its messages
 were sent and read: the participant is named then with the row and the number of its first message that wasn't sent, and how many were.
 docs/OPERATING.md, "A participant whose line is over", says what that means.
 """
@@ -61,11 +61,15 @@ def read_day(path):
         table = open(path, "rb")
     except OSError as fault:
         sys.exit(f"send_day.py: {path}: {fault.strerror}")
-    with table:
-        done = subprocess.run([program(), "encode"], stdin=table, capture_output=True, check=False)
+    command = program()
+    try:
+        with table:
+            done = subprocess.run([command, "encode"], stdin=table, capture_output=True, check=False)
+    except OSError as fault:
+        sys.exit(f"send_day.py: {command}: {fault.strerror}")
     if done.returncode:
-        why = done.stderr.decode(errors="replace").strip().splitlines()[-1:]
-        sys.exit(f"send_day.py: {path}: {''.join(why).removeprefix('tapebox: ')}")
+        lines = done.stderr.decode(errors="replace").strip().splitlines() or [f"{command} ended with status {done.returncode} and no message"]
+        sys.exit(f"send_day.py: {path}: {lines[-1].removeprefix('tapebox: ')}")
     return parse_batch(done.stdout.decode())
 
 

@@ -43,7 +43,7 @@ FIRST_ROW = 2
 SSH = "ssh -o BatchMode=yes -o ConnectTimeout=10 -o ServerAliveInterval=5 -o ServerAliveCountMax=3"
 # What tapebox says of a table at fault, and of messages that its tape refused.
 FAULT = re.compile(r"tapebox: (?:row (?P<row>\d+)(?P<why>:.*)|(?P<whole>(?:header row|the table) .*))")
-REFUSED = re.compile(r"tapebox: (\d+) rows? refused: ")
+REFUSED = re.compile(r"tapebox: (\d+) of \d+ rows? refused: ")
 # No field is too long to be passed on.
 csv.field_size_limit(sys.maxsize)
 
@@ -229,7 +229,7 @@ def report(path, count):
         run_parts(f'"{found()}" report --matrix {os.environ.get("MATRIX", "1")}', parts, Path(folder))
         refused = sum(part.refused() for part in parts)
         if refused:
-            print(f"split_day.py: {refused} messages were refused", file=sys.stderr)
+            print(f"split_day.py: {refused} of {symbols.total()} messages were refused", file=sys.stderr)
         print_report(symbols, participants, parts)
 
 

@@ -94,6 +94,7 @@ function askPrices() {
 
 function choose(name) {
   state.chosen = name;
+  byId("hint").hidden = true;
   askPrices();
 }
 

@@ -10,7 +10,7 @@ from pathlib import Path
 
 import pandas
 
-sys.path.insert(0, str(Path(__file__).resolve().parent.parent.parent / "tests"))
+sys.path.insert(0, str(Path(__file__).resolve().parents[2] / "tests" / "plain"))
 from plain_explain import cells_of
 
 COLUMNS = ["kind", "participant", "number", "symbol", "target", "price", "size", "condition"]

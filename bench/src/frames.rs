@@ -1,4 +1,4 @@
-//! The spelling of tape entries, packets and requests.
+//! The spelling of tape entries and packets.
 
 use crate::keep::Entry;
 use crate::message::{Content, Kind, Message, decode_front};
@@ -9,8 +9,6 @@ use std::num::NonZeroU32;
 pub const ENTRIES_MOST: usize = 16;
 /// The longest packet: its header and sixteen corrections.
 pub const LONGEST_PACKET: usize = 15 + ENTRIES_MOST * 113;
-/// The greatest count of a request.
-const COUNT_MOST: u16 = 64;
 
 /// A version of the format: both have the same fields, in other bounds.
 #[derive(Clone, Copy, Debug, PartialEq, Eq)]
@@ -85,14 +83,6 @@ impl Packet {
             session: 0,
             kind: PacketKind::Beat(0),
             entries: Vec::with_capacity(ENTRIES_MOST),
-        }
-    }
-
-    /// The number of the last entry, or the one that a beat or an end gives.
-    pub fn last(&self) -> u32 {
-        match self.kind {
-            PacketKind::Data => self.entries.last().map_or(0, |entry| entry.number.get()),
-            PacketKind::Beat(number) | PacketKind::End(number) => number,
         }
     }
 
@@ -262,45 +252,6 @@ fn read_mark(version: Version, bytes: &[u8]) -> Option<Mark> {
         place: version.tape_number(word(bytes, 8))?,
         participant,
     })
-}
-
-/// What is missing: so many numbers from one on.
-#[derive(Clone, Copy, Debug, PartialEq, Eq)]
-pub struct Request {
-    pub session: u64,
-    pub from: u32,
-    /// One to 64.
-    pub count: u16,
-}
-
-impl Request {
-    /// The most that one request asks for, at most so many.
-    pub fn new(session: u64, from: u32, count: u32) -> Self {
-        Request {
-            session,
-            from,
-            count: count.min(u32::from(COUNT_MOST)) as u16,
-        }
-    }
-
-    /// Its spelling.
-    pub fn bytes(&self) -> [u8; 14] {
-        let mut bytes = [0; 14];
-        bytes[..8].copy_from_slice(&self.session.to_be_bytes());
-        bytes[8..12].copy_from_slice(&self.from.to_be_bytes());
-        bytes[12..].copy_from_slice(&self.count.to_be_bytes());
-        bytes
-    }
-
-    /// The request that the bytes spell; `None` if the count is none of a request.
-    pub fn read(bytes: &[u8; 14]) -> Option<Self> {
-        let count = u16::from_be_bytes([bytes[12], bytes[13]]);
-        (1..=COUNT_MOST).contains(&count).then_some(Request {
-            session: long(bytes, 0),
-            from: word(bytes, 8),
-            count,
-        })
-    }
 }
 
 /// The first so many bytes, which the rest then lacks.

@@ -111,14 +111,6 @@ fn decode(text: &[u8], front: &mut [u8; LONGEST]) -> usize {
     count + behind.map_while(byte).count()
 }
 
-/// The bytes that all the digits spell; `None` if they spell none.
-pub fn bytes(digits: &[u8]) -> Option<Vec<u8>> {
-    let (pairs, []) = digits.as_chunks::<2>() else {
-        return None;
-    };
-    pairs.iter().map(|pair| byte(pair)).collect()
-}
-
 /// The byte that two digits spell.
 fn byte(pair: &[u8]) -> Option<u8> {
     let high = DIGIT[usize::from(pair[0])];

@@ -144,16 +144,6 @@ impl Matrix {
         }
     }
 
-    /// The codes of each position, by their bytes.
-    pub fn codes(self) -> [Vec<u8>; 4] {
-        self.by_code().each_ref().map(|table| {
-            let codes = 0..=u8::MAX;
-            codes
-                .filter(|&code| table[usize::from(code)].is_some())
-                .collect()
-        })
-    }
-
     /// The least cells over the four codes; `None` if the matrix does not have one in its position.
     pub fn cells(self, codes: [u8; 4]) -> Option<Cells> {
         let table = self.by_code();

@@ -37,7 +37,7 @@ struct Answer {
     after: Figures,
 }
 
-#[link(name = "tapebox_c", kind = "static")]
+#[link(name = "tapebox", kind = "static")]
 unsafe extern "C" {
     fn tapebox_open(
         handle: &mut Handle,

@@ -1,9 +1,10 @@
 /* A libFuzzer harness: the calls of the library, in an order and with arguments of the fuzzer's choosing, on two handles that hold a tape, a
  * subscriber or a table.
  *
- * The library is not compiled for AddressSanitizer, so each thing that a call is given lies at the end of pages of its own, with a page behind
- * it that nothing can be read from or written to. If a call answers what its page excludes, the harness ends by abort(). It prints how often
- * each call was made when it ends well. tests/cases/test_fuzz.py builds it, makes a corpus and runs it. */
+ * The library is a draft whose own code is compiled with coverage and AddressSanitizer (dev/draft.py --fuzzed). Each thing that a call is given lies at
+ * the end of pages of its own, with a page behind it that nothing can be read from or written to, which holds for the proved library too. If a call
+ * answers what its page excludes, the harness ends by abort(). It prints how often each call was made when it ends well. corpus.txt has inputs in
+ * hexadecimal digits, one a line. tests/cases/test_fuzz.py builds it, adds the samples and the worked rows, and runs it. */
 #define _GNU_SOURCE
 #include "../tapebox.h"
 

@@ -11,13 +11,14 @@ where clib/build leaves it in the repository.
 from ._library import LONGEST_ANSWER, LONGEST_PACKET
 from .feeds import Packet, Request, beat, cells, end, read_answer
 from .held import Held
-from .records import Entry, Mark, Message, Summary, Totals
+from .records import Entry, Mark, Message, Summary, Totals, decode_many, encode_many
 from .refusals import NAMES, Refused
 from .subscriber import Subscriber, Taken, ask, open_line
 from .tables import BadTable, RefusedRow
 from .tapes import Tape
 from .texts import Table, explain, report, tape
 
+__version__ = "1.0"
 __all__ = [
     "LONGEST_ANSWER",
     "LONGEST_PACKET",
@@ -40,6 +41,8 @@ __all__ = [
     "ask",
     "beat",
     "cells",
+    "decode_many",
+    "encode_many",
     "end",
     "explain",
     "open_line",

@@ -10,6 +10,8 @@ from .refusals import Refused
 # How many bytes the longest packet and the longest answer to a request have.
 LONGEST_PACKET = 1823
 LONGEST_ANSWER = 7370
+# What a call takes bytes from.
+Buffer = bytes | bytearray | memoryview
 # The greatest number that a field has.
 NUMBER_MOST = (1 << 32) - 1
 
@@ -110,8 +112,13 @@ def library_path() -> str:
     return found
 
 
-# PyDLL keeps the interpreter's lock, so that two threads never are in calls of one handle, and a call costs less.
-library = c.PyDLL(library_path())
+# The version of the calls below: TAPEBOX_VERSION of clib/tapebox.h.
+VERSION = 100
+# Short calls keep the interpreter's lock, since to let go of it costs as much as they do. `released` has the same calls and lets go of it: for those
+# whose time grows with what they are given. Of one handle no two run at once (`Owned._use`).
+library, released = c.PyDLL(library_path()), c.CDLL(library_path())
+if not hasattr(library, "tapebox_version") or not VERSION <= library.tapebox_version() < VERSION - VERSION % 100 + 100:
+    raise ImportError(f"{library_path()} is of another version than {VERSION // 100}.{VERSION % 100} of this package: clib/build makes it anew")
 # What a call returns that returns no number of a refusal.
 RESULTS = {"free": None, "text_length": c.c_size_t, "text_copy": c.c_size_t}
 _handle, _text = c.POINTER(Handle), [c.c_char_p, c.c_size_t]
@@ -152,8 +159,20 @@ for _name, _arguments in {
     "answer_packet": [*_text, c.c_uint32, c.c_char_p, c.c_size_t, c.POINTER(c.c_size_t)],
     "cells": [c.c_uint32, *_text, c.POINTER(Cells)],
 }.items():
-    _call = getattr(library, f"tapebox_{_name}")
-    _call.argtypes, _call.restype = _arguments, RESULTS.get(_name, c.c_uint32)
+    for _of in (library, released):
+        _call = getattr(_of, f"tapebox_{_name}")
+        _call.argtypes, _call.restype = _arguments, RESULTS.get(_name, c.c_uint32)
+# The same as `tapebox_entry`, with a row by its address.
+entry_at = library["tapebox_entry"]
+entry_at.argtypes, entry_at.restype = [_handle, c.c_uint32, c.c_void_p], c.c_uint32
+
+
+def bytes_of(text: Buffer) -> "bytes | c.Array[c.c_char]":
+    """The bytes of a buffer for a call: where they lie, or if they can't be written to, as `bytes`."""
+    if isinstance(text, bytes):
+        return text
+    view = memoryview(text).cast("B")
+    return (c.c_char * len(view)).from_buffer(view) if view and not view.readonly else view.tobytes()
 
 
 def checked(code: int) -> None:

@@ -1,21 +1,47 @@
-"""What a handle of the library is freed by."""
+"""What a handle of the library is used and freed by."""
 
-from typing import NoReturn, Self
+import threading
+from collections.abc import Callable
+from typing import Any, NoReturn, Self
 
 from . import _library
 from ._library import library
+from .refusals import Refused
+
+# The refusal of a call on an object that another thread's call is using.
+BUSY = 112
 
 
 class Owned:
-    """What the library holds behind a handle. It is freed by `free`, by the end of a `with`, or with the object, and cannot be copied."""
+    """What the library holds behind a handle. It is freed by `free`, by the end of a `with`, or with the object, and cannot be copied. A call on
+    it is refused by 112 as long as another thread's call uses it."""
 
     # What an error calls it.
     KIND: str
     _handle: _library.Handle
+    _lock: threading.Lock
+
+    def _begin(self) -> None:
+        """Makes a handle that holds nothing."""
+        self._lock, self._handle = threading.Lock(), _library.Handle(False, None)
+
+    def _use(self) -> _library.Handle:
+        """The handle, for this thread alone until it releases the lock."""
+        if not self._lock.acquire(False):
+            raise Refused(BUSY)
+        return self._handle
+
+    def _call(self, call: Callable[..., int], *arguments: Any) -> int:
+        """What a call with the handle returns."""
+        handle = self._use()
+        try:
+            return call(handle, *arguments)
+        finally:
+            self._lock.release()
 
     def free(self) -> None:
         """Frees it. Every later call is refused: a tape's by 101, a subscriber's by 102, a table's by 110."""
-        library.tapebox_free(self._handle)
+        self._call(library.tapebox_free)
 
     def __del__(self) -> None:
         if hasattr(self, "_handle"):

@@ -5,7 +5,7 @@ import struct
 from dataclasses import dataclass
 
 from . import _library
-from ._library import LONGEST_PACKET, checked, great, library, session_of, small
+from ._library import LONGEST_PACKET, Buffer, bytes_of, checked, great, library, session_of, small
 from .records import Entry, entry_of
 from .refusals import Refused
 
@@ -23,12 +23,13 @@ class Packet:
     entries: tuple[Entry, ...]
 
     @staticmethod
-    def decode(text: bytes) -> "Packet":
+    def decode(text: Buffer) -> "Packet":
         """The packet that all the bytes are. `Refused` has 51 to 57."""
-        fields, row, entries = _library.PacketFields(), _library.EntryRow(), []
-        checked(library.tapebox_read_packet(text, len(text), fields))
+        given, entries = bytes_of(text), []
+        fields, row = _library.PacketFields(), _library.EntryRow()
+        checked(library.tapebox_read_packet(given, len(given), fields))
         for place in range(fields.count):
-            checked(library.tapebox_packet_entry(text, len(text), place, row))
+            checked(library.tapebox_packet_entry(given, len(given), place, row))
             entries.append(entry_of(row))
         return Packet(fields.version, fields.session, chr(fields.kind), fields.number, tuple(entries))
 
@@ -46,10 +47,10 @@ class Request:
         return REQUEST.pack(self.session, self.first, self.count)
 
     @staticmethod
-    def decode(text: bytes) -> "Request":
+    def decode(text: Buffer) -> "Request":
         """The request that all the bytes are. `Refused` has 107 or 73."""
-        fields = _library.RequestFields()
-        checked(library.tapebox_read_request(text, len(text), fields))
+        fields, given = _library.RequestFields(), bytes_of(text)
+        checked(library.tapebox_read_request(given, len(given), fields))
         return Request(fields.session, fields.from_, fields.count)
 
 
@@ -67,18 +68,19 @@ def end(session: int, count: int, version: int = 2) -> bytes:
     return ctypes.string_at(row.bytes, row.len)
 
 
-def read_answer(text: bytes) -> tuple[list[bytes], int]:
+def read_answer(text: Buffer) -> tuple[list[bytes], int]:
     """The packets of the answer at the front of the bytes, and how many bytes it has.
 
     `Refused` has the code 74 if the answer goes on after the bytes, 76 if it is none, and 77 if the request was refused, which
     its `refusal` says why.
     """
+    given = bytes_of(text)
     reply, row, length, packets = _library.Reply(), ctypes.create_string_buffer(LONGEST_PACKET), ctypes.c_size_t(), []
-    code = library.tapebox_read_answer(text, len(text), reply)
+    code = library.tapebox_read_answer(given, len(given), reply)
     if code:
         raise Refused(code, taken=reply.taken, refusal=reply.refusal)
     for place in range(reply.packets):
-        checked(library.tapebox_answer_packet(text, len(text), place, row, len(row), length))
+        checked(library.tapebox_answer_packet(given, len(given), place, row, len(row), length))
         packets.append(row.raw[: length.value])
     return packets, reply.taken
 

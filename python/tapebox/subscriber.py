@@ -7,7 +7,7 @@ from collections.abc import Iterable, Iterator
 from dataclasses import dataclass
 
 from . import _library
-from ._library import LONGEST_PACKET, checked, library, session_of
+from ._library import LONGEST_PACKET, Buffer, bytes_of, checked, library, released, session_of
 from .feeds import read_answer
 from .held import Held
 from .records import Entry
@@ -38,10 +38,10 @@ class Subscriber(Held):
     def __init__(self, symbols: Iterable[str], participants: Iterable[str], session: int, matrix: int = 1, limit: int = LIMIT) -> None:
         super().__init__(library.tapebox_subscribe, symbols, participants, matrix, limit, session_of(session))
 
-    def deliver(self, line: str, packet: bytes) -> Taken:
+    def deliver(self, line: str, packet: Buffer) -> Taken:
         """Takes a packet that came by line `A`, `B` or `R`, the retransmission. `Refused` has 51 to 57 or 61 to 64."""
-        row = _library.Taken()
-        code = library.tapebox_deliver(self._handle, LINES.get(line, 3), packet, len(packet), row)
+        row, text = _library.Taken(), bytes_of(packet)
+        code = self._call(library.tapebox_deliver, LINES.get(line, 3), text, len(text), row)
         if code:
             raise Refused(code, conflict=row.conflict)
         return Taken(row.fresh, row.repeated, row.beyond)
@@ -50,7 +50,7 @@ class Subscriber(Held):
         """Replays what is ready, and gives how many entries that were. `Refused` has 31 to 44 if an entry is not that of an honest
         tape, and after it 64."""
         drained = ctypes.c_uint32()
-        code = library.tapebox_drain(self._handle, drained)
+        code = self._call(released.tapebox_drain, drained)
         if code:
             raise Refused(code, drained=drained.value)
         return drained.value
@@ -58,12 +58,12 @@ class Subscriber(Held):
     def missing(self) -> bytes | None:
         """The bytes of a request for the first numbers that are missing, or None."""
         row = _library.Request()
-        checked(library.tapebox_missing(self._handle, row))
+        checked(self._call(library.tapebox_missing, row))
         return bytes(row.bytes) if row.count else None
 
     def _news(self) -> _library.News:
         row = _library.News()
-        checked(library.tapebox_news_of(self._handle, row))
+        checked(self._call(library.tapebox_news_of, row))
         return row
 
     @property
@@ -89,7 +89,7 @@ class Subscriber(Held):
         news = self._news()
         return news.ended if news.is_ended else None
 
-    def take(self, line: str, packet: bytes) -> None:
+    def take(self, line: str, packet: Buffer) -> None:
         """Takes a packet of a line, and drops it if it is refused by 51 to 63: bytes that are none of the session's change nothing. `Refused`
         has 64 after a drain that stopped, 106 for a line that is none, and 102 once it was freed."""
         try:

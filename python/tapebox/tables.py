@@ -17,6 +17,10 @@ DEFAULTS = {"kind": "report", "moment": "0", "target": ""}
 FIELDS = ("kind", "participant", "number", "moment", "symbol", "target", "price", "size", "condition")
 # The columns of a frame of entries: prices are `Decimal`. The last six are the summary that the entry carries; a report carries none.
 COLUMNS = ("tape", *FIELDS, "open", "high", "low", "last", "volume", "trades")
+# The columns of whole numbers, and those of them that need 64 bits without a sign.
+WHOLE, WIDE = ("tape", "number", "target", "size", "trades"), ("moment", "volume")
+# The columns that are empty in a row of a kind with a content.
+EMPTY: dict[str, tuple[str, ...]] = {"R": ("target",), "C": ()}
 # Each column whose field is at fault when a message is refused for it.
 AT_FAULT = {13: "kind", 15: "participant", 16: "number", 17: "symbol", 18: "target", 19: "price", 20: "size", 21: "condition"}
 # The row of the columns' names counts as the first.
@@ -56,7 +60,7 @@ def price_of(fields: dict[str, str]) -> Decimal | None:
 
 def check_empty(fields: dict[str, str], kind: str) -> None:
     """Raises the name of a column that has to be empty in a row of this kind and is not."""
-    for column in {"R": ["target"], "C": []}.get(kind, ["price", "size", "condition"]):
+    for column in EMPTY.get(kind, ("price", "size", "condition")):
         if fields[column]:
             raise ValueError(column)
 

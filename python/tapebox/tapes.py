@@ -6,17 +6,15 @@ from collections.abc import Iterable, Sequence
 from decimal import Decimal
 
 from . import _library
-from ._library import checked, library
+from ._library import Buffer, bytes_of, checked, library, released
 from .held import Held
-from .records import Message, Summary, summary_of
+from .records import SHORTEST_MESSAGE, Message, Summary, summary_of
 from .refusals import Refused
 from .tables import RefusedRow, read_table
 
 # The most entries of a tape, unless another limit is given, and of any tape.
 LIMIT = 1_048_576
 LIMIT_MOST = 16_777_216
-# How many bytes the shortest message has: a cancel or a reinstatement.
-SHORTEST_MESSAGE = 28
 
 
 class Tape(Held):
@@ -46,21 +44,27 @@ class Tape(Held):
                 tape.refused.append(RefusedRow(number, message, refusal))
         return tape
 
-    def admit(self, message: bytes) -> int:
+    def admit(self, message: Buffer) -> int:
         """Admits the message that the bytes are, and gives its tape number. `Refused` has 11 to 23 of the bytes, and 31 to 44 of the tape."""
-        code = library.tapebox_admit(self._handle, message, len(message), self._answer)
+        text, handle = bytes_of(message), self._use()
+        try:
+            code = library.tapebox_admit(handle, text, len(text), self._answer)
+            number = self._answer.number
+        finally:
+            self._lock.release()
         if code:
             raise Refused(code)
-        return self._answer.number
+        return number
 
-    def admit_many(self, messages: bytes) -> Sequence[int]:
+    def admit_many(self, messages: Buffer) -> Sequence[int]:
         """Admits the messages that stand one after another in the bytes, and gives for each 0 if it was admitted, else the number of its refusal,
         as a view of numbers. Those that are admitted have the next tape numbers in their order. At bytes that begin with no message, and if
         a part of a message is left, `Refused` has 11 to 21, and `taken`, how many bytes were answered before."""
         # One more than the messages that fit, so that the bytes after the last of them are looked at too.
-        room = len(messages) // SHORTEST_MESSAGE + 1
+        text = bytes_of(messages)
+        room = len(text) // SHORTEST_MESSAGE + 1
         numbers, row = (ctypes.c_uint32 * room)(), _library.Many()
-        code = library.tapebox_admit_many(self._handle, messages, len(messages), numbers, room, row)
+        code = self._call(released.tapebox_admit_many, text, len(text), numbers, room, row)
         if code:
             raise Refused(code, taken=row.taken)
         return memoryview(numbers).cast("B").cast("I")[: row.answered]
@@ -70,19 +74,19 @@ class Tape(Held):
         """The summary that the last admitted entry carries, if its kind does."""
         return summary_of(self._answer.after) if self._answer.carries else None
 
-    def report(self, participant: str, number: int, symbol: str, price: Decimal | str, size: int, condition: str, moment: int = 0) -> int:
+    def report(self, participant: str, number: int, symbol: str, price: Decimal | str | int, size: int, condition: str, moment: int = 0) -> int:
         """Admits a report."""
-        return self.admit(Message("R", participant, number, symbol, 0, Decimal(price), size, condition, moment).encode())
+        return self.admit(Message("R", participant, number, symbol, 0, price, size, condition, moment).encode())
 
     def cancel(self, participant: str, number: int, symbol: str, target: int, moment: int = 0) -> int:
         """Admits a cancel of the participant's report of the number `target`."""
         return self.admit(Message("X", participant, number, symbol, target, moment=moment).encode())
 
     def correct(
-        self, participant: str, number: int, symbol: str, target: int, price: Decimal | str, size: int, condition: str, moment: int = 0
+        self, participant: str, number: int, symbol: str, target: int, price: Decimal | str | int, size: int, condition: str, moment: int = 0
     ) -> int:
         """Admits a correction of the participant's report of the number `target`."""
-        return self.admit(Message("C", participant, number, symbol, target, Decimal(price), size, condition, moment).encode())
+        return self.admit(Message("C", participant, number, symbol, target, price, size, condition, moment).encode())
 
     def reinstate(self, participant: str, number: int, symbol: str, target: int, moment: int = 0) -> int:
         """Admits a reinstatement of the participant's cancelled report of the number `target`."""
@@ -90,4 +94,4 @@ class Tape(Held):
 
     def close(self) -> None:
         """Closes the day: the tape admits nothing more, and can still be read."""
-        checked(library.tapebox_close(self._handle))
+        checked(self._call(library.tapebox_close))

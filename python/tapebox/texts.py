@@ -12,8 +12,7 @@ A table that is asked for more than one is read once as a `Table`:
 import ctypes
 from collections.abc import Callable
 
-from . import _library
-from ._library import library, small
+from ._library import Buffer, bytes_of, library, released, small
 from ._owned import Owned
 from .refusals import Refused
 
@@ -27,49 +26,54 @@ class Table(Owned):
 
     KIND = "a table"
 
-    def __init__(self, table: bytes) -> None:
-        self._handle = _library.Handle(False, None)
-        self._checked(library.tapebox_read_table(self._handle, table, len(table)))
+    def __init__(self, table: Buffer) -> None:
+        self._begin()
+        text = bytes_of(table)
+        self._checked(released.tapebox_read_table(self._handle, text, len(text)))
 
     def report(self, matrix: int = 1) -> str:
         """The report, as `tapebox report` writes it. `Refused` has 104 for a matrix that is neither 1 nor 2, and 111 for too many symbols."""
-        return self._made(library.tapebox_report, matrix)
+        return self._made(released.tapebox_report, matrix)
 
     def tape(self, matrix: int = 1) -> str:
         """The readable tape, as `tapebox tape` writes it. Refused as `report`."""
-        return self._made(library.tapebox_tape, matrix)
+        return self._made(released.tapebox_tape, matrix)
 
     def explain(self, matrix: int = 1) -> str:
         """What became of each report and which figures it sets, as `tapebox explain` writes it. Refused as `report`."""
-        return self._made(library.tapebox_explain, matrix)
+        return self._made(released.tapebox_explain, matrix)
 
-    def _made(self, call: Callable[[_library.Handle, int], int], matrix: int) -> str:
-        self._checked(call(self._handle, small(matrix)))
-        return self._text()
+    def _made(self, call: Callable[..., int], matrix: int) -> str:
+        handle = self._use()
+        try:
+            return self._checked(call(handle, small(matrix)))
+        finally:
+            self._lock.release()
 
-    def _checked(self, code: int) -> None:
+    def _checked(self, code: int) -> str:
+        """The text that the handle holds, unless the call was refused."""
+        length = library.tapebox_text_length(self._handle)
+        row = ctypes.create_string_buffer(max(length, 1))
+        library.tapebox_text_copy(self._handle, 0, row, length)
+        text = row.raw[:length].decode()
         if code:
-            raise Refused(code, why=self._text() if code == 111 else "")
-
-    def _text(self) -> str:
-        row = ctypes.create_string_buffer(library.tapebox_text_length(self._handle))
-        library.tapebox_text_copy(self._handle, 0, row, len(row))
-        return row.raw.decode()
+            raise Refused(code, why=text if code == 111 else "")
+        return text
 
 
-def report(table: bytes, matrix: int = 1) -> str:
+def report(table: Buffer, matrix: int = 1) -> str:
     """The report of a table's bytes. Refused as `Table` and `Table.report`."""
     with Table(table) as read:
         return read.report(matrix)
 
 
-def tape(table: bytes, matrix: int = 1) -> str:
+def tape(table: Buffer, matrix: int = 1) -> str:
     """The readable tape of a table's bytes. Refused as `report`."""
     with Table(table) as read:
         return read.tape(matrix)
 
 
-def explain(table: bytes, matrix: int = 1) -> str:
+def explain(table: Buffer, matrix: int = 1) -> str:
     """What became of each report of a table's bytes, and which figures it sets. Refused as `report`."""
     with Table(table) as read:
         return read.explain(matrix)

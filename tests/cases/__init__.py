@@ -1,1 +1,3 @@
 """Cases of the built programs, by subject."""
+
+import folders  # noqa: F401

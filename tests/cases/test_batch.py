@@ -32,7 +32,45 @@ class Samples(Case):
         self.assert_writes(run(["batch"], batch_of(SAMPLES / "corrections.csv")), f"1\n2\n3\n4\nrefused 35 Stale\n5\n{shown}".encode())
 
 
+WHOLE = "0026524e000000010000000000000000414220202020202000000000000186a00000006440205a20"
+# A batch whose header is refused, and the refusal.
+ODD_HEADERS = [
+    *((text, "1 Empty") for text in ["", "\nN\n", "AB\n\n", "AB"]),
+    *((text, "9 BadHeader") for text in ["ab", "AB \nN\n", " AB\nN\n", "AB  CD\nN\n", " \nN\n", "A\tB\nN\n", "AB\r\nN\n", "ABCDEFGHI\nN\n"]),
+    *((text, "9 BadHeader") for text in ["ab\nN\n", "AB\nNQ\n", "AB\nn\n"]),
+    (f"AB\n{' '.join(PARTICIPANTS)} A\n", "2 TooMany"),
+]
+# A line of a batch of AB and N that is refused, and the refusal.
+ODD_LINES = [
+    *((line, "22 BadLine") for line in ["", "N", "n 00", "N 0", "N  00", "N 00\r", "N \xff\xff", "\xce 00", f"N {WHOLE}{'0' * 63}g"]),
+    ("N ", "12 Short"),
+    ("N 0041", "11 Oversize"),
+    (f"N {WHOLE}{'0' * 64}", "23 ExtraBytes"),
+    *((f"{letter} {WHOLE.replace('4e', '51', 1)}", "33 WrongLine") for letter in "NP"),
+    (f"P {WHOLE}", "33 WrongLine"),
+    (f"Q {WHOLE.replace('4e', '51', 1)}", "34 UnknownParticipant"),
+    (f"N {WHOLE.replace('4142', '4344', 1).upper()}", "36 UnknownSymbol"),
+]
+
+
 class Headers(Case):
+    def test_odd_headers(self):
+        """FORMATS, "Odd inputs": a header of another form is answered by its first fault alone."""
+        for text, refusal in ODD_HEADERS:
+            with self.subTest(text):
+                ended = run(["batch"], text.encode())
+                self.assertEqual((ended.status, ended.written, ended.said), (2, f"refused {refusal}\n".encode(), b""))
+
+    def test_odd_lines(self):
+        """FORMATS, "Odd inputs": a line of another form is answered by its first fault, and a line feed at the end may be left out."""
+        rows = report_text([report_row("AB", "ALL", [None] * 4, 0, 0)])
+        for line, refusal in ODD_LINES:
+            for end in ["\n", ""] if line else ["\n"]:
+                with self.subTest(line, end=end):
+                    self.assert_writes(run(["batch"], f"AB\nN\n{line}{end}".encode("latin-1")), f"refused {refusal}\n".encode() + rows)
+        for end in (b"\n", b""):
+            self.assert_writes(run(["batch"], b"AB\nN" + end), rows)
+
     def test_repeated_name(self):
         """FORMATS, "A batch": a refused header is the only line, and the status is 2."""
         ended = run(["batch"], b"AB AB\nN\n")

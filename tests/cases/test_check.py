@@ -72,7 +72,7 @@ class Checks(Case):
                 self.assert_told(
                     plain_table.MARK + end.join(lines),
                     'row 2: number "0" is not 1 to 4294967295 in at most 20 digits',
-                    f'row 3: participant "N{plain_table.shown(end.decode())}Q" is not A to Z (line 5)',
+                    f'row 3: participant "N{plain_table.shown(end.decode())}Q" is not A to Z; a quote is not closed, or a field has a line end (line 5)',
                     "row 5: 2 fields, and the header row has 6 (line 8)",
                 )
         # A line that is longer than what is read at once, and then a blank one.
@@ -83,8 +83,8 @@ class Checks(Case):
         """FORMATS, "The faults of a table": a fault of the header row is the only one, and one without commas names the separator that stands there."""
         for sign, words in plain_table.SEPARATORS.items():
             table = table_of([HEAD, ["?"] * 6]).replace(b",", sign.encode())
-            name = plain_table.shown(sign.join(HEAD))
-            fault = f'header row: column "{name}" is unknown; names have commas between them, and here stands {words}'
+            name = plain_table.quoted(sign.join(HEAD))
+            fault = f"header row: column {name} is unknown; names have commas between them, and here stands {words}"
             self.assert_told(table, fault)
             self.assert_fault(desk("report", given=table), (2, f"tapebox: {fault}\n".encode()))
         self.assert_told(table_of([HEAD[:-1], ["?"] * 5]), "header row: column condition is missing")

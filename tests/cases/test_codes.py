@@ -1,15 +1,14 @@
 """The codes of the sale conditions: whatever lists them has those of RULES with the same cells, and days are made of codes that exist."""
 
 import csv
+import importlib
 import math
 import re
 
 import plain_explain
 import plain_table
 import plain_tape
-from support import BENCH, CRATES, ROOT, TESTS, TOOLS, Case, desk, table_of
-
-import from_taq
+from support import BENCH, CRATES, DEV, ROOT, TESTS, TOOLS, Case, desk, table_of
 
 DEFINITIONS = CRATES / "sale_matrix" / "specs" / "Matrix.antt"
 # The matrices by their names in code.
@@ -40,7 +39,7 @@ WORDS = {"no": "N", "if first": "F", "same market": "S", "yes": "Y"}
 MADE = re.compile(r"(?i)\b(conditions\w*)(?:(?:: [^=\n]+)? = \[|\[\] = \{)(.*?)[\]}]", re.DOTALL)
 QUOTED = re.compile('"([^"\n]*)"')
 # The files that have such a list: all others draw from those of plain_table.
-MAKERS = {"make_day.rs", "batches.rs", "calls.c", "seeded.rt"}
+MAKERS = {"make_day.rs", "batches.rs", "calls.c", "seeds.rt"}
 
 
 def text_of(path):
@@ -140,7 +139,7 @@ def explained(matrix, conditions):
 
 def made():
     """The lists of conditions that days are made of: for each its file's and its own name, and its conditions."""
-    files = [path for folder in (TESTS, TESTS / "cases", BENCH, TOOLS) for path in sorted(folder.glob("*.py"))] + sorted(BENCH.glob("src/**/*.rs"))
+    files = [path for folder in (TESTS, TESTS / "plain", TESTS / "support", TESTS / "cases", BENCH, TOOLS, DEV) for path in sorted(folder.glob("*.py"))] + sorted(BENCH.glob("src/**/*.rs"))
     files += [*sorted(BENCH.glob("tests/*.rs")), *sorted((ROOT / "clib" / "fuzz").glob("*.c")), *sorted(CRATES.glob("*/src/**/*.rt"))]
     for path in files:
         for name, listed in MADE.findall(text_of(path)):
@@ -199,7 +198,7 @@ class Codes(Case):
 
     def test_import(self):
         """IMPORT: the reader of a vendor's file has the codes of each position."""
-        self.assert_positions(from_taq.CODES)
+        self.assert_positions(importlib.import_module("import").CODES)
 
     def test_dissector(self):
         """WIRESHARK: the dissector has a meaning for each code but the blank."""

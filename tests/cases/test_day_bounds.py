@@ -12,8 +12,8 @@ import day_file
 GREATEST = """symbols = "names.txt"
 participants = ["A", "Z"]
 port = 65534
-a = [1, 65535]
-b = [65535, 1]
+a = [1, 65534]
+b = [65535, 2]
 retransmission = 65535
 followers = 65535
 session = 9223372036854775807
@@ -28,7 +28,7 @@ LEAST = """symbols = ["."]
 participants = ["A"]
 port = 1
 a = [1]
-b = [1]
+b = [2]
 retransmission = 1
 followers = 0
 session = 0
@@ -55,14 +55,14 @@ class Bounds(Case):
         """tools/day_file.py: each key takes its greatest value, a file of symbols its greatest number, and a byte order mark is skipped."""
         for mark in ("", "\ufeff"):
             day = self.read(mark + GREATEST)
-            self.assertEqual((day.symbols, day.port, day.a, day.b), (NAMES, 65_534, [1, 65_535], [65_535, 1]))
+            self.assertEqual((day.symbols, day.port, day.a, day.b), (NAMES, 65_534, [1, 65_534], [65_535, 2]))
             self.assertEqual((day.retransmission, day.followers, day.session), (65_535, 65_535, 2**63 - 1))
             self.assertEqual((day.limit, day.connect_within, day.followers_wait, day.control), (16_777_216, 86_400, 86_400, 65_535))
 
     def test_the_least_values(self):
         """FORMATS, "A day's file": each key takes its least value."""
         day = self.read(LEAST)
-        self.assertEqual((day.symbols, day.port, day.a, day.b, day.retransmission, day.control), (["."], 1, [1], [1], 1, 1))
+        self.assertEqual((day.symbols, day.port, day.a, day.b, day.retransmission, day.control), (["."], 1, [1], [2], 1, 1))
         self.assertEqual((day.followers, day.session, day.matrix, day.limit, day.connect_within, day.followers_wait), (0, 0, 1, 1, 1, 0))
 
     def test_the_end_of_the_file_of_symbols(self):

@@ -68,6 +68,14 @@ class DayEnds(Case):
             self.assertLess(time.monotonic() - since, 8)
             self.assertGreater(time.monotonic() - since, 1)
 
+    def test_two_followers_that_are_waited_for_no_longer(self):
+        """Two connections that stay open are given up, and counted."""
+        with self.day(2, "followers_wait = 1\n") as (live, retransmission, _), connect(retransmission), connect(retransmission):
+            end = ended(live)
+        self.assertEqual(end.status, 0)
+        account = b"tapebox: N: 3 messages, 3 admitted, last number 3\ntapebox: 2 followers were waited for no longer\n"
+        self.assertEqual(end.said, account)
+
     def test_no_wait_ends_the_day_with_its_report(self):
         """Without seconds to wait the day ends once its report is written, though a follower is awaited."""
         with self.day(1, "followers_wait = 0\n") as (live, _, written):

@@ -185,7 +185,7 @@ class RefusedMemory(Case):
         table = table_of([["participant", "number", "symbol", "price", "size", "condition"], rows[0], *rows])
         for word in WORDS:
             whole, ends = desk(word, given=table), Counter()
-            self.assertIn(b"1 row refused: 35 Stale", whole.said)
+            self.assertIn(b"1 of %d rows refused: 35 Stale" % len(table.splitlines()[1:]), whole.said)
             for request in range(1, self.MOST):
                 was_met, ended = run_refused([word], request, given=table)
                 with self.subTest(word, request=request):

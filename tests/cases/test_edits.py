@@ -1,4 +1,4 @@
-"""The record of must-fail edits: `tools/edits.py` and the copy that the gate runs in, over a small repository."""
+"""The record of must-fail edits: `dev/edits.py` and the copy that the gate runs in, over a small repository."""
 
 import os
 import shutil
@@ -33,7 +33,7 @@ class Edits(Case):
         folder = tempfile.TemporaryDirectory()
         self.addCleanup(folder.cleanup)
         self.root = Path(folder.name) / "small"
-        for name in ("tools/edits.py", ".ci/gate_copy.py"):
+        for name in ("dev/edits.py", ".ci/gate_copy.py"):
             (self.root / name).parent.mkdir(parents=True, exist_ok=True)
             shutil.copy(ROOT / name, self.root / name)
         self.write("crates.txt", "lower:\n")
@@ -58,9 +58,9 @@ class Edits(Case):
         self.git("commit", "-q", "-m", "a commit")
 
     def try_edits(self, *words):
-        """The status of `tools/edits.py`, which tries one edit after the other."""
+        """The status of `dev/edits.py`, which tries one edit after the other."""
         environment = os.environ | {"RT_JOBS": "1"}
-        return subprocess.run(["tools/edits.py", *words], cwd=self.root, env=environment, capture_output=True, check=False).returncode
+        return subprocess.run(["dev/edits.py", *words], cwd=self.root, env=environment, capture_output=True, check=False).returncode
 
     def recorded(self):
         """The text of the record."""
@@ -69,7 +69,7 @@ class Edits(Case):
 
     def forge(self):
         """Records the crate as it is, though nothing was tried."""
-        forging = "import sys; sys.path.insert(0, 'tools'); import edits; edits.record(edits.ROOT, edits.checksums(edits.ROOT))"
+        forging = "import sys; sys.path.insert(0, 'dev'); import edits; edits.record(edits.ROOT, edits.checksums(edits.ROOT))"
         subprocess.run(["python3", "-B", "-c", forging], cwd=self.root, check=True)
 
     def copied(self):
@@ -114,7 +114,7 @@ class Edits(Case):
 
     def sums(self):
         """The checksums of the crates, as text."""
-        asking = "import sys; sys.path.insert(0, 'tools'); import edits; print(edits.checksums(edits.ROOT))"
+        asking = "import sys; sys.path.insert(0, 'dev'); import edits; print(edits.checksums(edits.ROOT))"
         return subprocess.run(["python3", "-B", "-c", asking], cwd=self.root, capture_output=True, check=True).stdout
 
     @unittest.skipUnless(shutil.which("git"), "no git")

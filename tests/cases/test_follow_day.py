@@ -105,7 +105,9 @@ class Conflicts(Case):
                 peer.connection.sendall(answer_of(entries(2, 2)))
                 self.assertEqual(peer.request(), (3, 1))
                 peer.connection.sendall(answer)
-                self.assertEqual(ended(peer.follow).status, status)
+                end = ended(peer.follow)
+                self.assertEqual(end.status, status)
+                self.assertIn(b"tapebox: line A: 3 packets, 1 dropped: 1 past the end\n", end.said)
 
     def test_a_flood_of_stray_packets(self):
         """OPERATING: gaps are asked for first, each number is settled once, and the day ends though strays go on."""
@@ -143,9 +145,17 @@ class Accounts(Case):
             end = ended(peer.follow)
         self.assertEqual(end.status, DISAGREES[0])
         self.assertIn(row_of(1), report_rows(end.written))
-        self.assertIn(b"tapebox: line A: 4 packets, 2 dropped: 1 no packet, 1 of another session\n", end.said)
-        self.assertIn(b"tapebox: session 9 is heard, and session 7 was asked for\n", end.said)
-        self.assertIn(b"tapebox: the report is of the first 1 entry\n", end.said)
+        account = [
+            "line A: 4 packets, 2 dropped: 1 no packet, 1 of another session\n",
+            "line B: 0 packets\n",
+            "retransmission: 1 request, 0 packets\n",
+            "entries: 1 by line A, 0 by line B, 0 by retransmission\n",
+            "session 9 is heard, and session 7 was asked for\n",
+            "number 2 is not what the retransmission has\n",
+            "the report is of the first 1 entry\n",
+            "tape disagrees\n",
+        ]
+        self.assertEqual(end.said.decode(), "".join(f"tapebox: {line}" for line in account))
 
 
 class Connections(Case):

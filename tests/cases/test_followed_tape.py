@@ -1,6 +1,6 @@
 """The readable tape of a running day, as `tapebox watch` writes it."""
 
-from support import BAD_ARGUMENTS, DISAGREES, LIMIT, READ_FAULT, TAPE_COLUMNS, WRITE_FAULT, Case, Ended, connect, desk, ended, ports, started, wait_bound
+from support import DISAGREES, LIMIT, READ_FAULT, TAPE_COLUMNS, WRITE_FAULT, Case, Ended, connect, desk, ended, ports, started, wait_bound
 
 HEAD = b"kind,participant,number,symbol,target,price,size,condition\n"
 ROWS = [
@@ -114,4 +114,4 @@ class FollowedTape(Case):
         self.assertEqual(desk("watch", "AB", "N", a, b, retransmission, 7), Ended(status, f"{','.join(TAPE_COLUMNS)}\n".encode(), said))
         for words in ([], ["AB", "N", a, b, retransmission], ["AB,AB", "N", a, b, retransmission, 7], ["AB", "N", a, 0, retransmission, 7]):
             with self.subTest(words):
-                self.assert_fault(desk("watch", *words), BAD_ARGUMENTS)
+                self.assert_bad_arguments(desk("watch", *words), rb"usage: tapebox watch [^\n]+")

@@ -1,4 +1,7 @@
-"""The calls of the static library under libFuzzer, from a corpus of the samples and of the worked rows."""
+"""The calls of the static library under libFuzzer, from a corpus of the samples, of the worked rows and of inputs that were found before.
+
+FUZZ_SECONDS=3600 runs it for an hour, FUZZ_KEEP=1 then renews clib/fuzz/corpus.txt, and FUZZED_LIBRARY names a library that dev/draft.py --fuzzed has made.
+"""
 
 import os
 import re
@@ -12,11 +15,13 @@ import plain_table
 from support import CRATES, ROOT, SAMPLES, Case, run
 
 HARNESS = ROOT / "clib" / "fuzz" / "calls.c"
-ARCHIVE = CRATES / "tapebox_c" / "out" / "libtapebox_c.a"
+KEPT = HARNESS.with_name("corpus.txt")
 CLANG = os.environ.get("CLANG", "clang")
-SECONDS = int(os.environ.get("FUZZ_SECONDS", "60"))
+SECONDS = int(os.environ.get("FUZZ_SECONDS", "30"))
 # How often each call is made at least, however busy the machine is.
-CALLS_LEAST = 100
+CALLS_LEAST = 20
+# How many edges of the code are reached at least by the corpus alone.
+EDGES_LEAST = 1500
 # The bytes that have calls made are the places of their names in the harness, and these after them.
 MORE = ["send_all"]
 NUMBER = re.compile(rb"calls: (\w+) (\d+)")
@@ -72,9 +77,24 @@ def inputs_of_rows():
                 yield b"".join([b"\0", *steps, call("admit", 0, data), call("deliver", 0, data, other=True), call("drain", 0, other=True)])
 
 
-@unittest.skipUnless(ARCHIVE.exists(), "crates/tapebox_c was not built (clib/build)")
+def inputs_kept():
+    """The inputs that were found before."""
+    return map(bytes.fromhex, KEPT.read_text(encoding="utf-8").split())
+
+
 @unittest.skipUnless(shutil.which(CLANG), "there is no clang")
+@unittest.skipUnless(shutil.which("rt"), "there is no kit")
 class Fuzzed(Case):
+    def library(self):
+        """The library with coverage and AddressSanitizer in its own code."""
+        if named := os.environ.get("FUZZED_LIBRARY"):
+            return Path(named)
+        made = run(["--fuzzed", "tapebox_c"], program=ROOT / "dev" / "draft.py", limit=900)
+        if made.status == 2:
+            self.skipTest(made.said.decode())
+        self.assertEqual(made.status, 0, made.said.decode())
+        return CRATES / "tapebox_c" / "out" / "libtapebox_c.a.fuzzed"
+
     def built(self, folder):
         """The harness under AddressSanitizer; the case is skipped if clang has no runtime for it."""
         kit = Path(shutil.which("rt")).resolve().parent.parent
@@ -83,21 +103,35 @@ class Fuzzed(Case):
         probe.write_text("int LLVMFuzzerTestOneInput(const unsigned char *data, unsigned long size) { return !data && size; }\n", encoding="utf-8")
         if subprocess.run([CLANG, *flags, "-o", folder / "probe", probe], capture_output=True, check=False).returncode:
             self.skipTest("this clang has no libFuzzer or AddressSanitizer (Debian's libclang-rt-dev)")
-        done = run([*flags, "-o", folder / "calls", HARNESS, ARCHIVE, kit / "c" / "liblibc_c.a"], program=shutil.which(CLANG))
+        done = run([*flags, "-o", folder / "calls", HARNESS, self.library(), kit / "c" / "liblibc_c.a"], program=shutil.which(CLANG))
         self.assertEqual((done.status, done.said), (0, b""))
         return folder / "calls"
 
+    def keep(self, program, folder, corpus):
+        """Puts the short inputs that reach all that the corpus reaches into corpus.txt, if that is asked for."""
+        if "FUZZ_KEEP" in os.environ:
+            least = folder / "least"
+            least.mkdir()
+            run(["-set_cover_merge=1", "-max_len=64", least, corpus], program=program, limit=900, cwd=folder)
+            texts = sorted({file.read_bytes().hex() for file in least.iterdir()} - {""})
+            KEPT.write_text("".join(f"{text}\n" for text in texts), encoding="utf-8")
+
     def test_calls(self):
-        """clib/fuzz/calls.c: whatever bytes choose the calls and their arguments, no call reads or writes outside what it is given, nothing leaks,
-        and each answers a number of the page of refusals."""
+        """clib/fuzz/calls.c: whatever bytes choose the calls and their arguments, neither a call nor the code inside it reads or writes outside what it
+        has, nothing leaks, and each call answers a number of the page of refusals."""
         with tempfile.TemporaryDirectory() as name:
             folder = Path(name)
             corpus = folder / "corpus"
             corpus.mkdir()
-            for at, given in enumerate([*inputs_of_samples(), *inputs_of_tables(), *inputs_of_rows()]):
+            for at, given in enumerate([*inputs_of_samples(), *inputs_of_tables(), *inputs_of_rows(), *inputs_kept()]):
                 (corpus / str(at)).write_bytes(given)
+            program = self.built(folder)
+            reached = re.findall(rb"DONE +cov: (\d+)", run(["-runs=0", "-max_len=4096", corpus], program=program, limit=300, cwd=folder).said)
+            # The harness alone has some hundred edges.
+            self.assertGreater(int(reached[0]), EDGES_LEAST)
             words = [f"-max_total_time={SECONDS}", "-max_len=4096", "-timeout=60", "-verbosity=0", f"-artifact_prefix={folder}/", corpus]
-            ended = run(words, program=self.built(folder), limit=2 * SECONDS + 120, cwd=folder)
+            ended = run(words, program=program, limit=2 * SECONDS + 120, cwd=folder)
+            self.keep(program, folder, corpus)
         self.assertEqual(ended.status, 0, ended.said.decode(errors="replace"))
         made = {call.decode(): int(count) for call, count in NUMBER.findall(ended.said)}
         if SECONDS > 60:

@@ -1,11 +1,11 @@
-"""`tools/gate_time.py`: what a command took, by crate and kind, and which of it passed its budget."""
+"""`dev/gate_time.py`: what a command took, by crate and kind, and which of it passed its budget."""
 
 import re
 import sys
 import tempfile
 from pathlib import Path
 
-from support import TOOLS, Case, run
+from support import DEV, Case, run
 
 # Something that takes two seconds of a processor, as a check of a crate by its words, and ends with 3.
 BUSY = "import sys, time\nwhile time.process_time() < 2: pass\nsys.exit(3)"
@@ -17,7 +17,7 @@ class GateTime(Case):
         with tempfile.NamedTemporaryFile("w", suffix=".txt") as file:
             file.write(budget)
             file.flush()
-            return run(["--budget", file.name, "--", *command], program=TOOLS / "gate_time.py")
+            return run(["--budget", file.name, "--", *command], program=DEV / "gate_time.py")
 
     def test_budgets(self):
         """What passes its budget is named, and the status is the command's."""

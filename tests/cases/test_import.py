@@ -1,6 +1,7 @@
-"""Files of Daily TAQ trades through `tools/from_taq.py`: the tables that they become, and the reports of these beside a plain tape's."""
+"""Vendors' files through `tools/import.py`: the tables that they become, and the reports of these beside a plain tape's."""
 
 import gzip
+import os
 import random
 import re
 import shutil
@@ -18,7 +19,9 @@ import stored_outputs
 from support import MARKS, ROOT, SAMPLES, TAPEBOX, TOOLS, Case, desk, report_rows, run, transcripts
 from cases.test_reports import OWN_PYTHON, has_pandas
 
-SCRIPT = TOOLS / "from_taq.py"
+SCRIPT = TOOLS / "import.py"
+MAPPINGS = SAMPLES / "mappings"
+TAQ = (MAPPINGS / "taq.toml").read_text(encoding="utf-8")
 COLUMNS = ["#row", *plain_table.COLUMNS]
 # The columns of a file, with the fields of a row that names none.
 FIELDS = {
@@ -52,9 +55,11 @@ SHORT = {
 }
 # The moment of a row's usual time.
 OPENING = 34_200_000_000_000
+# Each correction's row has the trade as it was corrected.
+CHANGES_LAST = TAQ.replace("latest_in_report = true", "latest_in_report = false")
 # Seconds that a command of the page may take.
 LIMIT = 120
-MISSING = "no row above it with the indicator 01, 07 or 08 is of its trade"
+MISSING = "no report above it is its trade"
 
 
 def taq(*rows, names=tuple(FIELDS)):
@@ -66,11 +71,18 @@ def taq(*rows, names=tuple(FIELDS)):
     return "".join("|".join(line) + "\n" for line in lines).encode()
 
 
-def converted(text, *words):
-    """How the script ended on a file."""
+def converted(text, *words, mapping=TAQ):
+    """How the script ended on a file by a mapping."""
     with tempfile.TemporaryDirectory() as folder:
         (Path(folder) / "taq.txt").write_bytes(text)
-        return run([*words, "taq.txt"], program=SCRIPT, cwd=folder)
+        (Path(folder) / "taq.toml").write_text(mapping, encoding="utf-8")
+        return run([*words, "taq.toml", "taq.txt"], program=SCRIPT, cwd=folder)
+
+
+def said_of(ended):
+    """What standard error says of rows that are left out, behind the two counts and before the next command."""
+    lines = ended.said.splitlines(keepends=True)
+    return b"".join(line for line in lines if b" left out: " in line)
 
 
 def lines(text):
@@ -80,7 +92,7 @@ def lines(text):
 
 def left_out(count, why, row):
     """What is said of rows that are left out."""
-    return f"from_taq.py: {count} row{'s' * (count > 1)} left out: {why}, first at row {row}\n".encode()
+    return f"import.py: {count} row{'s' * (count > 1)} left out: {why}, first at row {row}\n".encode()
 
 
 def plain_report(table):
@@ -95,19 +107,19 @@ def plain_report(table):
 
 
 class Imports(Case):
-    def assert_table(self, text, wanted, *words, said=b""):
+    def assert_table(self, text, wanted, said=b"", mapping=TAQ):
         """A file becomes these rows, and their report is that of the plain tape, which refuses none of them."""
-        ended = converted(text, *words)
-        self.assertEqual((ended.status, ended.said), (0, said))
+        ended = converted(text, mapping=mapping)
+        self.assertEqual((ended.status, said_of(ended)), (0, said))
         self.assertEqual(ended.written.splitlines()[0].decode(), ",".join(COLUMNS))
         self.assertEqual(lines(ended.written), [row.split(",") for row in wanted])
         if wanted:
             self.assert_writes(desk("report", given=ended.written), plain_report(ended.written))
         return ended.written
 
-    def assert_bad(self, text, fault, *words):
-        """A file is at fault, and nothing is written."""
-        self.assert_fault(converted(text, *words), (1, f"from_taq.py: taq.txt: {fault}\n".encode()))
+    def assert_bad(self, text, fault, mapping=TAQ):
+        """A file or a mapping is at fault, and nothing is written."""
+        self.assert_fault(converted(text, mapping=mapping), (2, f"import.py: {fault}\n".encode()))
 
     def all_figures(self, table):
         """The consolidated figures of the first symbol: open, high, low, last, volume and trades."""
@@ -148,17 +160,16 @@ class Trades(Imports):
         others = [(position, chr(sign)) for position in range(1, 5) for sign in range(33, 127) if chr(sign) != "|" and (position, chr(sign)) not in known]
         ended = converted(taq(*({"codes": " " * (position - 1) + sign} for position, sign in others)))
         said = b"".join(left_out(1, f"code {sign!a} in position {position} is in no matrix", at) for at, (position, sign) in enumerate(others, 2))
-        self.assertEqual((ended.status, ended.said, lines(ended.written)), (0, said, []))
+        self.assertEqual((ended.status, said_of(ended), lines(ended.written)), (0, said, []))
 
     def test_a_code_that_is_taken_as_another(self):
-        """IMPORT: a row with a code that no matrix has is left out, or has the code that `--as` names; a code that a matrix has stays."""
+        """IMPORT: a row with a code that no matrix has is left out, or has the code that the mapping names."""
         text = taq({"codes": "@  K"}, {"codes": "@  I"}, {"codes": "  IK"}, {"codes": "@  K"})
         kept = [f"3,report,N,1,{OPENING},AB,,10.00,100,@__I"]
         known, unknown = "code 'K' in position 4", "code 'I' in position 3"
         self.assert_table(text, kept, said=left_out(2, f"{known} is in no matrix", 2) + left_out(1, f"{unknown} is in no matrix", 4))
         taken = [f"{at},report,N,{at - 1},{OPENING},AB,,10.00,100,{codes}" for at, codes in enumerate(["@__X", "@__I", "@__X", "@__X"], 2)]
-        said = f"from_taq.py: 3 rows taken with {known} as 'X', first at row 2\nfrom_taq.py: 1 row taken with {unknown} as '_', first at row 4\n"
-        self.assert_table(text, taken, "--as", "K=X", "--as", "I=_", said=said.encode())
+        self.assert_table(text, taken, mapping=TAQ + 'codes = { 4K = "4X", 3I = "" }\n')
 
     def test_symbols(self):
         """IMPORT: a suffix stands after a point; a symbol that no tape has leaves its rows out."""
@@ -175,12 +186,6 @@ class Trades(Imports):
         self.assert_table(taq(*({"price": price} for price in [*prices, *bad])), wanted, said=said)
         wanted = [f"{at},report,N,{at - 1},{OPENING},AB,,10.00,{size},@___" for at, size in [(2, 1), (3, 99_999_999), (4, 7)]]
         self.assert_table(taq(*({"size": size} for size in [1, 99_999_999, "007", 0, 100_000_000])), wanted, said=left_out(2, "the size is not 1 to 99999999", 5))
-
-    def test_sequence_numbers(self):
-        """IMPORT: rows below a greater sequence number of their symbol are counted, and taken where they stand."""
-        text = taq({"sequence": 5}, {"sequence": 4}, {"sequence": 4, "symbol": "CD"}, {"sequence": 3}, {"sequence": 6})
-        wanted = [f"{at},report,N,{at - 1},{OPENING},{'CD' if at == 4 else 'AB'},,10.00,100,@___" for at in range(2, 7)]
-        self.assert_table(text, wanted, said=b"from_taq.py: 2 rows below a greater sequence number of their symbol, first at row 3\n")
 
 
 class Changes(Imports):
@@ -209,14 +214,14 @@ class Changes(Imports):
         """IMPORT: the row with 01 has the trade as it was corrected and the one with 12 what stood before; or, if asked for, the other way round."""
         text = taq({"indicator": "01", "price": "10.50", "size": 300}, {"id": 2, "price": "10.20"}, {"indicator": "12", "price": "1.05", "size": 200, "codes": " F"})
         first, corrected = "10.50,300,@___", "1.05,200,@F__"
-        for words, (before, after) in [([], (corrected, first)), (["--corrected-in", "01"], (corrected, first)), (["--corrected-in", "12"], (first, corrected))]:
+        for mapping, (before, after) in [(TAQ, (corrected, first)), (CHANGES_LAST, (first, corrected))]:
             wanted = [
                 f"2,report,N,1,{OPENING},AB,,{before}",
                 f"3,report,N,2,{OPENING},AB,,10.20,100,@___",
                 f"4,correct,N,3,{OPENING},AB,1,{after}",
             ]
-            table = self.assert_table(text, wanted, *words)
-            figures = ["10500", "102000", "10500", "102000", "300", "2"] if "12" in words else ["105000", "105000", "102000", "102000", "400", "2"]
+            table = self.assert_table(text, wanted, mapping=mapping)
+            figures = ["10500", "102000", "10500", "102000", "300", "2"] if mapping == CHANGES_LAST else ["105000", "105000", "102000", "102000", "400", "2"]
             self.assertEqual(self.all_figures(table), figures)
 
     def test_a_chain(self):
@@ -268,7 +273,7 @@ class Changes(Imports):
     def test_a_cancelled_trade_without_its_cancel(self):
         """IMPORT: a trade with 07 or 08 of which no cancel comes is left out, so that the day ends without it."""
         text = taq({"indicator": "07"}, {"indicator": "08", "id": 2}, {"indicator": "08", "id": ""}, {"indicator": "12", "id": 2}, {"id": 3})
-        said = left_out(3, "it has the indicator 07 or 08, and no row below it is its cancel", 2) + left_out(1, "its trade was left out", 5)
+        said = left_out(3, "it says that it was cancelled, and no row below cancels it", 2) + left_out(1, "its trade was left out", 5)
         self.assert_table(text, [f"6,report,N,1,{OPENING},AB,,10.00,100,@___"], said=said)
 
     def test_changes_of_what_is_left_out(self):
@@ -286,7 +291,7 @@ class Changes(Imports):
         for seed, corrected_in in product(range(10), ("01", "12")):
             with self.subTest(seed=seed, corrected_in=corrected_in):
                 day = SeededDay(seed, corrected_in)
-                self.assert_table(taq(*day.rows), day.wanted, "--corrected-in", corrected_in)
+                self.assert_table(taq(*day.rows), day.wanted, mapping=TAQ if corrected_in == "01" else CHANGES_LAST)
 
 
 class SeededDay:
@@ -360,82 +365,131 @@ class Files(Imports):
     WIDTH = len(FIELDS)
 
     def test_forms(self):
-        """IMPORT: a file is plain or compressed, with either end of a line, its columns by their names in any order, and a row that says END last."""
+        """IMPORT: a file is plain or compressed, with or without a byte order mark, with either end of a line, its columns in any order, and a last row."""
         text, end = taq(*self.ROWS), f"END|20240102|3{'|' * (self.WIDTH - 3)}\n".encode()
-        needed = [name for name in FIELDS if name in {*SHORT.values()} and name != SHORT["facility"]]
-        head, rows = text.split(b"\n", 1)
         for form in [
             text,
+            b"\xef\xbb\xbf" + text,
             gzip.compress(text),
+            subprocess.run(["zstd", "-q"], input=text, capture_output=True, check=True).stdout if shutil.which("zstd") else text,
             text.replace(b"\n", b"\r\n"),
             text.rstrip(b"\n"),
             text + end,
-            text + b"END|20240102",
-            taq(*self.ROWS, names=needed),
             taq(*self.ROWS, names=[*FIELDS][::-1]),
-            head.upper() + b"\n" + rows,
         ]:
             self.assert_table(form, self.WANTED)
 
-    def test_header_rows(self):
-        """from_taq.py: a file that is empty, has no pipes, or lacks a column is told, and nothing is written."""
-        self.assert_bad(b"", "it is empty")
-        self.assert_bad(taq().replace(b"|", b","), "header row: its columns are not between pipes")
-        for name in SHORT.values():
-            if name != SHORT["facility"]:
-                self.assert_bad(taq(names=[other for other in FIELDS if other != name]), f"header row: column {name} is missing")
+    def test_several_files(self):
+        """IMPORT: several files are one day in their order, and the keys say where each message stands."""
+        with tempfile.TemporaryDirectory() as folder:
+            (Path(folder) / "a.txt").write_bytes(taq({"indicator": "08", "id": 4}, {"id": 5, "who": "Q"}))
+            (Path(folder) / "b.txt").write_bytes(taq({"indicator": "10", "id": 4}, {"id": 9, "size": 0}))
+            ended = run(["--keys", "keys.csv", MAPPINGS / "taq.toml", "a.txt", "b.txt"], program=SCRIPT, cwd=folder)
+            keys = (Path(folder) / "keys.csv").read_text(encoding="utf-8")
+        rows = [
+            f"a.txt,2,report,N,1,{OPENING},AB,,10.00,100,@___",
+            f"a.txt,3,report,Q,1,{OPENING},AB,,10.00,100,@___",
+            f"b.txt,2,cancel,N,2,{OPENING},AB,1,,,",
+        ]
+        self.assertEqual(ended.written.decode(), "\n".join([",".join(["#file", *COLUMNS]), *rows, ""]))
+        self.assertEqual(keys, "participant,number,file,row,id\nN,1,a.txt,2,N AB  4\nQ,1,a.txt,3,Q AB  5\nN,2,b.txt,2,N AB  4\n")
+        said = [
+            "import.py: 4 rows in: 3 reports, 1 cancel, 0 corrections",
+            "import.py: 3 messages out: 2 reports, 1 cancel, 0 corrections",
+            "import.py: 1 row left out: the size is not 1 to 99999999, first at b.txt, row 3",
+            "import.py: next: tapebox check TABLE, then tapebox report TABLE",
+        ]
+        self.assertEqual((ended.status, ended.said.decode().splitlines()), (0, said))
+
+    def test_strict(self):
+        """IMPORT: with --strict nothing is written if a row is left out, and the status is 2."""
+        ended = converted(taq(*self.ROWS, {"id": 9, "size": 0}), "--strict")
+        self.assertEqual((ended.status, ended.written, said_of(ended)), (2, b"", left_out(1, "the size is not 1 to 99999999", 5)))
+        self.assertEqual(converted(taq(*self.ROWS), "--strict").status, 0)
 
     def test_bad_rows(self):
-        """from_taq.py: the first bad row is told by its number, its column, its text and the rule, and nothing is written."""
+        """IMPORT: the first bad row is named with its column, its text and the rule, and nothing is written."""
         rules = {
-            "time": ("a time of day as HHMMSS with up to nine decimals", ["", "9", "09300", "240000", "096000", "093060", "09:30:00", "0930000000000000", " 93000"]),
-            "who": ("A to Z", ["", "n", "NQ", "1", " "]),
-            "symbol": ("a root and perhaps a suffix", ["", " "]),
+            "time": ("a time", ["", "9", "240000", "096000", "093060", "0930000000000000", "noon"]),
             "codes": ("up to four codes", ["@ TI ", "     "]),
-            "size": ("a number of shares", ["", "-1", "1.0", "1e3", "\u00b2"]),
-            "price": ("a price in dollars", ["", "-1", ".", "1.2.3", "1e3", "10 "]),
-            "indicator": ("00, 01, 07, 08, 10, 11 or 12", ["", "0", "02", "09", "13", "000", " 0"]),
-            "sequence": ("a number", ["", "x", "-1", "9" * 50]),
+            "size": ("a number of shares", ["", "-1", "1.0", "1e3"]),
+            "price": ("a price in dollars", ["", "-1", ".", "1.2.3", "1e3", "1" * 41]),
         }
         for name, (rule, texts) in rules.items():
             for text in texts:
                 with self.subTest(name, text=text):
-                    shown = ascii(text.encode().decode("latin-1")[:40])
-                    self.assert_bad(taq(*self.ROWS, {name: text}, {name: "?"}), f"row 5: {SHORT[name]} {shown} is not {rule}")
+                    shown = f'"{text[:40]}"' + ".." * (len(text) > 40)
+                    self.assert_bad(taq(*self.ROWS, {name: text, "id": 9}, {name: "?"}), f"taq.txt: row 5: column {SHORT[name]}: {shown} is not {rule}")
+        self.assert_bad(taq(*self.ROWS) + b"a|b\n", f"taq.txt: row 5: 2 fields, and the first row has {self.WIDTH}")
+        self.assert_bad(taq(names=[*FIELDS][1:]), "taq.txt: the column Time of the mapping is missing")
+        self.assert_bad(taq({"indicator": "08"}, {"indicator": "10"}, {"indicator": "01"}), "taq.txt: row 4: column Trade Id: \"N AB  1\" is the id of a report above it, and later rows change it")
+        self.assert_bad(gzip.compress(taq(*self.ROWS))[:-12], "taq.txt: Compressed file ended before the end-of-stream marker was reached")
+        if shutil.which("zstd"):
+            packed = subprocess.run(["zstd", "-q"], input=taq(*self.ROWS * 20_000), capture_output=True, check=True).stdout
+            ended = converted(packed[:-100])
+            self.assertEqual((ended.status, ended.written), (2, b""))
+            self.assertIn(b"taq.txt", ended.said)
 
-    def test_rows_that_are_none(self):
-        """from_taq.py: a row with another number of fields, a blank line, and one below the END are told, and nothing is written."""
-        text = taq(*self.ROWS)
-        self.assert_bad(text + b"a|b\n", f"row 5: 2 fields, and the header row has {self.WIDTH}")
-        self.assert_bad(text + b"\n", f"row 5: 1 field, and the header row has {self.WIDTH}")
-        self.assert_bad(text + b"END|\n" + text, "row 6: it is below the row that says END")
-
-    def test_two_trades_of_one_id(self):
-        """IMPORT: of two trades with one id, both of which later rows change, it can't be told which is changed."""
-        self.assert_bad(taq({"indicator": "08"}, {"indicator": "10"}, {"indicator": "01"}), "row 4: row 2 is of the same trade and no change of it")
-
-    def test_files_that_cannot_be_read(self):
-        """from_taq.py: a file that is missing, no file, or cut off is told, and nothing is written."""
-        self.assert_bad(gzip.compress(taq(*self.ROWS))[:-12], "Compressed file ended before the end-of-stream marker was reached")
-        with tempfile.TemporaryDirectory() as folder:
-            for name, fault in [("missing", "No such file or directory"), (folder, "it is no file, and can't be read twice")]:
-                self.assert_fault(run([name], program=SCRIPT, cwd=folder), (1, f"from_taq.py: {name}: {fault}\n".encode()))
+    def test_bad_mappings(self):
+        """IMPORT: a mapping with an unknown part or key, or without one that is needed, is named."""
+        for mapping, fault in [
+            (TAQ + "[prices]\n", "taq.toml: prices is no part of a mapping"),
+            (TAQ.replace("[size]\n", '[size]\nscale = "1"\n'), "taq.toml: size: scale is no key of it"),
+            (TAQ.replace('[size]\ncolumn = "Trade Volume"\n', ""), "taq.toml: size: column is missing"),
+            (TAQ.replace("[id]", "[leave_out]"), "taq.toml: id: columns is missing, and cancels and corrections need it"),
+            (TAQ + 'codes = { 4K = "4?" }\n', 'condition: codes: "4?" is not a position and a code of it'),
+            (TAQ.replace('join = "."', "join = 1"), "taq.toml: symbol: join is not a text"),
+            (TAQ.replace('separator = "|"', 'separator = "||"'), "taq.toml: file: separator is not one character"),
+            (TAQ.replace("[moment]\n", '[moment]\nzone = "Nowhere/Here"\n'), 'moment: zone "Nowhere/Here" is not known'),
+            (TAQ.replace("[moment]\n", '[moment]\nunit = "days"\n'), "moment: unit is not one of seconds, milliseconds, microseconds, nanoseconds"),
+        ]:
+            with self.subTest(fault):
+                self.assert_bad(taq(*self.ROWS), fault, mapping)
 
     def test_full_output(self):
-        """from_taq.py: a write that fails ends it with 1."""
+        """import.py: a write that fails ends it with 1."""
         with tempfile.NamedTemporaryFile() as file, open("/dev/full", "wb") as full:
             file.write(taq(*self.ROWS))
             file.flush()
-            ended = run([file.name], program=SCRIPT, stdout=full)
-        self.assertEqual((ended.status, ended.said), (1, b"from_taq.py: standard output: No space left on device\n"))
+            ended = run([MAPPINGS / "taq.toml", file.name], program=SCRIPT, stdout=full)
+        self.assertEqual((ended.status, ended.said.splitlines()[-1]), (1, b"import.py: standard output: No space left on device"))
 
-    def test_words(self):
-        """from_taq.py: `--as` takes a code that a position lacks and one that it has, and not two for one."""
-        for words in [["--as", "K"], ["--as", "K="], ["--as", "K=?"], ["--as", "KK=_"], ["--as", "_=@"], ["--as", "@=@"], ["--as", "K=_", "--as", "K=I"]]:
-            ended = converted(taq(*self.ROWS), *words)
-            self.assertEqual((ended.status, ended.written), (2, b""))
-            self.assertIn(b"from_taq.py: error: K" if len(words) == 4 else f"error: {words[1]} is not CODE=CODE".encode(), ended.said)
-        self.assert_table(taq(*self.ROWS), self.WANTED, "--as", "K=_", "--as", "E=_", "--as", "K=_")
+
+class Vendors(Imports):
+    """The other mappings over the small files beside them."""
+
+    TABLES = {
+        "plain": ["2,report,N,1,1704205800000125000,AB,,10.00,100,@___", "3,report,Q,1,1704205800500000000,AB,,10.10,200,@___", "5,report,P,1,1704205803000000000,CD,,48.1250,50,@___"],
+        "polygon": [
+            "2,report,N,1,34200000000000,AB,,10.00,1000,@F__",
+            "3,report,P,1,34201249900000,AB,,10.25,40,@F_I",
+            "4,report,Q,1,34202000000000,AB,,10.10,200,@___",
+            "5,report,N,2,34202400000000,AB,,10.05,100,@_Z_",
+            "6,cancel,Q,2,34209000000000,AB,1,,,",
+        ],
+        "databento": ["2,report,Q,1,34200000000000,AB,,10.00,100,@___", "3,report,Q,2,34201000000000,AB,,10.1025,5,@___", "5,report,N,1,34203000000000,AB,,10.05,300,@___"],
+    }
+    LEFT_OUT = {
+        "plain": left_out(1, 'participant "DARK" is not in the mapping', 4),
+        "polygon": left_out(1, 'condition "53" is not in the mapping', 7),
+        "databento": left_out(1, 'action is "C"', 4),
+    }
+
+    def test_samples(self):
+        """IMPORT: each mapping makes these rows of the file beside it."""
+        self.assertEqual({path.stem for path in MAPPINGS.glob("*.toml")}, {"taq", *self.TABLES})
+        for name, rows in self.TABLES.items():
+            with self.subTest(name):
+                mapping = (MAPPINGS / f"{name}.toml").read_text(encoding="utf-8")
+                self.assert_table((MAPPINGS / f"{name}.csv").read_bytes(), rows, self.LEFT_OUT[name], mapping)
+
+    def test_numbers_of_the_vendor(self):
+        """IMPORT: a vendor's numbers are taken if the mapping names their column, and a number that doesn't rise is a fault."""
+        mapping = '[symbol]\nconstant = "AB"\n[participant]\ncolumn = "who"\n[number]\ncolumn = "seq"\n[price]\ncolumn = "price"\n[size]\ncolumn = "size"\n'
+        text = b"who,seq,price,size\nN,5,1,1\nQ,2,1,1\nN,9,1,1\n"
+        rows = ["2,report,N,5,0,AB,,1.00,1,@___", "3,report,Q,2,0,AB,,1.00,1,@___", "4,report,N,9,0,AB,,1.00,1,@___"]
+        self.assert_table(text, rows, mapping=mapping)
+        self.assert_bad(text + b"N,9,1,1\n", 'taq.txt: row 5: column seq: "9" is not above 9, the last of N', mapping)
 
 
 class Page(Case):
@@ -453,28 +507,19 @@ class Page(Case):
         program.write_text(f'#!/bin/sh\nexec "{ROOT}/run" "$@"\n', encoding="utf-8")
         program.chmod(0o755)
 
+    @unittest.skipUnless(has_pandas() and shutil.which("sqlite3"), "no pandas or no sqlite3")
     def test_commands(self):
         """IMPORT: the commands say and write what the page shows, but for what `./run` says of a draft."""
         shown = transcripts("IMPORT.md")
-        self.assertGreater(len(shown), 3)
+        self.assertGreater(len(shown), 2)
+        environment = os.environ | {"PATH": f"{OWN_PYTHON}:{os.environ['PATH']}"}
         for command, wanted in shown:
             with self.subTest(command):
-                done = subprocess.run(["sh", "-c", command], cwd=self.folder, stdout=subprocess.PIPE, stderr=subprocess.STDOUT, check=True, timeout=LIMIT)
+                done = subprocess.run(["sh", "-c", command], cwd=self.folder, env=environment, stdout=subprocess.PIPE, stderr=subprocess.STDOUT, check=True, timeout=LIMIT)
                 self.assertEqual(re.sub("(?m)^run: .*\n", "", done.stdout.decode()), wanted)
 
     def test_figures(self):
         """IMPORT: the page's report is that of the plain tape."""
-        table = run(["--as", "K=_", SAMPLES / "taq.txt"], program=SCRIPT).written
+        table = run([MAPPINGS / "taq.toml", SAMPLES / "taq.txt"], program=SCRIPT).written
         shown = next(written for command, written in transcripts("IMPORT.md") if "run report" in command)
         self.assertEqual(plain_report(table).decode(), shown)
-
-    @unittest.skipUnless(has_pandas(), "no pandas")
-    def test_pandas(self):
-        """IMPORT, "pandas": ten lines at most make the same rows of the sample."""
-        (code,) = re.findall("(?ms)^```python\n(.*?)^```$", (ROOT / "docs" / "IMPORT.md").read_text(encoding="utf-8"))
-        self.assertLessEqual(len(code.splitlines()), 10)
-        subprocess.run([shutil.which("python3", path=OWN_PYTHON), "-c", code], cwd=self.folder, check=True, timeout=LIMIT)
-        wanted = desk("tape", given=run(["--as", "K=_", SAMPLES / "taq.txt"], program=SCRIPT).written).written.decode()
-        # The frame has no moments.
-        wanted = re.sub("(?m)^(.*?,(?:report|correct|cancel),.,[0-9]+),[0-9]+,", r"\1,0,", wanted)
-        self.assert_writes(desk("tape", given=(self.folder / "day.csv").read_bytes()), wanted.encode())

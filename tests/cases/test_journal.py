@@ -257,7 +257,7 @@ class Journals(Case):
         """OPERATING, "A day that survives a crash": a journal that can't be opened is a read fault, with its cause."""
         self.day.path = self.day.write("day.toml", journal="none/day.journal")
         self.path = self.folder / "none" / "day.journal"
-        self.assert_refused(3, "entity not found")
+        self.assert_refused(3, "no such folder")
 
     def test_no_permission(self):
         """OPERATING, "A day that survives a crash": so is one that may not be written, and one that may not be made in its folder."""
@@ -369,17 +369,19 @@ class Journals(Case):
         self.assertEqual(over.said, CALL_FAILED + self.line("write fault"))
 
     def test_the_folder_of_a_journal(self):
-        """OPERATING, "A day that survives a crash": the folder of a journal that is begun is synced, and no harm is done if that fails; not that of one
-        that goes on, or is kept without a sync."""
+        """OPERATING, "A day that survives a crash": a journal whose folder can't be synced is a write fault before any port is opened, whether it is new
+        or goes on; the folder of one that is kept without a sync is not synced."""
         env = os.environ | failing(("fsync", 1, EVER, errno.EIO))
-        for more, wanted in (("", (1, 0)), ("journal_sync = false\n", (0, 0))):
-            self.path.unlink(missing_ok=True)
-            self.day.path = self.day.write("day.toml", journal="day.journal")
-            self.day.path.write_text(self.day.path.read_text() + more)
-            for synced in wanted:
-                with self.subTest(more, synced=synced), self.day.live(env=env) as live:
-                    over = self.finish(live, ALL)
-                    self.assertEqual((over.status, over.said.count(CALL_FAILED)), (0, synced))
+        for _ in range(2):
+            self.assertEqual(run(["live", self.day.path], env=env), Ended(4, b"", CALL_FAILED + self.line("write fault")))
+            self.assertEqual(self.bytes(), b"")
+        before = self.kill()
+        self.assertEqual(run(["live", self.day.path], env=env), Ended(4, b"", CALL_FAILED + self.line("write fault")))
+        self.assertEqual(self.bytes(), before)
+        self.day.path.write_text(self.day.path.read_text() + "journal_sync = false\n")
+        with self.day.live(env=env) as live:
+            over = self.finish(live, ALL)
+        self.assertEqual((over.status, over.said.count(CALL_FAILED)), (0, 0))
 
     def test_a_journal_that_is_not_synced(self):
         """FORMATS, "A day's file": `journal_sync = false` keeps the journal without a sync."""

@@ -18,7 +18,9 @@ from support import CRATES, ROOT, SAMPLES, Case, desk, run
 
 CLIB = ROOT / "clib"
 PYTHON = ROOT / "python"
-ARCHIVE = CRATES / "tapebox_c" / "out" / "libtapebox_c.a"
+# The proved library, or else its draft.
+BUILT = CRATES / "tapebox_c" / "out" / "libtapebox_c.a"
+ARCHIVE = BUILT if BUILT.exists() else BUILT.with_suffix(".a.draft")
 HEADER = CLIB / "tapebox.h"
 COMPILER = os.environ.get("CC", "cc")
 TABLES = sorted(SAMPLES.glob("*.csv"))
@@ -80,6 +82,39 @@ int main(void) {{
 """
 
 
+# Over clib/examples/tapebox.hpp: prints the report of the table on standard input, sends a tape to a subscriber, and names two refusals.
+USES_CPP = r"""#include "{header}"
+#include <iostream>
+#include <iterator>
+
+int main() {{
+    const std::string given((std::istreambuf_iterator<char>(std::cin)), {{}});
+    std::cout << tapebox::table(given).report();
+    tapebox::tape tape("AB", "N");
+    tapebox::subscriber line("AB", "N", 7), other("AB", "N", 7);
+    const char report[] = "\0\x26RN\0\0\0\1\0\0\0\0\0\0\0\0AB      \0\0\0\0\0\1\x86\xa0\0\0\0\x64@ Z ";
+    tape.admit(std::string_view(report, sizeof report - 1));
+    line = std::move(other);
+    line.deliver(0, tape.packet(7, 1));
+    std::cout << line.drain() << ' ' << line.size() << ' ' << line.news().held << ' ' << line.missing().has_value() << ' ' << line.entry(1).len << '\n';
+    tape.close();
+    for (const std::string_view bytes : {{std::string_view(report, sizeof report - 1), std::string_view()}}) {{
+        try {{
+            tape.admit(bytes);
+        }} catch (const tapebox::refused &refusal) {{
+            std::cout << refusal.what() << '\n';
+        }}
+    }}
+    try {{
+        tapebox::table read("kind");
+    }} catch (const tapebox::refused &refusal) {{
+        std::cout << (refusal.code == TAPEBOX_BAD_TABLE) << '\n';
+    }}
+    return 0;
+}}
+"""
+
+
 def package():
     """The Python package over the library that was linked here."""
     if str(PYTHON) not in sys.path:
@@ -89,11 +124,6 @@ def package():
         import tapebox
 
     return tapebox
-
-
-def kit_library():
-    """The kit's memory calls and allocator, which the static library stands on."""
-    return Path(shutil.which("rt")).resolve().parent.parent / "c" / "liblibc_c.a"
 
 
 def others():
@@ -150,7 +180,7 @@ class Linked(Case):
         cls.addClassCleanup(folder.cleanup)
         cls.folder = Path(folder.name)
         cls.link(cls.folder)
-        Linked.library = cls.folder / "libtapebox.so"
+        Linked.library, Linked.archive = cls.folder / "libtapebox.so", cls.folder / "libtapebox.a"
 
     @staticmethod
     def link(folder, compiler=COMPILER):
@@ -165,7 +195,7 @@ class Linked(Case):
             given = table.read_bytes()
             wanted, batch = desk("report", given=given), desk("encode", given=given).written
             self.assertEqual(wanted.status, 0)
-            refused = sum(map(int, re.findall(rb": (\d+) rows? refused", wanted.said)))
+            refused = sum(map(int, re.findall(rb": (\d+) of \d+ rows? refused", wanted.said)))
             for example in examples:
                 with self.subTest(table.name, example=example):
                     got = run([], batch, program=folder / "examples" / example)
@@ -184,22 +214,29 @@ class Examples(Linked):
                 self.assert_reports(Path(name), "report", "feed")
 
     def test_reports_in_cpp(self):
-        """clib/examples: so has a tape in C++17."""
+        """clib/examples: so has a tape in C++17, by tapebox.hpp, which a program with a subscriber and a table uses too."""
         compilers = [name for name in ("g++", "clang++") if shutil.which(name)]
         if not compilers:
             self.skipTest("there is no C++ compiler")
         for compiler in compilers:
             with self.subTest(compiler):
                 words = ["-std=c++17", "-O1", "-Wall", "-Wextra", "-Werror", "-o", self.folder / "examples" / "cpp", CLIB / "examples" / "report.cpp"]
-                done = run([*words, ARCHIVE, kit_library()], program=compiler)
+                done = run([*words, self.archive], program=compiler)
                 self.assertEqual((done.status, done.said), (0, b""))
                 self.assert_reports(self.folder, "cpp")
+                (self.folder / "uses.cpp").write_text(USES_CPP.format(header=CLIB / "examples" / "tapebox.hpp"), encoding="utf-8")
+                words = ["-std=c++17", "-O1", "-Wall", "-Wextra", "-Werror", "-o", self.folder / "uses", self.folder / "uses.cpp", self.archive]
+                done = run(words, program=compiler)
+                self.assertEqual((done.status, done.said), (0, b""))
+                table = TABLES[0].read_bytes()
+                wanted = desk("report", given=table).written + b"1 1 1 0 40\n31 Closed\n12 Short\n1\n"
+                self.assert_writes(run([], table, program=self.folder / "uses"), wanted)
 
     @unittest.skipUnless(shutil.which("rustc"), "there is no rustc")
     def test_reports_in_rust(self):
         """clib/examples: so has a tape in Rust."""
         words = ["--edition", "2024", "-O", "-D", "warnings", "-o", self.folder / "examples" / "rust", CLIB / "examples" / "report.rs"]
-        done = run([*words, "-L", ARCHIVE.parent, "-C", f"link-arg={kit_library()}"], program="rustc")
+        done = run([*words, "-L", self.folder], program="rustc")
         self.assertEqual((done.status, done.said), (0, b""))
         self.assert_reports(self.folder, "rust")
 
@@ -242,7 +279,7 @@ class Examples(Linked):
                 program, *words = shlex.split(compiler)
                 for example in ("report", "feed", "texts"):
                     more = ["-std=c11", "-O2", "-Wall", "-Wextra", "-Werror", flag, "-o", folder / "examples" / example]
-                    done = run([*words, *more, CLIB / "examples" / f"{example}.c", ARCHIVE, kit_library()], program=program)
+                    done = run([*words, *more, CLIB / "examples" / f"{example}.c", self.archive], program=program)
                     self.assertEqual((done.status, done.said), (0, b""))
                 self.assert_reports(folder, "report", "feed")
                 self.assert_texts(folder)
@@ -253,7 +290,7 @@ class Examples(Linked):
         lost = (CLIB / "examples" / "report.c").read_text(encoding="utf-8").replace("tapebox_free(&tape);", "tape.inside = NULL;")
         self.assertNotIn("tapebox_free", lost)
         (folder / "day.h").write_text((CLIB / "examples" / "day.h").read_text(encoding="utf-8").replace("../tapebox.h", str(HEADER)), encoding="utf-8")
-        leaks = compiled(folder, lost, flag, ARCHIVE, kit_library(), compiler=compiler)
+        leaks = compiled(folder, lost, flag, self.archive, compiler=compiler)
         self.assertTrue(leaks)
         ended = run([], b"AB\nN\n", program=leaks)
         self.assertNotEqual(ended.status, 0)
@@ -296,8 +333,16 @@ class Interface(Linked):
         header = HEADER.read_text(encoding="utf-8")
         for name in ("LONGEST_PACKET", "LONGEST_ANSWER"):
             self.assertEqual(re.findall(rf"^#define TAPEBOX_{name} (\d+)$", header, re.M), [str(getattr(package(), name))])
-        names = {int(number): name.title().replace("_", "") for name, number in re.findall(r"^    TAPEBOX_(\w+) = (\d+)", header, re.M)}
-        self.assertEqual(names, {number: name for number, name in package().NAMES.items() if number > 100})
+        rows = re.findall(r'^    ROW\((\d+), (\w+), "(\w+)"\)', header, re.M)
+        self.assertEqual({int(number): name for number, _, name in rows}, package().NAMES)
+        for number, constant, name in rows:
+            self.assertEqual(constant.removesuffix(f"_{number}").title().replace("_", ""), name)
+        lines = "".join(f'    printf("%d %s\\n", TAPEBOX_{constant}, tapebox_refusal_name({number}));\n' for number, constant, _ in rows)
+        lines += '    printf("%s %s\\n", tapebox_refusal_name(0), tapebox_refusal_name(10));\n'
+        with tempfile.TemporaryDirectory() as name:
+            program = compiled(Path(name), PRINTS_LAYOUT.format(header=HEADER, lines=lines))
+            self.assertTrue(program)
+            self.assertEqual(run([], program=program).written.decode().splitlines(), [*(f"{number} {name}" for number, _, name in rows), "Admitted ?"])
         rules = (ROOT / "docs" / "RULES.md").read_text(encoding="utf-8")
         for number, name in package().NAMES.items():
             self.assertRegex(rules, rf"\b{number} {name}\b")
@@ -307,7 +352,7 @@ class Interface(Linked):
         exported = set()
         for source in (CRATES / "tapebox_c" / "src").glob("*.rt"):
             exported |= set(re.findall(r'pub extern "C" fn (\w+)', source.read_text(encoding="utf-8")))
-        self.assertEqual(set(re.findall(r"\b(tapebox_\w+)\(", HEADER.read_text(encoding="utf-8"))), exported)
+        self.assertEqual(set(re.findall(r"\b(tapebox_\w+)\(", HEADER.read_text(encoding="utf-8"))) - {"tapebox_refusal_name", "tapebox_version"}, exported)
         python = (PYTHON / "tapebox" / "_library.py").read_text(encoding="utf-8")
         self.assertEqual({f"tapebox_{name}" for name in re.findall(r'^    "(\w+)": \[', python, re.M)}, exported)
         library = ctypes.CDLL(str(self.library))
@@ -319,7 +364,7 @@ class Interface(Linked):
         to be freed before it reads again, or it holds nothing, and reads again at once."""
         good = TABLES[0].read_bytes()
         with tempfile.TemporaryDirectory() as name:
-            program = compiled(Path(name), READS_REFUSED.format(header=HEADER), ARCHIVE, kit_library())
+            program = compiled(Path(name), READS_REFUSED.format(header=HEADER), self.archive)
             self.assertTrue(program)
             for table, code in ((good, "0"), (good.replace(b",100,", b",0,", 1), "111")):
                 ends = set()
@@ -340,8 +385,28 @@ class Interface(Linked):
         compiler = shutil.which(os.environ.get("CXX", "c++"))
         if not compiler:
             self.skipTest("there is no C++ compiler")
-        ended = run(["-std=c++17", "-Wall", "-Wextra", "-Werror", "-fsyntax-only", "-x", "c++", HEADER], program=compiler)
+        ended = run(["-std=c++17", "-Wall", "-Wextra", "-Werror", "-fsyntax-only", "-include", HEADER, "-x", "c++", os.devnull], program=compiler)
         self.assertEqual((ended.status, ended.said), (0, b""))
+
+
+    def test_the_version(self):
+        """clib/tapebox.h: header, both libraries and the Python package have one version, which is in the shared library's name."""
+        header = HEADER.read_text(encoding="utf-8")
+        [version] = map(int, re.findall(r"^#define TAPEBOX_VERSION (\d+)$", header, re.M))
+        self.assertEqual((package()._library.VERSION, package().__version__), (version, f"{version // 100}.{version % 100}"))
+        self.assertIn(f'\nversion = "{package().__version__}"\n', (PYTHON / "pyproject.toml").read_text(encoding="utf-8"))
+        line = '    printf("%u\\n", tapebox_version());\n'
+        with tempfile.TemporaryDirectory() as name:
+            program = compiled(Path(name), PRINTS_LAYOUT.format(header=HEADER, lines=line), self.archive)
+            self.assert_writes(run([], program=program), f"{version}\n".encode())
+            other = Path(name) / "other.so"
+            for source in ("unsigned tapebox_version(void) { return 99; }", "unsigned tapebox_version(void) { return 200; }", "int other;"):
+                self.assertTrue(compiled(Path(name), source, "-shared", "-fPIC"))
+                os.replace(Path(name) / "compiled", other)
+                ended = run(["-B", "-c", "import tapebox"], program=sys.executable, env=os.environ | {"TAPEBOX_LIBRARY": str(other), "PYTHONPATH": str(PYTHON)})
+                self.assertRegex(ended.said, rb"ImportError: \S+ is of another version than 1\.0 of this package")
+        if shutil.which("readelf"):
+            self.assertIn(f"[libtapebox.so.{version // 100}]".encode(), run(["-d", self.library], program="readelf").written)
 
 
 class Package(Linked):
@@ -352,14 +417,27 @@ class Package(Linked):
         self.assertEqual(ended.status, 0, ended.said.decode())
         self.assertRegex(ended.said, rb"Ran \d\d tests in .*\n\nOK\n")
 
+    def test_the_types(self):
+        """python/README.md: mypy finds no fault in the package's type hints."""
+        mypy = shutil.which("mypy")
+        if not mypy:
+            self.skipTest("there is no mypy")
+        with tempfile.TemporaryDirectory() as name:
+            words = ["--strict", "--no-warn-return-any", "--ignore-missing-imports", "--python-version", "3.11", "--cache-dir", name, "-p", "tapebox"]
+            ended = run(words, program=mypy, cwd=PYTHON)
+        self.assertEqual(ended.status, 0, ended.written.decode())
+
     def test_a_frame(self):
         """python/README.md: `to_frame` has the entries as a frame of pandas."""
         pythons = [name for name in (sys.executable, "/usr/bin/python3") if not run(["-c", "import pandas, typing; typing.Self"], program=name).status]
         if not pythons:
             self.skipTest("there is no pandas")
-        code = "import tapebox; print(tapebox.Tape.from_csv('samples/morning.csv').to_frame().groupby('kind')['tape'].count().to_dict())"
+        code = """import tapebox
+frame = tapebox.Tape.from_csv('samples/morning.csv').to_frame()
+print(frame.groupby('kind')['tape'].count().to_dict(), *[frame[name].dtype for name in ('tape', 'moment', 'target', 'size', 'volume', 'trades')])
+"""
         options = {"program": pythons[0], "cwd": ROOT, "env": os.environ | {"TAPEBOX_LIBRARY": str(self.library), "PYTHONPATH": str(PYTHON)}}
-        self.assert_writes(run(["-B", "-c", code], **options), b"{'cancel': 8, 'correct': 5, 'reinstate': 2, 'report': 21}\n")
+        self.assert_writes(run(["-B", "-c", code], **options), b"{'cancel': 8, 'correct': 5, 'reinstate': 2, 'report': 21} Int64 UInt64 Int64 Int64 UInt64 Int64\n")
 
     def test_the_wheel(self):
         """python/README.md: the wheel holds the library, which needs the C library alone, and its files are those of its record; if it is
@@ -392,7 +470,7 @@ class Builds(Case):
         ended = run(["-h"], program=CLIB / "build")
         self.assertEqual((ended.status, ended.said), (0, b""))
         self.assertIn(b"Statuses", ended.written)
-        for words in (["all"], ["link", "a", "b"]):
+        for words in (["--all"], ["link", "a", "b"], ["a", "b"], ["--draft", "a", "b"]):
             with self.subTest(words):
                 ended = run(words, program=CLIB / "build")
                 self.assertEqual((ended.status, ended.written), (2, b""))

@@ -13,7 +13,7 @@ import unittest
 from pathlib import Path
 
 from preloaded import CALL_FAILED, EVER, failing, preloading
-from support import BAD_ARGUMENTS, HOST, LIMIT, READ_FAULT, SAMPLES, WRITE_FAULT, Case
+from support import DISAGREES, HOST, LIMIT, READ_FAULT, SAMPLES, WRITE_FAULT, Case
 from support import connect, ended, free_ports, is_refused, message, ports, report, report_rows, reports, run, started, tried, wait_bound
 
 # Asks Linux for the time at which each packet was taken, by the same number that its answer has.
@@ -354,6 +354,20 @@ class Terms(Case):
         self.assertEqual((ends[0].status, ends[0].said), (0, b""))
         self.assert_traded(ends[0].written, 1)
 
+    def test_a_follower_by_another_matrix(self):
+        """OPERATING, "Statuses", 7: a follower by Matrix One disagrees with a day that has a code of Matrix Two, and the day goes on without it."""
+        line, a, b, retransmission = ports(4)
+        stopped = message(kind="report", participant="N", number=1, symbol="AB", price="10.00", size=100, condition="@__2")
+        with started(["live", "AB", "N", line, a, b, retransmission, 1, 7, 2]) as live, connect(line) as participant:
+            with started(["follow", "AB", "N", a, b, retransmission, 7]) as follow:
+                wait_bound(follow, a, b)
+                participant.sendall(stopped)
+                self.assert_fault(ended(follow), DISAGREES)
+                participant.close()
+                end = ended(live)
+        self.assertEqual(end.status, 0)
+        self.assert_traded(end.written, 1)
+
 
 class Names(Case):
     SYMBOLS = [f"S{at}" for at in range(4_097)]
@@ -366,7 +380,7 @@ class Names(Case):
             first, *row = ports(4)
             for words in (["live", *names, first, *row, 0, 1], ["follow", *names, *row, 1]):
                 with self.subTest((words[0], len(symbols), len(participants))):
-                    self.assert_fault(run(words), BAD_ARGUMENTS)
+                    self.assert_bad_arguments(run(words), b"usage: tapebox %s [^\n]+" % words[0].encode())
 
 
 class Served(Case):

@@ -13,7 +13,7 @@ from pathlib import Path
 
 from preloaded import CALL_FAILED, EVER, failing
 from refused import end_of_batch
-from support import BENCH_FEED, HOST, NO_WORKER, READ_FAULT, SAMPLES
+from support import HOST, NO_WORKER, READ_FAULT
 from support import Case, batch_line, connect, ended, is_refused, listens, ports, report, run, started, wait_bound, wait_connected, wait_for
 
 REPORTS = 200_000
@@ -206,9 +206,3 @@ class FewThreads(Case):
                     self.assert_fault(follow, READ_FAULT)
                 kinds[day.status] += 1
         self.assertGreater(min(kinds[NO_WORKER[0]], kinds[0]), 1, kinds)
-
-    def test_rows(self):
-        """RULES, "Refusals by number and name": of two workers of a report the first is refused its thread."""
-        day = (SAMPLES / "first-day.txt").read_bytes()
-        done = run(["rows"], day, program=BENCH_FEED, env=self.lacking(1))
-        self.assertEqual((done.status, done.written, done.said.replace(CALL_FAILED, b"")), (1, b"", b"Error: Unstarted\n"))

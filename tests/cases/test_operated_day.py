@@ -300,6 +300,33 @@ class Missing(Case):
         self.assertIn("the end waits for the lines of N Q\nthe end waits for 3 of 3 followers: 2 not connected, 1 served\nN: ", said)
         self.assertIn("all lines have ended\nthe end waits for 2 of 3 followers: 2 not connected, 0 served\nN: ", left)
 
+    def test_each_line_of_a_status_and_an_account(self):
+        """OPERATING, "How a day is operated": a status has these lines and no others, and the account at the end has these."""
+        no_message = bytearray(report("N", 4))
+        no_message[2] = ord("Z")
+        data = reports("N", 2) + report("N", 3, UNLISTED) + bytes(no_message)
+        refused = ["N: 1 refused by 13 BadKind\n", "N: 1 refused by 36 UnknownSymbol, the first with number 3\n"]
+        with day(followers=1) as it, it.live() as live:
+            with sent(it.port, data):
+                sent(it.next_port, b"").close()
+                connect(it.retransmission).close()
+                it.wait_status(live, "(?s)N: [^\n]*, 4 messages, .*Q: ended.*follower 1: .*, ended\n")
+                status = it.status()
+            over = ended(live)
+        self.assertEqual(over.status, 0)
+        ago, counts = r"since \d+ s, ", r"4 messages, 2 admitted, last number 2\n"
+        lines = [
+            f"{ago}tape number 2, \\d+ messages a second\n",
+            "the end waits for the lines of N\nall followers have ended\n",
+            f"N: connected {ago}{counts}",
+            *refused,
+            f"Q: ended, connected {ago}0 messages, 0 admitted, last number 0\n",
+            f"follower 1: {ago}asked 0 times, answered 0 times, 0 bytes, ended\n",
+        ]
+        self.assertRegex(status, rf"\A{''.join(lines)}\Z")
+        account = ["N: 4 messages, 2 admitted, last number 2\n", *refused, "Q: 0 messages, 0 admitted, last number 0\n"]
+        self.assertEqual(over.said.decode(), "".join(f"tapebox: {line}" for line in account))
+
     def test_a_status_says_since_when(self):
         """OPERATING, "How a day is operated": a status says for how many seconds the day runs, and after how many participants and followers connected."""
         began = time.monotonic()
@@ -596,14 +623,89 @@ class Floods(Case):
             self.assertLess(got.count(b"\n\n"), 5_000)
 
     def test_a_bad_line(self):
-        """FORMATS: a line that is no command is answered, and changes nothing."""
+        """FORMATS: a line that is no command is answered, and changes nothing; a longer one than 64 bytes is answered too, and ends its connection."""
+        unknown = b"unknown command; status or end\n\n"
         with day() as it, it.live() as live:
             it.wait_status(live, "tape number 0,")
-            with socket.socket(socket.AF_UNIX, socket.SOCK_STREAM) as client:
-                client.settimeout(10)
-                client.connect(str(it.folder / "day.control"))
-                client.sendall(b"finish\n")
-                self.assertEqual(client.recv(100), b"unknown command; status or end\n\n")
+            for lines, answers in (
+                (b"finish\nEnd\nend \n\nend\r\n", 5),
+                (b"finish\nen", 1),
+                (b"0" * 64 + b"\nfinish\n", 2),
+                (b"0" * 65 + b"\nend\n", 1),
+                (b"0" * 1_000, 1),
+            ):
+                with self.subTest(lines), self.asking(it) as client:
+                    client.sendall(lines)
+                    client.shutdown(socket.SHUT_WR)
+                    self.assertEqual(b"".join(iter(lambda: client.recv(1_000), b"")), unknown * answers)
             self.assertIsNone(live.poll())
             run(["end", it.path])
             self.assertEqual(ended(live).status, 0)
+
+    def test_connections_that_ended(self):
+        """FORMATS: connections that have ended are not among those of which the oldest is ended."""
+        with day() as it, it.live() as live:
+            it.wait_status(live, "tape number 0,")
+            with self.asking(it) as client:
+                client.sendall(b"stat")
+                for _ in range(40):
+                    self.assertEqual(run(["status", it.path]).status, 0)
+                client.sendall(b"us\n")
+                self.assertIn(b"tape number 0,", client.recv(1_000))
+            run(["end", it.path])
+            self.assertEqual(ended(live).status, 0)
+
+
+class Places(Case):
+    """What is where the control socket is to be."""
+
+    def assert_refused(self, it, why):
+        """`live` names the control socket, and why it cannot be opened."""
+        over = run(["live", it.path])
+        self.assertEqual((over.status, over.written), (READ_FAULT[0], b""))
+        self.assertEqual(over.said.decode(), f"tapebox: control {it.folder}/day.control: {why}\n")
+
+    def test_a_socket_that_nobody_answers_at(self):
+        """FORMATS: the socket of a day that is gone is made again, and is removed at the end."""
+        with day() as it:
+            with socket.socket(socket.AF_UNIX, socket.SOCK_STREAM) as gone:
+                gone.bind(str(it.folder / "day.control"))
+            with it.live() as live:
+                it.wait_status(live, "tape number 0,")
+                run(["end", it.path])
+                self.assertEqual(ended(live).status, 0)
+            self.assertFalse((it.folder / "day.control").exists())
+
+    def test_a_folder_that_is_not_there(self):
+        """FORMATS: a folder that is not there is made, and its owner alone can enter it."""
+        with day() as it:
+            it.path = it.write("day.toml", control="made/day.control")
+            with it.live() as live:
+                it.wait_status(live, "tape number 0,")
+                self.assertEqual((it.folder / "made").stat().st_mode & 0o777, 0o700)
+                run(["end", it.path])
+                self.assertEqual(ended(live).status, 0)
+
+    def test_a_socket_of_another_day(self):
+        """FORMATS: a day that runs keeps its control socket."""
+        with day() as it, day() as other, it.live() as live:
+            it.wait_status(live, "tape number 0,")
+            other.path = other.write("day.toml", control=str(it.folder / "day.control"))
+            over = run(["live", other.path])
+            self.assertEqual((over.status, over.said.decode()), (READ_FAULT[0], f"tapebox: control {it.folder}/day.control: address in use\n"))
+            run(["end", it.path])
+            self.assertEqual(ended(live).status, 0)
+
+    def test_a_file_that_is_no_socket(self):
+        """FORMATS: any other file is left as it is."""
+        with day() as it:
+            (it.folder / "day.control").write_bytes(b"a file")
+            self.assert_refused(it, "a file that is no socket stands there")
+            self.assertEqual((it.folder / "day.control").read_bytes(), b"a file")
+
+    def test_a_folder_that_others_enter(self):
+        """FORMATS: in a folder that others than its owner can enter nothing is made."""
+        with day() as it:
+            it.folder.chmod(0o710)
+            self.assert_refused(it, "others than its owner can enter its folder")
+            self.assertFalse((it.folder / "day.control").exists())

@@ -1,4 +1,4 @@
-"""tools/package.sh: the package of the program at hand, installed into a root of its own, used there and removed."""
+"""packaging/package.sh: the package of the program at hand, installed into a root of its own, used there and removed."""
 
 import os
 import re
@@ -9,7 +9,7 @@ import tempfile
 import unittest
 from pathlib import Path
 
-from support import ROOT, SAMPLES, TAPEBOX, TOOLS, Case, Ended, connect, ended, ports, report, run, started, traded, wait_bound, wait_for
+from support import PACKAGING, ROOT, SAMPLES, TAPEBOX, Case, Ended, connect, ended, ports, report, run, started, traded, wait_bound, wait_for
 
 import board
 
@@ -41,7 +41,7 @@ class Package(Case):
         cls.addClassCleanup(folder.cleanup)
         cls.folder = Path(folder.name)
         cls.words = ["--unproved", TAPEBOX] if TAPEBOX.is_draft else []
-        cls.package = cls.folder / called(TOOLS / "package.sh", *cls.words, cls.folder).strip()
+        cls.package = cls.folder / called(PACKAGING / "package.sh", *cls.words, cls.folder).strip()
         cls.version = re.match(r"tapebox ([\d.]+)", run(["--version"]).written.decode()).group(1)
         cls.root = cls.folder / "root"
         called("dpkg-deb", "-x", cls.package, cls.root)
@@ -61,7 +61,7 @@ class Package(Case):
         self.assertTrue(log.startswith(f"tapebox ({version}) "))
 
     def test_installed_and_removed(self):
-        """tools/package.sh: dpkg installs it into a root of its own, where a sample has its report and the tools find the program, and removes all of it."""
+        """packaging/package.sh: dpkg installs it into a root of its own, where a sample has its report and the tools find the program, and removes all of it."""
         if os.geteuid():
             self.skipTest("only root installs")
         root = self.folder / "other root"
@@ -86,11 +86,32 @@ class Package(Case):
         called(*dpkg, "--purge", "tapebox")
         self.assertEqual([left for own in OWN for left in (root / own).rglob("*") if not left.is_dir()], [])
 
+    def test_the_library(self):
+        """packaging/package.sh: in a root of its own the package's library links the examples by its file for pkg-config, static and shared, and they run
+        there."""
+        if not self.installed("usr/include/tapebox.h").exists():
+            self.skipTest("the library was not built from the program's tree (clib/build)")
+        for command in ("cc", "pkg-config"):
+            if not shutil.which(command):
+                self.skipTest(f"there is no {command}")
+        libraries, examples = self.installed("usr/lib/x86_64-linux-gnu"), self.installed("usr/share/tapebox/clib")
+        environment = os.environ | {"PKG_CONFIG_LIBDIR": str(libraries / "pkgconfig"), "PKG_CONFIG_SYSROOT_DIR": str(self.root)}
+        flags = called("pkg-config", "--cflags", "--libs", "tapebox", env=environment | {"PKG_CONFIG_ALLOW_SYSTEM_CFLAGS": "1", "PKG_CONFIG_ALLOW_SYSTEM_LIBS": "1"}).split()
+        self.assertEqual(called("pkg-config", "--modversion", "tapebox", env=environment).strip(), self.version)
+        batch, wanted = run(["encode", SAMPLES / "morning.csv"]).written, run(["report", SAMPLES / "morning.csv"]).written
+        for name, more in (("shared", flags), ("static", [*flags[:1], libraries / "libtapebox.a"])):
+            with self.subTest(name):
+                called("cc", "-std=c11", "-o", self.folder / name, examples / "report.c", *more)
+                got = run([], batch, program=self.folder / name, env=os.environ | {"LD_LIBRARY_PATH": str(libraries)})
+                self.assertEqual((got.status, got.written), (0, wanted))
+        self.assertIn("libtapebox.so.1", called("ldd", self.folder / "shared", env=os.environ | {"LD_LIBRARY_PATH": str(libraries)}))
+        self.assertNotIn("libtapebox", called("ldd", self.folder / "static"))
+
     def test_the_same_tree_gives_the_same_bytes(self):
-        """tools/package.sh: built again, the package has the same bytes."""
+        """packaging/package.sh: built again, the package has the same bytes."""
         again = self.folder / "again"
         again.mkdir()
-        made = called(TOOLS / "package.sh", *self.words, again).strip()
+        made = called(PACKAGING / "package.sh", *self.words, again).strip()
         self.assertEqual(Path(made).read_bytes(), self.package.read_bytes())
 
     def test_what_the_board_serves(self):
@@ -100,12 +121,12 @@ class Package(Case):
 
     @unittest.skipUnless(shutil.which("lintian"), "no lintian")
     def test_lintian(self):
-        """tools/package.sh: lintian names no error."""
+        """packaging/package.sh: lintian names no error."""
         self.assertNotRegex(called("lintian", "--allow-root", "--fail-on", "none", self.package), "(?m)^E: ")
 
     @unittest.skipUnless(shutil.which("man"), "no man")
     def test_the_manual_page(self):
-        """tools/package.sh: the manual page has each word as `--help` tells it and each status, and is set without a warning."""
+        """packaging/package.sh: the manual page has each word as `--help` tells it and each status, and is set without a warning."""
         page = self.installed("usr/share/man/man1/tapebox.1.gz")
         done = subprocess.run(["man", "--warnings", "-l", page], capture_output=True, text=True, check=True, env=os.environ | {"MANWIDTH": "200", "LC_ALL": "C.UTF-8"})
         self.assertEqual(done.stderr, "")
@@ -118,7 +139,7 @@ class Package(Case):
             self.assertRegex(done.stdout, rf"(?m)^ +{status}  ")
 
     def test_completion(self):
-        """tools/package.sh: bash completes the program's words, the options of a word, and what an option takes."""
+        """packaging/package.sh: bash completes the program's words, the options of a word, and what an option takes."""
         script = self.installed("usr/share/bash-completion/completions/tapebox")
         words = re.findall(r"(?m)^tapebox ([a-z]+)(?: .*)?$", run(["--help"]).written.decode())
         for typed, wanted in [
@@ -164,11 +185,11 @@ class Package(Case):
             self.assertTrue(files[1].read_bytes().splitlines()[1].startswith(b"1,,report,N,1,"))
 
     def test_without_a_proved_program(self):
-        """tools/package.sh, 1: a program that is not there, or a folder, is named; 2: other words."""
+        """packaging/package.sh, 1: a program that is not there, or a folder, is named; 2: other words."""
         for words, status, said in [
             (["--unproved", "/no/such/program"], 1, b"package.sh: /no/such/program: no program\n"),
             ([*self.words, "/no/such/folder"], 1, b"package.sh: /no/such/folder: no folder\n"),
             (["--unproved"], 2, b"usage: package.sh [--unproved FILE] [FOLDER]\n"),
         ]:
             with self.subTest(words):
-                self.assertEqual(run(words, program=TOOLS / "package.sh"), Ended(status, b"", said))
+                self.assertEqual(run(words, program=PACKAGING / "package.sh"), Ended(status, b"", said))

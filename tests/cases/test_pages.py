@@ -4,6 +4,7 @@ import collections
 import functools
 import json
 import re
+import subprocess
 import sys
 import textwrap
 import unittest
@@ -28,11 +29,12 @@ SOURCE = re.compile(r"From `([\w./]+)`:\n\n\Z")
 LEFT_OUT = "\n// ..\n"
 IMPORT = re.compile(r"^(?:ghost )?use [^;]*;\n", re.MULTILINE)
 LINK = re.compile(r"\]\(([^)\s]+)\)")
+COMMIT = re.compile(r"\bcommit `([0-9a-f]{7,40})`")
 FILE = re.compile(r"`([\w./-]+\.(?:antt|csv|md|py|rt|sh|txt))`")
 HEADING = re.compile(r"^#+ (.+)$", re.MULTILINE)
 # A row of a table, by its cells; the line under a table's head has no word.
 ROW = re.compile(r"^\| (.+) \|$", re.MULTILINE)
-# One of the ten sentences, and how many words it has at most.
+# One of the ten points, and how many words it has at most.
 SENTENCE = re.compile(r"^\d+\. (.+(?:\n   .+)*)", re.MULTILINE)
 WORDS_MOST = 60
 CODE = re.compile(r"`([^`]*)`")
@@ -65,7 +67,7 @@ PRINTED = {
         "It has a window of {REACH} numbers", "above the base and at most {REACH} above it", "and are at most {LONGEST_SPAN}.", "a sum of at most {TAPE_MOST} sizes",
     ],
     "docs/OPERATING.md": [
-        "published, up to {PUBLISHED_AT_ONCE} at a time", "of at most {PACE_MOST} packets a millisecond", "halves, down to {PACE_LEAST},", "takes, {FEED_TAPE_MOST} if it is left out",
+        "published, up to {PUBLISHED_AT_ONCE} at a time", "of at most {PACE_MOST} packets a millisecond", "halves, down to {PACE_LEAST},", "takes, {LIMIT_LEFT_OUT} if it is left out",
         "Up to {KEPT_MOST} datagrams are kept", "it waits {TURNS_MOST} milliseconds at most", "Entries more than {REACH} above those", "has more than {INPUT_MOST} bytes",
     ],
     "docs/SCALE.md": [
@@ -80,6 +82,12 @@ PRINTED = {
     ],
     "crates/feed_follower/README.md": ["- {TURNS_MOST} turns of a millisecond at most", "fewer than {AHEAD_MOST} numbers"],
 }
+
+
+def git(*words):
+    """The status of git, and what it writes."""
+    done = subprocess.run(["git", "-C", ROOT, *words], stdout=subprocess.PIPE, stderr=subprocess.DEVNULL, text=True, check=False)
+    return done.returncode, done.stdout
 
 
 @functools.cache
@@ -203,7 +211,7 @@ class Pages(unittest.TestCase):
 
     def test_files_that_pages_name_exist(self):
         """Each file that a page names is there: next to the page, in the crate's code, or from crates/ or another folder on."""
-        folders = [CRATES, ROOT, *(ROOT / name for name in ("bench", "docs", "samples", "tests", "tools"))]
+        folders = [CRATES, ROOT, *(ROOT / name for name in ("bench", "dev", "docs", "packaging", "samples", "tests", "tools"))]
         for page in PAGES:
             for name in set(FILE.findall(plain(page))):
                 with self.subTest(page=str(page.relative_to(ROOT)), name=name):
@@ -230,15 +238,34 @@ class Pages(unittest.TestCase):
         columns = {"REPORT": HEADINGS.split(","), "TAPE": TAPE_COLUMNS, "EXPLAIN": plain_explain.COLUMNS}
         self.assertEqual(told, {name: str(len(names)) for name, names in columns.items()})
 
-    def test_ten_sentences(self):
-        """docs/PROMISES.md, "In ten sentences": there are ten, each in few words, with a link to what keeps it."""
-        part = text_of(ROOT / "docs" / "PROMISES.md").split("\n## In ten sentences\n")[1].split("\n## ")[0]
+    def test_files_of_the_page(self):
+        """web/README, "Files": the table names each file of web/, what is built there left out."""
+        page = text_of(ROOT / "web" / "README.md").split("\n## Files\n")[1].split("\n## ")[0]
+        named = [name for row in ROW.findall(page) for name in CODE.findall(row.split(" | ")[0])]
+        files = [path.name for path in (ROOT / "web").iterdir() if path.is_file() and path.suffix != ".wasm" and path.name not in ("README.md", "tapebox.html")]
+        self.assertEqual(sorted(named), sorted(files))
+
+    def test_one_name(self):
+        """web/: the page for tables and the board of a running day have one name."""
+        names = {re.search(r"<title>(\w+): .*<h1>(\w+)</h1>", text_of(ROOT / "web" / name), re.DOTALL).groups() for name in ("index.html", "board.html")}
+        self.assertEqual(names, {("Tapebox", "Tapebox")})
+
+    def test_ten_points(self):
+        """docs/PROMISES.md, "In short": there are ten points, each in few words, with a link to what keeps it."""
+        part = text_of(ROOT / "docs" / "PROMISES.md").split("\n## In short\n")[1].split("\n## ")[0]
         sentences = SENTENCE.findall(part)
         self.assertEqual(len(sentences), 10)
         for sentence in sentences:
             with self.subTest(sentence):
                 self.assertLessEqual(len(re.sub(r"\]\([^)]*\)", "", sentence).split()), WORDS_MOST)
                 self.assertRegex(sentence, LINK)
+
+    def test_libraries_of_the_kit(self):
+        """docs/PROMISES.md, "What is trusted": the libraries of the kit are those that crates.txt names."""
+        lines = [line.split(":") for line in text_of(ROOT / "crates.txt").splitlines() if not line.startswith("#")]
+        used = {name for _, names in lines for name in names.split()} - {of.split()[0] for of, _ in lines}
+        named = re.search(r"the statements of the kit's libraries in use: std,([^.]*)\.", text_of(ROOT / "docs" / "PROMISES.md"))[1]
+        self.assertEqual(CODE.findall(named), sorted(used))
 
     def test_each_public_call_is_printed(self):
         """docs/PROMISES.md, "Call by call": the script prints each crate's public calls, with what each is for, and a clause of most."""
@@ -260,7 +287,7 @@ class Pages(unittest.TestCase):
                     self.assertIn(f"**`{path.relative_to(CRATES)}`**", printed)
 
     def test_parts_from_the_tree(self):
-        """docs/TESTED.md and docs/MESSAGE.md: the counts, and the lines that are linked, are those of the tree; run tools/page_parts.py if this fails."""
+        """docs/TESTED.md and docs/MESSAGE.md: the counts, and the lines that are linked, are those of the tree; run dev/page_parts.py if this fails."""
         for page, written in [(page_parts.TESTED, page_parts.counted), (page_parts.MESSAGE, page_parts.linked)]:
             with self.subTest(page.name):
                 self.assertEqual(text_of(page).splitlines(), written(text_of(page)).splitlines())
@@ -309,6 +336,41 @@ class Pages(unittest.TestCase):
         self.assertEqual(page.splitlines(), speed_page.written(page, figures).splitlines())
         marked = {mark[2] for mark in speed_page.MARKED.finditer(page)}
         self.assertEqual(marked, {*speed_page.WRITERS, *speed_page.TABLES})
+        self.assertNotRegex(page, r"-->\s*<!-- end -->", "a mark without a figure")
+        needed = {part for _, *parts in speed_page.TABLES.values() for part in parts}
+        self.assertLessEqual(needed, figures["parts"].keys())
+
+    @unittest.skipUnless((ROOT / "docs" / "speed.json").exists(), "bench/all.py has not measured yet")
+    def test_the_plot_has_these_speeds(self):
+        """docs/SPEED.md: docs/speed.svg is drawn of the figures in docs/speed.json, and ends at the times of the table above it; run bench/all.py --page if this
+        fails."""
+        figures = json.loads(text_of(ROOT / "docs" / "speed.json"))
+        drawn = text_of(ROOT / "docs" / "speed.svg")
+        self.assertEqual(drawn, speed_page.drawing(figures))
+        ends = {record["program"]: min(record["seconds"]) for record in figures["parts"]["batch"]["records"] if record["day"] == "hostile"}
+        for program in ("tapebox", "indexed"):
+            self.assertIn(f">{program} {ends[program]:.2f} s<", drawn)
+
+    def test_missed_aims_are_marked(self):
+        """docs/SPEED.md: a figure that misses the aim that the page states is marked, and no other."""
+        page = " ".join(text_of(ROOT / "docs" / "SPEED.md").split())
+        self.assertIn("The aims for time are {one} on `one`, {busy} on `busy` and {hostile} on `hostile`".format(**speed_page.BATCH_AIMS), page)
+        self.assertIn(f"where the aim is a ratio of at most {speed_page.LEAST_AIM} ", page)
+        for aim, told in zip(speed_page.LIVE_AIMS.values(), ("{:,} messages a second without the relay", "{:,} through the relay with losses")):
+            self.assertIn(told.format(aim), page)
+        self.assertEqual(speed_page.with_aim(["0.46", "0.1"], 0.45), ["0.46, misses the aim", "0.1"])
+        self.assertEqual(speed_page.with_aim(["0.45"], 0.45), ["0.45"])
+        for speed, told in ((199_999, "200,000, misses the aim"), (200_000, "200,000")):
+            record = {"lines": 15, "run": "10 % lost on each line", "messages": speed, "seconds": 1, "asked": 0, "batch": 1, "wire": 1}
+            self.assertIn(f" {told} |", speed_page.live({"live": [record]})[-1])
+
+    @unittest.skipUnless((ROOT / ".git").exists() and git("rev-parse", "--is-shallow-repository") == (0, "false\n"), "git does not have all commits")
+    def test_commits_that_pages_name(self):
+        """Each commit that a page names is in the repository."""
+        for page in PAGES:
+            for commit in COMMIT.findall(text_of(page)):
+                with self.subTest(page=str(page.relative_to(ROOT)), commit=commit):
+                    self.assertEqual(git("cat-file", "-e", f"{commit}^{{commit}}"), (0, ""))
 
     @unittest.skipUnless((ROOT / "docs" / "speed.json").exists(), "bench/all.py has not measured yet")
     def test_other_pages_have_these_speeds(self):

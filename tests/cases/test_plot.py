@@ -63,7 +63,7 @@ class Marks(Case):
         groups = self.picture(table, matrix, symbol).findall("svg:g", SVG)
         marks = [group for group in groups if group.get("class") == "mark"]
         self.assertEqual(groups[: len(marks)], marks)
-        trades = {group.find("svg:title", SVG).text.split(":")[0]: group.find("svg:circle[@class='last']", SVG) for group in groups[len(marks) :]}
+        trades = {group.find("svg:title", SVG).text.split(":")[0]: group.find("svg:circle[@class='stands']", SVG) for group in groups[len(marks) :]}
         wanted = expected(table, matrix, symbol)
         told = {}
         for mark in marks:
@@ -86,6 +86,15 @@ class Marks(Case):
                 for symbol in symbols:
                     with self.subTest(sample, matrix=matrix, symbol=symbol):
                         self.assert_marks((SAMPLES / f"{sample}.csv").read_bytes(), matrix, symbol)
+
+    def test_colours(self):
+        """plot_day.py, web/chart.js: a trade that stands is blue in the picture as on the page, and a cancelled one red."""
+        drawn = self.drawn(desk("tape", self.table, "1"), desk("explain", self.table, "1")).written.decode()
+        page = (ROOT / "web" / "tapebox.css").read_text(encoding="utf-8")
+        for name, of, strongest in (("stands", "blue", 2), ("cancelled", "red", 0)):
+            for text, style in ((drawn, rf"\.{name} \{{[^}}]*"), (page, f"--{of}: ")):
+                channels = bytes.fromhex(re.search(rf"{style}#(\w{{6}})", text)[1])
+                self.assertEqual(max(range(3), key=channels.__getitem__), strongest, name)
 
     def test_without_a_figure(self):
         """plot_day.py: a figure that a symbol lacks has no mark."""

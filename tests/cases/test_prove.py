@@ -1,4 +1,4 @@
-"""`tools/prove.py`, over a kit that proves nothing: its crates sleep."""
+"""`dev/prove.py`, over a kit that proves nothing: its crates sleep."""
 
 import os
 import tempfile
@@ -48,7 +48,7 @@ class Prove(Case):
             (kit / "rtlib.py").write_text("\n".join([f"FOLDER = {folder!r}", text, *made, f"CRATES = [{listed}]\n"]), encoding="utf-8")
             (kit / "rt").touch(mode=0o755)
             (kit / "begun").touch()
-            ended = run(["tapebox"], program=ROOT / "tools" / "prove.py", env={"PATH": f"{folder}:{os.environ['PATH']}"}, limit=SOON)
+            ended = run(["tapebox"], program=ROOT / "dev" / "prove.py", env={"PATH": f"{folder}:{os.environ['PATH']}"}, limit=SOON)
             return ended, (kit / "begun").read_text(encoding="utf-8").splitlines()
 
     def test_a_crate_that_is_not_proved(self):

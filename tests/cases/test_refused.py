@@ -14,7 +14,7 @@ from typing import Optional
 
 from preloaded import built
 from refused import HEAP, Sweeps, end_of_batch, refusing, run_refused, without_told
-from support import CRATES, HOST, NO_WORKER, OUT_OF_MEMORY, READ_FAULT, WRITE_FAULT, Case, Ended
+from support import BAD_ARGUMENTS, CRATES, HOST, NO_WORKER, OUT_OF_MEMORY, READ_FAULT, WRITE_FAULT, Case, Ended
 from support import batch_line, ended, listens, ports, report, reports, run, started, traded, wait_bound
 
 # How many of a program's requests are refused in turn at most.
@@ -27,7 +27,9 @@ class Calls(Sweeps):
     def test_calls(self):
         """PROMISES, "What is only tested": what stands after each request of a call of the tape, the crates below it, packets, subscribers, the report, a
         batch, shared tapes and lines is refused, and that lines give back each seat; ROWS, "Drain without memory"."""
-        printed = self.sweep_all(CRATES / "test_memory" / "out" / "test_memory_tests")
+        printed = Counter()
+        for crate in ("test_tables", "test_subscribers", "test_lines"):
+            printed.update(self.sweep_all(CRATES / crate / "out" / f"{crate}_tests"))
         kinds = [f"a {kind} again" for kind in ("report", "correction", "cancel", "reinstatement")]
         self.assert_printed(printed, *kinds, "added again", "replaced again", "one answer 40 in a run", "1 drained, and then 2")
         self.assert_printed(printed, "answers up to a refusal 40, and then all", "all answers and no report, and then all")
@@ -54,13 +56,16 @@ class Arguments(Case):
         built(HEAP)
 
     def requests_of(self, words):
-        """How many requests for memory bad arguments make: each is refused in turn, and then the status is another."""
+        """How many requests for memory bad arguments make: each is refused in turn, and then the status is another. Those for the hint only leave that out."""
+        missed = 0
         for request in range(1, MOST + 1):
             was_met, end = run_refused(words, request, limit=SOON)
             if not was_met:
-                self.assertEqual(end, Ended(2, b"", b"tapebox: bad arguments\n"))
-                return request - 1
-            self.assertEqual((end.status, end.said), OUT_OF_MEMORY)
+                self.assert_bad_arguments(end)
+                return missed
+            if end != Ended(2, b"", BAD_ARGUMENTS):
+                self.assertEqual((end.status, end.said), OUT_OF_MEMORY)
+                missed += 1
         return self.fail(f"{MOST} requests and more")
 
     def test_bad_arguments(self):

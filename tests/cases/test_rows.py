@@ -4,9 +4,7 @@ import contextlib
 import importlib
 import io
 import re
-import shutil
 import sys
-import tempfile
 import types
 import unittest
 from pathlib import Path
@@ -14,6 +12,7 @@ from pathlib import Path
 import plain_feed
 import plain_orders
 import play_rows
+from drawn_bytes import drawn
 from plain_tape import Refused, Summary
 from support import ROOT, TESTS, Case, run
 
@@ -23,39 +22,10 @@ LIBRARY = ROOT / "clib" / "libtapebox.so"
 ROW = re.compile(r"^row (?P<title>.+)\n(?:(?!row ).*\n)*", re.MULTILINE)
 ANSWERED = re.compile(r"^(?P<step>[^#\n]*->)[^#\n]*", re.MULTILINE)
 OTHER = " another answer"
-# What is planted in the plain rules, one at a time: the file, what it says, what it says then, and a row that sees it.
-PLANTED = [
-    ("plain_tape.py", 'rule in "SF" and', 'rule in "S" and', "A sale out of sequence is the last only if it is the first"),
-    ("plain_tape.py", "last.who == report.who", "last.who != report.who", "A cancel gives the last back"),
-    ("plain_tape.py", "first or mark, mark", "mark, mark", "A sold last follows a last of its own market"),
-    ("plain_tape.py", "mark.price > high.price", "mark.price >= high.price", "A correction keeps its place"),
-    ("plain_tape.py", "mark.price < low.price", "mark.price <= low.price", "Among equal prices the earliest place is kept"),
-    ("plain_tape.py", "if own else", "if not own else", "An official close sets figures of its own market alone"),
-    ("plain_tape.py", '(of[4] == "Y")', "True", "Codes combine in the figures"),
-    ("plain_tape.py", "if report.symbol != symbol:", "if False:", "A target is a report of the symbol, and stands"),
-    ("plain_tape.py", 'report.stands = kind != "cancel"', 'report.stands = kind == "correct"', "A reinstatement takes the last back"),
-    ("plain_tape.py", "        if content:\n", "        if not content:\n            content = (1, 1, '@___')\n", "A reinstatement brings the latest content back"),
-    ("plain_tape.py", '<= self.totals(row["participant"])[2]', '< self.totals(row["participant"])[2]', "Nothing follows the last message number"),
-    ("plain_tape.py", "(31, self.closed)", "(31, self.closed and len(self.entries) < self.limit)", "A full tape refuses all, and a closed one before that"),
-    ("plain_tape.py", "len(self.entries) >= self.limit", "len(self.entries) > self.limit", "A subscriber holds no more than its own limit"),
-    ("plain_tape.py", "64, 999_999_999_999", "64, 1_000_000_000_000", "Each field of a message has a fault of its own"),
-    ("plain_tape.py", "1 <= number_at(content, 0, 8)", "1 < number_at(content, 0, 8)", "Every field takes its least value"),
-    ("plain_tape.py", "not 1 <= length", "not 1 < length", "A message's length is looked at first"),
-    ("plain_tape.py", "yield 18, number_at(body, 22, 4) > 0", "yield 18, True", "A cancel has 28 bytes"),
-    ("plain_feed.py", "1_024, 64, 8", "1_023, 64, 8", "The window reaches 1,024 numbers above what is held"),
-    ("plain_feed.py", "1_024, 64, 8", "1_025, 64, 8", "The window reaches 1,024 numbers above what is held"),
-    ("plain_feed.py", "1_024, 64, 8", "1_024, 63, 8", "As many entries as are asked for come in full packets"),
-    ("plain_feed.py", "2: (16, 16_777_216)", "2: (8, 16_777_216)", "Sixteen reports are one packet of version 2 or two of version 1"),
-    ("plain_feed.py", "present > 15 or ", "", "A correction's packet carries the summary after it"),
-    ("plain_feed.py", "    if rest:\n", "    if rest and False:\n", "A beat and an end have no entries"),
-    ("plain_feed.py", "if self.known(entry.number) not in (None, entry):", "if False:", "A conflict and what is past the end are refused"),
-    ("plain_feed.py", "packet.last > self.ended", "False", "A conflict and what is past the end are refused"),
-    ("plain_feed.py", "packet.last < self.announced", "False", "An end below what was announced is refused"),
-    ("plain_feed.py", "max(self.announced, packet.last)", "packet.last", "What two lossy lines bring between them is held"),
-    ("plain_feed.py", "self.entries[-1] != entry", "False", "Another summary than the feed's stops a subscriber for good"),
-    ("plain_feed.py", "raise Refused(42, drained)", "raise Refused(42, drained - 1)", "Another summary than the feed's stops a subscriber for good"),
-    ("plain_feed.py", "    if asked != session:\n", "    if False:\n", "A request is answered by packets of what is published, or by a refusal"),
-]
+# How many small changes of the plain rules are tried here; tests/plant_faults.py tries all.
+CHANGES = 60
+# Seconds that they may take, also on a machine with other work.
+PATIENCE = 300
 
 # Steps that can't be taken at the beginning of a row.
 NO_STEPS = [
@@ -118,11 +88,6 @@ def play(*words, given="", folder=TESTS):
     return run(["-B", folder / "play_rows.py", *words], given.encode(), program=sys.executable)
 
 
-def differing(ended):
-    """The titles of the rows of which an answer differed."""
-    return re.findall(r"(?m)^(.+): \d+ answers, [1-9]\d* differ$", ended.written.decode())
-
-
 def rows():
     """Each row of all files, with its file; its lines have the numbers that they have there."""
     for file in FILES:
@@ -135,6 +100,23 @@ def changed(text):
     """A row's text with each of its answers in turn another one, and the number of that line."""
     for found in ANSWERED.finditer(text):
         yield text.count("\n", 0, found.start()) + 1, text[: found.start()] + found["step"] + OTHER + text[found.end() :]
+
+
+# Of each kind of drawn bytes how many there are, what reads them, and their faults.
+DRAWN = [
+    ("packet", 20_000, "decode_packet", {*range(51, 58)}),
+    ("message", 20_000, "decode", {*range(11, 22)}),
+    ("request", 1_000, "decode_request", {73}),
+    ("answer", 2_000, "read_answer", {74, 76}),
+]
+
+
+def outcome(read, data):
+    """What is read of bytes, or the number of the refusal and what comes with it."""
+    try:
+        return "read", read(data)
+    except Refused as refusal:
+        return "refused", refusal.code, refusal.detail
 
 
 class Rows(Case):
@@ -183,6 +165,31 @@ class RowsOfTheLibrary(Rows):
         for refusal in plain_orders.REFUSALS:
             with self.subTest(refusal):
                 self.assertGreater(script.count(f" -> {refusal}\n"), 50)
+
+    def test_drawn_bytes(self):
+        """FORMATS, "Packets", "A message's bytes" and "Requests and answers": the library reads what the plain readers read of bytes that a seed draws, most
+        of them with a fault, and each fault of a packet, a message, a request and an answer is among them."""
+        library = importlib.import_module(self.RULES)
+        for kind, count, reader, faults in DRAWN:
+            wanted = []
+            for data in drawn(kind, count):
+                if kind == "request" and len(data) != plain_feed.REQUEST.size:
+                    continue
+                read = outcome(getattr(plain_feed, reader), data)
+                wanted.append(read)
+                if outcome(getattr(library, reader), data) != read:
+                    self.fail(f"{kind} {data.hex()}: {outcome(getattr(library, reader), data)}, not {read}")
+            with self.subTest(kind):
+                self.assertEqual({read[1] for read in wanted if read[0] == "refused"}, faults)
+
+
+class RowsOfJournals(Case):
+    """Over the built program."""
+
+    def test_all_rows(self):
+        """FORMATS, "A journal": `verify` finds of each journal of the rows what is wanted."""
+        ended = play("--over", "journal_feed", ROOT / "rows" / "journal.rows")
+        self.assertEqual((ended.status, ended.written.splitlines()[-1].endswith(b", 0 differ")), (0, True), ended.written.decode())
 
 
 class RowsOfReports(Case):
@@ -244,23 +251,11 @@ class Player(Case):
 
 
 class Planted(Case):
-    def test_a_planted_fault_is_seen(self):
-        """ROWS, "The suite": whatever is planted in the plain rules is seen by a row that is meant for it."""
-        with tempfile.TemporaryDirectory() as name:
-            folder = Path(name, "tests")
-            folder.mkdir()
-            Path(name, "docs").symlink_to(ROOT / "docs")
-            for file in [*TESTS.glob("plain_*.py"), TESTS / "play_rows.py"]:
-                shutil.copy(file, folder)
-            for file, old, new, row in PLANTED:
-                text = (TESTS / file).read_text(encoding="utf-8")
-                with self.subTest(file=file, old=old, new=new):
-                    self.assertEqual(text.count(old), 1)
-                    (folder / file).write_text(text.replace(old, new), encoding="utf-8")
-                    ended = play(*FILES, folder=folder)
-                    shutil.copy(TESTS / file, folder)
-                    self.assertEqual((ended.status, ended.said), (1, b""))
-                    self.assertIn(row, differing(ended))
+    def test_planted_faults_are_seen(self):
+        """ROWS, "The suite": whatever is planted in the plain rules is seen by a row."""
+        ended = run(["-B", TESTS / "plant_faults.py", "--count", CHANGES], program=sys.executable, limit=PATIENCE)
+        self.assertEqual((ended.status, ended.said), (0, b""), ended.written.decode())
+        self.assertRegex(ended.written.decode(), r"\Alisted: 24; [^\n]+\n84 of [5-9]\d\d faults planted, 0 passed\n\Z")
 
 
 if __name__ == "__main__":

@@ -6,11 +6,11 @@ import shutil
 import tempfile
 import unittest
 
-from support import BENCH, ROOT, SAMPLES, TAPEBOX, TESTS, TOOLS, Case, report_rows, run
+from support import BENCH, DEV, PACKAGING, ROOT, SAMPLES, TAPEBOX, TESTS, TOOLS, Case, report_rows, run
 
 MISSING = "no-such-file"
 # What works without words and is not to be run here: it builds, installs, writes a page, measures or runs a day.
-WITHOUT_WORDS = {"run", "gate", "build", "set_up", "mark_built.py", "run_cases.py", "definitions.py", "promises.py", "page_parts.py", "lossy_day.sh", "package.sh", "stored_outputs.py"}
+WITHOUT_WORDS = {"run", "gate", "build", "set_up", "mark_built.py", "run_cases.py", "definitions.py", "lines.py", "promises.py", "page_parts.py", "lossy_day.sh", "package.sh", "stored_outputs.py"}
 WITHOUT_WORDS |= {"picture", "all.py", "journals.py", "latency.py", "live_load.py", "long_day.py", "measure.py", "readers.py", "tables.py"}
 READS_INPUT = {"plot_day.py"}
 # Scripts that read a table, by the words after its path.
@@ -24,7 +24,7 @@ READERS = [
 
 def scripts():
     """Each script of the repository that people run."""
-    folders = [ROOT, ROOT / ".ci", BENCH, TESTS, TOOLS, ROOT / "clib", ROOT / "web"]
+    folders = [ROOT, ROOT / ".ci", BENCH, DEV, PACKAGING, TESTS, TOOLS, ROOT / "clib", ROOT / "web"]
     files = [path for folder in folders for path in sorted(folder.iterdir()) if path.is_file()]
     return [path for path in files if path.read_bytes()[:2] == b"#!"]
 
@@ -83,7 +83,7 @@ class Scripts(Case):
 
     def test_missing_file(self):
         """A file that is not there ends a script with 1, and is named."""
-        for script, more in [*READERS, *((TOOLS / name, []) for name in ("plot_day.py", "from_taq.py", "day_file.py", "run_day.sh"))]:
+        for script, more in [*READERS, *((TOOLS / name, []) for name in ("plot_day.py", "day_file.py", "run_day.sh"))]:
             with self.subTest(script.name):
                 self.assert_names(self.ran(script, MISSING, *more), MISSING)
 
@@ -107,6 +107,6 @@ class Scripts(Case):
             table.write("kind,participant,number,symbol,target,price,size,condition\n" + again)
             table.flush()
             ended = self.ran(TOOLS / "split_day.py", table.name, 2)
-        self.assertEqual((ended.status, ended.said), (0, b"split_day.py: 4 messages were refused\n"))
+        self.assertEqual((ended.status, ended.said), (0, b"split_day.py: 4 of 6 messages were refused\n"))
         figures = [(row["symbol"], row["who"], row["trades"]) for row in report_rows(ended.written)]
         self.assertEqual(figures, [(symbol, who, "1") for symbol in ("AB", "CD") for who in ("ALL", "N")])

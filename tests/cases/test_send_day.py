@@ -84,6 +84,17 @@ class Closed(Case):
                     end = run([table.name, day.name], program=TOOLS / "send_day.py", env=os.environ | {"TAPEBOX": str(TAPEBOX)})
                     self.assert_fails(end, fault.format(day=day.name, table=table.name), status=1)
 
+    def test_a_program_at_fault(self):
+        """send_day.py, 1: a program that is missing is named in one line, and so is one that fails without a message, with its status."""
+        with tempfile.NamedTemporaryFile(suffix=".csv") as table:
+            table.write(table_of([COLUMNS, *ROWS]))
+            table.flush()
+            silent = f"{table.name}: /bin/false ended with status 1 and no message"
+            for program, fault in [("/no/such/program", "/no/such/program: No such file or directory"), ("/bin/false", silent)]:
+                with self.subTest(program):
+                    end = run(["--names", table.name], program=TOOLS / "send_day.py", env=os.environ | {"TAPEBOX": program})
+                    self.assert_fails(end, fault, status=1)
+
     def test_closed_between_two_messages(self):
         """send_day.py, 3: a line that is closed, or reset, after some of its messages is named with the first one not sent, before any more are."""
         for how in ("closed", "reset"):

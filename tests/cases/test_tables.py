@@ -1,6 +1,7 @@
 """Tables through the built `tapebox`, beside a plain reader of them and the batch."""
 
 import csv
+import gzip
 import random
 import re
 from collections import Counter
@@ -17,6 +18,9 @@ def report_in(written):
     """The report in what a batch wrote."""
     return written[written.index(HEADINGS.encode()) :]
 
+# What helps with a number below its participant's greatest one.
+STALE_HINT = "put each participant's rows in the order of their numbers, and keep the day's order otherwise"
+
 
 def answers_of(written):
     """A batch's answers, as a tape has them: the tape number and the refusal, of which one is empty."""
@@ -29,7 +33,7 @@ def stale_text(answers, messages, row):
     named = [(chr(text[3]), int.from_bytes(text[4:8], "big")) for text in messages]
     who, number = named[row - FIRST_ROW]
     greatest = max(other for (at, _), (letter, other) in zip(answers[: row - FIRST_ROW], named) if at and letter == who)
-    return f": {who}'s number {number} " + ("again" if number == greatest else f"after {greatest}; sort by participant and number?")
+    return f": {who}'s number {number} " + ("again" if number == greatest else f"after {greatest}; {STALE_HINT}")
 
 
 def refusal_lines(answers, messages):
@@ -40,7 +44,8 @@ def refusal_lines(answers, messages):
             counts[refusal] += 1
             firsts.setdefault(refusal, row)
     details = {why: stale_text(answers, messages, row) if why == "35 Stale" else "" for why, row in firsts.items()}
-    lines = [f"tapebox: {counts[why]} row{'s' * (counts[why] > 1)} refused: {why}, first at row {firsts[why]}{details[why]}\n" for why in counts]
+    rows = f"{len(answers)} row{'s' * (len(answers) > 1)}"
+    lines = [f"tapebox: {counts[why]} of {rows} refused: {why}, first at row {firsts[why]}{details[why]}\n" for why in counts]
     return "".join(sorted(lines, key=lambda line: int(re.search(r"refused: (\d+)", line)[1]))).encode()
 
 
@@ -226,6 +231,58 @@ class Faults(Case):
             self.assert_refused(table_of([[name, *COLUMNS[1:-1]], row]))
         for table in [b"", b"\n\r\n", table_of([COLUMNS]), table_of([["#only", "remarks"], [1, 2]]), table_of([["x" * 60, *COLUMNS], ["", *row]])]:
             self.assert_refused(table)
+
+    def assert_header_fault(self, table, fault):
+        """This is the fault of a table's header row, for each word."""
+        for word in WORDS:
+            self.assert_fault(desk(word, given=table), (2, f"tapebox: header row: {fault}\n".encode()))
+
+    def test_unknown_names(self):
+        """FORMATS, "A table": of a name that is unknown it is told how it would be skipped, and that names are in lower case."""
+        row = list(self.GOOD.values())
+        for name in ("venue", "Price", "kind "):
+            fault = f'column "{name}" is unknown; names are in lower case, and #{name} would be skipped'
+            self.assert_header_fault(table_of([[*COLUMNS, name], [*row, ""]]), fault)
+            self.assertEqual(desk("report", given=table_of([[*COLUMNS, f"#{name}"], [*row, ""]])).status, 0)
+        name = "venue" * 9
+        fault = f'column "{name[:40]}".. is unknown; names are in lower case, and #{name[:40]} would be skipped'
+        self.assert_header_fault(table_of([[*COLUMNS, name], [*row, ""]]), fault)
+
+    def test_other_encodings(self):
+        """FORMATS, "A table": of a table that is compressed, or in UTF-16, the fault says so and how it is read."""
+        table = table_of([COLUMNS, list(self.GOOD.values())])
+        hints = {gzip.compress(table): "the table is compressed: pipe it through gzip -dc"}
+        for encoding in ("utf-16", "utf-16-le", "utf-16-be"):
+            hints[table.decode().encode(encoding)] = "the table is in UTF-16: pipe it through iconv -f UTF-16 -t UTF-8"
+        hints[b"\xfe\xff" + table.decode().encode("utf-16-be")] = "the table is in UTF-16: pipe it through iconv -f UTF-16 -t UTF-8"
+        for given, hint in hints.items():
+            with self.subTest(given[:4]):
+                ended = desk("report", given=given)
+                self.assertEqual((ended.status, ended.written), (2, b""))
+                self.assertTrue(ended.said.endswith(f"is unknown; {hint}\n".encode()), ended.said)
+
+    def test_quotes_that_are_not_closed(self):
+        """FORMATS, "A table": a quote that is not closed takes all that follows as one field, and the fault says so."""
+        row = list(self.GOOD.values())
+        for column in range(len(COLUMNS)):
+            text = table_of([COLUMNS, *[row] * 3]).decode().split("\n")
+            fields = text[2].split(",")
+            fields[column] = '"' + fields[column]
+            text[2] = ",".join(fields)
+            table = "\n".join(text).encode()
+            self.assert_refused(table)
+            self.assertTrue(desk("report", given=table).said.endswith(b"; a quote is not closed, or a field has a line end\n"))
+        table = b'"' + table_of([COLUMNS, row])
+        self.assert_refused(table)
+        self.assertTrue(desk("report", given=table).said.endswith(b"; a quote is not closed, or a name has a comma or a line end\n"))
+
+    def test_fields_that_are_cut(self):
+        """FORMATS, "A table": of a field the first forty bytes are told, with two dots behind them if there are more."""
+        for size in (39, 40, 41, 60):
+            table = table_of([COLUMNS, list((self.GOOD | {"price": "9" * size}).values())])
+            self.assert_refused(table)
+            shown = "9" * min(size, 40)
+            self.assertIn(f'price "{shown}"{".." * (size > 40)} is not'.encode(), desk("report", given=table).said)
 
     def test_numbers_of_fields(self):
         """FORMATS, "A table": a row with another number of fields than the header row."""

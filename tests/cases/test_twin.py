@@ -1,4 +1,4 @@
-"""The built programs next to plain ones of `bench/`, and the counts of the measuring program."""
+"""The built programs next to plain ones of `bench/`."""
 
 import csv
 import functools
@@ -14,14 +14,13 @@ from dataclasses import replace
 from pathlib import Path
 
 from plain_table import COLUMNS, CONDITIONS
-from support import BENCH, BENCH_FEED, SAMPLES, TAPEBOX, TOOLS, Case, Program
-from support import batch_line, batch_of, desk, report, report_row, report_text, run, without_places
+from support import BENCH, SAMPLES, TAPEBOX, TOOLS, Case
+from support import batch_of, desk, report_row, report_text, run, without_places
 
 sys.path.append(str(BENCH))
 
 from tables import peer_commands
 
-DECODE_LINES = Program("decode_lines")
 # The greatest batch.
 BYTES_MOST = 16_777_216
 
@@ -38,33 +37,6 @@ def plain():
 def plain_run(program, *words, given=b""):
     """How a plain program ended."""
     return run(words, given, program=plain()[1] / program)
-
-
-def counts(written):
-    """What a feed's program counts, without its times."""
-    return " ".join(line for line in written.decode().splitlines() if not re.search("_second|^seconds|_to_", line))
-
-
-class Measuring(Case):
-    DAY = b"AB CD\nN Q\n" + b"".join(batch_line(report("N", number)) for number in range(1, 241))
-
-    def test_counts(self):
-        """The README of bench_feed, "The feed": what the measuring program counts in each of its ways, over 240 reports in fifteen packets of which both lines lose
-        the last."""
-        for words, wanted in [
-            ([], "entries 240 packets 15 retransmitted 16 held 240"),
-            (["rows"], "entries 240 rows 3"),
-            (["lines"], "lines 2 messages 240 entries 240"),
-            (["looks"], "lines 2 messages 240 entries 240"),
-        ]:
-            with self.subTest(words):
-                self.assertEqual(counts(run(words, self.DAY, program=BENCH_FEED).written), wanted)
-
-    def test_bad_arguments(self):
-        """The README of bench_feed: other arguments than those of its ways are said to be bad, with status 2."""
-        for words in (["row"], ["rows", "lines"], [""]):
-            with self.subTest(words):
-                self.assert_fault(run(words, self.DAY, program=BENCH_FEED), (2, b"bench_feed: bad arguments\n"))
 
 
 class Tables(Case):
@@ -129,22 +101,6 @@ class PlainPrograms(Case):
             for name, (program, *words) in ({"least": [plain()[1] / "desk", "least"]} | peer_commands()).items():
                 with self.subTest(f"{name} {kind}"):
                     self.assert_writes(run(words, table, program=program), wanted)
-
-    def test_a_feed_of_more_entries_than_two_bytes_count(self):
-        """SPEED, "A batch beside plain Rust": both feeds count the same, and their subscribers hold all entries."""
-        day = plain_run("make_day", "busy", 1, BYTES_MOST).written
-        wanted = counts(plain_run("feed", given=day).written)
-        self.assertEqual(wanted, "entries 201331 packets 12584 retransmitted 13408 held 201331")
-        self.assertEqual(counts(run([], day, program=BENCH_FEED).written), wanted)
-
-    def test_lines_of_bytes(self):
-        """FORMATS, "Packets", "A message's bytes" and "Requests and answers": the readers and plain ones read the same of 210,000 lines of bytes, most
-        of them with a fault, and each fault of a packet, a message, a request and an answer is among them."""
-        lines = plain_run("make_lines", 1).written
-        wanted = plain_run("read_lines", given=lines).written
-        kinds = {(line[:1], answer.split()[0]) for line, answer in zip(lines.splitlines(), wanted.splitlines())}
-        self.assertEqual(len(kinds), 27)
-        self.assert_writes(run([], lines, program=DECODE_LINES), wanted)
 
 
 class Maker:

@@ -202,7 +202,7 @@ class Build(Case):
             before = PAGE.exists() and PAGE.stat().st_mtime_ns
             ended = run([], program=WEB / "build", env=os.environ | {"PATH": folder})
         self.assertEqual((ended.status, ended.written), (3, b""))
-        self.assertRegex(ended.said, rb"\Abuild: no page: there is no rt here[^\n]*\n\Z")
+        self.assertRegex(ended.said, rb"\Abuild: no page: the Rattle kit's command rt is not on the path\n\Z")
         self.assertEqual(PAGE.exists() and PAGE.stat().st_mtime_ns, before)
 
 

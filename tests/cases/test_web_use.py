@@ -135,13 +135,13 @@ class Use(PageCase):
             for width in WIDTHS:
                 with self.subTest(what, scheme=scheme, width=width):
                     self.look(scheme, width)
-                    self.assertEqual(self.browser.value((TESTS / "contrast.js").read_text(encoding="utf-8")), [])
+                    self.assertEqual(self.browser.value((TESTS / "support" / "contrast.js").read_text(encoding="utf-8")), [])
                     self.assertLessEqual(self.browser.value("document.documentElement.scrollWidth - innerWidth"), 0)
 
     def test_colours_and_widths(self):
         """web/README: light and dark, on a telephone and at 200 %, each text has a contrast of 4.5 and nothing is cut off."""
         self.browser.value("document.getElementById('drop').firstElementChild.style.color = '#888'")
-        self.assertEqual(len(self.browser.value((TESTS / "contrast.js").read_text(encoding="utf-8"))), 1, "a text that lacks contrast is seen")
+        self.assertEqual(len(self.browser.value((TESTS / "support" / "contrast.js").read_text(encoding="utf-8"))), 1, "a text that lacks contrast is seen")
         self.browser.value("document.getElementById('drop').firstElementChild.style.color = ''")
         self.assert_readable("no table")
         self.browser.give(self.written("bad.csv", (SAMPLES / "morning.csv").read_bytes() + b"report,N,0,AB,,1,1,@___\n"), 1)

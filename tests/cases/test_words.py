@@ -6,7 +6,7 @@ import subprocess
 import tempfile
 from pathlib import Path
 
-from support import BAD_ARGUMENTS, ROOT, SAMPLES, STORED_DAYS, TAPEBOX, Case, Ended, desk, run
+from support import ROOT, SAMPLES, STORED_DAYS, TAPEBOX, Case, Ended, desk, run
 
 OTHER = [
     [],
@@ -48,35 +48,64 @@ watch AB N 9001 9002 9003 -7""".splitlines(),
 # The words of a table, as they are given on one: all take a file's name after these.
 MATRIX_WORDS = [["report"], ["tape"], ["explain"]]
 TABLE_WORDS = [*MATRIX_WORDS, ["check"], ["encode"], ["line", "N"]]
-# Each word with an argument that it does not take, which is named.
+# Each word with an argument that it does not take, and what is said of that.
 WRONG = [
-    ("report --matrix 3", "3"),
-    ("report --matrix", "--matrix"),
-    ("report --matrix=3", "--matrix=3"),
-    ("report --matrix 1 --matrix 2", "--matrix"),
-    ("tape --strict=1", "--strict=1"),
-    ("tape --matrix two", "two"),
-    ("explain --strickt", "--strickt"),
-    ("report --strict --matrix 2 one.csv two.csv", "two.csv"),
-    ("check --strict", "--strict"),
-    ("check one.csv two.csv", "two.csv"),
-    ("verify --strict", "--strict"),
-    ("encode --matrix 1", "--matrix"),
-    ("decode -x", "-x"),
-    ("line", "PARTICIPANT"),
-    ("line n", "n"),
-    ("line NQ", "NQ"),
-    ("line N one.csv two.csv", "two.csv"),
-    ("follow --follower 0 day.toml", "0"),
-    ("watch --follower day.toml", "day.toml"),
-    ("live --follower 1 day.toml", "--follower"),
-    ("live --partial day.toml", "--partial"),
-    ("watch --partial day.toml", "--partial"),
-    ("follow --partial=1 day.toml", "--partial=1"),
-    ("follow --partial --follower=2 --partial day.toml", "--partial"),
-    ("status --follower 1 day.toml", "--follower"),
-    ("status", "DAY.toml"),
-    ("end day.toml next.toml", "next.toml"),
+    ("report --matrix 3", "wrong argument '3'; --matrix takes 1 or 2"),
+    ("report --matrix", "no value; --matrix takes 1 or 2"),
+    ("report --matrix=3", "wrong argument '--matrix=3'; --matrix takes 1 or 2"),
+    ("report --matrx 2", "unexpected argument '--matrx'; a similar one is '--matrix'"),
+    ("report --matrix 1 --matrix 2", "repeated argument '--matrix'"),
+    ("tape --strict=1", "unexpected argument '--strict=1'; a similar one is '--strict'"),
+    ("tape --matrix two", "wrong argument 'two'; --matrix takes 1 or 2"),
+    ("explain --strickt", "unexpected argument '--strickt'; a similar one is '--strict'"),
+    ("report --strict --matrix 2 one.csv two.csv", "unexpected argument 'two.csv'"),
+    ("check --strict", "unexpected argument '--strict'"),
+    ("check one.csv two.csv", "unexpected argument 'two.csv'"),
+    ("verify --strict", "unexpected argument '--strict'"),
+    ("encode --matrix 1", "unexpected argument '--matrix'"),
+    ("decode -x", "unexpected argument '-x'"),
+    ("line", "no PARTICIPANT"),
+    ("line n", "wrong argument 'n'; PARTICIPANT is a letter A to Z"),
+    ("line NQ", "wrong argument 'NQ'; PARTICIPANT is a letter A to Z"),
+    ("line N one.csv two.csv", "unexpected argument 'two.csv'"),
+    ("follow --follower 0 day.toml", "wrong argument '0'; --follower takes 1 to 65535"),
+    ("watch --follower day.toml", "wrong argument 'day.toml'; --follower takes 1 to 65535"),
+    ("live --follower 1 day.toml", "unexpected argument '--follower'"),
+    ("live --partial day.toml", "unexpected argument '--partial'"),
+    ("watch --partial day.toml", "unexpected argument '--partial'"),
+    ("follow --partial=1 day.toml", "unexpected argument '--partial=1'; a similar one is '--partial'"),
+    ("follow --partial --follower=2 --partial day.toml", "repeated argument '--partial'"),
+    ("status --follower 1 day.toml", "unexpected argument '--follower'"),
+    ("status", "no DAY.toml"),
+    ("end day.toml next.toml", "unexpected argument 'next.toml'"),
+]
+ALL_COMMANDS = "the commands are report tape explain check verify encode decode line batch live follow watch status end; tapebox --help describes them"
+# Bad arguments, and what helps with them.
+HINTS = [
+    ("", ALL_COMMANDS),
+    ("sort", ALL_COMMANDS),
+    ("--help tape", ALL_COMMANDS),
+    ("reprot", "a similar command is report; tapebox --help lists all"),
+    ("lin N day.csv", "a similar command is line; tapebox --help lists all"),
+    ("batch 3", "usage: tapebox batch [1|2]"),
+    (
+        "live AB N 9000 9001 9002 9003 1",
+        "usage: tapebox live DAY.toml | SYMBOLS PARTICIPANTS PORT A B RETRANS SERVES SESSION [MATRIX [LIMIT]]",
+    ),
+    ("watch AB N", "usage: tapebox watch [--follower N] DAY.toml | JOURNAL | SYMBOLS PARTICIPANTS A B RETRANS SESSION [MATRIX [LIMIT]]"),
+]
+
+# What is said of a wrong argument, before the word's form of use.
+SAID = [
+    ("report --matrx 2", "unexpected argument '--matrx'; a similar one is '--matrix'"),
+    ("check --matrix 2", "unexpected argument '--matrix'"),
+    ("report --strict --strict", "repeated argument '--strict'"),
+    ("report --matrix=3", "wrong argument '--matrix=3'; --matrix takes 1 or 2"),
+    ("follow day.toml --follower 0", "wrong argument '0'; --follower takes 1 to 65535"),
+    ("tape --matrix", "no value; --matrix takes 1 or 2"),
+    ("line n", "wrong argument 'n'; PARTICIPANT is a letter A to Z"),
+    ("line", "no PARTICIPANT"),
+    ("watch --follower=2", "no DAY.toml"),
 ]
 
 
@@ -86,7 +115,13 @@ class Words(Case):
         day = (SAMPLES / "first-day.txt").read_bytes()
         for words in OTHER:
             with self.subTest(words):
-                self.assert_fault(run(words, day), BAD_ARGUMENTS)
+                self.assert_bad_arguments(run(words, day))
+
+    def test_a_hint(self):
+        """OPERATING, "Statuses", 2: behind the line about bad arguments stands the use of the word, a word that is spelled alike, or all words."""
+        for words, hint in HINTS:
+            with self.subTest(words):
+                self.assert_bad_arguments(run(words.split()), re.escape(hint.encode()))
 
     def test_a_batch_by_either_matrix(self):
         """FORMATS, "A batch": without a matrix a batch goes by Matrix One, which lacks the codes of Matrix Two."""
@@ -147,19 +182,22 @@ class TableWords(Case):
         for words, named in WRONG:
             with self.subTest(words):
                 ended = run(words.split(), (SAMPLES / "corrections.csv").read_bytes())
-                self.assertEqual((ended.status, ended.written), (2, b""))
-                why, form = ended.said.decode().splitlines()
-                self.assertRegex(why, rf"\Atapebox: .*{re.escape(named)}")
-                self.assertIn(forms[words.split()[0]], form)
+                lines = f"tapebox: {named}\ntapebox: usage: {forms[words.split()[0]]}\n"
+                self.assert_fault(ended, (2, lines.encode()))
+
+    def test_what_is_said_of_a_wrong_argument(self):
+        """OPERATING, "Statuses", 2: why an argument is wrong, and a similar one if there is one."""
+        for words, text in SAID:
+            with self.subTest(words):
+                self.assertEqual(run(words.split()).said.decode().splitlines()[0], f"tapebox: {text}")
 
     def test_a_file_that_cannot_be_opened(self):
         """OPERATING, "Statuses", 3: a file that is not there, or is a folder, is named, with the reason."""
-        for name in ("no-such-file", SAMPLES):
-            for words in [*TABLE_WORDS, ["verify"], ["decode"]]:
+        of_days = [["live"], ["follow"], ["watch"], ["status"], ["end"]]
+        for name, why in (("no-such-file.toml", "no such file"), (SAMPLES, "is a directory")):
+            for words in [*TABLE_WORDS, ["verify"], ["decode"], *of_days]:
                 with self.subTest(words, name=name):
-                    ended = run([*words, name])
-                    self.assertEqual((ended.status, ended.written), (3, b""))
-                    self.assertRegex(ended.said.decode(), rf"\Atapebox: {name}: [^\n]+\n\Z")
+                    self.assertEqual(run([*words, name]), Ended(3, b"", f"tapebox: {name}: {why}\n".encode()))
 
     def test_a_reader_that_ends(self):
         """OPERATING, "Statuses", 4: a pipe whose reader has ended ends a word with its status."""
@@ -185,6 +223,7 @@ class Help(Case):
                 ended = run([word, "--help"])
                 self.assertEqual((ended.status, ended.said), (0, b""))
                 self.assertIn(ended.written.splitlines()[0], whole.written)
+        self.assertIn(b"it does not show that no message is missing or changed", run(["verify", "--help"]).written)
         listed = subprocess.run([ROOT / "run", "--help"], stdout=subprocess.PIPE, check=True).stdout
         for form in forms:
             self.assertIn(form + b"\n", listed)

@@ -25,11 +25,6 @@ agrees_known held next slots e other known =
       λ agrees. decides.1 (subst (λ o. IfSome o (λ x. x ≡ e)) known agrees),
     )
 
--- if no entry is known under its number, an entry agrees
-pub agrees_unknown : (held : List Entry) (next : ℕ) (slots : List (Option Entry)) (e : Entry) → known_entry held next slots e.number ≡ None
-    → Agrees held next slots e
-agrees_unknown held next slots e none = subst (λ o. IfSome o (λ x. x ≡ e)) (sym none) tt
-
 -- what is known under a number that was taken out
 pub known_held : (held : List Entry) (base : ℕ) (slots : List (Option Entry)) (n : ℕ) (other : Entry) → length held ≡ base → 1 ≤ n → n ≤ base
     → other ≡ get_or held (n - 1) other → known_entry held (base + 1) slots n ≡ Some other

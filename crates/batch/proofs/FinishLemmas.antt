@@ -14,7 +14,7 @@ use Rattle.batch.specs.Reading.{GoesOn, ReadsBatch}
 use Rattle.batch.specs.declared.batch_end.BatchEnd.{BatchEnd}
 use Rattle.batch.specs.declared.batch_end.BatchEnd.TheVariants.{Done, BadHeader, TooLarge, ReadFault, WriteFault, OutOfMemory}
 use Rattle.batch.specs.declared.day.BatchDay.{BatchDay}
-use Rattle.batch.specs.declared.header_fault.HeaderFault.{HeaderFault}
+use Rattle.tape_types.specs.declared.header_fault.HeaderFault.{HeaderFault}
 use Rattle.batch.specs.declared.read_end.ReadEnd.{ReadEnd}
 use Rattle.batch.specs.declared.read_end.ReadEnd.TheVariants.{TooLarge as ReadTooLarge, ReadFault as ReadFailed, OutOfMemory as ReadOutOfMemory}
 use Rattle.batch.specs.declared.reading.ReadInput.{ReadInput}

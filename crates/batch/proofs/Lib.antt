@@ -8,9 +8,6 @@ mod HeaderTaken
 mod HexLemmas
 mod InputLemmas
 mod LineLemmas
-mod NameLemmas
-mod PartLemmas
-mod PieceLemmas
 mod RefusalLemmas
 mod SpelledSixteens
 mod WholeInput

@@ -4,7 +4,7 @@ use Rattle.std.proofs.Common.{drop, take, get_or, add-one, if◌then◌else◌}
 use Rattle.std.proofs.lemmas.Bool.{ne_eqb}
 use Rattle.std.specs.List.{onto_first, slice_split}
 use Rattle.memchr.specs.Find.{IsFirstByte, IsLastByte, is_byte}
-use Rattle.batch.proofs.PartLemmas.{first_part, one_part, some_part}
+use Rattle.tape_types.specs.Lemmas.Parts.{first_part, one_part, some_part}
 use Rattle.batch.specs.Lines.{ends_a_line, lines_of, without_empty_last}
 
 -- a part with others after it stays

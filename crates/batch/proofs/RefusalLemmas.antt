@@ -1,5 +1,5 @@
 -- Shows that a refusal out of memory comes only of an acceptable message.
-use Rattle.std.proofs.Common.{◌≡◌, ◌≢◌, ◌==◌, ◌∷◌, ◌∙◌, [], ℕ, List, Bool, true, false, Option, Some, None, Result, Ok, Err, IsOk, refl, ap, inl, inr}
+use Rattle.std.proofs.Common.{◌≡◌, ◌≢◌, ◌==◌, ◌∙◌, ℕ, List, Option, Some, None, Result, Ok, Err, refl, ap, inl, inr}
 use Rattle.std.proofs.lemmas.Bool.{cases_Bool}
 use Rattle.reports.specs.Messages.{header_of}
 use Rattle.reports.specs.Reading.{message_at}
@@ -7,7 +7,7 @@ use Rattle.reports.specs.declared.fault.MessageFault.{MessageFault}
 use Rattle.reports.specs.declared.message.Message.{Message}
 use Rattle.tape_core.specs.Answers.{answer, answer_by, tape_after, tape_by}
 use Rattle.tape_core.specs.Tape.{TapeState, refusal}
-use Rattle.tape_core.specs.Lemmas.RefusalCases.{EachCase, of_refusal}
+use Rattle.tape_core.specs.Lemmas.RefusalCases.{of_refusal}
 use Rattle.tape_core.specs.declared.refusal.Refusal.{Refusal}
 use Rattle.tape_core.specs.declared.refusal.Refusal.TheVariants.{OutOfMemory}
 use Rattle.batch.specs.Batch.{answer_by_refusal, line_answer, tape_after_line}
@@ -97,8 +97,3 @@ refused-other t m r is = cases (refusal t m) (refusal-other t m) is
     cases : (own : Option Refusal) → own ≢ Some OutOfMemory → Err r ≡ answer_by t own → r ≢ OutOfMemory
     cases None other is = λ memory. cc
     cases (Some refused) other is = λ memory. other (cc)
-
--- a message that the tape does not refuse was acceptable
-pub acceptable : (t : TapeState) (line : List ℕ) (m : Message) → Ok m ≡ line_message line → refusal t m ≡ None → IsOk (line_answer t line)
-unfolding line_answer
-acceptable t line m brings none = rw (← brings, none) refl

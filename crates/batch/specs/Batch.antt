@@ -10,13 +10,14 @@ use Rattle.tape_core.specs.Answers.{tape_by}
 use Rattle.tape_core.specs.Tape.{TapeState, empty_tape, refusal}
 use Rattle.tape_core.specs.declared.refusal.Refusal.{Refusal}
 use Rattle.tape_core.specs.declared.refusal.Refusal.TheVariants.{OutOfMemory}
-use Rattle.batch.specs.Header.{header_fault_code, header_fault_name, header_listing}
+use Rattle.tape_types.specs.Header.{header_fault_code, header_fault_name}
+use Rattle.batch.specs.Header.{header_listing}
 use Rattle.batch.specs.BatchRefusals.{batch_refusal_code, batch_refusal_name}
 use Rattle.batch.specs.Lines.{lines_of}
 use Rattle.batch.specs.MessageLine.{line_message}
 use Rattle.day_report.specs.ReportText.{report_text}
 use Rattle.day_report.specs.Rows.{report_rows}
-use Rattle.batch.specs.declared.header_fault.HeaderFault.{HeaderFault}
+use Rattle.tape_types.specs.declared.header_fault.HeaderFault.{HeaderFault}
 use Rattle.batch.specs.declared.batch_refusal.BatchRefusal.{BatchRefusal}
 use Rattle.batch.specs.declared.batch_refusal.BatchRefusal.TheVariants.{Refused}
 

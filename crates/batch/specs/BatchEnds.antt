@@ -7,7 +7,7 @@ use Rattle.batch.specs.Batch.{INPUT_MOST, IsStopText, StopsForMemory, batch_text
 use Rattle.whole_io.specs.Writing.{WritesPrefix}
 use Rattle.batch.specs.declared.batch_end.BatchEnd.{BatchEnd}
 use Rattle.batch.specs.declared.batch_end.BatchEnd.TheVariants.{Done, BadHeader, TooLarge, ReadFault, WriteFault, OutOfMemory}
-use Rattle.batch.specs.declared.header_fault.HeaderFault.{HeaderFault}
+use Rattle.tape_types.specs.declared.header_fault.HeaderFault.{HeaderFault}
 
 -- what was written under a header if memory ran out
 abbrev pub WroteForMemory : Matrix → Result Names HeaderFault → List (List ℕ) → Option (List ℕ) → Option (List ℕ) → Type 0

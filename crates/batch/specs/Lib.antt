@@ -4,7 +4,6 @@ pub mod BatchRefusals
 pub mod MessageLine
 pub mod AnswerBuffer
 pub mod Header
-pub mod Pieces
 pub mod Batch
 pub mod BatchEnds
 pub mod Day

@@ -1,5 +1,5 @@
 -- Defines the message of a line: one capital letter, one space, and the message's bytes in hexadecimal digits.
-use Rattle.std.specs.Prelude.{ℕ, ◌+◌, ◌*◌, ◌/◌, ◌==◌, ◌&&◌, nat_le, Bool, List, [], ◌∷◌, length, Option, Some, None, Result, Ok, Err, option_and_then}
+use Rattle.std.specs.Prelude.{ℕ, ◌+◌, ◌*◌, ◌/◌, ◌==◌, ◌&&◌, List, [], ◌∷◌, length, Option, Some, None, Result, Ok, Err, option_and_then}
 use Rattle.std.specs.Prelude.{if◌then◌else◌}
 use Rattle.std.specs.Option.{option_map}
 use Rattle.hex.specs.Hex.{hex_digit_value}
@@ -8,13 +8,9 @@ use Rattle.reports.specs.declared.fault.MessageFault.{MessageFault}
 use Rattle.reports.specs.Messages.{header_of}
 use Rattle.reports.specs.Reading.{message_at}
 use Rattle.tape_core.specs.declared.refusal.Refusal.TheVariants.{WrongLine}
-use Rattle.tape_types.specs.Ranges.{FIRST_PARTICIPANT, LAST_PARTICIPANT}
+use Rattle.tape_types.specs.Header.{is_capital}
 use Rattle.batch.specs.declared.batch_refusal.BatchRefusal.{BatchRefusal}
 use Rattle.batch.specs.declared.batch_refusal.BatchRefusal.TheVariants.{BadLine, BadMessage, ExtraBytes, Refused}
-
--- whether a byte is a capital letter, which is what a participant can be
-abbrev pub is_capital : ℕ → Bool
-is_capital b = nat_le FIRST_PARTICIPANT b && nat_le b LAST_PARTICIPANT
 
 -- the byte of two digits, in front of others
 abbrev pub with_byte : Option ℕ → Option ℕ → Option (List ℕ) → Option (List ℕ)

@@ -6,12 +6,12 @@ ghost use Rattle.batch.specs.AnswerBuffer.{ROOM};
 ghost use Rattle.batch.specs.declared.answer_buffer.TheConstants.{LONGEST_NAME, PIECE};
 ghost use Rattle.whole_io.specs.Writing.{WritesPrefix, WritesUpTo};
 
-use crate::HeaderFault;
 use crate::day::LineAnswer;
 use itoa::Buffer;
 use std::alloc::{AllocError, Global};
 use std::io::Write;
 use std::marker::Model;
+use tape_types::HeaderFault;
 use whole_io::{WriteFault, write_text};
 
 /// How many bytes are gathered before they are written.

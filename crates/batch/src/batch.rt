@@ -15,7 +15,6 @@ ghost use Rattle.whole_io.specs.declared.writing_fault.WritingFault.TheVariants.
 use crate::BatchEnd;
 use crate::answer_buffer::AnswerBuffer;
 use crate::day::{BatchDay, LineAnswer};
-use crate::day_tape::DayTape;
 use crate::input::{INPUT_MOST, Input};
 use crate::reading::{ReadInput, read_batch};
 use day_report::{ReportFault, Row, rows, write_report};
@@ -24,6 +23,7 @@ use std::alloc::{AllocError, Global};
 use std::io::{BufReader, Read, Take, Write};
 use std::mem;
 use std::thread::Threads;
+use tape_core::IndexedTape;
 use tape_types::NoGate;
 use whole_io::{WriteFault, WritingFault, flush, write_text};
 
@@ -62,7 +62,7 @@ fn write_answers<W: Write>(
 fn rows_by_one<T: Threads + Sync>(
     rt: &T,
     alloc: Global,
-    tape: &DayTape,
+    tape: &IndexedTape,
 ) -> Result<Vec<Row>, ReportFault>
     ensures rows { IfOk result (λ rows. rows.items ≡ report_rows tape.now) }
     ensures fault { IfErr result (λ fault. fault ≡ RowsOutOfMemory) }
@@ -71,7 +71,11 @@ fn rows_by_one<T: Threads + Sync>(
 }
 
 /// The text of the report of a tape.
-fn report<T: Threads + Sync>(rt: &T, alloc: Global, tape: &DayTape) -> Result<Vec<u8>, AllocError>
+fn report<T: Threads + Sync>(
+    rt: &T,
+    alloc: Global,
+    tape: &IndexedTape,
+) -> Result<Vec<u8>, AllocError>
     ensures { IfOk result (λ text. text.items ≡ tape_report tape.now) }
 {
     let Ok(rows) = rows_by_one(rt, alloc, tape) else {

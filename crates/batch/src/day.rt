@@ -10,14 +10,13 @@ ghost use Rattle.batch.specs.declared.batch_refusal.BatchRefusal.TheVariants.{Re
 ghost use Rattle.batch.specs.declared.read_end.ReadEnd.TheVariants.{OutOfMemory as ReadOutOfMemory, ReadFault as ReadFailed};
 
 use crate::BatchRefusal;
-use crate::day_tape::DayTape;
 use crate::input::Input;
 use crate::lines::{WholeLines, whole_lines};
 use crate::message_line::read_message;
 use crate::read_end::ReadEnd;
 use std::alloc::{AllocError, Global};
 use std::io::{BufRead, Error, ErrorKind};
-use tape_core::Refusal;
+use tape_core::{IndexedTape, Refusal};
 use tape_types::TapeNumber;
 use whole_io::ReadFault;
 
@@ -29,7 +28,7 @@ const _: () = prove!(size_of::<LineAnswer>() == 5);
 
 /// Admits a line's message and returns its tape number, or its refusal, which leaves the tape unchanged.
 #[tactic(auto, unfolding(crate::specs::Batch::line_answer, crate::specs::Batch::tape_after_line))]
-fn answer(tape: &mut DayTape, line: &[u8]) -> LineAnswer
+fn answer(tape: &mut IndexedTape, line: &[u8]) -> LineAnswer
     ensures answer { (result ≢ Err (Refused OutOfMemory)) → result ≡ line_answer tape.old line.now }
     ensures tape { (result ≢ Err (Refused OutOfMemory)) → tape.new ≡ tape_after_line tape.old line.now }
     ensures refused { OnErr result (tape.new ≡ tape.old) }
@@ -66,7 +65,7 @@ fn unread_piece(error: &Error) -> Result<(), ReadEnd>
 #[derive(Drop)]
 pub struct BatchDay {
     /// The tape.
-    pub tape: DayTape,
+    pub tape: IndexedTape,
     /// The answers to the lines so far.
     pub answers: Vec<LineAnswer>,
     /// Whether memory ran out at a line, whose refusal is then the last answer.
@@ -75,7 +74,7 @@ pub struct BatchDay {
 
 impl BatchDay {
     /// A day without answers.
-    pub fn new(alloc: Global, tape: DayTape) -> Self
+    pub fn new(alloc: Global, tape: IndexedTape) -> Self
         ensures tape { result.tape ≡ tape }
         ensures answers { result.answers.items ≡ [] }
         ensures goes_on { result.is_stopped ≡ false }

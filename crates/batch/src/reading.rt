@@ -5,16 +5,15 @@ ghost use Rattle.batch.specs.Reading.{EndsReading, Fits, GoesOn, ReadsBatch};
 ghost use Rattle.batch.specs.Lines.{lines_of};
 ghost use Rattle.batch.specs.declared.read_end.ReadEnd.TheVariants.{OutOfMemory};
 
-use crate::HeaderFault;
 use crate::day::BatchDay;
-use crate::day_tape::DayTape;
 use crate::header::read_header;
 use crate::input::Input;
 use crate::read_end::ReadEnd;
 use sale_matrix::Matrix;
 use std::alloc::Global;
 use std::io::BufRead;
-use tape_types::ListingFault;
+use tape_core::IndexedTape;
+use tape_types::{HeaderFault, ListingFault};
 
 /// The most entries that a batch's tape has, whatever the limit of other tapes.
 const BATCH_TAPE_MOST: u32 = 1_048_576;
@@ -51,7 +50,7 @@ impl From<ReadEnd> for UnreadInput {
 /// If memory ran out for reading, it had not run out at a line.
 fn read_day<B: BufRead>(
     alloc: Global,
-    tape: DayTape,
+    tape: IndexedTape,
     input: &mut Input<B>,
     line: &mut Vec<u8>,
 ) -> (BatchDay, Result<(), ReadEnd>)
@@ -82,7 +81,7 @@ pub fn read_batch<B: BufRead>(
     input.next_line(&mut second)?;
     match read_header(alloc, &first, &second) {
         Ok(listing) => {
-            let Ok(tape) = DayTape::new(alloc, listing, BATCH_TAPE_MOST, matrix) else {
+            let Ok(tape) = IndexedTape::new(alloc, listing, BATCH_TAPE_MOST, matrix) else {
                 return Err(UnreadInput::from(ReadEnd::OutOfMemory));
             };
             // The first line's memory is used again for lines between two pieces.

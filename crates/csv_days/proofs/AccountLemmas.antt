@@ -5,7 +5,7 @@ use Rattle.std.specs.List.{last_or, position}
 use Rattle.std.specs.Option.{option_map}
 use Rattle.std.proofs.Math.Seq.{get_or-append_seam}
 use Rattle.std.proofs.lemmas.Bool.{cases_lt, not-false}
-use Rattle.std.proofs.lemmas.List.{drop_all, get_or_append_left, length-map, length-take-le, map-append, map_more, take_all, take_more}
+use Rattle.std.proofs.lemmas.List.{drop_all, get_or_append_left, length-take-le, map-append, map_more, take_all, take_more}
 use Rattle.std.proofs.lemmas.List.Elements.{filter-append}
 use Rattle.std.proofs.lemmas.List.Quantifiers.{position-Some}
 use Rattle.std.proofs.lemmas.Nat.{div-mul-add, mod-mul-add}
@@ -117,14 +117,6 @@ last_change_in-push tape place ns n =
         ap (λ (l : List ℕ). unwrap_or (last_or None l) 0) (map-append (λ (m : NumberedMessage). m.0) front (n ∷ []))
         ∙ ap (λ (o : Option ℕ). unwrap_or o 0) (last_or-push None (map (λ (m : NumberedMessage). m.0) front) n.0)
     by front false = ap last_of (append-nil front)
-
--- before the first entry no report is changed
-pub AreChanges-none : (entries : List Entry) (changes : List ℕ) → length changes ≡ length entries
-    → ((k : ℕ) → k < length entries → get_or changes k 0 ≡ 0) → AreChanges (messages_of entries) (messages_of (take 0 entries)) changes
-AreChanges-none entries changes count none = record {
-  count = count ∙ sym (length-map entries numbered_message);
-  each = λ k within. none k (omega (arith, within, length-map entries numbered_message));
-}
 
 -- and after one more, each is changed last by it or as before
 pub AreChanges-more : (entries : List Entry) (i : ℕ) (e : Entry) (old new : List ℕ) → i < length entries → get_or entries i e ≡ e

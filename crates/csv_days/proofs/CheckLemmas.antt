@@ -1,19 +1,18 @@
 -- A table's rows, noted one after another.
 use Rattle.std.proofs.Common.{◌≡◌, ◌≢◌, ◌⊎◌, ◌<◌, ◌+◌, ◌^◌, ◌∷◌, ◌++◌, ◌∙◌, [], ℕ, List, Option, Some, None, IfSome, Result, Ok, Err, ap, append-nil, arith, inl, inr, length, refl, sym}
 use Rattle.reports.specs.declared.message.Message.{Message}
-use Rattle.csv_messages.specs.Checks.{fault_of as row_fault, HasRows, IsOfText, IsOnlyFault, IsOpenFault, known_messages, message_of as row_message, row_faults, row_messages, table_faults}
-use Rattle.csv_messages.specs.Lemmas.RowFaults.{row_faults-append, row_faults-few, row_messages-append}
-use Rattle.csv_messages.specs.Tables.{FIRST_ROW, fields_message}
+use Rattle.csv_messages.specs.Lemmas.RowFaults.{row_faults-few, row_faults-more, row_messages-more}
+use Rattle.csv_messages.specs.Tables.{FIRST_ROW, IsOnlyFault, IsOpenFault, fault_of as row_fault, fields_message, known_messages, message_of as row_message, row_faults, row_messages, table_faults}
 use Rattle.csv_messages.specs.declared.columns.Columns.{Columns}
-use Rattle.csv_messages.specs.declared.row_reader.RowReader.{RowReader}
 use Rattle.csv_messages.specs.declared.row_fault.RowFault.{RowFault}
 use Rattle.csv_messages.specs.declared.table_fault.TableFault.{TableFault}
 use Rattle.csv_messages.specs.declared.table_fault.TableFault.TheVariants.{Header, NoRow, Row, ReadFault, OutOfMemory}
-use Rattle.csv_days.specs.Checks.{AreTold, HasSeen, IsCheckOf, IsCheckOfText, NotesAll, NotesEnd, NotesNone, NotesRow}
+use Rattle.csv_days.specs.EndDays.{AreNames}
+use Rattle.csv_days.specs.Checks.{AreTold, IsCheckOf, IsCheckOfText, NotesEnd, NotesNone, NotesRow}
 use Rattle.csv_days.specs.declared.table_check.TableCheck.{TableCheck}
 
 -- a check that has read nothing has noted no row
-pub notes-none : (check : TableCheck) → AreTold [] check.told check.lines.items check.more → HasSeen [] check.names → NotesNone check
+pub notes-none : (check : TableCheck) → AreTold [] check.told check.lines.items check.more → AreNames [] check.names → NotesNone check
 unfolding row_faults row_messages
 notes-none check told names columns = record { faults = told; names = names }
 
@@ -21,23 +20,20 @@ notes-none check told names columns = record { faults = told; names = names }
 faults-more : (columns : Columns) (rows : List (List (List ℕ))) (fields : List (List ℕ)) (number : ℕ) (read : Result Message RowFault) → number ≡ length rows + FIRST_ROW
     → read ≡ fields_message columns fields
     → row_faults columns FIRST_ROW (rows ++ fields ∷ []) ≡ row_faults columns FIRST_ROW rows ++ row_fault number read
-unfolding row_faults
 faults-more columns rows fields number read count is =
-    row_faults-append columns FIRST_ROW rows (fields ∷ [])
+    row_faults-more columns FIRST_ROW rows fields
     ∙ ap (λ (l : List TableFault). row_faults columns FIRST_ROW rows ++ l)
-    (append-nil _ ∙ ap (λ (n : ℕ). row_fault n (fields_message columns fields)) (omega (arith, count)) ∙ ap (row_fault number) (sym is))
+    (ap (λ (n : ℕ). row_fault n (fields_message columns fields)) (omega (arith, count)) ∙ ap (row_fault number) (sym is))
 
 -- the messages of a row more
 messages-more : (columns : Columns) (rows : List (List (List ℕ))) (fields : List (List ℕ)) (read : Result Message RowFault) → read ≡ fields_message columns fields
     → row_messages columns (rows ++ fields ∷ []) ≡ row_messages columns rows ++ row_message read
-unfolding row_messages
 messages-more columns rows fields read is =
-    row_messages-append columns rows (fields ∷ [])
-    ∙ ap (λ (l : List Message). row_messages columns rows ++ l) (append-nil _ ∙ ap row_message (sym is))
+    row_messages-more columns rows fields ∙ ap (λ (l : List Message). row_messages columns rows ++ l) (ap row_message (sym is))
 
 -- a row that is a message
 pub notes-message : (old new : TableCheck) (number : ℕ) (m : Message) → new.told ≡ old.told → new.lines.items ≡ old.lines.items → new.more ≡ old.more
-    → ((messages : List Message) → HasSeen messages old.names → HasSeen (messages ++ m ∷ []) new.names) → NotesRow old new number (Ok m)
+    → ((messages : List Message) → AreNames messages old.names → AreNames (messages ++ m ∷ []) new.names) → NotesRow old new number (Ok m)
 notes-message old new number m told lines more seen columns rows fields count is had =
     let faults : row_faults columns FIRST_ROW (rows ++ fields ∷ []) ≡ row_faults columns FIRST_ROW rows =
     faults-more columns rows fields number (Ok m) count is ∙ append-nil (row_faults columns FIRST_ROW rows) in
@@ -84,12 +80,20 @@ ends-some old new count some told lines more names size columns head (r ∷ rows
 
 -- the check of a text whose header row is at fault
 pub only-checks : (records : List (List (List ℕ))) (fault : TableFault) (check : TableCheck) → IsOnlyFault fault records
-    → AreTold (fault ∷ []) check.told check.lines.items check.more → HasSeen [] check.names → IsCheckOf records check
+    → AreTold (fault ∷ []) check.told check.lines.items check.more → AreNames [] check.names → IsCheckOf records check
 only-checks records fault check only told names = record {
   faults = rw only.faults told;
   names = rw only.messages names;
   rows = λ none. absurd (cc (none, only.faults));
 }
+
+-- a fault is one of the text, and not of reading it
+abbrev pub IsOfText : TableFault → Type 0
+IsOfText (Header fault) = Unit {0}
+IsOfText NoRow = Unit {0}
+IsOfText (Row number fault) = Unit {0}
+IsOfText ReadFault = ⊥
+IsOfText OutOfMemory = ⊥
 
 -- a fault that is not of reading is of the text
 pub of-text : (fault : TableFault) → ((fault ≡ ReadFault) ⊎ (fault ≡ OutOfMemory) → ⊥) → IsOfText fault
@@ -101,16 +105,10 @@ of-text OutOfMemory other = other (inr refl)
 
 -- why its rows are not read, and its check
 pub open-checks : (known : Option (List ℕ)) (fault : TableFault) (check : TableCheck) → IfSome known (λ input. IsOpenFault input fault) → IsOfText fault
-    → AreTold (fault ∷ []) check.told check.lines.items check.more → HasSeen [] check.names → IfSome known (λ input. IsCheckOfText input check)
+    → AreTold (fault ∷ []) check.told check.lines.items check.more → AreNames [] check.names → IfSome known (λ input. IsCheckOfText input check)
 open-checks None fault check is of_text told names = tt
 open-checks (Some input) (Header f) check (records, first, bad, only) of_text told names = (records, inr (first, bad), only-checks records (Header f) check only told names)
 open-checks (Some input) NoRow check (records, all, only) of_text told names = (records, inl all, only-checks records NoRow check only told names)
 open-checks (Some input) (Row n f) check is of_text told names = absurd is
 open-checks (Some input) ReadFault check is of_text told names = absurd of_text
 open-checks (Some input) OutOfMemory check is of_text told names = absurd of_text
-
--- the check of the rows of a text that are read
-pub rows-check : {R : Type 0} (remaining : R → Option (List ℕ)) (known : Option (List ℕ)) (rows : RowReader R) (check : TableCheck)
-    → IfSome known (λ input. HasRows remaining rows input []) → NotesAll remaining rows check → IfSome known (λ input. IsCheckOfText input check)
-rows-check remaining None rows check had notes = tt
-rows-check remaining (Some input) rows check had notes = notes input had

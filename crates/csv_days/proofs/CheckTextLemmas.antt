@@ -7,9 +7,10 @@ use Rattle.whole_io.specs.Writing.{WritesPrefix}
 use Rattle.tape_types.specs.Names.{is_nil}
 use Rattle.tape_types.specs.declared.listing_fault.ListingFault.{ListingFault}
 use Rattle.reports.specs.declared.message.Message.{Message}
-use Rattle.csv_messages.specs.Checks.{known_messages, table_faults}
+use Rattle.csv_messages.specs.Tables.{known_messages, table_faults}
 use Rattle.csv_messages.specs.declared.table_fault.TableFault.{TableFault}
-use Rattle.csv_days.specs.Checks.{AreTold, FAULTS_TOLD, HasSeen, IsCheckOf, IsCheckOfText, WritesCheck, WritesCheckPart, check_text, is_faultless, names_wrong}
+use Rattle.csv_days.specs.EndDays.{AreNames}
+use Rattle.csv_days.specs.Checks.{AreTold, FAULTS_TOLD, IsCheckOf, IsCheckOfText, WritesCheck, WritesCheckPart, check_text, is_faultless, names_wrong}
 use Rattle.csv_days.specs.declared.fault_counts.FaultCounts.{FaultCounts}
 use Rattle.csv_days.specs.declared.table_check.TableCheck.{TableCheck}
 use Rattle.csv_days.proofs.ToldLemmas.{told-count}
@@ -33,7 +34,7 @@ faultless-is records check found is wrong =
 
 -- what is told of a text was written
 pub check-written : (known : Option (List ℕ)) (faultless : Bool) (check : TableCheck) (found : Option ListingFault) (text : List ℕ) (old new : Option (List ℕ))
-    → IfSome known (λ input. IsCheckOfText input check) → ((messages : List Message) → HasSeen messages check.names → found ≡ names_wrong messages)
+    → IfSome known (λ input. IsCheckOfText input check) → ((messages : List Message) → AreNames messages check.names → found ≡ names_wrong messages)
     → text ≡ check_text check found → faultless ≡ ((check.told == 0) && not (is_some found)) → Appends old new text
     → IfSome known (λ input. WritesCheck input faultless old new)
 check-written None faultless check found text old new checked wrong told fine written = tt
@@ -50,7 +51,7 @@ check-written (Some input) faultless check found text old new (records, are, is)
 
 -- a part of it was written
 pub check-part : (known : Option (List ℕ)) (check : TableCheck) (found : Option ListingFault) (text : List ℕ) (old new : Option (List ℕ))
-    → IfSome known (λ input. IsCheckOfText input check) → ((messages : List Message) → HasSeen messages check.names → found ≡ names_wrong messages)
+    → IfSome known (λ input. IsCheckOfText input check) → ((messages : List Message) → AreNames messages check.names → found ≡ names_wrong messages)
     → text ≡ check_text check found → WritesPrefix text old new
     → IfSome known (λ input. WritesCheckPart input old new)
 check-part None check found text old new checked wrong told written = tt

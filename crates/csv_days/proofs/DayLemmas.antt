@@ -15,14 +15,6 @@ use Rattle.csv_messages.specs.Tables.{FIRST_ROW}
 use Rattle.csv_days.specs.declared.day.TableDay.{TableDay}
 use Rattle.csv_days.proofs.StaleLemmas.{first_stale-more}
 
--- the names of one message more
-pub insert_all-more : {A : Type 0} (eq : A → A → Bool) (name : Message → A) (messages : List Message) (i : ℕ) (m : Message) → i < length messages
-    → get_or messages i m ≡ m
-    → insert_all eq [] (map name (take (i + 1) messages)) ≡ insert_key eq (insert_all eq [] (map name (take i messages))) (name m)
-insert_all-more eq name messages i m within is =
-    ap (insert_all eq []) (map_more name messages i m within ∙ ap (λ (n : Message). map name (take i messages) ++ name n ∷ []) is)
-    ∙ fold_push (insert_key eq) [] (map name (take i messages)) (name m)
-
 -- ## One message more
 
 -- the answer to one message more

@@ -24,27 +24,6 @@ use Rattle.csv_days.proofs.DayLemmas.{answers-push, length-answers}
 use Rattle.csv_days.proofs.StaleLemmas.{first_stale-more}
 use Rattle.csv_days.proofs.ListingLemmas.{ListsAll-names, ListsAll-one, ListsAll-parts, listing-kept}
 
--- ## Names
-
--- one name more
-insert_all-push : {A : Type 0} (eq : A → A → Bool) (name : Message → A) (messages : List Message) (m : Message)
-    → insert_key eq (insert_all eq [] (map name messages)) (name m) ≡ insert_all eq [] (map name (messages ++ m ∷ []))
-insert_all-push eq name messages m =
-    sym (ap (insert_all eq []) (map-append name messages (m ∷ [])) ∙ fold_push (insert_key eq) [] (map name messages) (name m))
-
--- the names of one message more
-pub AreNames-more : (messages : List Message) (m : Message) (old new : DayNames) → AreNames messages old
-    → new.symbols.keys ≡ insert_key symbol_eq old.symbols.keys (symbol_of m)
-    → new.participants.keys ≡ insert_key nat_eq old.participants.keys (header_of m).participant
-    → AreNames (messages ++ m ∷ []) new
-AreNames-more messages m old new are symbols participants = record {
-  symbols = symbols ∙ ap (λ ks. insert_key symbol_eq ks (symbol_of m)) are.symbols ∙ insert_all-push symbol_eq symbol_of messages m;
-  participants = participants ∙ ap (λ ks. insert_key nat_eq ks (header_of m).participant) are.participants
-      ∙ insert_all-push nat_eq (λ m. (header_of m).participant) messages m;
-}
-
--- ## Messages
-
 -- the tape after messages, of a listing
 abbrev after : Matrix → Names → List Message → TapeState
 after matrix listing messages = fold tape_after (tape_by_names matrix listing) messages

@@ -8,7 +8,7 @@ use Rattle.tape_core.specs.declared.refusal.Refusal.{Refusal}
 use Rattle.csv_messages.specs.Tables.{IsTable}
 use Rattle.tape_core.specs.Answers.{answers}
 use Rattle.csv_days.specs.Days.{first_tape}
-use Rattle.csv_days.specs.Refusals.{AreRefusals, refused_for}
+use Rattle.csv_days.specs.Refusals.{AreRefusals}
 use Rattle.csv_days.specs.StaleRows.{first_stale}
 use Rattle.csv_days.specs.TableEnds.{IsMessagesEnd, IsTableEnd, WritesTable, WritesTablePart}
 use Rattle.csv_days.specs.declared.refusals.Refusals.{Refusals}
@@ -36,7 +36,7 @@ ok_map (Err error) P Q f p = tt
 -- what was refused is given back
 pub flushed_refusals : (r : Result Refusals TableEnd) (refusals : Refusals) (answers : List (Result ℕ Refusal)) → IfOk r (λ flushed. flushed ≡ refusals)
     → AreRefusals answers refusals → IfOk r (AreRefusals answers)
-flushed_refusals (Ok flushed) refusals answers is are = λ reason. ap (λ (s : Refusals). refused_for s reason) is ∙ are reason
+flushed_refusals (Ok flushed) refusals answers is are = subst (AreRefusals answers) (sym is) are
 flushed_refusals (Err end) refusals answers is are = tt
 
 -- with the first stale row

@@ -82,18 +82,6 @@ lines-more t rows from i o old new within is so_far made =
 
 -- ## Rows
 
--- if another message is there, nothing is told
-pub explained_at-none : (t : TapeState) (rows : List ℕ) (index : ℕ) → report_at t index ≡ None → explained_at t rows index ≡ None
-explained_at-none t rows index none = by (slice_get t.entries index) none
-  where
-    entry : (e : Entry) (b : Bool) (report : Target) (row : Explained) → (if b then Some report else None) ≡ None → (if b then Some row else None) ≡ None
-    entry e true report row is = absurd cc
-    entry e false report row is = refl
-
-    by : (o : Option Entry) → unwrap_or (option_map (report_in t) o) None ≡ None → unwrap_or (option_map (explained_entry t rows) o) None ≡ None
-    by None is = refl
-    by (Some e) is = entry e (is_some (reported_content e.message)) _ _ is
-
 -- an entry that is read is there
 pub entry-there : (t : TapeState) (lent : List Entry) (index : ℕ) (d : Entry) → lent ≡ t.entries → index < length t.entries
     → slice_get t.entries index ≡ Some (get_or lent index d)

@@ -10,8 +10,8 @@ pub mod EntryLemmas
 pub mod ExplainLemmas
 pub mod FigureLemmas
 pub mod ListingLemmas
+pub mod NameLemmas
 pub mod RefusalLemmas
-pub mod SeenLemmas
 pub mod StaleLemmas
 pub mod StrictLemmas
 pub mod SumLemmas

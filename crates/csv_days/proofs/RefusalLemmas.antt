@@ -1,6 +1,6 @@
 -- What is refused of one answer more.
 use Rattle.std.proofs.Common.{◌≡◌, ◌≢◌, ◌<◌, ◌≤◌, ◌+◌, ◌-◌, ◌^◌, ◌==◌, ◌∷◌, ◌++◌, ◌∙◌, [], ℕ, List, Bool, true, false, cond, Option, Result, Some, None, Ok, Err, IfSome}
-use Rattle.std.proofs.Common.{ap, arith, inl, inr, length, refl, replicate, subst, sym, zero-add}
+use Rattle.std.proofs.Common.{ap, arith, inl, inr, length, length-append, refl, replicate, subst, sym, zero-add}
 use Rattle.std.proofs.lemmas.Bool.{cases_Bool, eq-eqb}
 use Rattle.std.proofs.lemmas.List.{get_or-replicate, get_or-set_other, get_or-set_same}
 use Rattle.std.proofs.lemmas.List.Sums.{count_by-le-length, sum_by_from, sum_by_push}
@@ -14,7 +14,7 @@ use Rattle.tape_core.specs.Lemmas.RefusalCodes.{position_known}
 use Rattle.tape_core.specs.Refusals.{all_refusals, refusal_code, refusal_position}
 use Rattle.tape_core.specs.declared.refusal.Refusal.{Refusal}
 use Rattle.csv_messages.specs.Tables.{FIRST_ROW}
-use Rattle.csv_days.specs.Refusals.{AreRefusals, RefusesNone, is_refusal, one_more, refused_for, refused_rows}
+use Rattle.csv_days.specs.Refusals.{AreReasons, RefusesNone, is_refusal, one_more, refused_for, refused_rows}
 use Rattle.csv_days.specs.declared.refusals.Refusals.{Refusals}
 use Rattle.csv_days.specs.declared.refusals.RefusedRows.{RefusedRows}
 
@@ -128,24 +128,24 @@ if_some-weaker P Q (Some a) f h = f a h
 -- ## Refusals
 
 -- nothing is refused of no answers
-pub AreRefusals-none : (refusals : Refusals) → refusals.reasons ≡ replicate 13 None → AreRefusals [] refusals
+pub AreReasons-none : (refusals : Refusals) → refusals.reasons ≡ replicate 13 None → AreReasons [] refusals
 unfolding refused_rows
-AreRefusals-none refusals none reason =
+AreReasons-none refusals none reason =
     ap (λ (l : List (Option RefusedRows)). slice_index_or l (refusal_position reason) None) none
     ∙ get_or-replicate 13 (refusal_position reason) None None (position_range reason)
 
 -- an answer that is a tape number is no refusal
-pub AreRefusals-admitted : (refusals : Refusals) (answers : List (Result ℕ Refusal)) (number : ℕ) → AreRefusals answers refusals
-    → AreRefusals (answers ++ Ok number ∷ []) refusals
-AreRefusals-admitted refusals answers number had reason = had reason ∙ sym (refused_rows-same reason answers (Ok number) refl)
+pub AreReasons-admitted : (refusals : Refusals) (answers : List (Result ℕ Refusal)) (number : ℕ) → AreReasons answers refusals
+    → AreReasons (answers ++ Ok number ∷ []) refusals
+AreReasons-admitted refusals answers number had reason = had reason ∙ sym (refused_rows-same reason answers (Ok number) refl)
 
 -- a refusal more is counted for its reason
-pub AreRefusals-refused : (old new : Refusals) (refused : Refusal) (place row : ℕ) (more : RefusedRows) (answers : List (Result ℕ Refusal))
+pub AreReasons-refused : (old new : Refusals) (refused : Refusal) (place row : ℕ) (more : RefusedRows) (answers : List (Result ℕ Refusal))
     → length old.reasons ≡ 13 → place ≡ refusal_position refused → new.reasons ≡ slice_set old.reasons place (Some more)
     → (IfSome (slice_index_or old.reasons place None) (λ refused. refused.count + 1 < 2 ^ 64)
     → more ≡ one_more (slice_index_or old.reasons place None) row)
-    → row < 2 ^ 64 → row ≡ length answers + FIRST_ROW → AreRefusals answers old → AreRefusals (answers ++ Err refused ∷ []) new
-AreRefusals-refused old new refused place row more answers size at set is fits counted had reason =
+    → row < 2 ^ 64 → row ≡ length answers + FIRST_ROW → AreReasons answers old → AreReasons (answers ++ Err refused ∷ []) new
+AreReasons-refused old new refused place row more answers size at set is fits counted had reason =
     elim (cases_Bool (refusal_code refused == refusal_code reason)) [
       | inl same ↦
           let same_code : refusal_code refused ≡ refusal_code reason = grind (arith, same) in
@@ -169,10 +169,16 @@ AreRefusals-refused old new refused place row more answers size at set is fits c
           ∙ had reason ∙ sym (refused_rows-same reason answers (Err refused) other)
     ]
 
--- they are those of the same answers if nothing but the first stale row changes
-pub AreRefusals-kept : (old new : Refusals) (answers : List (Result ℕ Refusal)) → new.reasons ≡ old.reasons → AreRefusals answers old
-    → AreRefusals answers new
-AreRefusals-kept old new answers same had reason = ap (λ (l : List (Option RefusedRows)). slice_index_or l (refusal_position reason) None) same ∙ had reason
+-- they are those of the same answers if nothing else changes
+pub AreReasons-kept : (old new : Refusals) (answers : List (Result ℕ Refusal)) → new.reasons ≡ old.reasons → AreReasons answers old
+    → AreReasons answers new
+AreReasons-kept old new answers same had reason = ap (λ (l : List (Option RefusedRows)). slice_index_or l (refusal_position reason) None) same ∙ had reason
+
+-- one answer more is one row more
+pub rows-more : (old new row : ℕ) (answers : List (Result ℕ Refusal)) (answered : Result ℕ Refusal) → (old + 1 < 2 ^ 64 → new ≡ old + 1)
+    → row < 2 ^ 64 → row ≡ length answers + FIRST_ROW → old ≡ length answers → new ≡ length (answers ++ answered ∷ [])
+rows-more old new row answers answered more fits at had =
+    omega (arith, more (omega (arith, fits, at, had)), had, length-append answers (answered ∷ []))
 
 -- ## All refusals
 

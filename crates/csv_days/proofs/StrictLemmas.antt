@@ -57,12 +57,12 @@ module _ (t : TapeState) (messages : List Message) (refusals : Refusals) (are : 
   unfolding refused_rows
   admits-all none = all-admitted FIRST_ROW (answers t messages)
       (λ reason. no_row (count_by (is_refusal reason) (answers t messages)) (position_from (is_refusal reason) FIRST_ROW (answers t messages))
-      (sym (are reason) ∙ none reason))
+      (sym (are.reasons reason) ∙ none reason))
 
   -- of a tape that admits all, nothing is told
   tells-none : admits_all t messages ≡ true → RefusesNone refusals
   unfolding refused_rows
-  tells-none all reason = are reason
+  tells-none all reason = are.reasons reason
       ∙ ap (λ (o : Option ℕ). option_map (first_of (count_by (is_refusal reason) (answers t messages))) o)
       (none-refused FIRST_ROW (answers t messages) reason all)
 
@@ -84,7 +84,7 @@ module _ (text : Matrix → List Message → List ℕ) (matrix : Matrix) (messag
 -- nothing is told of the same answers twice
 pub RefusesNone-same : (given : List (Result ℕ Refusal)) (first second : Refusals) → AreRefusals given first → AreRefusals given second
     → RefusesNone first → RefusesNone second
-RefusesNone-same given first second one two none reason = two reason ∙ sym (one reason) ∙ none reason
+RefusesNone-same given first second one two none reason = two.reasons reason ∙ sym (one.reasons reason) ∙ none reason
 
 -- what is told of messages by a run that has the same refusals
 pub told_by : (matrix : Matrix) (messages : List Message) (r : Result Refusals TableEnd) → MakeListing messages

@@ -1,5 +1,5 @@
 -- Faults that are told, and others that are counted.
-use Rattle.std.proofs.Common.{◌≡◌, ◌≤◌, ◌<◌, ◌+◌, ◌-◌, ◌^◌, ◌∷◌, ◌++◌, ◌∙◌, [], ℕ, List, Result, Ok, Err, OnOk, true, ap, append-nil, append_assoc, arith, drop, get_or, length, length-append, map, min, refl, subst, sym, take}
+use Rattle.std.proofs.Common.{◌≡◌, ◌≤◌, ◌<◌, ◌+◌, ◌-◌, ◌^◌, ◌∷◌, ◌++◌, ◌∙◌, [], ℕ, List, Result, Ok, Err, OnOk, true, ap, append-nil, append_assoc, arith, drop, get_or, length, length-append, map, min, subst, sym, take}
 use Rattle.std.proofs.lemmas.List.{drop-append-le, drop_all, length-drop, length-map, length-take, map-append, take-append-le, take_all, take_more}
 use Rattle.std.proofs.lemmas.Grind.{flat_map-append}
 use Rattle.std.specs.List.{flat_map}
@@ -12,10 +12,6 @@ use Rattle.csv_days.specs.declared.told_fault.ToldFault.{ToldFault}
 -- how many are told
 pub told-count : (faults : List TableFault) (told : List ToldFault) → map fault_of told ≡ take FAULTS_TOLD faults → length told ≡ length (take FAULTS_TOLD faults)
 told-count faults told first = sym (length-map told fault_of) ∙ ap length first
-
--- nothing is told of no faults
-pub told-none : (more : FaultCounts) → AreCounts [] more → AreTold [] 0 [] more
-told-none more counts = record { told = []; first = refl; counted = refl; by_lines = refl; others = counts }
 
 -- one fault more that is told
 pub told-more : (faults : List TableFault) (old new : ℕ) (lines grown : List ℕ) (next : ToldFault) (more : FaultCounts) → old < FAULTS_TOLD

@@ -6,12 +6,11 @@ use Rattle.std.specs.List.{count_by, flat_map, slice_index_or}
 use Rattle.std.specs.Option.{option_map_or}
 use Rattle.whole_io.specs.Writing.{WritesPrefix}
 use Rattle.tape_types.specs.Names.{is_nil, names_fault}
-use Rattle.tape_types.specs.Ranges.{SYMBOLS_MOST}
 use Rattle.tape_types.specs.declared.listing_fault.ListingFault.{ListingFault}
 use Rattle.reports.specs.declared.message.Message.{Message}
-use Rattle.csv_messages.specs.Checks.{AreChecked, HasRows, known_messages, row_faults, row_messages, table_faults}
 use Rattle.csv_messages.specs.Columns.{header_columns}
-use Rattle.csv_messages.specs.Tables.{FIRST_ROW, fields_message}
+use Rattle.csv_messages.specs.TableReading.{HasRows}
+use Rattle.csv_messages.specs.Tables.{AreChecked, FIRST_ROW, fields_message, known_messages, row_faults, row_messages, table_faults}
 use Rattle.csv_messages.specs.declared.columns.Columns.{Columns}
 use Rattle.csv_messages.specs.declared.row_reader.RowReader.{RowReader}
 use Rattle.csv_messages.specs.ColumnNames.{column_name, column_rule}
@@ -23,11 +22,11 @@ use Rattle.csv_messages.specs.declared.row_fault.RowFault.TheVariants.{Fields, B
 use Rattle.csv_messages.specs.declared.table_fault.TableFault.{TableFault}
 use Rattle.csv_messages.specs.declared.table_fault.TableFault.TheVariants.{Header, NoRow, Row, ReadFault, OutOfMemory}
 use Rattle.csv_days.specs.Days.{participants_of, symbols_of}
+use Rattle.csv_days.specs.EndDays.{AreNames}
 use Rattle.csv_days.specs.EndTexts.{listing_fault_text}
 use Rattle.csv_days.specs.declared.fault_counts.FaultCounts.{FaultCounts}
 use Rattle.csv_days.specs.declared.fault_kind.FaultKind.{FaultKind}
 use Rattle.csv_days.specs.declared.fault_kind.FaultKind.TheVariants.{OtherFields, BadField, UnusedField}
-use Rattle.csv_days.specs.declared.seen_names.SeenNames.{SeenNames}
 use Rattle.csv_days.specs.declared.table_check.TableCheck.{TableCheck}
 use Rattle.csv_days.specs.declared.told_fault.ToldFault.{ToldFault}
 use Rattle.csv_days.specs.declared.table_end.TableEnd.{TableEnd}
@@ -55,7 +54,7 @@ kind_place (UnusedField column) = column_place column + 9
 
 -- the kind of a row's fault
 abbrev pub kind_of : RowFault → FaultKind
-kind_of (Fields found wanted) = OtherFields
+kind_of (Fields found wanted over) = OtherFields
 kind_of (Bad column text) = BadField column
 kind_of (Unused column text) = UnusedField column
 
@@ -81,15 +80,6 @@ AreCounts faults counts = (kind : FaultKind) → counted_of counts kind ≡ coun
 abbrev pub names_wrong : List Message → Option ListingFault
 names_wrong [] = None
 names_wrong (m ∷ ms) = names_fault (symbols_of (m ∷ ms)) (participants_of (m ∷ ms))
-
--- some symbols are all, or both are more than a listing takes
-abbrev pub AreAllOrTooMany : List (List ℕ) → List (List ℕ) → Type 0
-AreAllOrTooMany some all = (some ≡ all) ⊎ ((SYMBOLS_MOST < length some) × (SYMBOLS_MOST < length all))
-
--- these names of messages were seen
-pub record HasSeen (messages : List Message) (seen : SeenNames) : Type 0 where
-  pub symbols : AreAllOrTooMany seen.symbols.keys (symbols_of messages)
-  pub participants : seen.participants.keys ≡ participants_of messages
 
 -- ## Lines
 
@@ -135,7 +125,7 @@ row_count (names ∷ rows) = length rows
 -- a check is that of these records
 pub record IsCheckOf (records : List (List (List ℕ))) (check : TableCheck) : Type 0 where
   pub faults : AreTold (table_faults records) check.told check.lines.items check.more
-  pub names : HasSeen (known_messages records) check.names
+  pub names : AreNames (known_messages records) check.names
   pub rows : table_faults records ≡ [] → check.rows ≡ row_count records
 
 -- a check is that of a text
@@ -147,7 +137,7 @@ IsCheckOfText input check = (records : List (List (List ℕ))) × AreChecked inp
 -- a check has noted these rows under a header row
 pub record HasNoted (columns : Columns) (rows : List (List (List ℕ))) (check : TableCheck) : Type 0 where
   pub faults : AreTold (row_faults columns FIRST_ROW rows) check.told check.lines.items check.more
-  pub names : HasSeen (row_messages columns rows) check.names
+  pub names : AreNames (row_messages columns rows) check.names
 
 -- it has noted none
 abbrev pub NotesNone : TableCheck → Type 0

@@ -1,16 +1,16 @@
 -- Defines what a day has answered of which only the end is asked, for every listing, since that is known only at the end.
-use Rattle.std.specs.Prelude.{◌≡◌, ◌+◌, ◌++◌, ℕ, true, List, length, fold, Option, IfSome}
+use Rattle.std.specs.Prelude.{◌≡◌, ◌⊎◌, ◌<◌, ◌+◌, ◌++◌, ℕ, true, List, length, fold, Option, IfSome}
 use Rattle.std.specs.List.{list_all}
 use Rattle.tape_types.specs.Names.{Names}
-use Rattle.tape_types.specs.Ranges.{TAPE_MOST}
+use Rattle.tape_types.specs.Ranges.{SYMBOLS_MOST, TAPE_MOST}
 use Rattle.sale_matrix.specs.declared.matrix.Matrix.{Matrix}
 use Rattle.reports.specs.Messages.{header_of}
 use Rattle.reports.specs.declared.message.Message.{Message}
 use Rattle.tape_core.specs.Ending.{KeepsEnd}
 use Rattle.tape_core.specs.Tape.{TapeState, empty_tape, lists_participant, lists_symbol}
-use Rattle.csv_messages.specs.TableRows.{HasTaken, TakesMore, TakesRest}
+use Rattle.csv_messages.specs.TableReading.{HasTaken, TakesMore, TakesRest}
 use Rattle.csv_messages.specs.Tables.{FIRST_ROW, IsTable}
-use Rattle.csv_messages.specs.declared.table_rows.TableRows.{TableRows}
+use Rattle.csv_messages.specs.declared.row_reader.RowReader.{RowReader}
 use Rattle.tape_core.specs.Answers.{answers, tape_after}
 use Rattle.csv_days.specs.Days.{participants_of, symbol_of, symbols_of}
 use Rattle.csv_days.specs.Refusals.{AreRefusals}
@@ -20,9 +20,13 @@ use Rattle.csv_days.specs.declared.day_names.DayNames.{DayNames}
 use Rattle.csv_days.specs.declared.end_day.EndDay.{EndDay}
 use Rattle.csv_days.specs.declared.table_end.TableEnd.{TableEnd}
 
--- these are the names of messages
+-- some symbols are all, or both are more than a listing takes
+abbrev pub AreAllOrTooMany : List (List ℕ) → List (List ℕ) → Type 0
+AreAllOrTooMany some all = (some ≡ all) ⊎ ((SYMBOLS_MOST < length some) × (SYMBOLS_MOST < length all))
+
+-- these are the names of messages, as far as a listing takes them
 pub record AreNames (messages : List Message) (names : DayNames) : Type 0 where
-  pub symbols : names.symbols.keys ≡ symbols_of messages
+  pub symbols : AreAllOrTooMany names.symbols.keys (symbols_of messages)
   pub participants : names.participants.keys ≡ participants_of messages
 
 -- a listing has the names of all messages
@@ -54,15 +58,15 @@ EndsMore old new messages = (matrix : Matrix) (before : List Message) → HasEnd
 -- ## With the table's reader
 
 -- these messages were read, and answered
-abbrev pub ReadsMore : {R : Type 0} → (R → Option (List ℕ)) → TableRows R → TableRows R → EndDay → EndDay → Type 0
+abbrev pub ReadsMore : {R : Type 0} → (R → Option (List ℕ)) → RowReader R → RowReader R → EndDay → EndDay → Type 0
 ReadsMore remaining rows left old new = (messages : List Message) × TakesMore remaining rows left messages × EndsMore old new messages
 
 -- all messages that were left were read, and answered
-abbrev pub ReadsAll : {R : Type 0} → (R → Option (List ℕ)) → TableRows R → EndDay → EndDay → Type 0
+abbrev pub ReadsAll : {R : Type 0} → (R → Option (List ℕ)) → RowReader R → EndDay → EndDay → Type 0
 ReadsAll remaining rows old new = (messages : List Message) × TakesRest remaining rows messages × EndsMore old new messages
 
 -- the table has this end
-abbrev pub EndsWith : {R : Type 0} → (R → Option (List ℕ)) → TableRows R → TableEnd → Type 0
+abbrev pub EndsWith : {R : Type 0} → (R → Option (List ℕ)) → RowReader R → TableEnd → Type 0
 EndsWith remaining rows end = (input : List ℕ) (before : List Message) → HasTaken remaining rows input before → IsTableEnd input end
 
 -- the day of a table, if its text is known

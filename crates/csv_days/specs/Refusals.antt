@@ -1,5 +1,5 @@
 -- What a tape refused, counted by reason.
-use Rattle.std.specs.Prelude.{◌≡◌, ◌+◌, ◌==◌, ℕ, Bool, false, List, Option, Some, None, Result, Ok, Err}
+use Rattle.std.specs.Prelude.{◌≡◌, ◌+◌, ◌==◌, ℕ, Bool, false, List, Option, Some, None, Result, Ok, Err, length}
 use Rattle.std.specs.List.{count_by, position_from, slice_index_or}
 use Rattle.std.specs.Option.{option_map}
 use Rattle.tape_core.specs.Refusals.{refusal_code, refusal_position}
@@ -22,9 +22,14 @@ refused_rows reason answers =
 abbrev pub refused_for : Refusals → Refusal → Option RefusedRows
 refused_for refusals reason = slice_index_or refusals.reasons (refusal_position reason) None
 
--- these are the refusals of these answers, for every reason
-abbrev pub AreRefusals : List (Result ℕ Refusal) → Refusals → Type 0
-AreRefusals answers refusals = (reason : Refusal) → refused_for refusals reason ≡ refused_rows reason answers
+-- the rows of these answers are counted for every reason
+abbrev pub AreReasons : List (Result ℕ Refusal) → Refusals → Type 0
+AreReasons answers refusals = (reason : Refusal) → refused_for refusals reason ≡ refused_rows reason answers
+
+-- these are the refusals of these answers, and how many answers there are
+pub record AreRefusals (answers : List (Result ℕ Refusal)) (refusals : Refusals) : Type 0 where
+  pub rows : refusals.rows ≡ length answers
+  pub reasons : AreReasons answers refusals
 
 -- the rows refused for a reason, with one more
 abbrev pub one_more : Option RefusedRows → ℕ → RefusedRows

@@ -13,15 +13,15 @@ ghost use Rattle.csv_days.specs.Accounts.{AreChanges, AreOwn, IsAccount};
 ghost use Rattle.csv_days.specs.TableEnds.{IsMessagesEnd};
 ghost use Rattle.csv_days.specs.declared.table_end.TableEnd.TheVariants.{WriteFault};
 
+use crate::TableEnd;
 use crate::day::TableDay;
 use crate::explained::Explained;
 use crate::tape_row::figures_of;
-use crate::{TableEnd, TableTape};
 use reports::Message;
 use sale_matrix::{Matrix, cells};
 use scratch_fold::{Mark, Summary};
 use std::alloc::{AllocError, Global};
-use tape_core::{Entry, TapeAnswer};
+use tape_core::{Entry, IndexedTape, TapeAnswer};
 use tape_types::{PARTICIPANTS_MOST, Participant};
 
 /// A day that has answered its messages, and what the rows of its reports need besides.
@@ -68,7 +68,7 @@ fn admitted_rows(
 }
 
 /// Notes an entry as the last change of the report that its message names, if it names one.
-fn note_change(tape: &TableTape, entry: &Entry, changes: &mut [u32])
+fn note_change(tape: &IndexedTape, entry: &Entry, changes: &mut [u32])
     ensures { (k : ℕ) → k < length changes.old → slice_index changes.new k
         ≡ (if is_change_at (messages_of tape.now.entries) (k + 1) (numbered_message entry.now) then entry.now.number else slice_index changes.old k) }
 {
@@ -85,7 +85,7 @@ fn note_change(tape: &TableTape, entry: &Entry, changes: &mut [u32])
 }
 
 /// Returns the last change of each report of a tape.
-fn changes_of(alloc: Global, tape: &TableTape) -> Result<Vec<u32>, AllocError>
+fn changes_of(alloc: Global, tape: &IndexedTape) -> Result<Vec<u32>, AllocError>
     ensures { IfOk result (λ changes. AreChanges (messages_of tape.now.entries) (messages_of tape.now.entries) changes.items) }
 {
     let entries = tape.entries();
@@ -109,7 +109,7 @@ fn participant_at(letter: usize) -> Participant
 
 /// Returns a participant's own summary of a symbol, by its place among all: symbol by symbol, and per symbol letter by letter.
 /// `None` if the tape does not list both.
-fn own_at(tape: &TableTape, place: usize) -> Option<Summary>
+fn own_at(tape: &IndexedTape, place: usize) -> Option<Summary>
     ensures { result ≡ participant_summary_at_index tape.now (place / PARTICIPANTS_MOST) (FIRST_PARTICIPANT + place % PARTICIPANTS_MOST) }
 {
     tape.summary_of_at(place / LETTERS, participant_at(place % LETTERS))
@@ -123,7 +123,7 @@ fn no_mark() -> Option<Mark>
 }
 
 /// Returns the participants' own summaries of all symbols, so that none is looked up for each report.
-fn own_summaries(alloc: Global, tape: &TableTape) -> Result<Vec<Summary>, AllocError>
+fn own_summaries(alloc: Global, tape: &IndexedTape) -> Result<Vec<Summary>, AllocError>
     ensures { IfOk result (λ own. AreOwn tape.now own.items) }
 {
     let count = tape.listing().symbols().as_slice().len() * LETTERS;

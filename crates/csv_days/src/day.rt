@@ -5,18 +5,14 @@ ghost use Rattle.csv_days.specs.Days.{first_tape};
 ghost use Rattle.csv_days.specs.TableEnds.{IsMessagesEnd};
 ghost use Rattle.csv_days.specs.declared.table_end.TableEnd.TheVariants.{WriteFault};
 
-use crate::naming::listing_of;
+use crate::day_names::listing_of;
 use crate::{Refusals, TableEnd};
 use csv_messages::FIRST_ROW;
 use reports::Message;
 use sale_matrix::Matrix;
 use std::alloc::{AllocError, Global};
-use summaries::IndexStore;
-use tape_core::{Tape, TapeAnswer};
+use tape_core::{IndexedTape, Tape, TapeAnswer};
 use tape_types::TAPE_MOST;
-
-/// The tape of a table, over ordered indexes.
-pub type TableTape = Tape<IndexStore>;
 
 /// A table's tape while its rows are answered, and what it has refused.
 #[derive(Drop)]
@@ -24,7 +20,7 @@ pub struct TableDay {
     /// The allocator for the text of a refusal.
     pub alloc: Global,
     /// The tape.
-    pub tape: TableTape,
+    pub tape: IndexedTape,
     /// What it refused of the rows so far.
     pub refusals: Refusals,
     /// The number of the next row.

@@ -1,12 +1,12 @@
 //! Reads a table's rows piece by piece and answers each piece, so that the messages are not kept.
 ghost use Rattle.std.specs.Prelude.{◌≡◌, ◌≢◌, IfErr, IfOk, OnOk};
-ghost use Rattle.csv_messages.specs.TableRows.{IsReading};
+ghost use Rattle.csv_messages.specs.TableReading.{ReadsRows};
 ghost use Rattle.csv_days.specs.EndDays.{EndsWith, IsEnding, ReadsAll, ReadsDay, StopsDay};
 ghost use Rattle.csv_days.specs.declared.table_end.TableEnd.TheVariants.{WriteFault};
 
 use crate::TableEnd;
 use crate::end_day::EndDay;
-use csv_messages::TableRows;
+use csv_messages::RowReader;
 use sale_matrix::Matrix;
 use std::alloc::Global;
 use std::io::Read;
@@ -17,10 +17,10 @@ const PIECE_ROWS: usize = 4096;
 /// Reads and answers all rows that are left of a table.
 fn answer_rows<R: Read + Drop>(
     alloc: Global,
-    rows: &mut TableRows<R>,
+    rows: &mut RowReader<R>,
     day: &mut EndDay,
 ) -> Result<(), TableEnd>
-    requires reading { IsReading rows.old }
+    requires reads { ReadsRows rows.old }
     requires ending { IsEnding day.old }
     ensures all { OnOk result (ReadsAll R.remaining rows.old day.old day.new) }
     ensures end { IfErr result (λ end. (end ≢ WriteFault) × EndsWith R.remaining rows.old end) }
@@ -44,7 +44,7 @@ pub fn read_day<R: Read + Drop>(
     ensures day { IfOk result (ReadsDay (R.remaining reader) matrix) }
     ensures end { IfErr result (λ end. (end ≢ WriteFault) × StopsDay (R.remaining reader) end) }
 {
-    let mut rows = TableRows::new(alloc, reader)?;
+    let mut rows = RowReader::open(alloc, reader)?;
     let mut day = EndDay::new(alloc, matrix);
     answer_rows(alloc, &mut rows, &mut day)?;
     Ok(day)

@@ -15,10 +15,8 @@ mod fault_counts;
 mod fault_kind;
 mod last_numbers;
 mod messages_report;
-mod naming;
 mod refusals;
 mod report;
-mod seen_names;
 mod stale_row;
 mod strict;
 mod table_check;
@@ -28,14 +26,13 @@ mod tape_row;
 mod told_fault;
 
 pub use check::check_over;
-pub use day::TableTape;
+pub use day_names::listing_of;
 pub use day_text::{DayText, write_day_text};
 pub use entry_rows::{EntryRows, rows_of_entries, write_head};
 pub use explain::{
     explain_over, rows_add_up, rows_of_figures, rows_of_reports, write_explained,
     write_explained_head,
 };
-pub use naming::listing_of;
 pub use refusals::{Refusals, RefusedRows};
 pub use report::report_over;
 pub use stale_row::StaleRow;

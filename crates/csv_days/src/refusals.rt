@@ -1,4 +1,5 @@
-//! Counts what a tape refused by reason, and keeps the first row of each and the numbers of the first stale row.
+//! Counts the rows that a tape answered and those that it refused by reason, and keeps the first row of each and the numbers of
+//! the first stale row.
 ghost use Rattle.std.specs.Prelude.{◌≡◌, ◌↔◌, ◌+◌, ◌<◌, ◌^◌, ◌++◌, ◌∷◌, ℕ, List, [], Option, None, Result, Err, IfSome, IsTrue, is_none, length};
 ghost use Rattle.std.specs.List.{list_all};
 ghost use Rattle.tape_core.specs.declared.refusal.Refusal.{Refusal as Reason};
@@ -19,9 +20,11 @@ pub struct RefusedRows {
     pub first: u64,
 }
 
-/// What a tape refused: for each reason how many rows, and the first of them; and the numbers of the first stale row.
+/// What a tape refused of the rows that it answered: for each reason how many rows, and the first of them; and the numbers of
+/// the first stale row.
 #[derive(Clone, Copy, Debug, PartialEq, Eq)]
 pub struct Refusals {
+    rows: u64,
     reasons: [Option<RefusedRows>; ALL_REFUSALS.len()],
     stale: Option<StaleRow>,
 }
@@ -51,17 +54,25 @@ fn one_more(refused: Option<RefusedRows>, row: u64) -> RefusedRows
 
 impl Refusals {
     ghost use Rattle.csv_messages.specs.Tables.{FIRST_ROW};
-    ghost use Rattle.csv_days.specs.Refusals.{AreRefusals, RefusesNone};
+    ghost use Rattle.csv_days.specs.Refusals.{AreReasons, AreRefusals, RefusesNone};
 
-    /// Creates counts of no refusal.
+    /// Creates counts of no row.
     pub fn none() -> Refusals
         ensures counts { AreRefusals [] result }
         ensures stale { result.stale ≡ None }
     {
         Refusals {
+            rows: 0,
             reasons: [None; ALL_REFUSALS.len()],
             stale: None,
         }
+    }
+
+    /// Returns how many rows were answered, refused ones among them.
+    pub fn rows(&self) -> u64
+        ensures rows { result ≡ self.now.rows }
+    {
+        self.rows
     }
 
     /// Returns the rows that were refused for this reason, or `None` if none was.
@@ -97,11 +108,21 @@ impl Refusals {
         self.has_none_of(&ALL_REFUSALS)
     }
 
+    /// Counts one answered row more.
+    fn count_row(&mut self)
+        ensures rows { self.old.rows + 1 < 2 ^ 64 → self.new.rows ≡ self.old.rows + 1 }
+        ensures reasons { self.new.reasons ≡ self.old.reasons }
+        ensures stale { self.new.stale ≡ self.old.stale }
+    {
+        self.rows = self.rows.saturating_add(1);
+    }
+
     /// Counts one row more that is refused for this reason, by its number.
     fn add(&mut self, refusal: Refusal, row: u64)
+        ensures rows { self.new.rows ≡ self.old.rows }
         ensures stale { self.new.stale ≡ self.old.stale }
         ensures counts { (answers : List (Result ℕ Reason)) → row ≡ length answers + FIRST_ROW
-            → AreRefusals answers self.old → AreRefusals (answers ++ Err refusal ∷ []) self.new }
+            → AreReasons answers self.old → AreReasons (answers ++ Err refusal ∷ []) self.new }
     {
         let place = refusal.position();
         let more = one_more(self.reasons[place], row);
@@ -110,6 +131,7 @@ impl Refusals {
 
     /// Notes a row that was refused for this reason, if it is the first stale one.
     fn note_stale(&mut self, refusal: Refusal, message: &Message, greatest: u32)
+        ensures rows { self.new.rows ≡ self.old.rows }
         ensures reasons { self.new.reasons ≡ self.old.reasons }
         ensures stale { self.new.stale ≡ stale_after self.old.stale (Err refusal) (stale_row message.now greatest) }
     {
@@ -123,13 +145,14 @@ impl Refusals {
         }
     }
 
-    /// Counts the answer to the row of this number, if it is a refusal. `greatest` is the participant's greatest message number
+    /// Counts the row of this number, and its answer if that is a refusal. `greatest` is the participant's greatest message number
     /// on the tape before the row.
     pub(crate) fn count(&mut self, answer: &TapeAnswer, row: u64, message: &Message, greatest: u32)
         ensures stale { self.new.stale ≡ stale_after self.old.stale answer.now (stale_row message.now greatest) }
         ensures counts { (answers : List (Result ℕ Reason)) → row ≡ length answers + FIRST_ROW
             → AreRefusals answers self.old → AreRefusals (answers ++ answer.now ∷ []) self.new }
     {
+        self.count_row();
         match answer {
             Ok(_) => {}
             Err(refusal) => {

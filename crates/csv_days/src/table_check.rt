@@ -1,14 +1,15 @@
 //! Checks a whole table: makes the lines of its first faults, counts the others by kind, and collects its names.
 ghost use Rattle.std.specs.Prelude.{◌≡◌, ◌↔◌, ◌⊎◌, ◌+◌, ◌-◌, ◌<◌, ◌^◌, ◌++◌, ◌∷◌, List, [], IfErr, IfOk, IfSome, IsTrue, OnOk, length, min};
-ghost use Rattle.csv_messages.specs.Checks.{ReadsRows};
+ghost use Rattle.csv_messages.specs.TableReading.{ReadsRows, lines_remaining};
 ghost use Rattle.csv_messages.specs.declared.table_fault.TableFault.{TableFault as Fault};
 ghost use Rattle.csv_messages.specs.declared.table_fault.TableFault.TheVariants.{OutOfMemory, ReadFault, Row};
-ghost use Rattle.csv_days.specs.Checks.{AreTold, HasSeen, IsCheckOfText, NotesAll, NotesEnd, NotesNone, NotesRow, Tells, told_text};
+ghost use Rattle.csv_days.specs.EndDays.{AreNames};
+ghost use Rattle.csv_days.specs.Checks.{AreTold, IsCheckOfText, NotesAll, NotesEnd, NotesNone, NotesRow, Tells, told_text};
 
+use crate::day_names::DayNames;
 use crate::fault_counts::FaultCounts;
-use crate::seen_names::SeenNames;
 use crate::told_fault::ToldFault;
-use csv_messages::{FIRST_ROW, RowFault, RowReader, TableFault};
+use csv_messages::{FIRST_ROW, LineReader, RowFault, RowReader, TableFault};
 use reports::Message;
 use std::alloc::{AllocError, Global};
 use std::io::Read;
@@ -33,7 +34,7 @@ pub struct TableCheck {
     /// The faults after them, by kind.
     pub more: FaultCounts,
     /// The names of the rows that are messages.
-    pub names: SeenNames,
+    pub names: DayNames,
     /// How many rows stand below the header row.
     pub rows: u64,
 }
@@ -42,14 +43,14 @@ impl TableCheck {
     /// Creates a check of nothing.
     fn none(alloc: Global) -> TableCheck
         ensures told { AreTold [] result.told result.lines.items result.more }
-        ensures names { HasSeen [] result.names }
+        ensures names { AreNames [] result.names }
         ensures rows { result.rows ≡ 0 }
     {
         TableCheck {
             told: 0,
             lines: Vec::new(alloc),
             more: FaultCounts::none(),
-            names: SeenNames::none(alloc),
+            names: DayNames::new(alloc),
             rows: 0,
         }
     }
@@ -130,19 +131,20 @@ impl TableCheck {
     fn add_rows<R: Read>(
         &mut self,
         alloc: Global,
-        rows: &mut RowReader<R>,
+        rows: &mut RowReader<LineReader<R>>,
     ) -> Result<(), TableFault>
         requires reads { ReadsRows rows.old }
         requires fresh { NotesNone self.old }
-        ensures check { OnOk result (NotesAll R.remaining rows.old self.new) }
+        ensures check { OnOk result (NotesAll (lines_remaining R.remaining) rows.old self.new) }
         ensures fault { IfErr result (λ fault. (fault ≡ ReadFault) ⊎ (fault ≡ OutOfMemory)) }
     {
         for number in FIRST_ROW..u64::MAX {
+            rows.source().await_record();
             let Some(row) = rows.next()? else {
                 self.end_at(alloc, number - FIRST_ROW)?;
                 return Ok(());
             };
-            let line = rows.line();
+            let line = rows.source().line();
             self.add_row(alloc, number, row, line)?;
         }
         Err(TableFault::OutOfMemory)
@@ -155,7 +157,8 @@ impl TableCheck {
         ensures fault { IfErr result (λ fault. (fault ≡ ReadFault) ⊎ (fault ≡ OutOfMemory)) }
     {
         let mut check = TableCheck::none(alloc);
-        match RowReader::open(alloc, reader) {
+        let lines = LineReader::new(alloc, reader)?;
+        match RowReader::open(alloc, lines) {
             Ok(mut rows) => check.add_rows(alloc, &mut rows)?,
             Err(fault) if is_of_reading(&fault) => return Err(fault),
             Err(fault) => check.add_only(alloc, fault)?,

@@ -8,7 +8,6 @@ ghost use Rattle.tape_core.specs.Answers.{answer, tape_after};
 ghost use Rattle.csv_days.specs.Days.{AnswersMore, symbol_of};
 ghost use Rattle.csv_days.specs.TapeRows.{answer_fields, tape_columns, figures_after, figures_fields, mark_field, refusal_text, tape_fields, tape_row};
 
-use crate::TableTape;
 use crate::day::TableDay;
 use csv::{ByteRecord, Writer};
 use csv_lines::{line_of, push_number, put_line};
@@ -16,7 +15,7 @@ use csv_messages::{TAPE_COLUMNS, push_price, push_row};
 use reports::Message;
 use scratch_fold::Mark;
 use std::alloc::{AllocError, Global};
-use tape_core::{Refusal, RowFigures, TapeAnswer};
+use tape_core::{IndexedTape, Refusal, RowFigures, TapeAnswer};
 
 /// Returns the line of the columns' names.
 pub fn head_text(alloc: Global) -> Result<Vec<u8>, AllocError>
@@ -108,7 +107,7 @@ pub fn put_row(
 }
 
 /// Returns the figures of a message's symbol, which the tape lists.
-pub fn figures_of(tape: &TableTape, message: &Message) -> RowFigures
+pub fn figures_of(tape: &IndexedTape, message: &Message) -> RowFigures
     requires { lists_symbol tape.now.listing (symbol_of message.now) ≡ true }
     ensures { result ≡ figures_after tape.now message.now }
 {

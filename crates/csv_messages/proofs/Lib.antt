@@ -1,4 +1,3 @@
-pub mod CheckLemmas
 pub mod ColumnLemmas
 pub mod CutLemmas
 pub mod MappedResults

@@ -1,6 +1,6 @@
 -- The text of a table, and what it reads back as.
 use Rattle.std.proofs.Common.{◌≡◌, ◌++◌, ◌∙◌, ◌+◌, ◌<◌, ◌∷◌, [], ℕ, zero, suc, List, Ok, Some, refl, sym, ap, append_assoc, append-nil, length, map, codes, arith, take, get_or}
-use Rattle.std.specs.List.{AllByRecursion, fold}
+use Rattle.std.specs.List.{AllByRecursion}
 use Rattle.std.proofs.lemmas.List.Elements.{recursion_from_All}
 use Rattle.csv.specs.Machine.{next_record}
 use Rattle.csv.specs.Reading.{Reached, default_config, strip_bom}
@@ -13,7 +13,7 @@ use Rattle.reports.specs.declared.message.Message.{Message}
 use Rattle.csv_messages.specs.ColumnNames.{column_named}
 use Rattle.csv_messages.specs.Columns.{fault_from, header_columns, name_fault, place_of}
 use Rattle.csv_messages.specs.Laws.{TableRoundTrip}
-use Rattle.csv_messages.specs.Tables.{fields_message, record_message, records_messages, rows_messages, table_messages, with_record}
+use Rattle.csv_messages.specs.Tables.{fields_message, known_messages, row_faults, row_messages, table_faults}
 use Rattle.csv_messages.specs.TableTexts.{column_names, message_fields, message_lines, table_text}
 use Rattle.csv_messages.specs.TapeColumns.{is_tape_column}
 use Rattle.csv_messages.specs.Writing.{row_of}
@@ -106,25 +106,25 @@ fields-back : (m : Message) → IsMessage m → fields_message in_order (message
 unfolding fields_message in_order field_at
 fields-back m is = row_round_trip m is
 
--- one message more reads back
-with-back : (before : List Message) (m : Message) → IsMessage m → with_record in_order (Ok before) (message_fields m) ≡ Ok (before ++ m ∷ [])
-unfolding with_record record_message
-with-back before m is = rw (fields-back m is) refl
+-- the rows of messages have no fault
+no-faults : (n : ℕ) (messages : List Message) → AllByRecursion IsMessage messages → row_faults in_order n (map message_fields messages) ≡ []
+unfolding row_faults
+no-faults n [] all = refl
+no-faults n (m ∷ messages) all = rw (fields-back m all.0) (no-faults (n + 1) messages all.1)
 
--- the messages of the rows read back, after those before them
-rows-back : (before messages : List Message) → AllByRecursion IsMessage messages
-    → fold (with_record in_order) (Ok before) (map message_fields messages) ≡ Ok (before ++ messages)
-rows-back before [] all = ap Ok (sym (append-nil before))
-rows-back before (m ∷ messages) all =
-    ap (λ read. fold (with_record in_order) read (map message_fields messages)) (with-back before m all.0)
-    ∙ rows-back (before ++ m ∷ []) messages all.1 ∙ ap Ok (append_assoc before (m ∷ []) messages)
+-- they read back
+rows-back : (messages : List Message) → AllByRecursion IsMessage messages → row_messages in_order (map message_fields messages) ≡ messages
+unfolding row_messages
+rows-back [] all = refl
+rows-back (m ∷ messages) all = rw (fields-back m all.0) (ap (λ (l : List Message). m ∷ l) (rows-back messages all.1))
 
 -- the text of every table of messages reads back as those messages
 pub table_round_trip : TableRoundTrip
-unfolding table_messages rows_messages next_record
+unfolding table_faults known_messages next_record
 table_round_trip m ms all =
-    let rows : records_messages in_order (map message_fields (m ∷ ms)) ≡ Ok (m ∷ ms) = rows-back [] (m ∷ ms) (recursion_from_All IsMessage (m ∷ ms) all) in (
+    let each = recursion_from_All IsMessage (m ∷ ms) all in (
       column_names ∷ map message_fields (m ∷ ms),
       (st.StartRecord, [], rw (no_mark (m ∷ ms)) (text-reached (m ∷ ms)), refl),
-      rw (names-columns, rows) refl,
+      rw names-columns (no-faults 2 (m ∷ ms) each),
+      rw names-columns (rows-back (m ∷ ms) each),
     )

@@ -7,13 +7,13 @@ use Rattle.csv_messages.specs.declared.row_fault.RowFault.{RowFault}
 use Rattle.csv_messages.specs.declared.row_fault.RowFault.TheVariants.{Fields, Bad, Unused}
 use Rattle.csv_messages.specs.declared.table_fault.TableFault.{TableFault}
 use Rattle.csv_messages.specs.declared.table_fault.TableFault.TheVariants.{Header, NoRow, Row, ReadFault, OutOfMemory}
-use Rattle.csv_messages.specs.FaultTexts.{bad_code_text, separator_text, shown}
+use Rattle.csv_messages.specs.FaultTexts.{bad_code_text, has_line_end, hint_text, line_end_text, quoted}
 use Rattle.csv_messages.specs.declared.column.Column.{Column}
 use Rattle.csv_messages.specs.declared.column.Column.TheVariants as column
 
 -- what a fault of a header row is printed as
 abbrev pub column_fault_text : ColumnFault → List ℕ
-column_fault_text (Unknown name) = codes "column \"" ++ (shown name ++ (codes "\" is unknown" ++ separator_text name))
+column_fault_text (Unknown name) = codes "column " ++ (quoted name ++ (codes " is unknown" ++ hint_text name))
 column_fault_text (Repeated column) = codes "column " ++ (column_name column ++ codes " stands twice")
 column_fault_text (Missing column) = codes "column " ++ (column_name column ++ codes " is missing")
 
@@ -31,9 +31,11 @@ detail_text column.Size text = []
 
 -- what a fault of a row is printed as
 abbrev pub row_fault_text : RowFault → List ℕ
-row_fault_text (Fields found wanted) = decimal found ++ (codes " fields, and the header row has " ++ decimal wanted)
-row_fault_text (Bad column text) = column_name column ++ (codes " \"" ++ (shown text ++ (codes "\" is not " ++ (column_rule column ++ detail_text column text))))
-row_fault_text (Unused column text) = column_name column ++ (codes " \"" ++ (shown text ++ codes "\" has to be empty in a row of this kind"))
+row_fault_text (Fields found wanted over) = decimal found ++ (codes " fields, and the header row has " ++ (decimal wanted ++ line_end_text over))
+row_fault_text (Bad column text) =
+    column_name column ++ (codes " " ++ (quoted text ++ (codes " is not " ++ (column_rule column ++ (detail_text column text ++ line_end_text (has_line_end text))))))
+row_fault_text (Unused column text) =
+    column_name column ++ (codes " " ++ (quoted text ++ (codes " has to be empty in a row of this kind" ++ line_end_text (has_line_end text))))
 
 -- what a fault of a table is printed as
 abbrev pub table_fault_text : TableFault → List ℕ

@@ -1,14 +1,18 @@
 -- The text of a field that was refused, as a fault keeps and prints it.
-use Rattle.std.specs.Prelude.{ℕ, ◌/◌, ◌%◌, ◌==◌, ◌&&◌, ◌||◌, ◌++◌, Bool, false, not, nat_le, List, [], ◌∷◌, Option, Some, None, codes, decimal, find, slice_set, if◌then◌else◌}
-use Rattle.std.specs.List.{flat_map}
+use Rattle.std.specs.Prelude.{ℕ, ◌/◌, ◌%◌, ◌==◌, ◌&&◌, ◌||◌, ◌++◌, Bool, false, not, nat_le, nat_lt, List, [], ◌∷◌, length, take, Option, Some, None, codes, decimal, find, slice_set, if◌then◌else◌}
+use Rattle.std.specs.List.{flat_map, list_any}
 use Rattle.std.specs.Fmt.{digit_glyph}
 use Rattle.std.specs.Option.{option_map_or}
 use Rattle.reports.specs.Texts.{is_condition}
 use Rattle.csv_messages.specs.Texts.{code_of}
 
--- how many bytes of a field a fault keeps
+-- how many bytes of a field are printed
+abbrev pub SHOWN_MOST : ℕ
+SHOWN_MOST = 40
+
+-- how many bytes of a field a fault keeps: one more, which says that the field is cut
 abbrev pub FAULT_TEXT_MOST : ℕ
-FAULT_TEXT_MOST = 40
+FAULT_TEXT_MOST = 41
 
 -- printable ASCII except the quotation mark and the backslash
 abbrev pub stands_as_it_is : ℕ → Bool
@@ -20,7 +24,15 @@ shown_byte byte = if stands_as_it_is byte then byte ∷ [] else 92 ∷ 120 ∷ d
 
 -- a text as it is printed
 abbrev pub shown : List ℕ → List ℕ
-shown text = flat_map shown_byte text
+shown text = flat_map shown_byte (take SHOWN_MOST text)
+
+-- the quotation mark behind a text, with two dots after it if the text is cut
+abbrev pub quote_end : List ℕ → List ℕ
+quote_end text = if nat_lt SHOWN_MOST (length text) then codes "\".." else codes "\""
+
+-- a text between quotation marks
+abbrev pub quoted : List ℕ → List ℕ
+quoted text = codes "\"" ++ (shown text ++ quote_end text)
 
 -- ## A code of a condition
 
@@ -50,7 +62,33 @@ no_code_text (position, byte) = codes ": \"" ++ (shown_byte byte ++ (codes "\" i
 abbrev pub bad_code_text : List ℕ → List ℕ
 bad_code_text text = option_map_or no_code_text (bad_code text) []
 
--- ## Another separator
+-- ## A quotation mark that is not closed
+
+-- a line feed or a carriage return
+abbrev pub is_line_end : ℕ → Bool
+is_line_end byte = (byte == 10) || (byte == 13)
+
+-- a field has a line end, so it is in quotation marks, or the second of these is missing
+abbrev pub has_line_end : List ℕ → Bool
+has_line_end text = list_any is_line_end text
+
+-- that a field has a line end
+abbrev pub line_end_text : Bool → List ℕ
+line_end_text found = if found then codes "; a quote is not closed, or a field has a line end" else []
+
+-- ## A name that is no column's
+
+-- the first two bytes of a file that gzip made
+abbrev pub is_gzip : List ℕ → Bool
+is_gzip [] = false
+is_gzip (a ∷ []) = false
+is_gzip (a ∷ b ∷ rest) = (a == 31) && (b == 139)
+
+-- the first two bytes of a text in UTF-16: a byte order mark, or a character of ASCII
+abbrev pub is_utf16 : List ℕ → Bool
+is_utf16 [] = false
+is_utf16 (a ∷ []) = false
+is_utf16 (a ∷ b ∷ rest) = ((a == 255) && (b == 254)) || (((a == 254) && (b == 255)) || ((a == 0) || (b == 0)))
 
 -- a byte by which other tables separate names: a semicolon, a tab or a vertical bar
 abbrev pub is_separator : ℕ → Bool
@@ -64,6 +102,23 @@ separator_name byte = if byte == 59 then codes "a semicolon" else if byte == 9 t
 abbrev pub found_text : ℕ → List ℕ
 found_text byte = codes "; names have commas between them, and here stands " ++ separator_name byte
 
--- the same of a name that is no column's
-abbrev pub separator_text : List ℕ → List ℕ
-separator_text name = option_map_or found_text (find is_separator name) []
+-- how a name would be skipped
+abbrev pub skipped_text : List ℕ → List ℕ
+skipped_text name = codes "; names are in lower case, and #" ++ (shown name ++ codes " would be skipped")
+
+-- a comma or a line end, which a name has only in quotation marks
+abbrev pub is_break : ℕ → Bool
+is_break byte = (byte == 44) || is_line_end byte
+
+-- what a name suggests: a quotation mark that is not closed, another separator, or a column to be skipped
+abbrev pub name_text : List ℕ → List ℕ
+name_text name =
+    if list_any is_break name then codes "; a quote is not closed, or a name has a comma or a line end"
+    else option_map_or found_text (find is_separator name) (skipped_text name)
+
+-- what a name that is no column's suggests
+abbrev pub hint_text : List ℕ → List ℕ
+hint_text name =
+    if is_gzip name then codes "; the table is compressed: pipe it through gzip -dc"
+    else if is_utf16 name then codes "; the table is in UTF-16: pipe it through iconv -f UTF-16 -t UTF-8"
+    else name_text name

@@ -1,5 +1,4 @@
 pub mod ColumnNames
-pub mod Checks
 pub mod Columns
 pub mod CutTexts
 pub mod FaultLines
@@ -12,7 +11,6 @@ pub mod RowTexts
 pub mod Rows
 pub mod Spellings
 pub mod TableReading
-pub mod TableRows
 pub mod TableTexts
 pub mod Tables
 pub mod TapeColumns

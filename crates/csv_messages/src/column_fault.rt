@@ -2,7 +2,8 @@
 ghost use Rattle.std.specs.Prelude.{Some};
 ghost use Rattle.csv_messages.specs.FaultLines.{column_fault_text};
 
-use crate::separator::FoundSeparator;
+use crate::fault_text::Quoted;
+use crate::unknown_hint::UnknownHint;
 use crate::{Column, FaultText};
 use std::fmt;
 use thiserror::Error;
@@ -24,8 +25,8 @@ impl fmt::Display for ColumnFault {
     fn fmt<W: fmt::Write>(&self, f: &mut fmt::Formatter<W>) -> fmt::Result {
         match self {
             ColumnFault::Unknown(name) => {
-                let found = FoundSeparator(*name);
-                write!(f, "column \"{name}\" is unknown{found}")
+                let (field, hint) = (Quoted(*name), UnknownHint(*name));
+                write!(f, "column {field} is unknown{hint}")
             }
             ColumnFault::Repeated(column) => write!(f, "column {column} stands twice"),
             ColumnFault::Missing(column) => write!(f, "column {column} is missing"),

@@ -180,7 +180,7 @@ impl Columns {
 }
 
 /// Returns the field at a place, or an empty text behind the last.
-fn field_at(fields: &ByteRecord, place: usize) -> &[u8]
+pub fn field_at(fields: &ByteRecord, place: usize) -> &[u8]
     ensures { result.now ≡ text_at (fields_of fields.now) place }
 {
     match fields.get(place) {

@@ -1,8 +1,9 @@
 //! Gives a reader of records a line at a time, and keeps the line of the file in which a record begins.
-ghost use Rattle.std.specs.Prelude.{◌≡◌, ◌≤◌, IfSome};
-ghost use Rattle.csv_messages.specs.Checks.{lines_remaining};
+ghost use Rattle.std.specs.Prelude.{◌≡◌, ◌≤◌, IfOk};
+ghost use Rattle.csv_messages.specs.TableReading.{lines_remaining};
 
-use std::alloc::Global;
+use crate::fault_text::is_line_end;
+use std::alloc::{AllocError, Global};
 use std::cell::Cell;
 use std::io;
 use std::io::{BufReader, Read};
@@ -17,36 +18,31 @@ pub struct LineReader<R> {
     began: Cell<u64>,
 }
 
-/// Returns whether a byte ends a line.
-fn ends_line(byte: u8) -> bool {
-    byte == b'\n' || byte == b'\r'
-}
-
 /// Returns the length of the first line, including the byte that ends it. It is 1 for no bytes, so that a read asks for some.
 fn line_len(bytes: &[u8]) -> usize
     ensures { 1 ≤ result }
 {
-    match bytes.iter().position(|byte| ends_line(*byte)) {
+    match bytes.iter().position(|byte| is_line_end(*byte)) {
         Some(place) => place.saturating_add(1),
         None => bytes.len().max(1),
     }
 }
 
 impl<R: Read> LineReader<R> {
-    /// Reads the lines of a reader. Returns `None` if there is no memory for its buffer.
-    pub fn new(alloc: Global, reader: R) -> Option<LineReader<R>>
+    /// Reads the lines of a reader. `AllocError` if there is no memory for its buffer.
+    pub fn new(alloc: Global, reader: R) -> Result<LineReader<R>, AllocError>
     where
         R: Drop,
-        ensures rest { IfSome result (λ lines. lines_remaining R.remaining lines ≡ R.remaining reader) }
+        ensures rest { IfOk result (λ lines. lines_remaining R.remaining lines ≡ R.remaining reader) }
     {
         match BufReader::new(alloc, reader) {
-            Ok(inner) => Some(LineReader {
+            Ok(inner) => Ok(LineReader {
                 inner,
                 line: 0,
                 last: b'\n',
                 began: Cell::new(0),
             }),
-            Err(_) => None,
+            Err(_) => Err(AllocError),
         }
     }
 
@@ -67,10 +63,10 @@ impl<R: Read> LineReader<R> {
         let [first, ..] = bytes else {
             return;
         };
-        if ends_line(self.last) && !(self.last == b'\r' && *first == b'\n') {
+        if is_line_end(self.last) && !(self.last == b'\r' && *first == b'\n') {
             self.line = self.line.saturating_add(1);
         }
-        if !ends_line(*first) && self.began.get() == 0 {
+        if !is_line_end(*first) && self.began.get() == 0 {
             self.began.set(self.line);
         }
         self.last = bytes[bytes.len() - 1];

@@ -2,6 +2,7 @@
 ghost use Rattle.std.specs.Prelude.{Some};
 ghost use Rattle.csv_messages.specs.FaultLines.{row_fault_text};
 
+use crate::fault_text::{LineEnd, Quoted};
 use crate::wrong_code::Detail;
 use crate::{Column, FaultText};
 use std::fmt;
@@ -16,6 +17,8 @@ pub enum RowFault {
         found: usize,
         /// How many the header row has.
         wanted: usize,
+        /// Whether its last field has a line end, as behind a quotation mark that is not closed.
+        over: bool,
     },
     /// The field of this column is not one of the column's values.
     Bad(Column, FaultText),
@@ -28,18 +31,24 @@ impl fmt::Display for RowFault {
 
     fn fmt<W: fmt::Write>(&self, f: &mut fmt::Formatter<W>) -> fmt::Result {
         match self {
-            RowFault::Fields { found, wanted } => {
-                write!(f, "{found} fields, and the header row has {wanted}")
+            RowFault::Fields {
+                found,
+                wanted,
+                over,
+            } => {
+                let end = LineEnd(*over);
+                write!(f, "{found} fields, and the header row has {wanted}{end}")
             }
             RowFault::Bad(column, text) => {
-                let rule = column.rule();
-                let detail = Detail(*column, *text);
-                write!(f, "{column} \"{text}\" is not {rule}{detail}")
+                let (field, rule) = (Quoted(*text), column.rule());
+                let (detail, end) = (Detail(*column, *text), LineEnd(text.has_line_end()));
+                write!(f, "{column} {field} is not {rule}{detail}{end}")
             }
             RowFault::Unused(column, text) => {
+                let (field, end) = (Quoted(*text), LineEnd(text.has_line_end()));
                 write!(
                     f,
-                    "{column} \"{text}\" has to be empty in a row of this kind"
+                    "{column} {field} has to be empty in a row of this kind{end}"
                 )
             }
         }

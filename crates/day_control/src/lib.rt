@@ -28,6 +28,3 @@ pub use operator::{Operated, Operator};
 pub use place::ControlPlace;
 pub use serve_end::{ControlEnd, ControlOutcome};
 pub use serving::serve_commands;
-
-#[cfg(test)]
-mod tests;

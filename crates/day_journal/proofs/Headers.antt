@@ -17,9 +17,10 @@ use Rattle.sha2.proofs.Facts256.{length-sha256}
 use Rattle.tape_types.specs.Names.{is_nil, names_fault}
 use Rattle.tape_types.specs.declared.listing_fault.ListingFault.{ListingFault}
 use Rattle.tape_types.specs.Ranges.{FIRST_PARTICIPANT, LAST_PARTICIPANT, IsParticipant, IsSymbol, PARTICIPANTS_MOST, SYMBOLS_MOST, TAPE_MOST}
+use Rattle.days.specs.declared.day.Day.{Day}
 use Rattle.day_journal.specs.declared.header_fault.JournalHeaderFault.{JournalHeaderFault}
 use Rattle.day_journal.specs.declared.header_fault.JournalHeaderFault.TheVariants.{NoJournal, Short, Damaged}
-use Rattle.day_journal.specs.Headers.{AreTerms, HeadersAreRead, JOURNAL_VERSION, MAGIC, Terms, header_at, header_digest}
+use Rattle.day_journal.specs.Headers.{AreTerms, HeadersAreRead, JOURNAL_VERSION, MAGIC, header_at, header_digest}
 use Rattle.day_journal.specs.Headers.{magic_at, matrix_at, matrix_byte, matrix_of, participant_at, participants_at, participants_text, symbol_at}
 use Rattle.day_journal.specs.Headers.{symbols_at, symbols_text, terms_at, terms_text, values_at, version_at}
 use Rattle.day_journal.proofs.Lists.{bytes_there}
@@ -101,7 +102,7 @@ few_names symbols participants none =
     no_fault false f rest e = (refl, e)
 
 -- the terms are read again
-terms_again : (t : Terms) (rest : List ℕ) → AreTerms t → terms_at (terms_text t ++ rest) ≡ Ok (t, rest)
+terms_again : (t : Day) (rest : List ℕ) → AreTerms t → terms_at (terms_text t ++ rest) ≡ Ok (t, rest)
 unfolding terms_at
 terms_again t rest are =
     let few = few_names t.listing.symbols t.listing.participants are.listing in

@@ -1,9 +1,8 @@
 -- Takes fronts of lists that are longer than the first part, and reads fields that are too short.
-use Rattle.std.proofs.Common.{◌≡◌, ℕ, suc, ◌+◌, ◌<◌, List, [], ◌∷◌, ◌++◌, append_assoc, get_or, length, take, Ok, Err, refl, sym, ap, ◌∙◌, arith}
-use Rattle.std.specs.Prelude.{flat_map}
+use Rattle.std.proofs.Common.{◌≡◌, ℕ, suc, ◌+◌, ◌<◌, List, [], ◌∷◌, ◌++◌, append_assoc, length, take, Ok, Err, refl, ap, ◌∙◌, arith}
 use Rattle.std.specs.Int.{w16, w32}
 use Rattle.std.proofs.lemmas.Bool.{lt-ltb, le-ltb}
-use Rattle.std.proofs.lemmas.List.{flat_map_more, length-append, take_at, take_more, drop_at}
+use Rattle.std.proofs.lemmas.List.{length-append, take_at, drop_at}
 use Rattle.reports.specs.Fields.{bytes_at, number_at}
 use Rattle.day_journal.specs.declared.group_fault.GroupFault.TheVariants.{Torn}
 
@@ -35,16 +34,6 @@ unfolding bytes_at
 bytes_there short n text rest is =
     let long = le-ltb (length (text ++ rest)) n (omega (arith, length-append text rest, is)) in
     rw (long, take_at text rest n is, drop_at text rest n is) refl
-
--- one more of the texts that are written one after the other
-pub one_more : {X : Type 0} (f : X → List ℕ) (xs : List X) (i : ℕ) (x : X) (old front text new : List ℕ) → i < length xs → get_or xs i x ≡ x
-    → text ≡ old ++ (front ++ flat_map f (take i xs)) → new ≡ text ++ f x → new ≡ old ++ (front ++ flat_map f (take (i + 1) xs))
-one_more f xs i x old front text new within is before grown =
-    let texts = flat_map f (take i xs) in
-    let more : texts ++ f x ≡ flat_map f (take (i + 1) xs) =
-    flat_map_more f [] (take i xs) x ∙ ap (flat_map f) (sym (take_more xs i x within ∙ ap (λ y. take i xs ++ y ∷ []) is)) in
-    grown ∙ ap (λ (t : List ℕ). t ++ f x) before ∙ append_assoc old (front ++ texts) (f x) ∙ ap (λ (t : List ℕ). old ++ t) (append_assoc front texts (f x))
-    ∙ ap (λ (t : List ℕ). old ++ (front ++ t)) more
 
 -- five texts, one after the other
 pub five_texts : (old a b c d e first second third fourth fifth : List ℕ) → first ≡ old ++ a → second ≡ first ++ b → third ≡ second ++ c → fourth ≡ third ++ d

@@ -6,7 +6,8 @@ use Rattle.day_journal.specs.declared.header_fault.JournalHeaderFault.{JournalHe
 use Rattle.day_journal.specs.declared.header_fault.JournalHeaderFault.TheVariants.{Damaged, OutOfMemory}
 use Rattle.day_journal.specs.declared.header_reading.JournalHeader.{JournalHeader}
 use Rattle.day_journal.specs.declared.header_reading.Fields.{Fields}
-use Rattle.day_journal.specs.Headers.{ReadHeader, Terms}
+use Rattle.days.specs.declared.day.Day.{Day}
+use Rattle.day_journal.specs.Headers.{ReadHeader}
 use Rattle.tape_types.specs.Names.{Names, names_fault}
 
 -- a fault is the one that is read, unless memory ran out
@@ -19,16 +20,15 @@ GivesValues (Ok values) rest read = read ≡ Ok (values.items, rest)
 GivesValues (Err f) rest read = IsHeaderFaultOf f read
 
 -- the terms, and what was left after them
-abbrev pub GivesTerms : Result Fields JournalHeaderFault → List ℕ → Result (Terms × List ℕ) JournalHeaderFault → Type 0
+abbrev pub GivesTerms : Result Fields JournalHeaderFault → List ℕ → Result (Day × List ℕ) JournalHeaderFault → Type 0
 GivesTerms (Ok f) rest read =
     read ≡ Ok (record { session = f.session; matrix = f.matrix; limit = f.limit; listing = record { symbols = f.symbols.items; participants = f.participants.items } }, rest)
 GivesTerms (Err f) rest read = IsHeaderFaultOf f read
 
--- the terms of a header, its digest, and how many bytes it has
+-- the day of a header, its digest, and how many bytes it has
 abbrev pub GivesHeader : Result JournalHeader JournalHeaderFault → List ℕ → Result ReadHeader JournalHeaderFault → Type 0
 GivesHeader (Ok h) bytes read =
-    (rest : List ℕ) × (h.len ≡ length bytes - length rest)
-    × (read ≡ Ok (record { session = h.session; matrix = h.matrix; limit = h.limit; listing = h.listing }, (h.digest, rest)))
+    (rest : List ℕ) × (h.len ≡ length bytes - length rest) × (read ≡ Ok (h.day, (h.digest, rest)))
 GivesHeader (Err f) bytes read = IsHeaderFaultOf f read
 
 -- a listing of the names, or damage if they are no listing

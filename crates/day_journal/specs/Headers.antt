@@ -3,6 +3,7 @@ use Rattle.std.specs.Prelude.{◌≡◌, ◌<◌, ◌^◌, ◌-◌, ◌==◌, �
 use Rattle.std.specs.Prelude.{All, Option, Some, None, Result, Ok, Err, is_none, bytes_eq, codes, flat_map, if◌then◌else◌}
 use Rattle.std.specs.Int.{w8, w16, w32, w64, to_be_bytes}
 use Rattle.std.specs.Option.{ok_or}
+use Rattle.days.specs.declared.day.Day.{Day}
 use Rattle.reports.specs.Fields.{◌>>=◌, bytes_at, number_at, ranged_at, text_at}
 use Rattle.reports.specs.Texts.{is_symbol}
 use Rattle.sale_matrix.specs.declared.matrix.Matrix.{Matrix}
@@ -12,13 +13,6 @@ use Rattle.tape_types.specs.Names.{Names, names_fault}
 use Rattle.tape_types.specs.Ranges.{FIRST_PARTICIPANT, LAST_PARTICIPANT, IsParticipant, IsSymbol, IsTapeNumber, TAPE_MOST}
 use Rattle.day_journal.specs.declared.header_fault.JournalHeaderFault.{JournalHeaderFault}
 use Rattle.day_journal.specs.declared.header_fault.JournalHeaderFault.TheVariants.{NoJournal, OtherVersion, Short, Damaged}
-
--- the terms of a day: the session, the matrix, the most entries and the listing
-pub record Terms : Type 0 where
-  pub session : ℕ
-  pub matrix : Matrix
-  pub limit : ℕ
-  pub listing : Names
 
 -- the first bytes of every journal
 abbrev pub MAGIC : List ℕ
@@ -53,24 +47,24 @@ day_text session matrix limit =
     MAGIC ++ (to_be_bytes w8 JOURNAL_VERSION ++ (to_be_bytes w64 session ++ (to_be_bytes w8 (matrix_byte matrix) ++ to_be_bytes w32 limit)))
 
 -- the header without its digest
-abbrev pub terms_text : Terms → List ℕ
-terms_text t = day_text t.session t.matrix t.limit ++ (symbols_text t.listing.symbols ++ participants_text t.listing.participants)
+abbrev pub terms_text : Day → List ℕ
+terms_text d = day_text d.session d.matrix d.limit ++ (symbols_text d.listing.symbols ++ participants_text d.listing.participants)
 
 -- the digest of a header, to which the first group is chained
-abbrev pub header_digest : Terms → List ℕ
-header_digest t = sha256 (terms_text t)
+abbrev pub header_digest : Day → List ℕ
+header_digest d = sha256 (terms_text d)
 
 -- a header's bytes
-abbrev pub header_text : Terms → List ℕ
-header_text t = terms_text t ++ header_digest t
+abbrev pub header_text : Day → List ℕ
+header_text d = terms_text d ++ header_digest d
 
--- every term is in its range
-pub record AreTerms (t : Terms) : Type 0 where
-  pub session : t.session < 2 ^ 64
-  pub limit : IsTapeNumber t.limit
-  pub symbols : All IsSymbol t.listing.symbols
-  pub participants : All IsParticipant t.listing.participants
-  pub listing : names_fault t.listing.symbols t.listing.participants ≡ None
+-- every term of a day is in its range
+pub record AreTerms (d : Day) : Type 0 where
+  pub session : d.session < 2 ^ 64
+  pub limit : IsTapeNumber d.limit
+  pub symbols : All IsSymbol d.listing.symbols
+  pub participants : All IsParticipant d.listing.participants
+  pub listing : names_fault d.listing.symbols d.listing.participants ≡ None
 
 -- ---- what is read
 
@@ -121,7 +115,7 @@ matrix_at bytes = do
   Ok (matrix, byte.1)
 
 -- the terms, which may not be those of a day yet
-unfoldable pub terms_at : List ℕ → Result (Terms × List ℕ) JournalHeaderFault
+unfoldable pub terms_at : List ℕ → Result (Day × List ℕ) JournalHeaderFault
 terms_at bytes = do
   magic ← magic_at bytes
   version ← version_at magic.1
@@ -134,7 +128,7 @@ terms_at bytes = do
 
 -- what was read of a header: its terms, its digest, and the bytes after it
 abbrev pub ReadHeader : Type 0
-ReadHeader = Terms × (List ℕ × List ℕ)
+ReadHeader = Day × (List ℕ × List ℕ)
 
 -- whether the digest is that of the bytes before it
 abbrev pub is_digest : List ℕ → List ℕ → Bool
@@ -153,4 +147,4 @@ header_at bytes = do
 
 -- what is spelled is read back with its digest, whatever follows it
 abbrev pub HeadersAreRead : Type 0
-HeadersAreRead = (t : Terms) (rest : List ℕ) → AreTerms t → header_at (header_text t ++ rest) ≡ Ok (t, (header_digest t, rest))
+HeadersAreRead = (d : Day) (rest : List ℕ) → AreTerms d → header_at (header_text d ++ rest) ≡ Ok (d, (header_digest d, rest))

@@ -1,46 +1,39 @@
-//! Writes the header of a journal: the terms of the day and their digest.
+//! Writes the header of a journal: the day and its digest.
 ghost use Rattle.std.specs.Prelude.{◌≡◌, ◌≤◌, ◌++◌, IfOk, OnOk, length};
 ghost use Rattle.tape_types.specs.Ranges.{PARTICIPANTS_MOST, SYMBOLS_MOST};
 ghost use Rattle.day_journal.specs.Headers.{day_text, header_digest, header_text, matrix_byte, participants_text, symbols_text};
 
 use crate::limits::{DIGEST_LENGTH, MAGIC, VERSION};
+use days::Day;
 use sale_matrix::Matrix;
 use sha2::{Digest, Sha256};
 use std::alloc::AllocError;
-use tape_types::{Listing, Participant, Symbol};
+use tape_types::{Participant, Symbol};
 
-/// Replaces `text` with the header of a journal with these terms, of which the limit is 1 to `TAPE_MOST`, and returns its
-/// digest, to which the first group is chained. If memory runs out, `text` may hold a part of it.
-pub fn put_header(
-    session: u64,
-    matrix: Matrix,
-    limit: u32,
-    listing: &Listing,
-    text: &mut Vec<u8>,
-) -> Result<[u8; DIGEST_LENGTH], AllocError>
-    ensures text { OnOk result (text.new.items
-        ≡ header_text (record { session = session; matrix = matrix; limit = limit; listing = listing.now })) }
-    ensures digest { IfOk result (λ d. d
-        ≡ header_digest (record { session = session; matrix = matrix; limit = limit; listing = listing.now })) }
+/// Replaces `text` with the header of a journal of this day, and returns its digest, to which the first group is chained. If
+/// memory runs out, `text` may hold a part of it.
+pub fn put_header(day: &Day, text: &mut Vec<u8>) -> Result<[u8; DIGEST_LENGTH], AllocError>
+    ensures text { OnOk result (text.new.items ≡ header_text day.now) }
+    ensures digest { IfOk result (λ digest. digest ≡ header_digest day.now) }
 {
     text.clear();
-    put_day(session, matrix, limit, text)?;
-    put_symbols(listing.symbols().as_slice(), text)?;
-    put_participants(listing.participants().as_slice(), text)?;
+    put_day(day, text)?;
+    put_symbols(day.listing.symbols().as_slice(), text)?;
+    put_participants(day.listing.participants().as_slice(), text)?;
     let digest = Sha256::digest(text.as_slice());
     text.extend_from_slice(&digest)?;
     Ok(digest)
 }
 
 /// Appends the fields before the listing.
-fn put_day(session: u64, matrix: Matrix, limit: u32, text: &mut Vec<u8>) -> Result<(), AllocError>
-    ensures { OnOk result (text.new.items ≡ text.old.items ++ day_text session matrix limit) }
+fn put_day(day: &Day, text: &mut Vec<u8>) -> Result<(), AllocError>
+    ensures { OnOk result (text.new.items ≡ text.old.items ++ day_text day.now.session day.now.matrix day.now.limit) }
 {
     text.extend_from_slice(&MAGIC)?;
     text.extend_from_slice(&VERSION.to_be_bytes())?;
-    text.extend_from_slice(&session.to_be_bytes())?;
-    text.extend_from_slice(&matrix_byte(matrix).to_be_bytes())?;
-    text.extend_from_slice(&limit.to_be_bytes())?;
+    text.extend_from_slice(&day.session.to_be_bytes())?;
+    text.extend_from_slice(&matrix_byte(day.matrix).to_be_bytes())?;
+    text.extend_from_slice(&day.limit.value().to_be_bytes())?;
     Ok(())
 }
 

@@ -7,23 +7,18 @@ ghost use Rattle.day_journal.specs.HeaderReads.{GivesHeader, GivesListing, Gives
 
 use crate::JournalHeaderFault;
 use crate::limits::{DIGEST_LENGTH, MAGIC, VERSION};
+use days::Day;
 use reports::Unread;
 use sale_matrix::Matrix;
 use sha2::{Digest, Sha256};
 use std::alloc::Global;
-use tape_types::{Listing, ListingFault, Participant, Symbol, TAPE_MOST};
+use tape_types::{Listing, ListingFault, Participant, Symbol, TAPE_MOST, TapeNumber};
 
-/// The terms in a journal's header, its digest and its length.
+/// The day in a journal's header, its digest and its length.
 #[derive(Drop)]
 pub struct JournalHeader {
-    /// The session under which the tape is sent.
-    pub session: u64,
-    /// The matrix of the day.
-    pub matrix: Matrix,
-    /// The most entries that the tape takes, 1 to `TAPE_MOST`.
-    pub limit: u32,
-    /// The symbols and participants of the day.
-    pub listing: Listing,
+    /// The day.
+    pub day: Day,
     /// The header's digest, to which the first group is chained.
     pub digest: [u8; DIGEST_LENGTH],
     /// How many bytes the header has.
@@ -35,7 +30,7 @@ pub struct JournalHeader {
 struct Fields {
     session: u64,
     matrix: Matrix,
-    limit: u32,
+    limit: TapeNumber,
     symbols: Vec<Symbol>,
     participants: Vec<Participant>,
 }
@@ -58,11 +53,14 @@ pub fn read_header(alloc: Global, bytes: &[u8]) -> Result<JournalHeader, Journal
         fields.symbols.as_slice(),
         fields.participants.as_slice(),
     )?;
-    Ok(JournalHeader {
-        session: fields.session,
+    let day = Day {
+        listing,
         matrix: fields.matrix,
         limit: fields.limit,
-        listing,
+        session: fields.session,
+    };
+    Ok(JournalHeader {
+        day,
         digest,
         len: bytes.len().saturating_sub(unread.rest.len()),
     })
@@ -87,7 +85,7 @@ fn read_fields(alloc: Global, unread: &mut Unread<'_>) -> Result<Fields, Journal
     Ok(Fields {
         session,
         matrix,
-        limit: limit.value(),
+        limit,
         symbols,
         participants,
     })

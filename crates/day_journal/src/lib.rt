@@ -14,8 +14,6 @@ mod journal_end;
 mod laws;
 mod limits;
 mod replaying;
-#[cfg(test)]
-mod tests;
 
 pub use append_fault::AppendFault;
 use group_fault::GroupFault;

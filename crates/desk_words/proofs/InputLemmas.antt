@@ -9,8 +9,8 @@ use Rattle.sale_matrix.specs.declared.matrix.Matrix.{Matrix}
 use Rattle.day_journal.specs.Headers.{MAGIC}
 use Rattle.journal_days.specs.Days.{begins_journal}
 use Rattle.std.specs.Str.{bytes_eq}
-use Rattle.program_words.specs.declared.command.Command.{Command}
-use Rattle.program_words.specs.declared.command.Command.TheVariants.{Report, Tape, Explain, Check, Verify, Convert}
+use Rattle.command_line.specs.declared.command.Command.{Command}
+use Rattle.command_line.specs.declared.command.Command.TheVariants.{Report, Tape, Explain, Check, Verify, Convert}
 use Rattle.desk_words.specs.JournalRuns.{AnswersJournal, Reads}
 use Rattle.desk_words.specs.Program.{AnswersBy, AnswersCommand, AnswersTable, RunsCheck, RunsTable}
 use Rattle.desk_words.specs.TextRuns.{RunsText, TextKind, kind_of}

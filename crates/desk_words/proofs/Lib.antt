@@ -1,5 +1,4 @@
 pub mod InputLemmas
-pub mod JournalLemmas
 pub mod LineLemmas
 pub mod RunLemmas
 pub mod VerifyLemmas

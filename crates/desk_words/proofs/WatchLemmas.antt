@@ -1,10 +1,10 @@
 -- Lemmas about the rows of a followed tape, the line of the columns' names before them, and the statuses of a run.
-use Rattle.std.proofs.Common.{◌≡◌, ◌++◌, ◌∙◌, ◌∷◌, ◌+◌, ◌-◌, ◌≤◌, ◌⊎◌, IfErr, IfSome, IsSome, OnOk, Result, Ok, Err, inl, inr, arith, [], List, ℕ, Option, Some, None, ap, append-nil, drop, length, refl, subst, sym, take}
+use Rattle.std.proofs.Common.{◌≡◌, ◌++◌, ◌∙◌, ◌∷◌, ◌+◌, ◌-◌, ◌≤◌, IfErr, IfSome, IsSome, OnOk, Result, Ok, Err, inl, inr, arith, [], List, ℕ, Option, Some, None, ap, append-nil, drop, length, refl, subst, sym, take}
 use Rattle.std.proofs.KnownBytes.{Appends-kept, Keeps-refl}
 use Rattle.std.proofs.Math.Seq.{take-append-add}
 use Rattle.std.proofs.lemmas.List.{take-append-drop}
 use Rattle.std.proofs.lemmas.Bool.{false≢true}
-use Rattle.std.specs.Io.KnownBytes.{Appends, Keeps, append_known}
+use Rattle.std.specs.Io.KnownBytes.{Appends, Keeps}
 use Rattle.std.specs.Prelude.{IsOk}
 use Rattle.whole_io.specs.Lemmas.WriteLemmas.{WritesPrefix-kept, WritesPrefix-longer, WritesPrefix-then, WritesUpTo-all, WritesUpTo-gathered, WritesUpTo-whole}
 use Rattle.whole_io.specs.Writing.{WritesPrefix}
@@ -18,12 +18,10 @@ use Rattle.feed_follower.specs.Reported.{follow_fault}
 use Rattle.feed_follower.specs.declared.follow_fault.FollowFault.{FollowFault}
 use Rattle.feed_follower.specs.Sinks.{GivesPart, GivesTape, HasPart, rows_after}
 use Rattle.csv_days.specs.TapeRows.{entry_rows, head_line, rows_text}
-use Rattle.program_words.specs.Statuses.{status_code, status_text}
-use Rattle.program_words.specs.declared.status.Status.{Status}
-use Rattle.program_words.specs.declared.status.Status.TheVariants as status
-use Rattle.program_words.specs.declared.status.Status.TheVariants.{Done, Differs, Bad, ReadFault, NotStarted, Disagrees}
+use Rattle.command_line.specs.Statuses.{status_code}
+use Rattle.command_line.specs.declared.status.Status.TheVariants.{Done}
 use Rattle.desk_words.specs.RunStatuses.{ended_status}
-use Rattle.desk_words.specs.Watches.{IsRunStatus, WritesPartOf, WritesSome, WritesTapeOf, WritesWhole, entry_line, followed_text, watch_text}
+use Rattle.desk_words.specs.Watches.{IsRunStatus, WritesPartOf, WritesTapeOf, WritesWhole, entry_line, followed_text}
 
 -- ## Rows
 
@@ -89,11 +87,6 @@ tape_part listing matrix limit old mid has new head given kept =
       WritesPrefix-kept (followed_text t) old has new (subst (λ (l : List ℕ). WritesPrefix (head_line ++ l) old has) (sym (rows_same t.matrix [] t.entries)) some) kept,
     )
 
--- a buffer that holds nothing adds nothing
-pub held_nothing : (known : Option (List ℕ)) → append_known known [] ≡ known
-held_nothing None = refl
-held_nothing (Some xs) = ap Some (append-nil xs)
-
 -- the whole tape went through a buffer
 pub whole_back : {W : Type 0} (contents : W → Option (List ℕ)) (listing : Names) (matrix : Matrix) (limit : ℕ) (writer : W) (back : Option W) (first mid : Option (List ℕ))
     → first ≡ contents writer → WritesTapeOf listing matrix limit first mid → IfSome back (λ inner. Keeps mid (contents inner)) → IsSome back
@@ -104,20 +97,6 @@ whole_back contents listing matrix limit writer (Some inner) first mid same whol
   whole.1,
   Appends-kept (contents writer) mid (contents inner) (followed_text whole.0)
       (subst (λ (known : Option (List ℕ)). Appends known mid (followed_text whole.0)) same whole.2) kept,
-)
-
--- a part of the tape went through a buffer
-pub some_back : {W B : Type 0} (contents : W → Option (List ℕ)) (held : B → Option (List ℕ)) (listing : Names) (matrix : Matrix) (limit : ℕ) (writer : W)
-    (first last : B) (back : Option W) → held first ≡ contents writer → (last ≡ first) ⊎ WritesPartOf listing matrix limit (held first) (held last)
-    → IfSome back (λ inner. Keeps (held last) (contents inner)) → WritesSome contents listing matrix limit writer back
-some_back contents held listing matrix limit writer first last None same part kept = tt
-some_back contents held listing matrix limit writer first last (Some inner) same (inl is) kept =
-    inl (subst (λ (known : Option (List ℕ)). Keeps known (contents inner)) (ap held is ∙ same) kept)
-some_back contents held listing matrix limit writer first last (Some inner) same (inr part) kept = inr (
-  part.0,
-  part.1,
-  WritesPrefix-kept (followed_text part.0) (contents writer) (held last) (contents inner)
-      (subst (λ (known : Option (List ℕ)). WritesPrefix (followed_text part.0) known (held last)) same part.2) kept,
 )
 
 -- known bytes that are left alone are kept
@@ -143,22 +122,6 @@ done_well (Err Write) P is holds = absurd (cc is)
 done_well (Err Memory) P is holds = absurd (cc is)
 done_well (Err Worker) P is holds = absurd (cc is)
 done_well (Err DisagreesFault) P is holds = absurd (cc is)
-
--- no run ends with the status of bad arguments
-pub not_bad : (status : ℕ) → IsRunStatus status → status ≡ 2 → ⊥
-not_bad status (inl done) bad = omega (arith, done, bad)
-not_bad status (inr fault) bad = omega (arith, fault.0, bad)
-
--- what is said of a run's end is the status's own text
-pub watch_said : (status : Status) → IsRunStatus (status_code status) → watch_text status ≡ status_text status
-watch_said Done run = refl
-watch_said Differs run = refl
-watch_said Bad run = absurd (not_bad 2 run refl)
-watch_said ReadFault run = refl
-watch_said status.WriteFault run = refl
-watch_said status.OutOfMemory run = refl
-watch_said NotStarted run = refl
-watch_said Disagrees run = refl
 
 -- ## Ends
 

@@ -1,11 +1,11 @@
-pub mod JournalLines
+pub mod JournalStatuses
 pub mod JournalRuns
 pub mod Outputs
 pub mod Program
-pub mod RefusalLines
+pub mod RefusedRows
 pub mod RunStatuses
-pub mod TextRuns
-pub mod VerdictLines
-pub mod VerifyRuns
 pub mod Tellings
+pub mod TextRuns
+pub mod Verdicts
+pub mod VerifyRuns
 pub mod Watches

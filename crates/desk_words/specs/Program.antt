@@ -1,11 +1,11 @@
--- What each word does with a table or a journal: what it writes, what it says, and its status.
-use Rattle.std.specs.Prelude.{◌≡◌, ◌≢◌, ◌⊎◌, ◌&&◌, ℕ, Bool, true, false, List, [], Option, Some, None, IfOk, IfSome, Result, Ok, Err, IsOk, OnOk, if◌then◌else◌}
+-- What each word does with a table or a journal: what it writes, and its status.
+use Rattle.std.specs.Prelude.{◌≡◌, ◌≢◌, ◌⊎◌, ◌&&◌, ℕ, Bool, true, false, List, Option, Some, None, IfOk, IfSome, Result, Ok, Err, IsOk, OnOk, if◌then◌else◌}
 use Rattle.std.specs.List.{list_any}
 use Rattle.std.specs.Option.{is_some}
 use Rattle.sale_matrix.specs.declared.matrix.Matrix.{Matrix}
 use Rattle.sale_matrix.specs.declared.matrix.Matrix.TheVariants.{One}
 use Rattle.reports.specs.declared.message.Message.{Message}
-use Rattle.whole_io.specs.Writing.{WritesPrefix}
+use Rattle.whole_io.specs.Lines.{WritesLines}
 use Rattle.csv_days.specs.Checks.{IsCheckEnd, WritesCheck, WritesCheckPart}
 use Rattle.csv_days.specs.Days.{day_text}
 use Rattle.csv_days.specs.EndTexts.{end_status}
@@ -20,13 +20,12 @@ use Rattle.csv_days.specs.declared.table_end.TableEnd.{TableEnd}
 use Rattle.csv_days.specs.declared.table_end.TableEnd.TheVariants.{OutOfMemory, WriteFault}
 use Rattle.journal_days.specs.Days.{begins_journal}
 use Rattle.desk_words.specs.JournalRuns.{AnswersJournal, Unread}
-use Rattle.desk_words.specs.RefusalLines.{refusal_lines}
-use Rattle.desk_words.specs.TextRuns.{RunsText, end_line, kind_of}
+use Rattle.desk_words.specs.TextRuns.{RunsText, kind_of}
 use Rattle.desk_words.specs.VerifyRuns.{RunsVerify}
-use Rattle.program_words.specs.declared.command.Command.{Command}
-use Rattle.program_words.specs.declared.command.Command.TheVariants.{Report, Tape, Explain, Check, Verify, Convert}
+use Rattle.command_line.specs.declared.command.Command.{Command}
+use Rattle.command_line.specs.declared.command.Command.TheVariants.{Report, Tape, Explain, Check, Verify, Convert}
 
--- ## What is said
+-- ## Statuses
 
 -- whether rows were refused
 abbrev pub refuses_any : Refusals → Bool
@@ -42,11 +41,6 @@ abbrev pub text_by : Bool → (Matrix → List Message → List ℕ) → Matrix 
 text_by true text = strictly text
 text_by false text = text
 
--- what is said of a run: the rows that were refused, or why it ended
-abbrev pub run_text : Result Refusals TableEnd → List ℕ
-run_text (Ok refusals) = refusal_lines refusals
-run_text (Err end) = end_line end
-
 -- the status of a table that was checked: 0 if it has no fault, else 2
 abbrev pub checked_status : Bool → ℕ
 checked_status true = 0
@@ -57,11 +51,6 @@ abbrev pub check_status : Result Bool TableEnd → ℕ
 check_status (Ok faultless) = checked_status faultless
 check_status (Err end) = end_status end
 
--- what is said of a check: nothing, or why its faults are not all written
-abbrev pub check_line : Result Bool TableEnd → List ℕ
-check_line (Ok faultless) = []
-check_line (Err end) = end_line end
-
 -- ## Runs
 
 -- what a run did for a table: its text was written, or it ended for a reason
@@ -69,9 +58,8 @@ abbrev pub Comes : (Matrix → List Message → List ℕ) → Matrix → List �
 Comes text matrix input (Ok refusals) old new = WritesTable text matrix input refusals old new
 Comes text matrix input (Err end) old new = IsTableEnd input end
 
--- a text of a table was asked for, in which refused rows may be faults: the status and what is said are those of how it ended,
--- and nothing else was written; nothing at all if rows were refused and refused rows are faults, whatever is known of the
--- reader and the writer
+-- a text of a table was asked for, in which refused rows may be faults: the status is that of how it ended, and nothing else was
+-- written; nothing at all if rows were refused and refused rows are faults, whatever is known of the reader and the writer
 pub record RunsTable {W E : Type 0} (strict : Bool) (text : Matrix → List Message → List ℕ) (matrix : Matrix) (input old new : Option (List ℕ)) (status : ℕ)
     (writer_old writer_new : W) (errors_old errors_new : E) (said_old said_new : Option (List ℕ)) : Type 0 where
   pub run : Result Refusals TableEnd
@@ -82,16 +70,15 @@ pub record RunsTable {W E : Type 0} (strict : Bool) (text : Matrix → List Mess
   pub silent : (end : TableEnd) → run ≡ Err end → end ≢ WriteFault → end ≢ OutOfMemory → writer_new ≡ writer_old
   pub listed : strict ≡ true → IfSome input (λ bytes. OnOk run (IsListed bytes))
   pub unwritten : strict ≡ true → IfOk run (λ refusals. RefusesNone refusals ⊎ (writer_new ≡ writer_old))
-  pub quiet : run_text run ≡ [] → errors_new ≡ errors_old
-  pub said : WritesPrefix (run_text run) said_old said_new
+  pub quiet : IfOk run (λ refusals. RefusesNone refusals → errors_new ≡ errors_old)
+  pub said : WritesLines said_old said_new
 
 -- what a check did for a table: the lines of its faults were written, or it ended for a reason
 abbrev pub ComesToCheck : List ℕ → Result Bool TableEnd → Option (List ℕ) → Option (List ℕ) → Type 0
 ComesToCheck input (Ok faultless) old new = WritesCheck input faultless old new
 ComesToCheck input (Err end) old new = IsCheckEnd end
 
--- the faults of a table were asked for: the status and what is said are those of how the check ended, and nothing else was
--- written
+-- the faults of a table were asked for: the status is that of how the check ended, and nothing else was written
 pub record RunsCheck {W E : Type 0} (input old new : Option (List ℕ)) (status : ℕ)
     (writer_old writer_new : W) (errors_old errors_new : E) (said_old said_new : Option (List ℕ)) : Type 0 where
   pub run : Result Bool TableEnd
@@ -100,7 +87,7 @@ pub record RunsCheck {W E : Type 0} (input old new : Option (List ℕ)) (status 
   pub part : run ≡ Err WriteFault → IfSome input (λ bytes. WritesCheckPart bytes old new)
   pub silent : (end : TableEnd) → run ≡ Err end → end ≢ WriteFault → writer_new ≡ writer_old
   pub quiet : IsOk run → errors_new ≡ errors_old
-  pub said : WritesPrefix (check_line run) said_old said_new
+  pub said : WritesLines said_old said_new
 
 -- ## Words
 

@@ -2,8 +2,8 @@
 use Rattle.std.specs.Prelude.{Result, Ok, Err}
 use Rattle.feed_ends.specs.declared.fault.Fault.{Fault}
 use Rattle.feed_ends.specs.declared.fault.Fault.TheVariants as fault
-use Rattle.program_words.specs.declared.status.Status.{Status}
-use Rattle.program_words.specs.declared.status.Status.TheVariants as status
+use Rattle.command_line.specs.declared.status.Status.{Status}
+use Rattle.command_line.specs.declared.status.Status.TheVariants as status
 
 -- the status of a fault
 abbrev pub fault_status : Fault → Status

@@ -1,5 +1,5 @@
--- What `watch` writes of a running day: the rows of a tape's entries, whole or in part; what it says, and its statuses.
-use Rattle.std.specs.Prelude.{◌≡◌, ◌≤◌, ◌⊎◌, ℕ, List, [], Option, None, Some, codes}
+-- What `watch` writes of a running day: the rows of a tape's entries, whole or in part, and its statuses.
+use Rattle.std.specs.Prelude.{◌≡◌, ◌≤◌, ◌⊎◌, ℕ, List, Option, None, Some}
 use Rattle.std.specs.Io.KnownBytes.{Appends, Keeps}
 use Rattle.whole_io.specs.Writing.{WritesPrefix}
 use Rattle.sale_matrix.specs.declared.matrix.Matrix.{Matrix}
@@ -9,10 +9,6 @@ use Rattle.tape_core.specs.declared.entry.Entry.{Entry}
 use Rattle.tape_core.specs.declared.row_figures.RowFigures.{RowFigures}
 use Rattle.whole_io.specs.declared.writing_fault.WritingFault.{WritingFault}
 use Rattle.whole_io.specs.declared.writing_fault.WritingFault.TheVariants.{OutOfMemory, WriteFault}
-use Rattle.program_words.specs.Statuses.{status_text}
-use Rattle.program_words.specs.declared.status.Status.{Status}
-use Rattle.program_words.specs.declared.status.Status.TheVariants as status
-use Rattle.program_words.specs.declared.status.Status.TheVariants.{Done, Differs, Bad, ReadFault, NotStarted, Disagrees}
 use Rattle.feed_follower.specs.Sinks.{IsTapeOf}
 use Rattle.feed_follower.specs.declared.sink.SinkFault.{SinkFault}
 use Rattle.feed_follower.specs.declared.sink.SinkFault.TheVariants as sink
@@ -45,17 +41,6 @@ abbrev pub WritesSome : {W : Type 0} → (W → Option (List ℕ)) → Names →
 WritesSome contents listing matrix limit writer None = Unit {0}
 WritesSome contents listing matrix limit writer (Some back) =
     Keeps (contents writer) (contents back) ⊎ WritesPartOf listing matrix limit (contents writer) (contents back)
-
--- what is said of a watched day that ends with a status
-abbrev pub watch_text : Status → List ℕ
-watch_text Done = []
-watch_text Differs = []
-watch_text Bad = codes "tapebox: bad arguments\n"
-watch_text ReadFault = status_text ReadFault
-watch_text status.WriteFault = status_text status.WriteFault
-watch_text status.OutOfMemory = status_text status.OutOfMemory
-watch_text NotStarted = status_text NotStarted
-watch_text Disagrees = status_text Disagrees
 
 -- a status of a run: 0 if it is done, 3 to 7 for a fault
 abbrev pub IsRunStatus : ℕ → Type 0

@@ -1,7 +1,7 @@
 //! Tells by its first bytes whether a word's input is a journal or a table, and runs the word on it.
 ghost use Rattle.std.specs.Prelude.{◌≡◌, IfSome};
 ghost use Rattle.journal_days.specs.Days.{begins_journal};
-ghost use Rattle.program_words.specs.Statuses.{status_code};
+ghost use Rattle.command_line.specs.Statuses.{status_code};
 ghost use Rattle.desk_words.specs.Outputs.{IsQuietIfGone};
 ghost use Rattle.desk_words.specs.Program.{AnswersCommand};
 
@@ -9,8 +9,8 @@ use crate::Output;
 use crate::journal_words::run_journal;
 use crate::program::run_rows;
 use crate::saying::say_status;
+use command_line::{Command, Status};
 use journal_days::is_journal;
-use program_words::{Command, Status};
 use std::alloc::Global;
 use std::io::{Read, Write};
 use whole_io::fill;

@@ -1,26 +1,27 @@
 //! Writes the texts of a journal, which is read whole, and turns their ends into statuses and lines on standard error.
-ghost use Rattle.std.specs.Prelude.{◌≡◌, ◌≢◌, ◌⊎◌, [], Err, IfErr, IfOk, IfSome, OnErr, OnOk, string_bytes};
+ghost use Rattle.std.specs.Prelude.{◌≡◌, ◌≢◌, ◌⊎◌, Err, IsOk, None, OnErr, OnOk};
 ghost use Rattle.std.specs.Io.KnownBytes.{Appends};
+ghost use Rattle.whole_io.specs.Lines.{WritesLines};
 ghost use Rattle.whole_io.specs.Writing.{WritesPrefix};
 ghost use Rattle.whole_io.specs.declared.writing_fault.WritingFault.TheVariants.{OutOfMemory as NoMemory};
-ghost use Rattle.program_words.specs.Statuses.{status_code};
-ghost use Rattle.program_words.specs.declared.status.Status.TheVariants.{Bad, OutOfMemory, ReadFault as Unreadable, WriteFault};
+ghost use Rattle.command_line.specs.Statuses.{status_code};
+ghost use Rattle.command_line.specs.declared.status.Status.TheVariants.{Bad, OutOfMemory, ReadFault as Unreadable, WriteFault};
 ghost use Rattle.whole_io.specs.declared.reading.ReadFault.TheVariants.{Failed, OutOfMemory as NoRoom};
-ghost use Rattle.desk_words.specs.JournalLines.{no_day_line, no_day_status, no_table_line, torn_line, torn_text, verdict_line, verdict_status, written_line, written_status};
+ghost use Rattle.desk_words.specs.JournalStatuses.{no_day_status, verdict_status, written_status};
 ghost use Rattle.desk_words.specs.JournalRuns.{AnswersJournal, Reads, RunsDay, RunsFound, TellsDay, TellsFound, day_text};
 ghost use Rattle.desk_words.specs.Outputs.{IsQuietIfGone};
 
 use crate::Output;
-use crate::saying::{say_ended, say_status};
-use crate::telling::say_told;
+use crate::saying::{say_ended, say_line, say_status};
+use command_line::{Command, Status};
 use csv_days::DayText;
 use journal_days::{
     JournalDay, JournalFault, JournalVerdict, fault_text, read_day, verdict_text, verify_journal,
     write_journal_explained, write_journal_report, write_journal_tape,
 };
-use program_words::{Command, Status};
 use sale_matrix::Matrix;
 use std::alloc::{AllocError, Global};
+use std::fmt;
 use std::io::{Read, Write};
 use whole_io::{ReadFault, WritingFault, read_all, write_text};
 
@@ -54,24 +55,24 @@ fn write_journal_text<W: Write>(
     }
 }
 
-/// Returns what is said of a group that is cut off behind so many bytes.
-fn torn_text(alloc: Global, from: usize) -> Result<String, AllocError>
-    ensures { IfOk result (λ text. string_bytes text ≡ torn_text from) }
-{
-    format!(in alloc; "a group is cut off behind byte {from}, and left out")
+/// A last group that is cut off behind so many bytes, as it is printed.
+#[derive(Drop)]
+struct TornGroup(usize);
+
+impl fmt::Display for TornGroup {
+    fn fmt<W: fmt::Write>(&self, f: &mut fmt::Formatter<W>) -> fmt::Result {
+        write!(f, "a group is cut off behind byte {}, and left out", self.0)
+    }
 }
 
-/// Says that a group is cut off behind a day's bytes, if so, unless there is no memory for the line.
-#[tactic(auto, using(crate::proofs::LineLemmas::nothing_said))]
+/// Says that a group is cut off behind a day's bytes, if so.
+#[tactic(auto, using(crate::proofs::LineLemmas::no_lines))]
 fn say_torn<E: Write>(alloc: Global, errors: &mut E, torn: Option<usize>)
-    ensures quiet { torn_line torn ≡ [] → errors.new ≡ errors.old }
-    ensures said { WritesPrefix (torn_line torn) (E.contents errors.old) (E.contents errors.new) }
+    ensures quiet { torn ≡ None → errors.new ≡ errors.old }
+    ensures said { WritesLines (E.contents errors.old) (E.contents errors.new) }
 {
-    let Some(from) = torn else {
-        return;
-    };
-    if let Ok(text) = torn_text(alloc, from) {
-        say_told(alloc, errors, text.as_bytes());
+    if let Some(from) = torn {
+        say_line(alloc, errors, &TornGroup(from));
     }
 }
 
@@ -85,8 +86,8 @@ fn end_day<E: Write>(
 ) -> Status
     ensures status { status_code result ≡ status_code (written_status run) }
     ensures gone { IsQuietIfGone reader_gone result errors.old errors.new }
-    ensures quiet { written_line torn run ≡ [] → errors.new ≡ errors.old }
-    ensures said { WritesPrefix (written_line torn run) (E.contents errors.old) (E.contents errors.new) }
+    ensures quiet { IsOk run → torn ≡ None → errors.new ≡ errors.old }
+    ensures said { WritesLines (E.contents errors.old) (E.contents errors.new) }
 {
     match run {
         Ok(()) => {
@@ -121,18 +122,18 @@ fn tell_day<W: Output, E: Write>(
 }
 
 /// Says why a journal has no day, unless there is no memory for the line, and returns the status.
-#[tactic(auto, using(crate::proofs::LineLemmas::nothing_said))]
+#[tactic(auto, using(crate::proofs::LineLemmas::no_lines))]
 fn say_no_day<E: Write>(alloc: Global, errors: &mut E, fault: &JournalFault) -> Status
     ensures status { result ≡ no_day_status fault.now }
     ensures no_fault { result ≢ WriteFault }
-    ensures said { WritesPrefix (no_day_line fault.now) (E.contents errors.old) (E.contents errors.new) }
+    ensures said { WritesLines (E.contents errors.old) (E.contents errors.new) }
 {
     if matches!(fault, JournalFault::OutOfMemory) {
         say_status(errors, Status::OutOfMemory);
         return Status::OutOfMemory;
     }
     if let Ok(text) = fault_text(alloc, fault) {
-        say_told(alloc, errors, text.as_bytes());
+        say_line(alloc, errors, &text);
     }
     Status::Bad
 }
@@ -181,9 +182,7 @@ fn run_day<R: Read, W: Output, E: Write>(
 }
 
 /// Returns the line of a journal's verdict.
-fn verdict_line(alloc: Global, found: &JournalVerdict) -> Result<String, AllocError>
-    ensures { IfOk result (λ line. string_bytes line ≡ verdict_line found.now) }
-{
+fn verdict_line(alloc: Global, found: &JournalVerdict) -> Result<String, AllocError> {
     let mut line = verdict_text(alloc, found)?;
     line.push_str("\n")?;
     Ok(line)
@@ -201,6 +200,7 @@ fn verdict_status(found: &JournalVerdict) -> Status
 }
 
 /// Writes the line of a journal's verdict, or says why it is not whole, and returns the status.
+#[tactic(auto, using(crate::proofs::LineLemmas::grown, crate::proofs::LineLemmas::grows))]
 fn tell_found<W: Output, E: Write>(
     alloc: Global,
     found: &JournalVerdict,
@@ -268,10 +268,10 @@ fn run_found<R: Read, W: Output, E: Write>(
 /// Says that a word takes no journal, and returns the status.
 fn say_no_table<E: Write>(alloc: Global, errors: &mut E) -> Status
     ensures status { result ≡ Bad }
-    ensures said { WritesPrefix no_table_line (E.contents errors.old) (E.contents errors.new) }
+    ensures said { WritesLines (E.contents errors.old) (E.contents errors.new) }
 {
-    let text = b"this is a journal, which report, tape, explain and verify take";
-    say_told(alloc, errors, text);
+    let words = "this is a journal, which report, tape, explain and verify take";
+    say_line(alloc, errors, &words);
     Status::Bad
 }
 

@@ -7,13 +7,11 @@ mod journal_words;
 mod output;
 mod program;
 mod progress;
-mod refusal_lines;
+mod refusal_line;
 mod run_status;
 mod saying;
 mod telling;
-#[cfg(test)]
-mod tests;
-mod verdict_lines;
+mod verdict_line;
 mod watched_file;
 mod watching;
 
@@ -21,7 +19,7 @@ pub use inputs::{begins_journal, run_command};
 pub use output::{Output, PipeWriter};
 pub use progress::{ClearedWriter, ProgressLine, ToldReader, ToldWriter};
 pub use run_status::{ended_status, fault_status};
-pub use saying::{say, say_ended, say_status};
+pub use saying::{say, say_bad_arguments, say_ended, say_status};
 pub use telling::{say_followed, say_socket_fault, say_told};
 pub use watched_file::watch_file;
 pub use watching::{watch, watch_row};

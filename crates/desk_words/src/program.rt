@@ -5,7 +5,7 @@ ghost use Rattle.csv_days.specs.Refusals.{RefusesNone};
 ghost use Rattle.csv_days.specs.Strict.{IsListed};
 ghost use Rattle.csv_days.specs.TableEnds.{IsTableEnd, WritesTable, WritesTablePart};
 ghost use Rattle.csv_days.specs.declared.table_end.TableEnd.TheVariants.{OutOfMemory, WriteFault};
-ghost use Rattle.program_words.specs.Statuses.{status_code};
+ghost use Rattle.command_line.specs.Statuses.{status_code};
 ghost use Rattle.desk_words.specs.Outputs.{IsQuietIfGone};
 ghost use Rattle.desk_words.specs.Program.{AnswersTable, RunsCheck, RunsTable, table_matrix, text_by};
 ghost use Rattle.desk_words.specs.VerifyRuns.{RunsVerify};
@@ -13,13 +13,13 @@ ghost use Rattle.desk_words.specs.TextRuns.{RunsText, decoded, encoded, kind_of,
 
 use crate::Output;
 use crate::saying::{end_check, end_decoded, end_run, end_text, say_end};
-use crate::verdict_lines::write_verdict;
+use crate::verdict_line::write_verdict;
+use command_line::{Command, Conversion, Status};
 use csv_days::{
     DayText, Refusals, TableEnd, check_over, explain_over, explain_strict_over, report_over,
     report_strict_over, tape_over, tape_strict_over,
 };
 use message_texts::{decode_over, encode_over, line_over};
-use program_words::{Command, Conversion, Status};
 use recorded_tapes::verify_over;
 use sale_matrix::Matrix;
 use std::alloc::Global;

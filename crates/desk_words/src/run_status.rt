@@ -2,8 +2,8 @@
 ghost use Rattle.std.specs.Prelude.{◌≡◌};
 ghost use Rattle.desk_words.specs.RunStatuses.{ended_status, fault_status};
 
+use command_line::Status;
 use feed_ends::Fault;
-use program_words::Status;
 
 /// Returns the status of a run's fault.
 pub fn fault_status(fault: Fault) -> Status

@@ -1,22 +1,24 @@
 //! Writes the lines on standard error, one for each fault or kind of refusal, and returns the status that goes with them.
-ghost use Rattle.std.specs.Prelude.{◌≡◌, ◌≢◌, ◌↔◌, IsOk, IsTrue, Ok, [], true};
+ghost use Rattle.std.specs.Prelude.{◌≡◌, ◌≢◌, ◌↔◌, IfOk, IsOk, IsTrue, Ok, [], true};
+ghost use Rattle.whole_io.specs.Lines.{WritesLines};
 ghost use Rattle.whole_io.specs.Writing.{WritesPrefix};
 ghost use Rattle.csv_days.specs.EndTexts.{end_status, listing_fault_status, table_fault_status};
+ghost use Rattle.csv_days.specs.Refusals.{RefusesNone};
 ghost use Rattle.message_texts.specs.EndTexts as text;
-ghost use Rattle.program_words.specs.Statuses.{status_code, status_text};
-ghost use Rattle.program_words.specs.declared.status.Status.TheVariants.{WriteFault};
+ghost use Rattle.command_line.specs.Statuses.{status_code, status_text};
+ghost use Rattle.command_line.specs.declared.status.Status.TheVariants.{WriteFault};
 ghost use Rattle.desk_words.specs.Outputs.{IsQuietIfGone};
-ghost use Rattle.desk_words.specs.Program.{check_line, check_status, checked_status, refuses_any, run_status, run_text};
-ghost use Rattle.desk_words.specs.RefusalLines.{refusal_lines};
-ghost use Rattle.desk_words.specs.TextRuns.{end_line, machine_status, table_ends, text_end_line, text_ends, text_line, text_machine_status, text_status};
-ghost use Rattle.csv_days.specs.declared.table_end.TableEnd.TheVariants.{Listing, Table};
+ghost use Rattle.desk_words.specs.Program.{check_status, checked_status, refuses_any, run_status};
+ghost use Rattle.desk_words.specs.Tellings.{SaysBadArguments};
+ghost use Rattle.desk_words.specs.TextRuns.{table_ends, text_ends, text_status};
 
-use crate::refusal_lines::refusal_lines;
+use crate::refusal_line::refusal_lines;
+use command_line::{Hint, Status};
 use csv_days::{Refusals, TableEnd};
 use csv_messages::TableFault;
 use message_texts::TextEnd;
-use program_words::Status;
-use std::alloc::Global;
+use std::alloc::{AllocError, Global};
+use std::fmt;
 use std::io::Write;
 use tape_core::ALL_REFUSALS;
 use tape_types::ListingFault;
@@ -32,10 +34,32 @@ pub fn say<E: Write>(errors: &mut E, text: &[u8])
     }
 }
 
+/// Says these words in a line of the program's own. If memory runs out nothing is said, and a failed write is ignored.
+pub(crate) fn say_line<E: Write, D: fmt::Display>(alloc: Global, errors: &mut E, words: &D)
+    ensures said { WritesLines (E.contents errors.old) (E.contents errors.new) }
+{
+    let _said = whole_io::say(alloc, errors, words);
+}
+
+/// Says that arguments are bad, and a hint in a line behind that, unless there was no memory for the hint.
+#[tactic(auto, using(crate::proofs::LineLemmas::bad_then, crate::proofs::LineLemmas::bad_part, crate::proofs::LineLemmas::bad_alone))]
+pub fn say_bad_arguments<E: Write>(alloc: Global, errors: &mut E, hint: Result<Hint, AllocError>)
+    ensures said { SaysBadArguments (E.contents errors.old) (E.contents errors.new) }
+{
+    if write_text(errors, b"tapebox: bad arguments\n").is_err() {
+        return;
+    }
+    if let Ok(hint) = hint {
+        say_line(alloc, errors, &hint);
+    }
+}
+
 /// Says what there is to say of a status.
+#[tactic(auto, using(crate::proofs::LineLemmas::status_lines))]
 pub fn say_status<E: Write>(errors: &mut E, status: Status)
     ensures quiet { status_text status ≡ [] → errors.new ≡ errors.old }
     ensures said { WritesPrefix (status_text status) (E.contents errors.old) (E.contents errors.new) }
+    ensures lines { WritesLines (E.contents errors.old) (E.contents errors.new) }
 {
     say(errors, status.text().as_bytes());
 }
@@ -48,11 +72,11 @@ fn is_quiet(status: Status, reader_gone: bool) -> bool
 }
 
 /// Says what there is to say of a status, but nothing of a write fault if whoever read what was written is gone.
-#[tactic(auto, using(crate::proofs::LineLemmas::nothing_said))]
+#[tactic(auto, using(crate::proofs::LineLemmas::no_lines))]
 pub fn say_ended<E: Write>(errors: &mut E, status: Status, reader_gone: bool)
     ensures quiet { status_text status ≡ [] → errors.new ≡ errors.old }
     ensures gone { IsQuietIfGone reader_gone status errors.old errors.new }
-    ensures said { WritesPrefix (status_text status) (E.contents errors.old) (E.contents errors.new) }
+    ensures said { WritesLines (E.contents errors.old) (E.contents errors.new) }
 {
     if is_quiet(status, reader_gone) {
         return;
@@ -60,52 +84,18 @@ pub fn say_ended<E: Write>(errors: &mut E, status: Status, reader_gone: bool)
     say_status(errors, status);
 }
 
-/// Returns the status of a table's fault if the fault does not depend on what the table says.
-fn machine_status(fault: &TableFault) -> Option<Status>
-    ensures { result ≡ machine_status fault.now }
-{
-    match fault {
-        TableFault::ReadFault => Some(Status::ReadFault),
-        TableFault::OutOfMemory => Some(Status::OutOfMemory),
-        TableFault::Header(_) | TableFault::NoRow | TableFault::Row(_, _) => None,
-    }
-}
+/// Why names make no listing, as it is printed.
+#[derive(Drop)]
+struct ListingLine(ListingFault);
 
-/// Says what is wrong with a table. If there is no memory for the line of a faulty row or header, nothing is said.
-fn say_fault<E: Write>(alloc: Global, errors: &mut E, fault: &TableFault)
-    ensures { WritesPrefix (end_line (Table fault.now)) (E.contents errors.old) (E.contents errors.new) }
-{
-    if let Some(status) = machine_status(fault) {
-        say_status(errors, status);
-        return;
-    }
-    let Ok(line) = format!(in alloc; "tapebox: {fault}\n") else {
-        return;
-    };
-    say(errors, line.as_bytes());
-}
-
-/// Returns what is said of names that make no listing.
-fn listing_line(fault: ListingFault) -> &'static [u8]
-    ensures { result.now ≡ end_line (Listing fault) }
-{
-    match fault {
-        ListingFault::Empty => b"tapebox: the table has no row\n",
-        ListingFault::TooMany => b"tapebox: the table has more than 4096 symbols\n",
-        ListingFault::Repeated => b"tapebox: a name stands twice in the listing\n",
-        ListingFault::OutOfMemory => Status::OutOfMemory.text().as_bytes(),
-    }
-}
-
-/// Says why a table has no text.
-fn say_why<E: Write>(alloc: Global, errors: &mut E, end: &TableEnd)
-    ensures { WritesPrefix (end_line end.now) (E.contents errors.old) (E.contents errors.new) }
-{
-    match end {
-        TableEnd::Table(fault) => say_fault(alloc, errors, fault),
-        TableEnd::Listing(fault) => say(errors, listing_line(*fault)),
-        TableEnd::OutOfMemory => say_status(errors, Status::OutOfMemory),
-        TableEnd::WriteFault => say_status(errors, Status::WriteFault),
+impl fmt::Display for ListingLine {
+    fn fmt<W: fmt::Write>(&self, f: &mut fmt::Formatter<W>) -> fmt::Result {
+        f.write_str(match self.0 {
+            ListingFault::Empty => "the table has no row",
+            ListingFault::TooMany => "the table has more than 4096 symbols",
+            ListingFault::Repeated => "a name stands twice in the listing",
+            ListingFault::OutOfMemory => "out of memory",
+        })
     }
 }
 
@@ -113,7 +103,11 @@ fn say_why<E: Write>(alloc: Global, errors: &mut E, end: &TableEnd)
 fn fault_status(fault: &TableFault) -> Status
     ensures { status_code result ≡ table_fault_status fault.now }
 {
-    machine_status(fault).unwrap_or(Status::Bad)
+    match fault {
+        TableFault::Header(_) | TableFault::NoRow | TableFault::Row(_, _) => Status::Bad,
+        TableFault::ReadFault => Status::ReadFault,
+        TableFault::OutOfMemory => Status::OutOfMemory,
+    }
 }
 
 /// Returns the status of names that make no listing.
@@ -138,30 +132,44 @@ fn status_of(end: &TableEnd) -> Status
     }
 }
 
+/// Says why a table has no text, whose end has this status. If there is no memory for the line of a bad table, nothing is said.
+fn say_why<E: Write>(alloc: Global, errors: &mut E, end: &TableEnd, status: Status)
+    ensures { WritesLines (E.contents errors.old) (E.contents errors.new) }
+{
+    match (status, end) {
+        (Status::Bad, TableEnd::Table(fault)) => say_line(alloc, errors, fault),
+        (Status::Bad, TableEnd::Listing(fault)) => say_line(alloc, errors, &ListingLine(*fault)),
+        _ => say_status(errors, status),
+    }
+}
+
 /// Says why a table has no text, but nothing of a write fault if whoever read it is gone, and returns the status.
-#[tactic(auto, using(crate::proofs::LineLemmas::nothing_said))]
+#[tactic(auto, using(crate::proofs::LineLemmas::no_lines))]
 pub fn say_end<E: Write>(alloc: Global, errors: &mut E, reader_gone: bool, end: &TableEnd) -> Status
     ensures status { status_code result ≡ end_status end.now }
     ensures gone { IsQuietIfGone reader_gone result errors.old errors.new }
-    ensures said { WritesPrefix (end_line end.now) (E.contents errors.old) (E.contents errors.new) }
+    ensures said { WritesLines (E.contents errors.old) (E.contents errors.new) }
 {
     let status = status_of(end);
     if is_quiet(status, reader_gone) {
         return status;
     }
-    say_why(alloc, errors, end);
+    say_why(alloc, errors, end, status);
     status
 }
 
-/// Says which rows were refused, unless there is no memory for the lines.
+/// Says which rows were refused, unless there is no memory for the lines. A failed write is ignored.
+#[tactic(auto, using(crate::proofs::LineLemmas::no_lines))]
 fn say_refusals<E: Write>(alloc: Global, errors: &mut E, refusals: &Refusals)
-    ensures quiet { refusal_lines refusals.now ≡ [] → errors.new ≡ errors.old }
-    ensures said { WritesPrefix (refusal_lines refusals.now) (E.contents errors.old) (E.contents errors.new) }
+    ensures quiet { RefusesNone refusals.now → errors.new ≡ errors.old }
+    ensures said { WritesLines (E.contents errors.old) (E.contents errors.new) }
 {
-    let Ok(lines) = refusal_lines(alloc, refusals) else {
+    if refusals.is_empty() {
         return;
-    };
-    say(errors, &lines);
+    }
+    if let Ok(lines) = refusal_lines(alloc, refusals) {
+        let _said = lines.write(errors);
+    }
 }
 
 /// Returns whether rows were refused.
@@ -195,8 +203,8 @@ pub fn end_run<E: Write>(
 ) -> Status
     ensures status { status_code result ≡ run_status strict run }
     ensures gone { IsQuietIfGone reader_gone result errors.old errors.new }
-    ensures quiet { run_text run ≡ [] → errors.new ≡ errors.old }
-    ensures said { WritesPrefix (run_text run) (E.contents errors.old) (E.contents errors.new) }
+    ensures quiet { IfOk run (λ refusals. RefusesNone refusals → errors.new ≡ errors.old) }
+    ensures said { WritesLines (E.contents errors.old) (E.contents errors.new) }
 {
     match run {
         Ok(refusals) => {
@@ -216,6 +224,7 @@ fn checked_status(faultless: bool) -> Status
 
 /// Says why the faults of a table are not all written, or nothing if they are, and returns the status, which is `Bad` if there
 /// are any.
+#[tactic(auto, using(crate::proofs::LineLemmas::no_lines))]
 pub fn end_check<E: Write>(
     alloc: Global,
     errors: &mut E,
@@ -225,7 +234,7 @@ pub fn end_check<E: Write>(
     ensures status { status_code result ≡ check_status run }
     ensures gone { IsQuietIfGone reader_gone result errors.old errors.new }
     ensures quiet { IsOk run → errors.new ≡ errors.old }
-    ensures said { WritesPrefix (check_line run) (E.contents errors.old) (E.contents errors.new) }
+    ensures said { WritesLines (E.contents errors.old) (E.contents errors.new) }
 {
     match run {
         Ok(faultless) => checked_status(faultless),
@@ -234,6 +243,7 @@ pub fn end_check<E: Write>(
 }
 
 /// Says why a text of a table was not written whole, or nothing if it was, and returns the status.
+#[tactic(auto, using(crate::proofs::LineLemmas::no_lines))]
 pub fn end_text<E: Write>(
     alloc: Global,
     errors: &mut E,
@@ -243,7 +253,7 @@ pub fn end_text<E: Write>(
     ensures status { status_code result ≡ text_status table_ends run }
     ensures gone { IsQuietIfGone reader_gone result errors.old errors.new }
     ensures quiet { IsOk run → errors.new ≡ errors.old }
-    ensures said { WritesPrefix (text_line table_ends run) (E.contents errors.old) (E.contents errors.new) }
+    ensures said { WritesLines (E.contents errors.old) (E.contents errors.new) }
 {
     match run {
         Ok(()) => Status::Done,
@@ -251,56 +261,47 @@ pub fn end_text<E: Write>(
     }
 }
 
-/// Returns the status of the end of a batch's text if the end does not depend on what the text says.
-fn text_machine_status(end: &TextEnd) -> Option<Status>
-    ensures { result ≡ text_machine_status end.now }
-{
-    match end {
-        TextEnd::ReadFault => Some(Status::ReadFault),
-        TextEnd::OutOfMemory => Some(Status::OutOfMemory),
-        TextEnd::WriteFault => Some(Status::WriteFault),
-        TextEnd::Line(_, _) => None,
-    }
-}
-
 /// Returns the status of the end of a batch's text.
 fn text_status_of(end: &TextEnd) -> Status
     ensures { status_code result ≡ text.end_status end.now }
 {
-    text_machine_status(end).unwrap_or(Status::Bad)
+    match end {
+        TextEnd::Line(_, _) => Status::Bad,
+        TextEnd::ReadFault => Status::ReadFault,
+        TextEnd::OutOfMemory => Status::OutOfMemory,
+        TextEnd::WriteFault => Status::WriteFault,
+    }
 }
 
-/// Says why the text of a batch has no table. If there is no memory for the line of a faulty line of it, nothing is said.
-fn say_text_why<E: Write>(alloc: Global, errors: &mut E, end: &TextEnd)
-    ensures { WritesPrefix (text_end_line end.now) (E.contents errors.old) (E.contents errors.new) }
+/// Says why the text of a batch has no table, whose end has this status. If there is no memory for the line of a faulty line of
+/// it, nothing is said.
+fn say_text_why<E: Write>(alloc: Global, errors: &mut E, end: &TextEnd, status: Status)
+    ensures { WritesLines (E.contents errors.old) (E.contents errors.new) }
 {
-    if let Some(status) = text_machine_status(end) {
-        say_status(errors, status);
-        return;
+    match status {
+        Status::Bad => say_line(alloc, errors, end),
+        _ => say_status(errors, status),
     }
-    let Ok(line) = format!(in alloc; "tapebox: {end}\n") else {
-        return;
-    };
-    say(errors, line.as_bytes());
 }
 
 /// Says why the text of a batch has no table, but nothing of a write fault if whoever read the table is gone, and returns the
 /// status.
-#[tactic(auto, using(crate::proofs::LineLemmas::nothing_said))]
+#[tactic(auto, using(crate::proofs::LineLemmas::no_lines))]
 fn say_text_end<E: Write>(alloc: Global, errors: &mut E, reader_gone: bool, end: &TextEnd) -> Status
     ensures status { status_code result ≡ text.end_status end.now }
     ensures gone { IsQuietIfGone reader_gone result errors.old errors.new }
-    ensures said { WritesPrefix (text_end_line end.now) (E.contents errors.old) (E.contents errors.new) }
+    ensures said { WritesLines (E.contents errors.old) (E.contents errors.new) }
 {
     let status = text_status_of(end);
     if is_quiet(status, reader_gone) {
         return status;
     }
-    say_text_why(alloc, errors, end);
+    say_text_why(alloc, errors, end, status);
     status
 }
 
 /// Says why the text of a batch was not written whole as a table, or nothing if it was, and returns the status.
+#[tactic(auto, using(crate::proofs::LineLemmas::no_lines))]
 pub fn end_decoded<E: Write>(
     alloc: Global,
     errors: &mut E,
@@ -310,7 +311,7 @@ pub fn end_decoded<E: Write>(
     ensures status { status_code result ≡ text_status text_ends run }
     ensures gone { IsQuietIfGone reader_gone result errors.old errors.new }
     ensures quiet { IsOk run → errors.new ≡ errors.old }
-    ensures said { WritesPrefix (text_line text_ends run) (E.contents errors.old) (E.contents errors.new) }
+    ensures said { WritesLines (E.contents errors.old) (E.contents errors.new) }
 {
     match run {
         Ok(()) => Status::Done,

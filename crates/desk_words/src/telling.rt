@@ -6,7 +6,7 @@ ghost use Rattle.desk_words.specs.Tellings.{told_line};
 
 use crate::saying::say;
 use feed_ends::{SocketFault, SocketPlace};
-use feed_follower::{FollowEnd, FollowFault, account_text};
+use feed_follower::{FollowEnd, FollowFault, account_of};
 use std::alloc::{AllocError, Global};
 use std::io::Write;
 
@@ -43,8 +43,8 @@ pub fn say_socket_fault<E: Write>(alloc: Global, errors: &mut E, fault: SocketFa
 pub fn say_followed<E: Write>(alloc: Global, errors: &mut E, end: &FollowEnd) -> bool
     ensures { OnOk end.now.ended (IsTrue result → ⊥) }
 {
-    if let Ok(account) = account_text(alloc, end) {
-        say(errors, &account);
+    if let Ok(account) = account_of(alloc, end) {
+        let _said = account.write(errors);
     }
     let Err(FollowFault::Unreachable { port, kind }) = end.ended else {
         return false;

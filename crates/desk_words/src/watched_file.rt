@@ -1,7 +1,7 @@
 //! Follows a running day that a file describes, and writes the readable tape of its entries as they come.
 ghost use Rattle.std.specs.Prelude.{◌≡◌, ◌⊎◌, OnOk};
-ghost use Rattle.program_words.specs.Statuses.{status_code};
-ghost use Rattle.program_words.specs.declared.status.Status.TheVariants.{Done};
+ghost use Rattle.command_line.specs.Statuses.{status_code};
+ghost use Rattle.command_line.specs.declared.status.Status.TheVariants.{Done};
 ghost use Rattle.desk_words.specs.Watches.{IsRunStatus, WritesPartOf, WritesSome, WritesTapeOf, WritesWhole};
 
 use crate::Output;
@@ -9,10 +9,11 @@ use crate::run_status::ended_status;
 use crate::saying::{say_ended, say_status};
 use crate::telling::say_followed;
 use crate::watching::{RowSink, Watched, flushed, sink_fault, unbuffered};
+use command_line::Status;
 use csv_days::{EntryRows, write_head};
+use day_terms::FollowTerms;
 use feed_ends::Fault;
-use feed_follower::{FollowEnd, FollowSockets, FollowTerms, follow_tape_day};
-use program_words::Status;
+use feed_follower::{FollowEnd, FollowSockets, follow_tape_day};
 use std::alloc::Global;
 use std::io::{BufWriter, Write};
 use std::net::{Net, TcpListener, TcpStream};
@@ -40,8 +41,8 @@ fn watch_rows<T, W>(
 where
     T: Threads + Wait + Net<Listener = TcpListener, Stream = TcpStream> + Sync,
     W: Write + Send + Drop,
-    ensures whole { OnOk result.ended (WritesTapeOf terms.listing terms.matrix terms.limit (W.contents writer) (W.contents result.writer)) }
-    ensures part { (result.writer ≡ writer) ⊎ WritesPartOf terms.listing terms.matrix terms.limit (W.contents writer) (W.contents result.writer) }
+    ensures whole { OnOk result.ended (WritesTapeOf terms.day.listing terms.day.matrix terms.day.limit (W.contents writer) (W.contents result.writer)) }
+    ensures part { (result.writer ≡ writer) ⊎ WritesPartOf terms.day.listing terms.day.matrix terms.day.limit (W.contents writer) (W.contents result.writer) }
 {
     let mut writer = writer;
     if let Err(fault) = write_head(alloc, &mut writer) {
@@ -85,8 +86,8 @@ where
     W: Output + Send + Drop,
     E: Write,
     ensures known { IsRunStatus (status_code result.0) }
-    ensures whole { result.0 ≡ Done → WritesWhole W.contents terms.listing terms.matrix terms.limit writer result.1 }
-    ensures part { WritesSome W.contents terms.listing terms.matrix terms.limit writer result.1 }
+    ensures whole { result.0 ≡ Done → WritesWhole W.contents terms.day.listing terms.day.matrix terms.day.limit writer result.1 }
+    ensures part { WritesSome W.contents terms.day.listing terms.day.matrix terms.day.limit writer result.1 }
 {
     let Ok(buffer) = BufWriter::new(alloc, writer) else {
         say_status(errors, Status::OutOfMemory);

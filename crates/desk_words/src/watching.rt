@@ -1,24 +1,24 @@
 //! Follows a running day, and writes the readable tape of its entries as they come.
-ghost use Rattle.std.specs.Prelude.{◌≡◌, ◌⊎◌, [], Err, IfErr, IfSome, IsOk, IsSome, OnOk, Some};
+ghost use Rattle.std.specs.Prelude.{◌≡◌, ◌⊎◌, Err, IfErr, IfSome, IsOk, IsSome, OnOk, Some};
 ghost use Rattle.std.specs.Io.Buffered.{writer_contents};
 ghost use Rattle.feed_ends.specs.declared.fault.Fault.TheVariants.{Write as WriteFault};
-ghost use Rattle.feed_words.specs.Days.{NameFollow};
-ghost use Rattle.feed_words.specs.Words.{words_of};
-ghost use Rattle.program_words.specs.Statuses.{status_code, status_text};
-ghost use Rattle.program_words.specs.declared.status.Status.TheVariants.{Done};
+ghost use Rattle.day_terms.specs.Arguments.{words_of};
+ghost use Rattle.day_terms.specs.NamedDays.{NameFollow};
+ghost use Rattle.command_line.specs.Statuses.{status_code};
+ghost use Rattle.command_line.specs.declared.status.Status.TheVariants.{Done};
 ghost use Rattle.std.specs.Io.KnownBytes.{Keeps};
-ghost use Rattle.whole_io.specs.Writing.{WritesPrefix};
+ghost use Rattle.whole_io.specs.Lines.{WritesLines};
 ghost use Rattle.desk_words.specs.Outputs.{IsQuietIfGone};
-ghost use Rattle.desk_words.specs.Watches.{IsRunStatus, IsWatchStatus, WritesPartOf, WritesSome, WritesTapeOf, WritesWhole, entry_line, row_fault, watch_text};
+ghost use Rattle.desk_words.specs.Watches.{IsRunStatus, IsWatchStatus, WritesPartOf, WritesSome, WritesTapeOf, WritesWhole, entry_line, row_fault};
 
 use crate::Output;
 use crate::run_status::ended_status;
-use crate::saying::{say, say_ended};
+use crate::saying::{say_bad_arguments, say_ended, say_status};
+use command_line::{Hint, Status, Word};
 use csv_days::{EntryRows, write_head};
+use day_terms::{FollowDay, WordsFault};
 use feed_ends::Fault;
-use feed_follower::{EntrySink, FollowSockets, FollowTerms, SinkFault, follow_tape};
-use feed_words::{FollowWords, WordsFault};
-use program_words::Status;
+use feed_follower::{EntrySink, FollowSockets, SinkFault, follow_tape};
 use std::alloc::Global;
 use std::io::{BufWriter, Write};
 use std::net::{Net, TcpListener, TcpStream};
@@ -94,14 +94,14 @@ pub(crate) fn flushed<W: Write>(ended: Result<(), Fault>, writer: &mut W) -> Res
 
 /// Follows the day of these arguments, writes the rows of its tape to a writer as they come, and returns the writer.
 #[tactic(auto, using(crate::proofs::WatchLemmas::head_part, crate::proofs::WatchLemmas::tape_part))]
-fn watch_day<T, W>(rt: &T, alloc: Global, words: FollowWords, writer: W) -> (Result<(), Fault>, W)
+fn watch_day<T, W>(rt: &T, alloc: Global, day: FollowDay, writer: W) -> (Result<(), Fault>, W)
 where
     T: Threads + Wait + Net<Listener = TcpListener, Stream = TcpStream> + Sync,
     W: Write + Send + Drop,
-    ensures whole { OnOk result.0 (WritesTapeOf words.listing words.matrix words.limit (W.contents writer) (W.contents result.1)) }
-    ensures part { (result.1 ≡ writer) ⊎ WritesPartOf words.listing words.matrix words.limit (W.contents writer) (W.contents result.1) }
+    ensures whole { OnOk result.0 (WritesTapeOf day.terms.day.listing day.terms.day.matrix day.terms.day.limit (W.contents writer) (W.contents result.1)) }
+    ensures part { (result.1 ≡ writer) ⊎ WritesPartOf day.terms.day.listing day.terms.day.matrix day.terms.day.limit (W.contents writer) (W.contents result.1) }
 {
-    let Ok(sockets) = FollowSockets::open(rt, words.ports, words.retransmission) else {
+    let Ok(sockets) = FollowSockets::open(rt, day.ports, day.retransmission) else {
         return (Err(Fault::Read), writer);
     };
     let mut writer = writer;
@@ -112,38 +112,13 @@ where
         rows: EntryRows::new(alloc),
         writer,
     };
-    let terms = FollowTerms {
-        listing: words.listing,
-        limit: words.limit,
-        matrix: words.matrix,
-        session: words.session,
-        connect_within: None,
-    };
-    let (ended, sink) = follow_tape(rt, alloc, terms, sockets, sink);
+    let (ended, sink) = follow_tape(rt, alloc, day.terms, sockets, sink);
     let RowSink {
         rows: _,
         mut writer,
     } = sink;
     let ended = flushed(ended, &mut writer);
     (ended, writer)
-}
-
-/// Returns what is said of a watched day that ends with this status.
-fn watch_text(status: Status) -> &'static str
-    ensures { result.now ≡ watch_text status }
-{
-    match status {
-        Status::Bad => "tapebox: bad arguments\n",
-        _ => status.text(),
-    }
-}
-
-/// Says what there is to say of a watched day that ends with this status.
-fn say_watched<E: Write>(errors: &mut E, status: Status)
-    ensures quiet { watch_text status ≡ [] → errors.new ≡ errors.old }
-    ensures said { WritesPrefix (watch_text status) (E.contents errors.old) (E.contents errors.new) }
-{
-    say(errors, watch_text(status).as_bytes());
 }
 
 /// How a watched day ended whose rows were written through a buffer.
@@ -185,12 +160,12 @@ pub(crate) fn unbuffered<W: Output + Drop>(
 }
 
 /// Watches a day, and writes its rows through a buffer.
-fn watch_buffered<T, W>(rt: &T, alloc: Global, words: FollowWords, writer: W) -> Watched<W>
+fn watch_buffered<T, W>(rt: &T, alloc: Global, day: FollowDay, writer: W) -> Watched<W>
 where
     T: Threads + Wait + Net<Listener = TcpListener, Stream = TcpStream> + Sync,
     W: Output + Send + Drop,
-    ensures whole { OnOk result.ended (WritesWhole W.contents words.listing words.matrix words.limit writer result.writer) }
-    ensures part { WritesSome W.contents words.listing words.matrix words.limit writer result.writer }
+    ensures whole { OnOk result.ended (WritesWhole W.contents day.terms.day.listing day.terms.day.matrix day.terms.day.limit writer result.writer) }
+    ensures part { WritesSome W.contents day.terms.day.listing day.terms.day.matrix day.terms.day.limit writer result.writer }
     ensures gone { IfSome result.writer (λ inner. result.reader_gone ≡ W.reader_gone inner) }
 {
     let Ok(buffer) = BufWriter::new(alloc, writer) else {
@@ -200,7 +175,7 @@ where
             writer: None,
         };
     };
-    let (ended, buffer) = watch_day(rt, alloc, words, buffer);
+    let (ended, buffer) = watch_day(rt, alloc, day, buffer);
     unbuffered(ended, buffer)
 }
 
@@ -215,7 +190,7 @@ where
 pub fn watch<T, W, E>(
     rt: &T,
     alloc: Global,
-    words: FollowWords,
+    day: FollowDay,
     writer: W,
     errors: &mut E,
 ) -> (Status, Option<W>)
@@ -224,24 +199,25 @@ where
     W: Output + Send + Drop,
     E: Write,
     ensures known { IsRunStatus (status_code result.0) }
-    ensures whole { result.0 ≡ Done → WritesWhole W.contents words.listing words.matrix words.limit writer result.1 }
-    ensures part { WritesSome W.contents words.listing words.matrix words.limit writer result.1 }
+    ensures whole { result.0 ≡ Done → WritesWhole W.contents day.terms.day.listing day.terms.day.matrix day.terms.day.limit writer result.1 }
+    ensures part { WritesSome W.contents day.terms.day.listing day.terms.day.matrix day.terms.day.limit writer result.1 }
     ensures quiet { result.0 ≡ Done → errors.new ≡ errors.old }
     ensures gone { IfSome result.1 (λ back. IsQuietIfGone (W.reader_gone back) result.0 errors.old errors.new) }
-    ensures said { WritesPrefix (status_text result.0) (E.contents errors.old) (E.contents errors.new) }
+    ensures said { WritesLines (E.contents errors.old) (E.contents errors.new) }
 {
     let Watched {
         ended,
         reader_gone,
         writer,
-    } = watch_buffered(rt, alloc, words, writer);
+    } = watch_buffered(rt, alloc, day, writer);
     let status = ended_status(ended);
     say_ended(errors, status, reader_gone);
     (status, writer)
 }
 
 /// Watches the day that the arguments after `watch` name in a row, each ended by a zero byte, as `watch` does. With bad
-/// arguments it reads and writes nothing, and returns the status `Bad`.
+/// arguments it reads and writes nothing, says how `watch` is used, and returns the status `Bad`.
+#[tactic(auto, using(crate::proofs::LineLemmas::bad_lines))]
 pub fn watch_row<T, W, E>(
     rt: &T,
     alloc: Global,
@@ -254,20 +230,20 @@ where
     W: Output + Send + Drop,
     E: Write,
     ensures known { IsWatchStatus (status_code result.0) }
-    ensures whole { result.0 ≡ Done → (day : FollowWords) × NameFollow (words_of words.now) day × WritesWhole W.contents day.listing day.matrix day.limit writer result.1 }
-    ensures part { (result.1 ≡ Some writer) ⊎ ((day : FollowWords) × NameFollow (words_of words.now) day × WritesSome W.contents day.listing day.matrix day.limit writer result.1) }
+    ensures whole { result.0 ≡ Done → (day : FollowDay) × NameFollow (words_of words.now) day × WritesWhole W.contents day.terms.day.listing day.terms.day.matrix day.terms.day.limit writer result.1 }
+    ensures part { (result.1 ≡ Some writer) ⊎ ((day : FollowDay) × NameFollow (words_of words.now) day × WritesSome W.contents day.terms.day.listing day.terms.day.matrix day.terms.day.limit writer result.1) }
     ensures quiet { result.0 ≡ Done → errors.new ≡ errors.old }
     ensures gone { IfSome result.1 (λ back. IsQuietIfGone (W.reader_gone back) result.0 errors.old errors.new) }
-    ensures said { WritesPrefix (watch_text result.0) (E.contents errors.old) (E.contents errors.new) }
+    ensures said { WritesLines (E.contents errors.old) (E.contents errors.new) }
 {
-    match FollowWords::read(alloc, words) {
+    match FollowDay::read(alloc, words) {
         Ok(day) => watch(rt, alloc, day, writer, errors),
         Err(WordsFault::BadArguments) => {
-            say_watched(errors, Status::Bad);
+            say_bad_arguments(alloc, errors, Ok(Hint::Use(Word::Watch)));
             (Status::Bad, Some(writer))
         }
         Err(WordsFault::OutOfMemory) => {
-            say_watched(errors, Status::OutOfMemory);
+            say_status(errors, Status::OutOfMemory);
             (Status::OutOfMemory, Some(writer))
         }
     }

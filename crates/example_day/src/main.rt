@@ -13,8 +13,7 @@ use sale_matrix::Matrix;
 use scratch_fold::Summary;
 use std::alloc::Global;
 use subscriber::{DeliveryFault, Subscriber};
-use summaries::IndexStore;
-use tape_core::Tape;
+use tape_core::{IndexedTape, Tape};
 use tape_frames::{SliceSource, Source, Version, cut, write_packet};
 
 /// The session that the tape is sent under.
@@ -38,7 +37,7 @@ fn send<R: AllocGlobal + Print>(rt: &R, names: &Names) -> anyhow::Result<Vec<u8>
 }
 
 /// Admits the day's messages: three reports, and a cancel of the last of them.
-fn play<R: Print>(rt: &R, names: &Names, tape: &mut Tape<IndexStore>) -> anyhow::Result<()> {
+fn play<R: Print>(rt: &R, names: &Names, tape: &mut IndexedTape) -> anyhow::Result<()> {
     let Names { symbol, n, q } = *names;
     tape.admit(report(symbol, n, 1, 100_100, 200)?)?;
     tape.admit(report(symbol, n, 2, 99_900, 300)?)?;
@@ -49,7 +48,7 @@ fn play<R: Print>(rt: &R, names: &Names, tape: &mut Tape<IndexStore>) -> anyhow:
 }
 
 /// The bytes of the packet that brings a tape's first entries. A tape without entries is an error.
-fn first_packet(alloc: Global, tape: &Tape<IndexStore>) -> anyhow::Result<Vec<u8>> {
+fn first_packet(alloc: Global, tape: &IndexedTape) -> anyhow::Result<Vec<u8>> {
     let source = SliceSource::of(tape);
     ensure!(source.published() > 0, "the tape has no entry");
     let mut bytes = Vec::new(alloc);

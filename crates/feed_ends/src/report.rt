@@ -12,8 +12,7 @@ use day_report::{ReportFault, Row, rows, write_report};
 use std::alloc::Global;
 use std::io::Write;
 use std::thread::Threads;
-use summaries::IndexStore;
-use tape_core::Tape;
+use tape_core::IndexedTape;
 use tape_types::NoGate;
 use whole_io::flush;
 
@@ -39,7 +38,7 @@ impl From<ReportFault> for Fault {
 fn rows_of<R: Threads + Sync>(
     rt: &R,
     alloc: Global,
-    tape: &Tape<IndexStore>,
+    tape: &IndexedTape,
 ) -> Result<Vec<Row>, ReportFault>
     ensures rows { IfOk result (λ rows. rows.items ≡ report_rows tape.now) }
     ensures memory { IfErr result (λ fault. fault ≡ ReportOutOfMemory) }
@@ -54,7 +53,7 @@ fn rows_of<R: Threads + Sync>(
 pub fn write_day<R: Threads + Sync, W: Write>(
     rt: &R,
     alloc: Global,
-    tape: &Tape<IndexStore>,
+    tape: &IndexedTape,
     writer: &mut W,
 ) -> Result<(), Fault>
     ensures names { IsListing tape.now.listing }

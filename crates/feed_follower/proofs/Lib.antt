@@ -3,5 +3,4 @@ pub mod Heards
 pub mod Kept
 pub mod Reports
 pub mod Rows
-pub mod Texts
 pub mod Wholes

@@ -2,12 +2,12 @@
 use Rattle.std.proofs.Common.{◌≡◌, ◌≤◌, ◌+◌, ℕ, arith, length, take, zero, suc, List, [], ◌∷◌, ◌++◌, Bool, true, false, Option, None, Some, refl, sym, ap, subst, ◌∙◌, append-nil, append_assoc}
 use Rattle.std.specs.Prelude.{◌||◌, is_some, if◌then◌else◌}
 use Rattle.std.specs.Io.KnownBytes.{Appends, Keeps}
-use Rattle.std.proofs.KnownBytes.{Appends-kept, Appends-nil, Appends-trans}
+use Rattle.std.proofs.KnownBytes.{Appends-kept, Appends-nil}
 use Rattle.std.proofs.Math.Seq.{take-append_seam}
 use Rattle.std.proofs.lemmas.List.{length-append}
 use Rattle.std.proofs.lemmas.Option.{none-some, same_Some}
 use Rattle.whole_io.specs.Writing.{WritesPrefix}
-use Rattle.whole_io.specs.Lemmas.WriteLemmas.{WritesPrefix-whole, WritesPrefix-then, WritesUpTo-none}
+use Rattle.whole_io.specs.Lemmas.WriteLemmas.{WritesPrefix-whole, WritesUpTo-none}
 use Rattle.arbitration.specs.Windows.{next_of}
 use Rattle.sale_matrix.specs.declared.matrix.Matrix.{Matrix}
 use Rattle.scratch_fold.specs.declared.summary.Summary.{Summary}
@@ -134,24 +134,6 @@ some_next row e s after had has drains given = record {
   given = given;
 }
 
--- entries are given after others
-pub more_then : (row : EntryText) (t now after : TapeState) (had has holds : Option (List ℕ)) → GivesMore row t now had has
-    → GivesMore row now after has holds → GivesMore row t after had holds
-more_then row t now after had has holds one two = record {
-  more = one.more ++ two.more;
-  grown = two.grown ∙ ap (λ (l : List ℕ). l ++ two.more) one.grown ∙ append_assoc (rows_of row t) one.more two.more;
-  given = Appends-trans had has holds one.more two.more one.given two.given;
-}
-
--- or some of them are
-pub some_then : (row : EntryText) (t now after : TapeState) (had has holds : Option (List ℕ)) → GivesMore row t now had has
-    → GivesSome row now after has holds → GivesSome row t after had holds
-some_then row t now after had has holds one two = record {
-  more = one.more ++ two.more;
-  grown = two.grown ∙ ap (λ (l : List ℕ). l ++ two.more) one.grown ∙ append_assoc (rows_of row t) one.more two.more;
-  given = WritesPrefix-then one.more two.more had has holds one.given two.given;
-}
-
 -- what was given stays as long as known bytes do
 pub more_kept : (row : EntryText) (t after : TapeState) (had has holds : Option (List ℕ)) → GivesMore row t after had has
     → Keeps has holds → GivesMore row t after had holds
@@ -247,11 +229,6 @@ all_of_nothing row t before has is all = subst (λ (l : List ℕ). HasAll l befo
 pub nothing_of_all : (row : EntryText) (t : TapeState) (before has : Option (List ℕ)) → t.entries ≡ [] → HasAll (rows_of row t) before has
     → HasAll [] before has
 nothing_of_all row t before has is all = subst (λ (l : List ℕ). HasAll l before has) (rows_of_nothing row t is) all
-
--- all that it has since then was appended
-pub appends_of_all : (text : List ℕ) (had has : Option (List ℕ)) → HasAll text had has → Appends had has text
-appends_of_all text None has all = tt
-appends_of_all text (Some xs) has all = subst (λ (o : Option (List ℕ)). Appends (Some xs) o text) (sym all) refl
 
 -- if no run begins, a sink has nothing of the empty tape
 pub part_of_nothing : (row : EntryText) (listing : Names) (matrix : Matrix) (limit : ℕ) (had : Option (List ℕ))

@@ -1,4 +1,3 @@
-pub mod AccountTexts
 pub mod Accounts
 pub mod Conflicts
 pub mod Faults

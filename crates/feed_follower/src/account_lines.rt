@@ -1,275 +1,150 @@
-//! Writes the account of a follower's day as lines for standard error, part by part, each part as `specs/AccountTexts.antt`
-//! says.
-ghost use Rattle.std.specs.Prelude.{◌≡◌, ◌++◌, IfOk, OnOk};
-ghost use Rattle.feed_follower.specs.AccountTexts.{account_text, asked_text, counted_text, drops_text, end_text, entries_text, heard_text, line_text, lines_text, named, other_text, packets_text, pair_text, part_text, reason_text, reasons_text, senders_text, session_text};
+//! The account of a follower's day, as lines for standard error.
 
 use crate::{FollowAccount, FollowEnd, FollowFault, LineCounts};
 use feed_ends::Fault;
 use std::alloc::{AllocError, Global};
-use whole_io::{push_counted, push_number, push_wide_number};
+use std::fmt;
+use whole_io::Lines;
 
-/// Adds a text, a count and a noun.
-#[tactic(auto, unfolding(crate::specs::AccountTexts::counted_text))]
-fn push_counted_after(
-    text: &mut Vec<u8>,
-    before: &[u8],
-    count: u64,
-    one: &[u8],
-    more: &[u8],
-) -> Result<(), AllocError>
-    ensures { OnOk result (text.new.items ≡ text.old.items ++ counted_text before.now count one.now more.now) }
-{
-    text.extend_from_slice(before)?;
-    push_counted(text, u128::from(count), one, more)
+/// How many there are of something, with the word for one and for any other number.
+#[derive(Clone, Copy)]
+struct Counted(u64, &'static str, &'static str);
+
+/// How many packets came by a line, and how many of them were dropped for which reason.
+#[derive(Clone, Copy)]
+struct Packets(LineCounts);
+
+/// A line of an account.
+#[derive(Clone, Copy)]
+enum AccountLine {
+    /// What came by the line of this name.
+    Line(&'static str, LineCounts),
+    /// How many requests were made, and what came by retransmission.
+    Asked(u64, LineCounts),
+    /// How many entries came first by each line and by retransmission.
+    Entries(FollowAccount),
+    /// Another session is heard.
+    OtherSession { heard: u64, wanted: u64 },
+    /// The session has two senders: this number was told of in two ways.
+    TwoSenders { session: u64, number: u32 },
+    /// The retransmission has another entry under this number.
+    OtherEntry(u32),
+    /// The report is of so many entries, the first of the day.
+    Part(u32),
 }
 
-/// Adds how many packets were dropped for a reason, if any were.
-#[tactic(auto, unfolding(crate::specs::AccountTexts::reason_text))]
-fn push_reason(text: &mut Vec<u8>, count: u64, reason: &[u8]) -> Result<(), AllocError>
-    ensures { OnOk result (text.new.items ≡ text.old.items ++ reason_text count reason.now) }
-{
-    if count == 0 {
-        return Ok(());
-    }
-    text.extend_from_slice(b", ")?;
-    push_number(text, count)?;
-    text.extend_from_slice(reason)
-}
-
-/// Adds the reasons for which packets were dropped.
-#[tactic(auto, unfolding(crate::specs::AccountTexts::reasons_text))]
-fn push_reasons(text: &mut Vec<u8>, counts: &LineCounts) -> Result<(), AllocError>
-    ensures { OnOk result (text.new.items ≡ text.old.items ++ reasons_text counts.now) }
-{
-    push_reason(text, counts.no_packet, b" no packet")?;
-    push_reason(text, counts.foreign, b" of another session")?;
-    push_reason(text, counts.conflict, b" with another entry")?;
-    push_reason(text, counts.past_end, b" past the end")
-}
-
-/// Returns the reasons for which packets were dropped, each after a comma.
-fn reasons(alloc: Global, counts: &LineCounts) -> Result<Vec<u8>, AllocError>
-    ensures { IfOk result (λ text. text.items ≡ reasons_text counts.now) }
-{
-    let mut text = Vec::new(alloc);
-    push_reasons(&mut text, counts)?;
-    Ok(text)
-}
-
-/// Adds how many packets were dropped, and for which reasons, if any were.
-#[tactic(auto, unfolding(crate::specs::AccountTexts::drops_text))]
-fn push_drops(text: &mut Vec<u8>, count: u128, reasons: &[u8]) -> Result<(), AllocError>
-    ensures { OnOk result (text.new.items ≡ text.old.items ++ drops_text count reasons.now) }
-{
-    let Some((_comma, reasons)) = reasons.split_first() else {
-        return Ok(());
-    };
-    text.extend_from_slice(b", ")?;
-    push_wide_number(text, count)?;
-    text.extend_from_slice(b" dropped:")?;
-    text.extend_from_slice(reasons)
-}
-
-/// Adds how many packets came by a line, and what became of them.
-#[tactic(auto, unfolding(crate::specs::AccountTexts::packets_text))]
-fn push_packets(alloc: Global, text: &mut Vec<u8>, counts: &LineCounts) -> Result<(), AllocError>
-    ensures { OnOk result (text.new.items ≡ text.old.items ++ packets_text counts.now) }
-{
-    push_counted(text, u128::from(counts.packets), b" packet", b" packets")?;
-    let reasons = reasons(alloc, counts)?;
-    push_drops(text, counts.dropped(), &reasons)?;
-    text.extend_from_slice(b"\n")
-}
-
-/// Adds a number between two texts.
-#[tactic(auto, unfolding(crate::specs::AccountTexts::named))]
-fn push_named(
-    text: &mut Vec<u8>,
-    before: &[u8],
-    number: u64,
-    after: &[u8],
-) -> Result<(), AllocError>
-    ensures { OnOk result (text.new.items ≡ text.old.items ++ named before.now number after.now) }
-{
-    text.extend_from_slice(before)?;
-    push_number(text, number)?;
-    text.extend_from_slice(after)
-}
-
-/// Adds two numbers with the texts around them.
-#[tactic(auto, unfolding(crate::specs::AccountTexts::pair_text))]
-fn push_pair(
-    text: &mut Vec<u8>,
-    before: &[u8],
-    first: u64,
-    between: &[u8],
-    second: u64,
-    after: &[u8],
-) -> Result<(), AllocError>
-    ensures { OnOk result (text.new.items ≡ text.old.items ++ pair_text before.now first between.now second after.now) }
-{
-    push_named(text, before, first, between)?;
-    push_named(text, b"", second, after)
-}
-
-/// Adds what came by a line.
-#[tactic(auto, unfolding(crate::specs::AccountTexts::line_text))]
-fn push_line(
-    alloc: Global,
-    text: &mut Vec<u8>,
-    name: &[u8],
-    counts: &LineCounts,
-) -> Result<(), AllocError>
-    ensures { OnOk result (text.new.items ≡ text.old.items ++ line_text name.now counts.now) }
-{
-    text.extend_from_slice(name)?;
-    push_packets(alloc, text, counts)
-}
-
-/// Adds how many requests were made, and what came by retransmission.
-#[tactic(auto, unfolding(crate::specs::AccountTexts::asked_text))]
-fn push_asked(alloc: Global, text: &mut Vec<u8>, account: &FollowAccount) -> Result<(), AllocError>
-    ensures { OnOk result (text.new.items ≡ text.old.items ++ asked_text account.now) }
-{
-    let before = b"tapebox: retransmission: ";
-    push_counted_after(text, before, account.asked, b" request, ", b" requests, ")?;
-    push_packets(alloc, text, &account.retransmission)
-}
-
-/// Adds what came by both lines and by retransmission.
-#[tactic(auto, unfolding(crate::specs::AccountTexts::lines_text))]
-fn push_lines(alloc: Global, text: &mut Vec<u8>, account: &FollowAccount) -> Result<(), AllocError>
-    ensures { OnOk result (text.new.items ≡ text.old.items ++ lines_text account.now) }
-{
-    push_line(alloc, text, b"tapebox: line A: ", &account.a)?;
-    push_line(alloc, text, b"tapebox: line B: ", &account.b)?;
-    push_asked(alloc, text, account)
-}
-
-/// Adds how many entries a line was the first to bring, between two texts.
-fn push_brought(
-    text: &mut Vec<u8>,
-    before: &[u8],
-    counts: LineCounts,
-    after: &[u8],
-) -> Result<(), AllocError>
-    ensures { OnOk result (text.new.items ≡ text.old.items ++ named before.now counts.entries after.now) }
-{
-    push_named(text, before, u64::from(counts.entries), after)
-}
-
-/// Adds how many entries came first by each line and by retransmission.
-#[tactic(auto, unfolding(crate::specs::AccountTexts::entries_text))]
-fn push_entries(text: &mut Vec<u8>, account: &FollowAccount) -> Result<(), AllocError>
-    ensures { OnOk result (text.new.items ≡ text.old.items ++ entries_text account.now) }
-{
-    push_brought(text, b"tapebox: entries: ", account.a, b" by line A, ")?;
-    push_brought(text, b"", account.b, b" by line B, ")?;
-    push_brought(text, b"", account.retransmission, b" by retransmission\n")
-}
-
-/// Adds that another session is heard, if one is.
-#[tactic(auto, unfolding(crate::specs::AccountTexts::session_text))]
-fn push_session(text: &mut Vec<u8>, wanted: u64, heard: Option<u64>) -> Result<(), AllocError>
-    ensures { OnOk result (text.new.items ≡ text.old.items ++ session_text wanted heard) }
-{
-    match heard {
-        Some(session) => push_pair(
-            text,
-            b"tapebox: session ",
-            session,
-            b" is heard, and session ",
-            wanted,
-            b" was asked for\n",
-        ),
-        None => Ok(()),
+impl fmt::Display for Counted {
+    fn fmt<W: fmt::Write>(&self, f: &mut fmt::Formatter<W>) -> fmt::Result {
+        let Counted(count, one, more) = *self;
+        let word = if count == 1 { one } else { more };
+        write!(f, "{count} {word}")
     }
 }
 
-/// Adds that the session has two senders, if it has.
-#[tactic(auto, unfolding(crate::specs::AccountTexts::senders_text))]
-fn push_senders(text: &mut Vec<u8>, session: u64, conflict: Option<u32>) -> Result<(), AllocError>
-    ensures { OnOk result (text.new.items ≡ text.old.items ++ senders_text session conflict) }
-{
-    match conflict {
-        Some(number) => push_pair(
-            text,
-            b"tapebox: two senders of session ",
-            session,
-            b": number ",
-            u64::from(number),
-            b" was told of in two ways\n",
-        ),
-        None => Ok(()),
+/// Prints how many packets were dropped, and for which reasons, if any were.
+fn print_drops<W: fmt::Write>(f: &mut fmt::Formatter<W>, counts: &LineCounts) -> fmt::Result {
+    let dropped = counts.dropped();
+    let mut is_first = true;
+    for (count, reason) in [
+        (counts.no_packet, "no packet"),
+        (counts.foreign, "of another session"),
+        (counts.conflict, "with another entry"),
+        (counts.past_end, "past the end"),
+    ] {
+        if count > 0 && is_first {
+            write!(f, ", {dropped} dropped: {count} {reason}")?;
+            is_first = false;
+        } else if count > 0 {
+            write!(f, ", {count} {reason}")?;
+        }
+    }
+    Ok(())
+}
+
+impl fmt::Display for Packets {
+    fn fmt<W: fmt::Write>(&self, f: &mut fmt::Formatter<W>) -> fmt::Result {
+        let packets = Counted(self.0.packets, "packet", "packets");
+        write!(f, "{packets}")?;
+        print_drops(f, &self.0)
     }
 }
 
-/// Adds the number under which the retransmission has another entry, if that ended the day.
-#[tactic(auto, unfolding(crate::specs::AccountTexts::other_text))]
-fn push_other(text: &mut Vec<u8>, fault: FollowFault) -> Result<(), AllocError>
-    ensures { OnOk result (text.new.items ≡ text.old.items ++ other_text fault) }
-{
-    match fault {
-        FollowFault::OtherEntry(number) => push_named(
-            text,
-            b"tapebox: number ",
-            u64::from(number),
-            b" is not what the retransmission has\n",
-        ),
-        FollowFault::Ended(_) | FollowFault::Unreachable { .. } => Ok(()),
-    }
-}
-
-/// Adds of how many entries a report of a part of the day is, if one was written.
-#[tactic(auto, unfolding(crate::specs::AccountTexts::part_text))]
-fn push_part(text: &mut Vec<u8>, report: Option<Result<u32, Fault>>) -> Result<(), AllocError>
-    ensures { OnOk result (text.new.items ≡ text.old.items ++ part_text report) }
-{
-    match report {
-        Some(Ok(count)) => push_counted_after(
-            text,
-            b"tapebox: the report is of the first ",
-            u64::from(count),
-            b" entry\n",
-            b" entries\n",
-        ),
-        Some(Err(_)) => Ok(()),
-        None => Ok(()),
-    }
-}
-
-/// Adds how the day ended, if it did not end well.
-#[tactic(auto, unfolding(crate::specs::AccountTexts::end_text))]
-fn push_end(text: &mut Vec<u8>, end: &FollowEnd) -> Result<(), AllocError>
-    ensures { OnOk result (text.new.items ≡ text.old.items ++ end_text end.now.ended end.now.report) }
-{
-    match end.ended {
-        Ok(()) => Ok(()),
-        Err(fault) => {
-            push_other(text, fault)?;
-            push_part(text, end.report)
+impl fmt::Display for AccountLine {
+    fn fmt<W: fmt::Write>(&self, f: &mut fmt::Formatter<W>) -> fmt::Result {
+        match *self {
+            AccountLine::Line(name, counts) => {
+                let packets = Packets(counts);
+                write!(f, "line {name}: {packets}")
+            }
+            AccountLine::Asked(asked, counts) => {
+                let (requests, packets) = (Counted(asked, "request", "requests"), Packets(counts));
+                write!(f, "retransmission: {requests}, {packets}")
+            }
+            AccountLine::Entries(account) => {
+                let (a, b) = (account.a.entries, account.b.entries);
+                let others = account.retransmission.entries;
+                write!(
+                    f,
+                    "entries: {a} by line A, {b} by line B, {others} by retransmission"
+                )
+            }
+            AccountLine::OtherSession { heard, wanted } => {
+                write!(
+                    f,
+                    "session {heard} is heard, and session {wanted} was asked for"
+                )
+            }
+            AccountLine::TwoSenders { session, number } => {
+                write!(
+                    f,
+                    "two senders of session {session}: number {number} was told of in two ways"
+                )
+            }
+            AccountLine::OtherEntry(number) => {
+                write!(f, "number {number} is not what the retransmission has")
+            }
+            AccountLine::Part(count) => {
+                let entries = Counted(u64::from(count), "entry", "entries");
+                write!(f, "the report is of the first {entries}")
+            }
         }
     }
 }
 
-/// Adds which senders were heard besides the day's.
-#[tactic(auto, unfolding(crate::specs::AccountTexts::heard_text))]
-fn push_heard(text: &mut Vec<u8>, account: &FollowAccount) -> Result<(), AllocError>
-    ensures { OnOk result (text.new.items ≡ text.old.items ++ heard_text account.now) }
-{
-    push_session(text, account.session, account.other_session)?;
-    push_senders(text, account.session, account.conflict)
+/// Appends what came by both lines and by retransmission.
+fn push_lines(lines: &mut Lines, account: &FollowAccount) -> Result<(), AllocError> {
+    lines.push(&AccountLine::Line("A", account.a))?;
+    lines.push(&AccountLine::Line("B", account.b))?;
+    lines.push(&AccountLine::Asked(account.asked, account.retransmission))?;
+    lines.push(&AccountLine::Entries(*account))
 }
 
-/// Adds the whole account.
-#[tactic(auto, unfolding(crate::specs::AccountTexts::account_text))]
-fn push_account(alloc: Global, text: &mut Vec<u8>, end: &FollowEnd) -> Result<(), AllocError>
-    ensures { OnOk result (text.new.items ≡ text.old.items ++ account_text end.now) }
-{
-    push_lines(alloc, text, &end.account)?;
-    push_entries(text, &end.account)?;
-    push_heard(text, &end.account)?;
-    push_end(text, end)
+/// Appends which senders were heard besides the day's.
+fn push_heard(lines: &mut Lines, account: &FollowAccount) -> Result<(), AllocError> {
+    let session = account.session;
+    if let Some(heard) = account.other_session {
+        let wanted = session;
+        lines.push(&AccountLine::OtherSession { heard, wanted })?;
+    }
+    if let Some(number) = account.conflict {
+        lines.push(&AccountLine::TwoSenders { session, number })?;
+    }
+    Ok(())
+}
+
+/// Appends how a day ended that did not end well.
+fn push_end(
+    lines: &mut Lines,
+    fault: FollowFault,
+    report: Option<Result<u32, Fault>>,
+) -> Result<(), AllocError> {
+    if let FollowFault::OtherEntry(number) = fault {
+        lines.push(&AccountLine::OtherEntry(number))?;
+    }
+    if let Some(Ok(count)) = report {
+        lines.push(&AccountLine::Part(count))?;
+    }
+    Ok(())
 }
 
 /// Returns the lines that a follower's day is accounted for with on standard error: how many packets came by each line, and how
@@ -277,10 +152,12 @@ fn push_account(alloc: Global, text: &mut Vec<u8>, end: &FollowEnd) -> Result<()
 /// is heard; that two senders have the session; and if the day did not end well, under which number the retransmission has
 /// another entry, and of how many entries the report is. That the retransmission could not be reached is not among them.
 /// `AllocError` if memory runs out.
-pub fn account_text(alloc: Global, end: &FollowEnd) -> Result<Vec<u8>, AllocError>
-    ensures { IfOk result (λ text. text.items ≡ account_text end.now) }
-{
-    let mut text = Vec::new(alloc);
-    push_account(alloc, &mut text, end)?;
-    Ok(text)
+pub fn account_of(alloc: Global, end: &FollowEnd) -> Result<Lines, AllocError> {
+    let mut lines = Lines::new(alloc);
+    push_lines(&mut lines, &end.account)?;
+    push_heard(&mut lines, &end.account)?;
+    if let Err(fault) = end.ended {
+        push_end(&mut lines, fault, end.report)?;
+    }
+    Ok(lines)
 }

@@ -14,7 +14,8 @@ ghost use Rattle.tape_core.specs.Tape.{IsLegal};
 use crate::follow::{Ways, follow, report};
 use crate::followed::Followed;
 use crate::follower::held_count;
-use crate::{EntrySink, FollowEnd, FollowFault, FollowSockets, FollowTerms};
+use crate::{EntrySink, FollowEnd, FollowFault, FollowSockets};
+use day_terms::FollowTerms;
 use feed_ends::Fault;
 use std::alloc::Global;
 use std::io::Write;
@@ -104,17 +105,17 @@ pub fn follow_day<
     writer: &mut W,
 ) -> (FollowEnd, S)
     ensures report { OnOk result.0.ended (WritesOneReport (W.contents writer.old) (W.contents writer.new)) }
-    ensures listed { OnOk result.0.ended (WritesItsReport terms.listing terms.matrix terms.limit (W.contents writer.old) (W.contents writer.new)) }
-    ensures given { OnOk result.0.ended (GivesItsReport S.text terms.listing terms.matrix terms.limit (S.contents sink) (S.contents result.1) (W.contents writer.old) (W.contents writer.new)) }
-    ensures part { GivesPart S.text terms.listing terms.matrix terms.limit (S.contents sink) (S.contents result.1) }
-    ensures counted { IfSome result.0.report (λ made. IfOk made (λ count. WritesReportOf terms.listing terms.matrix terms.limit count (W.contents writer.old) (W.contents writer.new))) }
+    ensures listed { OnOk result.0.ended (WritesItsReport terms.day.listing terms.day.matrix terms.day.limit (W.contents writer.old) (W.contents writer.new)) }
+    ensures given { OnOk result.0.ended (GivesItsReport S.text terms.day.listing terms.day.matrix terms.day.limit (S.contents sink) (S.contents result.1) (W.contents writer.old) (W.contents writer.new)) }
+    ensures part { GivesPart S.text terms.day.listing terms.day.matrix terms.day.limit (S.contents sink) (S.contents result.1) }
+    ensures counted { IfSome result.0.report (λ made. IfOk made (λ count. WritesReportOf terms.day.listing terms.day.matrix terms.day.limit count (W.contents writer.old) (W.contents writer.new))) }
     ensures unwritten { result.0.report ≡ None → writer.new ≡ writer.old }
     ensures unmade { IfSome result.0.report (λ made. IfErr made (λ fault. fault ≢ WriteFault → writer.new ≡ writer.old)) }
     ensures whole { is_partial ≡ false → IfSome result.0.report (λ made. IfOk made (λ count. IsOk result.0.ended)) }
-    ensures partial { is_partial ≡ true → result.0.report ≡ None → result.0.account ≡ new_account terms.session }
+    ensures partial { is_partial ≡ true → result.0.report ≡ None → result.0.account ≡ new_account terms.day.session }
     ensures held { IfSome result.0.report (λ made. IfOk made (λ count. count ≡ result.0.account.held)) }
     ensures settled { OnOk result.0.ended (result.0.account.unsettled ≡ 0) }
-    ensures session { result.0.account.session ≡ terms.session }
+    ensures session { result.0.account.session ≡ terms.day.session }
 {
     let followed = follow::<Brand, S, R>(rt, alloc, terms, &sockets, Ways::of_day(), sink);
     let Followed {
@@ -141,11 +142,11 @@ pub fn follow_tape_day<
     R: Threads + Wait + Net<Listener = TcpListener, Stream = TcpStream> + Sync,
     S: EntrySink + Send,
 >(rt: &R, alloc: Global, terms: FollowTerms, sockets: FollowSockets, sink: S) -> (FollowEnd, S)
-    ensures given { OnOk result.0.ended (GivesTape S.text terms.listing terms.matrix terms.limit (S.contents sink) (S.contents result.1)) }
-    ensures part { GivesPart S.text terms.listing terms.matrix terms.limit (S.contents sink) (S.contents result.1) }
+    ensures given { OnOk result.0.ended (GivesTape S.text terms.day.listing terms.day.matrix terms.day.limit (S.contents sink) (S.contents result.1)) }
+    ensures part { GivesPart S.text terms.day.listing terms.day.matrix terms.day.limit (S.contents sink) (S.contents result.1) }
     ensures report { result.0.report ≡ None }
     ensures settled { OnOk result.0.ended (result.0.account.unsettled ≡ 0) }
-    ensures session { result.0.account.session ≡ terms.session }
+    ensures session { result.0.account.session ≡ terms.day.session }
 {
     let followed = follow::<Brand, S, R>(rt, alloc, terms, &sockets, Ways::of_day(), sink);
     let Followed {

@@ -17,7 +17,9 @@ use crate::follower::{Follower, subscribe};
 use crate::held_name::HeldName;
 use crate::requester::Requester;
 use crate::run::{ReadyRun, Run, follow_at_once};
-use crate::{EntrySink, FollowAccount, FollowFault, FollowSockets, FollowTerms};
+use crate::{EntrySink, FollowAccount, FollowFault, FollowSockets};
+use day_terms::FollowTerms;
+use days::Day;
 use feed_ends::{Fault, write_day};
 use sale_matrix::Matrix;
 use std::alloc::Global;
@@ -27,7 +29,7 @@ use std::net::{Net, TcpListener, TcpStream};
 use std::sync::Wait;
 use std::thread::Threads;
 use subscriber::Subscriber;
-use tape_types::Listing;
+use tape_types::{Listing, TapeNumber};
 
 /// What a run does besides its terms.
 #[derive(Clone, Copy)]
@@ -75,20 +77,24 @@ fn start<'a, R: Net<Listener = TcpListener, Stream = TcpStream> + Wait>(
     terms: FollowTerms,
     sockets: &'a FollowSockets,
 ) -> Result<StartedRun<'a>, FollowFault>
-    ensures listed { IfOk result (λ started. started.subscriber.tape.listing ≡ terms.listing) }
-    ensures by_matrix { IfOk result (λ started. started.subscriber.tape.matrix ≡ terms.matrix) }
-    ensures limited { IfOk result (λ started. started.subscriber.tape.limit ≡ terms.limit) }
+    ensures listed { IfOk result (λ started. started.subscriber.tape.listing ≡ terms.day.listing) }
+    ensures by_matrix { IfOk result (λ started. started.subscriber.tape.matrix ≡ terms.day.matrix) }
+    ensures limited { IfOk result (λ started. started.subscriber.tape.limit ≡ terms.day.limit) }
     ensures nothing { IfOk result (λ started. started.subscriber.tape.entries ≡ []) }
-    ensures session { IfOk result (λ started. started.subscriber.window.session ≡ terms.session) }
+    ensures session { IfOk result (λ started. started.subscriber.window.session ≡ terms.day.session) }
 {
-    let requester = Requester::new(rt, alloc, sockets.retransmission, terms.connect_within)?;
-    let subscriber = subscribe(
-        alloc,
-        terms.listing,
-        terms.limit,
-        terms.matrix,
-        terms.session,
-    )?;
+    let FollowTerms {
+        day,
+        connect_within,
+    } = terms;
+    let requester = Requester::new(rt, alloc, sockets.retransmission, connect_within)?;
+    let Day {
+        listing,
+        matrix,
+        limit,
+        session,
+    } = day;
+    let subscriber = subscribe(alloc, listing, limit.value(), matrix, session)?;
     let ready = ready(alloc, sockets, &requester)?;
     Ok(StartedRun {
         requester,
@@ -131,23 +137,23 @@ pub(crate) fn follow<
     ways: Ways,
     sink: S,
 ) -> Followed<S>
-    requires listing { terms.listing ≡ N.listing }
-    requires matrix { terms.matrix ≡ N.matrix }
-    requires limit { terms.limit ≡ N.limit }
-    requires session { terms.session ≡ N.session }
+    requires listing { terms.day.listing ≡ N.listing }
+    requires matrix { terms.day.matrix ≡ N.matrix }
+    requires limit { terms.day.limit ≡ N.limit }
+    requires session { terms.day.session ≡ N.session }
     requires before { S.contents sink ≡ N.before }
-    ensures tape { IfSome result.subscriber (λ subscriber. IsTapeOf terms.listing terms.matrix terms.limit subscriber.tape) }
+    ensures tape { IfSome result.subscriber (λ subscriber. IsTapeOf terms.day.listing terms.day.matrix terms.day.limit subscriber.tape) }
     ensures some { OnOk result.ended (IsSome result.subscriber) }
-    ensures session { IfSome result.subscriber (λ subscriber. subscriber.window.session ≡ terms.session) }
+    ensures session { IfSome result.subscriber (λ subscriber. subscriber.window.session ≡ terms.day.session) }
     ensures given { OnOk result.ended (IfSome result.subscriber (λ subscriber. Appends (S.contents sink) (S.contents result.sink) (rows_of S.text subscriber.tape))) }
-    ensures part { GivesPart S.text terms.listing terms.matrix terms.limit (S.contents sink) (S.contents result.sink) }
+    ensures part { GivesPart S.text terms.day.listing terms.day.matrix terms.day.limit (S.contents sink) (S.contents result.sink) }
     ensures whole { OnOk result.ended (IfSome result.subscriber HasAllOf) }
     ensures settled { OnOk result.ended (result.account.unsettled ≡ 0) }
-    ensures unbegun { result.subscriber ≡ None → result.account ≡ new_account terms.session }
-    ensures account { result.account.session ≡ terms.session }
+    ensures unbegun { result.subscriber ≡ None → result.account ≡ new_account terms.day.session }
+    ensures account { result.account.session ≡ terms.day.session }
     ensures held { IfSome result.subscriber (λ subscriber. result.account.held ≡ length subscriber.tape.entries) }
 {
-    let session = terms.session;
+    let session = terms.day.session;
     let started = match start(rt, alloc, terms, sockets) {
         Ok(started) => started,
         Err(fault) => return not_begun(session, fault, sink),
@@ -179,15 +185,15 @@ fn follow_plainly<
     restart_after: Option<u32>,
     sink: S,
 ) -> (Result<Subscriber, Fault>, S)
-    requires listing { terms.listing ≡ N.listing }
-    requires matrix { terms.matrix ≡ N.matrix }
-    requires limit { terms.limit ≡ N.limit }
-    requires session { terms.session ≡ N.session }
+    requires listing { terms.day.listing ≡ N.listing }
+    requires matrix { terms.day.matrix ≡ N.matrix }
+    requires limit { terms.day.limit ≡ N.limit }
+    requires session { terms.day.session ≡ N.session }
     requires before { S.contents sink ≡ N.before }
-    ensures tape { IfOk result.0 (λ subscriber. IsTapeOf terms.listing terms.matrix terms.limit subscriber.tape) }
-    ensures session { IfOk result.0 (λ subscriber. subscriber.window.session ≡ terms.session) }
+    ensures tape { IfOk result.0 (λ subscriber. IsTapeOf terms.day.listing terms.day.matrix terms.day.limit subscriber.tape) }
+    ensures session { IfOk result.0 (λ subscriber. subscriber.window.session ≡ terms.day.session) }
     ensures given { IfOk result.0 (λ subscriber. Appends (S.contents sink) (S.contents result.1) (rows_of S.text subscriber.tape)) }
-    ensures part { GivesPart S.text terms.listing terms.matrix terms.limit (S.contents sink) (S.contents result.1) }
+    ensures part { GivesPart S.text terms.day.listing terms.day.matrix terms.day.limit (S.contents sink) (S.contents result.1) }
     ensures whole { IfOk result.0 HasAllOf }
 {
     let ways = Ways {
@@ -227,6 +233,24 @@ fn status_of(ended: Result<(), Fault>) -> u8
     }
 }
 
+/// Returns the status of a run whose limit is out of range. It connects first, so that a sender that awaits it does not wait in
+/// vain.
+fn status_without_limit<R: Net<Listener = TcpListener, Stream = TcpStream> + Wait>(
+    rt: &R,
+    alloc: Global,
+    sockets: &FollowSockets,
+) -> u8
+    ensures { (3 ≤ result) × (result ≤ 7) }
+{
+    match Requester::new(rt, alloc, sockets.retransmission, None) {
+        Ok(requester) => {
+            drop(requester);
+            Fault::Disagrees.status()
+        }
+        Err(fault) => fault.fault().status(),
+    }
+}
+
 /// Follows a day as `follow_over` does, for these terms. It returns well only if the report was written whole and flushed, and
 /// the sink was given each entry of the same tape. Otherwise it returns the fault whose status `follow_over` returns.
 pub fn follow_ended<
@@ -243,9 +267,9 @@ pub fn follow_ended<
     writer: &mut W,
 ) -> (Result<(), Fault>, S)
     ensures report { OnOk result.0 (WritesOneReport (W.contents writer.old) (W.contents writer.new)) }
-    ensures listed { OnOk result.0 (WritesItsReport terms.listing terms.matrix terms.limit (W.contents writer.old) (W.contents writer.new)) }
-    ensures given { OnOk result.0 (GivesItsReport S.text terms.listing terms.matrix terms.limit (S.contents sink) (S.contents result.1) (W.contents writer.old) (W.contents writer.new)) }
-    ensures part { GivesPart S.text terms.listing terms.matrix terms.limit (S.contents sink) (S.contents result.1) }
+    ensures listed { OnOk result.0 (WritesItsReport terms.day.listing terms.day.matrix terms.day.limit (W.contents writer.old) (W.contents writer.new)) }
+    ensures given { OnOk result.0 (GivesItsReport S.text terms.day.listing terms.day.matrix terms.day.limit (S.contents sink) (S.contents result.1) (W.contents writer.old) (W.contents writer.new)) }
+    ensures part { GivesPart S.text terms.day.listing terms.day.matrix terms.day.limit (S.contents sink) (S.contents result.1) }
     ensures unwritten { IfErr result.0 (λ fault. fault ≢ WriteFault → writer.new ≡ writer.old) }
 {
     let (held, sink) = follow_plainly::<Brand, S, R>(
@@ -304,11 +328,17 @@ pub fn follow_over<
     ensures unwritten { result.0 ≢ 0 → result.0 ≢ 4 → writer.new ≡ writer.old }
     ensures status { (result.0 ≡ 0) ⊎ ((3 ≤ result.0) × (result.0 ≤ 7)) }
 {
-    let terms = FollowTerms {
+    let Some(limit) = TapeNumber::try_new(limit) else {
+        return (status_without_limit(rt, alloc, &sockets), sink);
+    };
+    let day = Day {
         listing,
-        limit,
         matrix,
+        limit,
         session,
+    };
+    let terms = FollowTerms {
+        day,
         connect_within: None,
     };
     let (ended, sink) = follow_ended(rt, alloc, terms, sockets, restart_after, sink, writer);
@@ -331,8 +361,8 @@ pub fn follow_tape<
     sockets: FollowSockets,
     sink: S,
 ) -> (Result<(), Fault>, S)
-    ensures given { OnOk result.0 (GivesTape S.text terms.listing terms.matrix terms.limit (S.contents sink) (S.contents result.1)) }
-    ensures part { GivesPart S.text terms.listing terms.matrix terms.limit (S.contents sink) (S.contents result.1) }
+    ensures given { OnOk result.0 (GivesTape S.text terms.day.listing terms.day.matrix terms.day.limit (S.contents sink) (S.contents result.1)) }
+    ensures part { GivesPart S.text terms.day.listing terms.day.matrix terms.day.limit (S.contents sink) (S.contents result.1) }
 {
     let (held, sink) = follow_plainly::<Brand, S, R>(rt, alloc, terms, &sockets, None, sink);
     match held {

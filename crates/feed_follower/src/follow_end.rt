@@ -1,28 +1,9 @@
-//! What a follower's day is told to follow, and how it ends.
+//! How a follower's day ends.
 ghost use Rattle.std.specs.Prelude.{◌≡◌, Err, IfErr, IsOk, OnOk};
 ghost use Rattle.feed_follower.specs.Reported.{follow_fault};
 
 use crate::{FollowAccount, FollowFault};
 use feed_ends::Fault;
-use sale_matrix::Matrix;
-use tape_types::Listing;
-
-/// What a follower is told of its day.
-#[derive(Drop)]
-pub struct FollowTerms {
-    /// The day's symbols and participants.
-    pub listing: Listing,
-    /// The most entries that are held, 1 to `TAPE_MOST`.
-    pub limit: u32,
-    /// The sale condition matrix.
-    pub matrix: Matrix,
-    /// The session under which the day is sent.
-    pub session: u64,
-    /// For how many seconds it tries to connect to the retransmission, at the start and after a connection was lost. They are
-    /// counted anew once a connection has answered, or was seen open. `None` is for one try at the start, and one after a
-    /// connection that has answered.
-    pub connect_within: Option<u32>,
-}
 
 /// How a follower's day ended.
 #[derive(Clone, Copy, PartialEq, Eq)]

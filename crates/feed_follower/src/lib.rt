@@ -26,10 +26,10 @@ mod sockets;
 mod tries;
 
 pub use account::{FollowAccount, LineCounts};
-pub use account_lines::account_text;
+pub use account_lines::account_of;
 pub use day::{follow_day, follow_tape_day};
 pub use follow::{follow_ended, follow_over, follow_tape};
-pub use follow_end::{FollowEnd, FollowTerms};
+pub use follow_end::FollowEnd;
 pub use follow_fault::FollowFault;
 pub use sink::{EntrySink, NoSink, SinkFault};
 pub use sockets::FollowSockets;

@@ -113,15 +113,6 @@ pub record Replayed (first now : TapeState) (all left : Journal) : Type 0 where
   pub entries : entries_of all ≡ done ++ entries_of left
   pub end : all.1 ≡ left.1
 
--- no group was replayed yet
-pub Replayed-none : (t : TapeState) (all : Journal) → Replayed t t all all
-Replayed-none t all = record {
-  done = [];
-  tape = ap (λ (es : List Entry). record t { entries = es }) (sym (append-nil t.entries));
-  entries = refl;
-  end = refl;
-}
-
 -- one more group was replayed
 pub Replayed-more : (first old new : TapeState) (all left rest : Journal) (es : List Entry) → Replayed first old all left → left ≡ with_group es rest
     → new ≡ with_entries old es → Replayed first new all rest

@@ -1,6 +1,6 @@
 -- Follows texts that are written whole, in part, or not at all; and the texts of no message.
 use Rattle.std.proofs.Common.{◌≡◌, ◌≢◌, ℕ, List, append-nil, inl, inr, refl, Option, Some, None, Result, Ok, Err, sym, ap, ◌∙◌}
-use Rattle.std.specs.Prelude.{◌⊎◌, IsOk, OnErr, OnOk}
+use Rattle.std.specs.Prelude.{◌⊎◌, IsOk, OnErr}
 use Rattle.std.proofs.Common.{◌==◌, length, true}
 use Rattle.std.proofs.lemmas.Bool.{false≢true}
 use Rattle.std.proofs.lemmas.Bool.{eqb-true}
@@ -32,11 +32,6 @@ written_kept text None now new written kept = tt
 written_kept text (Some xs) None new written kept = absurd written
 written_kept text (Some xs) (Some ys) None written kept = absurd kept
 written_kept text (Some xs) (Some ys) (Some zs) written kept = kept ∙ written
-
--- what holds in any case holds of a result that is `Ok`
-pub on_ok : {X E : Type 0} (r : Result X E) (P : Type 0) → P → OnOk r P
-on_ok (Ok x) P holds = holds
-on_ok (Err e) P holds = tt
 
 pub on_err : {X E : Type 0} (r : Result X E) (P : Type 0) → P → OnErr r P
 on_err (Ok x) P holds = tt

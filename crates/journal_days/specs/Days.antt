@@ -6,7 +6,8 @@ use Rattle.tape_core.specs.Tape.{IsTape, TapeState, empty_tape}
 use Rattle.tape_core.specs.declared.entry.Entry.{Entry}
 use Rattle.tape_core.specs.declared.refusal.Refusal.TheVariants as refusal
 use Rattle.tape_types.specs.Ranges.{TAPE_MOST}
-use Rattle.day_journal.specs.Headers.{MAGIC, ReadHeader, Terms, header_at}
+use Rattle.days.specs.declared.day.Day.{Day}
+use Rattle.day_journal.specs.Headers.{MAGIC, ReadHeader, header_at}
 use Rattle.day_journal.specs.Journals.{IsRead, Journal, ReaderState, Reads, all_groups, reader_at}
 use Rattle.day_journal.specs.Replays.{StopsReplay, with_entries}
 use Rattle.day_journal.specs.declared.group_reader.Next.TheVariants.{End}
@@ -43,7 +44,7 @@ abbrev pub entries_of : Journal → List Entry
 entries_of journal = flat_map (λ es. es) journal.0
 
 -- the empty tape of a header's listing, limit and matrix
-abbrev pub header_tape : Terms → TapeState
+abbrev pub header_tape : Day → TapeState
 header_tape t = empty_tape t.listing t.limit t.matrix
 
 -- the tape that a journal describes, which may not be one

@@ -5,7 +5,7 @@ use day_journal::{JournalHeaderFault, ReplayFault};
 use sale_matrix::Matrix;
 use tape_core::Refusal;
 
-/// Why a journal has no day: the first reason from its front.
+/// Why a journal has no day: the first reason from its front. It prints as a line without its end.
 #[derive(Clone, Copy, Debug, PartialEq, Eq)]
 pub enum JournalFault {
     /// It does not begin with the header of a journal.

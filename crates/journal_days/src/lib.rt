@@ -8,13 +8,11 @@ mod messages;
 mod reading;
 mod report;
 mod tape;
-#[cfg(test)]
-mod tests;
 mod texts;
 mod verify;
 
 pub use explain::write_journal_explained;
-pub use journal_day::{JournalDay, JournalTape};
+pub use journal_day::JournalDay;
 pub use journal_fault::JournalFault;
 pub use reading::{is_journal, read_day};
 pub use report::write_journal_report;

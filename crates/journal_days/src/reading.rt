@@ -4,11 +4,12 @@ ghost use Rattle.day_journal.specs.Journals.{groups_at};
 ghost use Rattle.day_journal.specs.Replays.{with_entries};
 ghost use Rattle.journal_days.specs.Days.{EndsDay, IsDay, IsFault, IsMatrixFault, StopsEntries, StopsNext, TakesNext, begins_journal, entries_of};
 
-use crate::{JournalDay, JournalFault, JournalTape};
+use crate::{JournalDay, JournalFault};
 use day_journal::{GroupReader, JournalEnd, Next, read_header, replay_entries};
+use days::Day;
 use sale_matrix::Matrix;
 use std::alloc::Global;
-use tape_core::{Entry, Tape};
+use tape_core::{Entry, IndexedTape, Tape};
 
 /// The first bytes of every journal.
 const FRONT: [u8; 8] = *b"tapejrnl";
@@ -36,7 +37,7 @@ fn matrix_fault(asked: Option<Matrix>, matrix: Matrix) -> Option<JournalFault>
 fn replay_next(
     groups: &mut GroupReader<'_>,
     entries: &mut Vec<Entry>,
-    tape: &mut JournalTape,
+    tape: &mut IndexedTape,
 ) -> Result<Option<JournalEnd>, JournalFault>
     ensures next { IfOk result (λ end. TakesNext end groups.old tape.old groups.new tape.new) }
     ensures stops { IfErr result (λ fault. StopsNext fault groups.old tape.old) }
@@ -59,7 +60,7 @@ fn replay_groups(
     alloc: Global,
     groups: &mut GroupReader<'_>,
     turns: usize,
-    tape: &mut JournalTape,
+    tape: &mut IndexedTape,
 ) -> Result<JournalEnd, JournalFault>
     ensures end { IfOk result (λ end. (groups_at turns groups.old).1 ≡ end) }
     ensures tape { OnOk result (tape.new ≡ with_entries tape.old (entries_of (groups_at turns groups.old))) }
@@ -76,7 +77,7 @@ fn replay_groups(
 }
 
 /// Returns the day of a tape that has all entries of a journal with this end.
-fn day_of(tape: JournalTape, end: JournalEnd) -> Result<JournalDay, JournalFault>
+fn day_of(tape: IndexedTape, end: JournalEnd) -> Result<JournalDay, JournalFault>
     ensures ends { EndsDay end tape result }
 {
     let _legal = tape.entries();
@@ -104,13 +105,19 @@ pub fn read_day(
     ensures fault { IfErr result (IsFault asked bytes.now) }
 {
     let header = read_header(alloc, bytes)?;
-    if let Some(fault) = matrix_fault(asked, header.matrix) {
+    if let Some(fault) = matrix_fault(asked, header.day.matrix) {
         return Err(fault);
     }
-    let mut groups = GroupReader::new(header.session, header.digest, header.len, bytes);
+    let mut groups = GroupReader::new(header.day.session, header.digest, header.len, bytes);
     let turns = bytes.len() - header.len + 1;
-    let Ok(mut tape) = Tape::new(alloc, header.listing, header.limit, header.matrix) else {
-        // A header's limit is always one that a tape may have.
+    let Day {
+        listing,
+        matrix,
+        limit,
+        session: _,
+    } = header.day;
+    let Ok(mut tape) = Tape::new(alloc, listing, limit.value(), matrix) else {
+        // The limit is one that a tape may have.
         return Err(JournalFault::OutOfMemory);
     };
     let end = replay_groups(alloc, &mut groups, turns, &mut tape)?;

@@ -8,15 +8,15 @@ ghost use Rattle.whole_io.specs.declared.writing_fault.WritingFault.TheVariants.
 ghost use Rattle.tape_core.specs.Ending.{KeepsEnd};
 ghost use Rattle.journal_days.specs.Days.{unlimited};
 
-use crate::{JournalDay, JournalTape};
+use crate::JournalDay;
 use day_report::{end_rows, write_report};
 use std::alloc::{AllocError, Global};
 use std::io::Write;
-use tape_core::EndTape;
+use tape_core::{EndTape, IndexedTape};
 use whole_io::{WritingFault, flush};
 
 /// Returns what a report needs of a tape, from the messages of its entries.
-fn end_of(alloc: Global, tape: &JournalTape) -> Result<EndTape, AllocError>
+fn end_of(alloc: Global, tape: &IndexedTape) -> Result<EndTape, AllocError>
     ensures kept { IfOk result (KeepsEnd (unlimited tape.now)) }
 {
     let mut end = EndTape::new(alloc, tape.matrix());

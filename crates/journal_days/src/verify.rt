@@ -7,7 +7,7 @@ use day_journal::ReplayFault;
 use sale_matrix::Matrix;
 use std::alloc::Global;
 
-/// The verdict on a journal.
+/// The verdict on a journal. It prints as a line without its end.
 #[derive(Clone, Copy, Debug, PartialEq, Eq)]
 pub enum JournalVerdict {
     /// Each digest is that of its bytes, and each entry is the one that the tape makes of the messages up to it.

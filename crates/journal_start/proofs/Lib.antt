@@ -1,5 +1,3 @@
 mod DiskLemmas
 mod GroupLemmas
-mod LineTexts
 mod StartLemmas
-mod TermLemmas

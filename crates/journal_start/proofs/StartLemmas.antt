@@ -1,7 +1,7 @@
 -- What holds of a start by the bytes that were read holds of the start that reads them first.
 use Rattle.std.proofs.Common.{◌≡◌, [], IfOk, IfSome, List, Option, Some, None, Result, Ok, Err, inl, inr, refl, subst, ℕ}
 use Rattle.std.specs.Io.KnownBytes.{Keeps}
-use Rattle.day_journal.specs.Headers.{Terms}
+use Rattle.days.specs.declared.day.Day.{Day}
 use Rattle.journal_start.specs.Starts.{IsUnread, Refuses, Starts}
 use Rattle.journal_start.specs.declared.start_fault.StartFault.{StartFault}
 use Rattle.journal_start.specs.declared.start_fault.StartFault.TheVariants.{Refused, Unread, Unwritten, OutOfMemory}
@@ -13,24 +13,24 @@ known_bytes None = ([], tt)
 known_bytes (Some held) = (held, refl)
 
 -- a journal that can't be read
-pub unread : (known : Option (List ℕ)) (fault : StartFault) (terms : Terms) → IsUnread fault
-    → (bytes : List ℕ) × IfSome known (λ held. bytes ≡ held) × Refuses fault terms bytes
-unread known (Refused why) terms never = absurd never
-unread known (Unread why) terms is = ((known_bytes known).0, (known_bytes known).1, tt)
-unread known Unwritten terms never = absurd never
-unread known OutOfMemory terms is = ((known_bytes known).0, (known_bytes known).1, tt)
+pub unread : (known : Option (List ℕ)) (fault : StartFault) (day : Day) → IsUnread fault
+    → (bytes : List ℕ) × IfSome known (λ held. bytes ≡ held) × Refuses fault day bytes
+unread known (Refused why) day never = absurd never
+unread known (Unread why) day is = ((known_bytes known).0, (known_bytes known).1, tt)
+unread known Unwritten day never = absurd never
+unread known OutOfMemory day is = ((known_bytes known).0, (known_bytes known).1, tt)
 
 -- a journal that was refused
-pub refused_before : (known : Option (List ℕ)) (fault : StartFault) (terms : Terms) (bytes : List ℕ) → IfSome known (λ held. bytes ≡ held) → Refuses fault terms bytes
-    → (bytes : List ℕ) × IfSome known (λ held. bytes ≡ held) × Refuses fault terms bytes
-refused_before known fault terms bytes is refused = (bytes, is, refused)
+pub refused_before : (known : Option (List ℕ)) (fault : StartFault) (day : Day) (bytes : List ℕ) → IfSome known (λ held. bytes ≡ held) → Refuses fault day bytes
+    → (bytes : List ℕ) × IfSome known (λ held. bytes ≡ held) × Refuses fault day bytes
+refused_before known fault day bytes is refused = (bytes, is, refused)
 
 -- a journal that was started after it was read
-pub starts_before : (s : Started) (terms : Terms) (bytes : List ℕ) (old mid new : Option (List ℕ)) → IfSome old (λ held. bytes ≡ held) → Keeps old mid
-    → Starts s terms bytes mid new → (bytes : List ℕ) × IfSome old (λ held. bytes ≡ held) × Starts s terms bytes old new
-starts_before s terms bytes None mid new is keeps (inl b) =
+pub starts_before : (s : Started) (day : Day) (bytes : List ℕ) (old mid new : Option (List ℕ)) → IfSome old (λ held. bytes ≡ held) → Keeps old mid
+    → Starts s day bytes mid new → (bytes : List ℕ) × IfSome old (λ held. bytes ≡ held) × Starts s day bytes old new
+starts_before s day bytes None mid new is keeps (inl b) =
     (bytes, is, inl (record { unbegun = b.unbegun; groups = b.groups; past = b.past; cut_off = b.cut_off; header = tt }))
-starts_before s terms bytes None mid new is keeps (inr o) = (
+starts_before s day bytes None mid new is keeps (inr o) = (
   bytes,
   is,
   inr (record {
@@ -45,13 +45,13 @@ starts_before s terms bytes None mid new is keeps (inr o) = (
     is_past = o.is_past;
   }),
 )
-starts_before s terms bytes (Some held) None new is keeps starts = absurd keeps
-starts_before s terms bytes (Some held) (Some left) new is keeps starts =
-    (bytes, is, subst (λ (l : List ℕ). Starts s terms bytes (Some l) new) keeps starts)
+starts_before s day bytes (Some held) None new is keeps starts = absurd keeps
+starts_before s day bytes (Some held) (Some left) new is keeps starts =
+    (bytes, is, subst (λ (l : List ℕ). Starts s day bytes (Some l) new) keeps starts)
 
 -- a journal that may have been started after it was read
-pub ok_before : (result : Result Started StartFault) (terms : Terms) (bytes : List ℕ) (old mid new : Option (List ℕ)) → IfSome old (λ held. bytes ≡ held)
-    → Keeps old mid → IfOk result (λ s. Starts s terms bytes mid new)
-    → IfOk result (λ s. (bytes : List ℕ) × IfSome old (λ held. bytes ≡ held) × Starts s terms bytes old new)
-ok_before (Ok s) terms bytes old mid new is keeps starts = starts_before s terms bytes old mid new is keeps starts
-ok_before (Err fault) terms bytes old mid new is keeps starts = tt
+pub ok_before : (result : Result Started StartFault) (day : Day) (bytes : List ℕ) (old mid new : Option (List ℕ)) → IfSome old (λ held. bytes ≡ held)
+    → Keeps old mid → IfOk result (λ s. Starts s day bytes mid new)
+    → IfOk result (λ s. (bytes : List ℕ) × IfSome old (λ held. bytes ≡ held) × Starts s day bytes old new)
+ok_before (Ok s) day bytes old mid new is keeps starts = starts_before s day bytes old mid new is keeps starts
+ok_before (Err fault) day bytes old mid new is keeps starts = tt

@@ -36,8 +36,8 @@ pub record GivesGroups (len whole : ℕ) (old : ReaderState) (before : List Past
 -- what is known of a journal's groups after they were read
 pub record HasGroups (had : JournalGroups) (header : JournalHeader) (bytes : List ℕ) : Type 0 where
   pub end : ReaderState
-  pub given : GivesGroups (length bytes) had.whole (reader_at header.session 0 header.digest header.len (drop header.len bytes))
-      (map no_entry header.listing.participants) end had.lines.items
+  pub given : GivesGroups (length bytes) had.whole (reader_at header.day.session 0 header.digest header.len (drop header.len bytes))
+      (map no_entry header.day.listing.participants) end had.lines.items
   pub held : had.held ≡ end.held
   pub digest : had.digest ≡ end.digest
 

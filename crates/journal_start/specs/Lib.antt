@@ -1,6 +1,3 @@
 pub mod Groups
-pub mod Numbers
 pub mod PastLines
 pub mod Starts
-pub mod Terms
-pub mod Texts

@@ -3,13 +3,14 @@ use Rattle.std.specs.Prelude.{◌≡◌, ◌≢◌, ◌-◌, ◌⊎◌, ℕ, Boo
 use Rattle.std.specs.Io.KnownBytes.{Keeps}
 use Rattle.std.specs.declared.io.ErrorKind.{ErrorKind}
 use Rattle.std.specs.declared.io.ErrorKind.TheVariants as kind
+use Rattle.days.specs.Days.{Differs}
+use Rattle.days.specs.declared.day.Day.{Day}
 use Rattle.day_journal.specs.HeaderReads.{GivesHeader}
-use Rattle.day_journal.specs.Headers.{MAGIC, ReadHeader, Terms, header_at, header_digest, header_text}
+use Rattle.day_journal.specs.Headers.{MAGIC, ReadHeader, header_at, header_digest, header_text}
 use Rattle.day_journal.specs.Journals.{reader_at}
 use Rattle.day_journal.specs.declared.header_fault.JournalHeaderFault.TheVariants as header
 use Rattle.day_journal.specs.declared.header_reading.JournalHeader.{JournalHeader}
 use Rattle.journal_start.specs.Groups.{HasGroups, RefusesGroups}
-use Rattle.journal_start.specs.Terms.{Differs, header_terms}
 use Rattle.journal_start.specs.declared.journal_groups.JournalGroups.{JournalGroups}
 use Rattle.journal_start.specs.declared.journal_refusal.JournalRefusal.TheVariants.{NoJournal, OtherVersion, OtherDay, HeaderDamaged, Damaged}
 use Rattle.journal_start.specs.declared.start_fault.StartFault.{StartFault}
@@ -37,19 +38,19 @@ is_front bytes = bytes_eq bytes (take (length bytes) MAGIC)
 abbrev pub IsUnbegun : List ℕ → Type 0
 IsUnbegun bytes = (is_front bytes ≡ true) ⊎ (header_at bytes ≡ Err header.Short)
 
--- why bytes are not the beginning of a journal with these terms
-abbrev pub RefusesHeader : StartFault → Terms → List ℕ → Type 0
-RefusesHeader (Refused NoJournal) terms bytes = (is_front bytes ≡ false) × (header_at bytes ≡ Err header.NoJournal)
-RefusesHeader (Refused OtherVersion) terms bytes = header_at bytes ≡ Err header.OtherVersion
-RefusesHeader (Refused HeaderDamaged) terms bytes = header_at bytes ≡ Err header.Damaged
-RefusesHeader (Refused (OtherDay term)) terms bytes = (h : ReadHeader) × (header_at bytes ≡ Ok h) × Differs (Some term) h.0 terms
-RefusesHeader OutOfMemory terms bytes = Unit {0}
-RefusesHeader _ terms bytes = ⊥
+-- why bytes are not the beginning of a journal with these day
+abbrev pub RefusesHeader : StartFault → Day → List ℕ → Type 0
+RefusesHeader (Refused NoJournal) day bytes = (is_front bytes ≡ false) × (header_at bytes ≡ Err header.NoJournal)
+RefusesHeader (Refused OtherVersion) day bytes = header_at bytes ≡ Err header.OtherVersion
+RefusesHeader (Refused HeaderDamaged) day bytes = header_at bytes ≡ Err header.Damaged
+RefusesHeader (Refused (OtherDay term)) day bytes = (h : ReadHeader) × (header_at bytes ≡ Ok h) × Differs (Some term) h.0 day
+RefusesHeader OutOfMemory day bytes = Unit {0}
+RefusesHeader _ day bytes = ⊥
 
--- bytes begin with the header of a journal of these terms
-pub record HasHeader (h : JournalHeader) (terms : Terms) (bytes : List ℕ) : Type 0 where
+-- bytes begin with the header of a journal of these day
+pub record HasHeader (h : JournalHeader) (day : Day) (bytes : List ℕ) : Type 0 where
   pub given : GivesHeader (Ok h) bytes (header_at bytes)
-  pub own : header_terms h ≡ terms
+  pub own : h.day ≡ day
 
 -- ---- the start
 
@@ -58,43 +59,43 @@ abbrev pub HasInstead : List ℕ → Option (List ℕ) → Option (List ℕ) →
 HasInstead text old new = IfSome old (λ had. new ≡ Some text)
 
 -- a new journal was begun, which has only its header
-pub record Begins (s : Started) (terms : Terms) (bytes : List ℕ) (old new : Option (List ℕ)) : Type 0 where
+pub record Begins (s : Started) (day : Day) (bytes : List ℕ) (old new : Option (List ℕ)) : Type 0 where
   pub unbegun : IsUnbegun bytes
-  pub groups : s.groups ≡ record { session = terms.session; held = 0; digest = header_digest terms; broken = false }
+  pub groups : s.groups ≡ record { session = day.session; held = 0; digest = header_digest day; broken = false }
   pub past : s.past ≡ None
   pub cut_off : s.cut_off ≡ 0
-  pub header : HasInstead (header_text terms) old new
+  pub header : HasInstead (header_text day) old new
 
 -- a journal was cut to its whole groups, or had nothing behind them
 abbrev pub IsCutTo : ℕ → ℕ → Option (List ℕ) → Option (List ℕ) → Type 0
 IsCutTo whole cut_off old new = Keeps (option_map (take whole) old) new ⊎ ((cut_off ≡ 0) × Keeps old new)
 
 -- the journal of this day is continued behind its whole groups
-pub record GoesOn (s : Started) (terms : Terms) (bytes : List ℕ) (old new : Option (List ℕ)) : Type 0 where
+pub record GoesOn (s : Started) (day : Day) (bytes : List ℕ) (old new : Option (List ℕ)) : Type 0 where
   pub header : JournalHeader
   pub had : JournalGroups
-  pub begun : HasHeader header terms bytes
+  pub begun : HasHeader header day bytes
   pub read : HasGroups had header bytes
-  pub groups : s.groups ≡ record { session = terms.session; held = had.held; digest = had.digest; broken = false }
+  pub groups : s.groups ≡ record { session = day.session; held = had.held; digest = had.digest; broken = false }
   pub cut_off : s.cut_off ≡ length bytes - had.whole
   pub cut : IsCutTo had.whole s.cut_off old new
   pub past : IfSome s.past (λ p. (p.journal.items ≡ take had.whole bytes) × (p.from ≡ header.len) × (p.digest ≡ header.digest) × (p.lines.items ≡ had.lines.items))
   pub is_past : s.past ≢ None
 
 -- a journal of these bytes was started
-abbrev pub Starts : Started → Terms → List ℕ → Option (List ℕ) → Option (List ℕ) → Type 0
-Starts s terms bytes old new = Begins s terms bytes old new ⊎ GoesOn s terms bytes old new
+abbrev pub Starts : Started → Day → List ℕ → Option (List ℕ) → Option (List ℕ) → Type 0
+Starts s day bytes old new = Begins s day bytes old new ⊎ GoesOn s day bytes old new
 
 -- why a journal with this header is not continued; nothing is said if it can't be written
 abbrev pub RefusesBehind : StartFault → JournalHeader → List ℕ → Type 0
-RefusesBehind (Refused why) h bytes = RefusesGroups (Refused why) (reader_at h.session 0 h.digest h.len (drop h.len bytes))
+RefusesBehind (Refused why) h bytes = RefusesGroups (Refused why) (reader_at h.day.session 0 h.digest h.len (drop h.len bytes))
 RefusesBehind _ h bytes = Unit {0}
 
 -- why a journal with these bytes is not started; nothing is said if it can't be read or written
-abbrev pub Refuses : StartFault → Terms → List ℕ → Type 0
-Refuses (Refused (Damaged first count)) terms bytes = (h : JournalHeader) × HasHeader h terms bytes × RefusesBehind (Refused (Damaged first count)) h bytes
-Refuses (Refused other) terms bytes = RefusesHeader (Refused other) terms bytes
-Refuses _ terms bytes = Unit {0}
+abbrev pub Refuses : StartFault → Day → List ℕ → Type 0
+Refuses (Refused (Damaged first count)) day bytes = (h : JournalHeader) × HasHeader h day bytes × RefusesBehind (Refused (Damaged first count)) h bytes
+Refuses (Refused other) day bytes = RefusesHeader (Refused other) day bytes
+Refuses _ day bytes = Unit {0}
 
 -- only a journal that could not be written has other bytes than before
 abbrev pub IsLeft : StartFault → Option (List ℕ) → Option (List ℕ) → Type 0

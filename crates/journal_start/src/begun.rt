@@ -1,11 +1,10 @@
 //! Reads the header of a day's journal, if one was begun, and refuses any other journal.
 ghost use Rattle.std.specs.Prelude.{◌≡◌, ◌≤◌, None, IfErr, IfOk, IfSome, length};
 ghost use Rattle.journal_start.specs.Starts.{HasHeader, IsUnbegun, RefusesHeader, is_front};
-ghost use Rattle.journal_start.specs.Terms.{terms_of};
 
-use crate::day_terms::other_term;
-use crate::{DayTerms, JournalRefusal, StartFault};
+use crate::{JournalRefusal, StartFault};
 use day_journal::{JournalHeader, JournalHeaderFault, read_header};
+use days::Day;
 use std::alloc::Global;
 
 /// What every journal begins with.
@@ -22,19 +21,19 @@ fn is_front(bytes: &[u8]) -> bool
 /// header, as a start that was cut off leaves them.
 pub(crate) fn begun_header(
     alloc: Global,
-    terms: &DayTerms<'_>,
+    day: &Day,
     bytes: &[u8],
 ) -> Result<Option<JournalHeader>, StartFault>
     ensures none { IfOk result (λ header. header ≡ None → IsUnbegun bytes.now) }
-    ensures some { IfOk result (λ header. IfSome header (λ h. HasHeader h (terms_of terms.now) bytes.now)) }
+    ensures some { IfOk result (λ header. IfSome header (λ h. HasHeader h day.now bytes.now)) }
     ensures within { IfOk result (λ header. IfSome header (λ h. h.len ≤ length bytes.now)) }
-    ensures refused { IfErr result (λ fault. RefusesHeader fault (terms_of terms.now) bytes.now) }
+    ensures refused { IfErr result (λ fault. RefusesHeader fault day.now bytes.now) }
 {
     if is_front(bytes) {
         return Ok(None);
     }
     match read_header(alloc, bytes) {
-        Ok(header) => match other_term(&header, terms) {
+        Ok(header) => match header.day.other_term(day) {
             Some(term) => Err(StartFault::Refused(JournalRefusal::OtherDay(term))),
             None => Ok(Some(header)),
         },

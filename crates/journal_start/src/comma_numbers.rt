@@ -1,49 +1,29 @@
-//! Writes numbers in decimal, with a comma before each three digits behind others.
-ghost use Rattle.std.specs.Prelude.{◌≡◌, ◌++◌, ◌<◌, OnOk};
-ghost use Rattle.journal_start.specs.Numbers.{three_text, with_commas};
+//! Prints numbers in decimal, with a comma before each three digits behind others.
 
-use std::alloc::AllocError;
-use whole_io::push_number;
+use std::fmt;
 
-/// Adds the last three digits of a number, after a comma.
-fn push_three(text: &mut Vec<u8>, number: u64) -> Result<(), AllocError>
-    ensures { OnOk result (text.new.items ≡ text.old.items ++ three_text number) }
-{
-    let hundreds = (number / 100 % 10) as u8;
-    let tens = (number / 10 % 10) as u8;
-    let ones = (number % 10) as u8;
-    text.extend_from_slice(&[b',', b'0' + hundreds, b'0' + tens, b'0' + ones])
-}
+/// A number that prints with commas.
+#[derive(Clone, Copy, Debug)]
+pub(crate) struct WithCommas(pub(crate) u64);
 
-/// Adds a number with at most one comma.
-fn push_thousands(text: &mut Vec<u8>, number: u64) -> Result<(), AllocError>
-    ensures { OnOk result (text.new.items ≡ text.old.items ++ with_commas 1 number) }
-{
-    if number < 1_000 {
-        return push_number(text, number);
+impl fmt::Display for WithCommas {
+    fn fmt<W: fmt::Write>(&self, f: &mut fmt::Formatter<W>) -> fmt::Result {
+        let number = self.0;
+        let (millions, thousands, ones) = (
+            number / 1_000_000,
+            number / 1_000 % 1_000,
+            number % 1_000,
+        );
+        if millions >= 1_000 {
+            let billions = millions / 1_000;
+            let millions = millions % 1_000;
+            write!(f, "{billions},{millions:03},{thousands:03},{ones:03}")
+        } else if millions > 0 {
+            write!(f, "{millions},{thousands:03},{ones:03}")
+        } else if thousands > 0 {
+            write!(f, "{thousands},{ones:03}")
+        } else {
+            write!(f, "{ones}")
+        }
     }
-    push_number(text, number / 1_000)?;
-    push_three(text, number)
-}
-
-/// Adds a number with at most two commas.
-fn push_millions(text: &mut Vec<u8>, number: u64) -> Result<(), AllocError>
-    ensures { OnOk result (text.new.items ≡ text.old.items ++ with_commas 2 number) }
-{
-    if number < 1_000 {
-        return push_number(text, number);
-    }
-    push_thousands(text, number / 1_000)?;
-    push_three(text, number)
-}
-
-/// Adds a number with at most three commas, as many as one of 32 bits has.
-pub(crate) fn push_commas(text: &mut Vec<u8>, number: u64) -> Result<(), AllocError>
-    ensures { OnOk result (text.new.items ≡ text.old.items ++ with_commas 3 number) }
-{
-    if number < 1_000 {
-        return push_number(text, number);
-    }
-    push_millions(text, number / 1_000)?;
-    push_three(text, number)
 }

@@ -56,10 +56,10 @@ pub(crate) fn read_groups(
     requires { header.now.len ≤ length bytes.now }
     ensures given { IfOk result (λ had. HasGroups had header.now bytes.now) }
     ensures most { IfOk result (λ had. had.held ≤ TAPE_MOST) }
-    ensures refused { IfErr result (λ fault. RefusesGroups fault (reader_at header.now.session 0 header.now.digest header.now.len (drop header.now.len bytes.now))) }
+    ensures refused { IfErr result (λ fault. RefusesGroups fault (reader_at header.now.day.session 0 header.now.digest header.now.len (drop header.now.len bytes.now))) }
 {
-    let mut lines = new_lines(alloc, header.listing.participants().as_slice())?;
-    let mut reader = GroupReader::new(header.session, header.digest, header.len, bytes);
+    let mut lines = new_lines(alloc, header.day.listing.participants().as_slice())?;
+    let mut reader = GroupReader::new(header.day.session, header.digest, header.len, bytes);
     let mut entries = Vec::new(alloc);
     let whole = read_on(alloc, bytes.len(), &mut reader, &mut entries, &mut lines)?;
     Ok(JournalGroups {

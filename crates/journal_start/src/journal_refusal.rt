@@ -1,12 +1,10 @@
-//! The reasons why a journal is not continued, each with its text.
-ghost use Rattle.std.specs.Prelude.{◌≡◌, IfOk};
-ghost use Rattle.journal_start.specs.Texts.{refusal_text};
+//! The reasons why a journal is not continued.
 
-use crate::OtherTerm;
-use crate::damage::damage_text;
-use std::alloc::{AllocError, Global};
+use crate::comma_numbers::WithCommas;
+use days::OtherTerm;
+use std::fmt;
 
-/// Why a journal is not continued. It is left unchanged.
+/// Why a journal is not continued. It is left unchanged. It prints without a line feed.
 #[derive(Clone, Copy, Debug, PartialEq, Eq)]
 pub enum JournalRefusal {
     /// The bytes do not begin as every journal does.
@@ -26,17 +24,31 @@ pub enum JournalRefusal {
     },
 }
 
-impl JournalRefusal {
-    /// Returns the text of the refusal, without a line feed. It fails if memory runs out.
-    pub fn text(self, alloc: Global) -> Result<Vec<u8>, AllocError>
-        ensures { IfOk result (λ text. text.items ≡ refusal_text self) }
-    {
+/// Prints which entries are damaged: those of a group with this first entry, and `count` of them if that is known.
+fn print_damage<W: fmt::Write>(
+    f: &mut fmt::Formatter<W>,
+    first: u32,
+    count: Option<u32>,
+) -> fmt::Result {
+    let from = WithCommas(u64::from(first));
+    match count {
+        Some(count) if count > 1 => {
+            let to = WithCommas(u64::from(first) + u64::from(count) - 1);
+            write!(f, "entries {from} to {to} are damaged")
+        }
+        Some(1) => write!(f, "entry {from} is damaged"),
+        _ => write!(f, "entries from {from} on are damaged"),
+    }
+}
+
+impl fmt::Display for JournalRefusal {
+    fn fmt<W: fmt::Write>(&self, f: &mut fmt::Formatter<W>) -> fmt::Result {
         match self {
-            JournalRefusal::NoJournal => Vec::from_slice(alloc, b"no journal"),
-            JournalRefusal::OtherVersion => Vec::from_slice(alloc, b"another version"),
-            JournalRefusal::OtherDay(term) => Vec::from_slice(alloc, term.text()),
-            JournalRefusal::HeaderDamaged => Vec::from_slice(alloc, b"its header is damaged"),
-            JournalRefusal::Damaged { first, count } => damage_text(alloc, first, count),
+            JournalRefusal::NoJournal => f.write_str("no journal"),
+            JournalRefusal::OtherVersion => f.write_str("another version"),
+            JournalRefusal::OtherDay(term) => write!(f, "{term}"),
+            JournalRefusal::HeaderDamaged => f.write_str("its header is damaged"),
+            JournalRefusal::Damaged { first, count } => print_damage(f, *first, *count),
         }
     }
 }

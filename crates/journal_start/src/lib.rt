@@ -3,8 +3,6 @@
 
 mod begun;
 mod comma_numbers;
-mod damage;
-mod day_terms;
 mod journal_disk;
 mod journal_groups;
 mod journal_refusal;
@@ -12,14 +10,11 @@ mod past_line;
 mod past_lines;
 mod start_fault;
 mod starting;
-#[cfg(test)]
-mod tests;
 mod went_on;
 
-pub use day_terms::{DayTerms, OtherTerm};
 pub use journal_disk::JournalDisk;
 pub use journal_refusal::JournalRefusal;
 pub use past_line::PastLine;
 pub use start_fault::StartFault;
 pub use starting::{Past, Started, start_journal};
-pub use went_on::{cut_text, went_on_text};
+pub use went_on::{CutOff, WentOn};

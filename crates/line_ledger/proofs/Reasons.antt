@@ -233,8 +233,3 @@ tells_why terms t s m why t' s' day listed refuses =
       never_closed = λ e. said.never_closed (ap line_refusal_code e);
       never_unknown = λ e. said.never_unknown (ap line_refusal_code e);
     }
-
--- an admission is above what the seat was told
-pub tells : (t : TapeState) (s : SeatState) (m : Message) → line_refusal t s m ≡ None
-    → ((header_of m).participant ≡ s.who) × (agrees t s ≡ true) × (refusal t m ≡ None)
-tells t s m may = (grind (arith, nat_tests, may), grind (arith, nat_tests, may), grind (arith, nat_tests, may))

@@ -9,8 +9,7 @@ use crate::{CellRow, NotOnTape, Sighting, Token};
 use seen_cells::Seen;
 use std::marker::{Brand, Model};
 use std::sync::ledger::Ledger;
-use summaries::IndexStore;
-use tape_core::{Entry, Tape};
+use tape_core::{Entry, IndexedTape};
 
 /// The name of one shared day: its ledger, which has one part for each participant, and its terms. A function over it is called
 /// with `Brand` once for each day.
@@ -26,7 +25,7 @@ impl DayName for Brand {
 /// An ended day: its closed tape, its cells, and what its end saw in the first of them.
 #[derive(Drop)]
 pub struct Day {
-    pub(crate) tape: Tape<IndexStore>,
+    pub(crate) tape: IndexedTape,
     pub(crate) row: CellRow,
     pub(crate) seen: Vec<Seen<Entry>>,
 }
@@ -47,7 +46,7 @@ impl Model for Day {
 
 impl Day {
     /// Returns the day's tape, which is closed.
-    pub fn tape(&self) -> &Tape<IndexStore>
+    pub fn tape(&self) -> &IndexedTape
         ensures tape { result.now ≡ self.now.tape }
     {
         &self.tape

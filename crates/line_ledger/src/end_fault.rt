@@ -3,8 +3,7 @@ ghost use Rattle.std.specs.Prelude.{◌≡◌, codes};
 ghost use Rattle.line_ledger.specs.declared.end_fault.EndFault.TheVariants.{MissingSeat, Disagrees};
 
 use crate::{DayName, LineSeat, SharedTape};
-use summaries::IndexStore;
-use tape_core::Tape;
+use tape_core::IndexedTape;
 use tape_types::Participant;
 
 /// A day that did not end. Its seats must be spent by an end with one seat of each participant.
@@ -23,7 +22,7 @@ pub struct Disagreement {
     /// The first position, from 0, where what the seat was told differs from the participant's entries.
     pub at: usize,
     /// The day's tape, which is closed.
-    pub tape: Tape<IndexStore>,
+    pub tape: IndexedTape,
 }
 
 /// Why a day did not end, or ended in a disagreement. It must be spent, like the seats that it may hold.

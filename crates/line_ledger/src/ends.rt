@@ -5,8 +5,7 @@ ghost use Rattle.line_ledger.specs.Ends.{seats_of, IsOneEach, FirstTold, Disagre
 
 use crate::cursor::Cursors;
 use crate::{DayName, LineSeat};
-use summaries::IndexStore;
-use tape_core::{Entry, Tape};
+use tape_core::{Entry, IndexedTape};
 use tape_types::Participant;
 
 /// Returns how many seats are the participant's.
@@ -51,7 +50,7 @@ fn compare<'a, D: DayName>(seats: &'a [LineSeat<D>], entries: &[Entry]) -> Curso
 /// Returns the first participant, in listing order, whose seat was not told what the tape has, and the first position where
 /// they differ.
 pub(crate) fn find_disagreement<D: DayName>(
-    tape: &Tape<IndexStore>,
+    tape: &IndexedTape,
     seats: &[LineSeat<D>],
 ) -> Option<(Participant, usize)>
     ensures { let listed = tape.now.listing.participants in

@@ -25,8 +25,7 @@ use seen_cells::Seen;
 use std::alloc::Global;
 use std::marker::Model;
 use std::sync::ledger::{Book, Share};
-use summaries::IndexStore;
-use tape_core::{Entry, Refusal, Tape};
+use tape_core::{Entry, IndexedTape, Refusal};
 use tape_types::{Participant, Symbol, TapeNumber};
 
 /// The value behind the lock: the open tape of the day, the book, which counts the tape's entries, and how many of the first
@@ -34,7 +33,7 @@ use tape_types::{Participant, Symbol, TapeNumber};
 #[derive(Drop)]
 pub struct Locked<D: DayName> {
     alloc: Global,
-    tape: Tape<IndexStore>,
+    tape: IndexedTape,
     book: Book<D>,
     rest: Share<D>, // what is left of the ledger when each seat has its share: no part, no amount
     set: u32,
@@ -185,13 +184,7 @@ impl<D: DayName> LineSeat<D> {
 }
 
 /// Returns whether the tape has these figures of the participant.
-fn has_figures(
-    tape: &Tape<IndexStore>,
-    who: Participant,
-    count: usize,
-    sizes: u64,
-    last: u32,
-) -> bool
+fn has_figures(tape: &IndexedTape, who: Participant, count: usize, sizes: u64, last: u32) -> bool
     ensures { result ≡ has_figures tape.now who count sizes last }
 {
     let figures = tape.figures_of(who);
@@ -202,7 +195,7 @@ fn has_figures(
 /// `OutOfMemory` last, which leave the tape and what was told unchanged.
 #[inline(always)]
 fn admit_and_tell(
-    tape: &mut Tape<IndexStore>,
+    tape: &mut IndexedTape,
     told: &mut Vec<Told>,
     message: Message,
 ) -> Result<TapeNumber, Refusal>

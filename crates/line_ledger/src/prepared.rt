@@ -7,15 +7,14 @@ use crate::{CellRow, OpenFault};
 use seen_cells::Seen;
 use std::alloc::Global;
 use std::sync::ledger::Blank;
-use summaries::IndexStore;
-use tape_core::{Entry, Tape};
+use tape_core::{Entry, IndexedTape};
 
 /// An empty open tape, with a ledger that has no name yet and one part for each participant, and an empty cell for each
 /// number up to the tape's limit.
 #[derive(Drop)]
 pub struct Prepared {
     pub(crate) alloc: Global,
-    pub(crate) tape: Tape<IndexStore>,
+    pub(crate) tape: IndexedTape,
     pub(crate) blank: Blank,
     pub(crate) row: CellRow,
     pub(crate) room: Vec<Seen<Entry>>, // for what the day's end sees in the cells, so that an end takes no memory
@@ -30,7 +29,7 @@ pub struct Prepared {
 /// Prepares a tape for a shared day, with 8 bytes for the cell of each number up to the tape's limit. What is opened later
 /// allocates from `alloc`. It returns 7 NotEmpty exactly if the tape is closed or has an entry, and 8 OutOfMemory if memory
 /// runs out. The tape is spent in each case.
-pub fn prepare(alloc: Global, tape: Tape<IndexStore>) -> Result<Prepared, OpenFault>
+pub fn prepare(alloc: Global, tape: IndexedTape) -> Result<Prepared, OpenFault>
     ensures ok { IfOk result (λ prepared. prepared.tape ≡ tape) }
     ensures not_empty { (result ≡ Err NotEmpty) ↔ ((tape.closed ≡ true) ⊎ (tape.entries ≢ [])) }
 {
@@ -41,7 +40,7 @@ pub fn prepare(alloc: Global, tape: Tape<IndexStore>) -> Result<Prepared, OpenFa
 }
 
 /// Prepares an empty open tape.
-fn prepare_empty(alloc: Global, tape: Tape<IndexStore>) -> Result<Prepared, OpenFault>
+fn prepare_empty(alloc: Global, tape: IndexedTape) -> Result<Prepared, OpenFault>
     requires empty { tape.entries ≡ [] }
     requires unclosed { tape.closed ≡ false }
     ensures ok { IfOk result (λ prepared. prepared.tape ≡ tape) }

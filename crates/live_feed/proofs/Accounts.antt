@@ -1,5 +1,5 @@
 -- The accounts of lines that have run.
-use Rattle.std.proofs.Common.{◌≡◌, ◌∷◌, [], ℕ, zero, suc, List, ap, arith, length, map}
+use Rattle.std.proofs.Common.{◌≡◌, ◌∷◌, [], ℕ, zero, suc, List, ap, arith, map}
 use Rattle.line_ledger.specs.Seats.{SeatState}
 use Rattle.participant_lines.specs.declared.line_end.LineOutcome.{LineOutcome}
 use Rattle.participant_lines.specs.declared.tally.Tally.{Tally}
@@ -23,7 +23,3 @@ are_accounts seat tally ended (x ∷ accounts) (e ∷ ends) is zero s a within =
 are_accounts {E} seat tally ended (x ∷ accounts) (e ∷ ends) is (suc i) s a within =
     let rest : map (λ a. told_account a) accounts ≡ map (λ (e : E). told_end (seat e) (tally e) (ended e)) ends = cc in
     are_accounts seat tally ended accounts ends rest i s a (omega (arith, within))
-
--- no accounts are those of any seats
-pub none_are : (seats : List SeatState) (accounts : List LineAccount) → accounts ≡ [] → AreAccounts seats accounts
-none_are seats accounts is i s a within = absurd (omega (arith, within, ap (λ (l : List LineAccount). length l) is))

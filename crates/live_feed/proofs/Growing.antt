@@ -1,15 +1,13 @@
 -- How a journal grows beside what is published.
-use Rattle.std.proofs.Common.{◌≡◌, ◌+◌, ◌++◌, ◌∷◌, ◌∙◌, [], ℕ, List, Option, Some, None, Result, Ok, Err, OnOk, IfOk, ap, append-nil, append_assoc, arith, drop, length, drop_at, refl, subst, sym}
+use Rattle.std.proofs.Common.{◌≡◌, ◌+◌, ◌++◌, ◌∷◌, ◌∙◌, [], ℕ, List, Option, Some, None, Result, Ok, Err, OnOk, IfOk, ap, append-nil, append_assoc, arith, length, refl, subst, sym}
 use Rattle.std.specs.Io.KnownBytes.{Appends, Keeps}
 use Rattle.std.proofs.lemmas.Grind.{flat_map-append}
 use Rattle.std.proofs.lemmas.List.{nil_from_length}
 use Rattle.day_journal.specs.Groups.{IsGroup, group_text}
 use Rattle.day_journal.specs.Journals.{AreGroups, groups_text}
 use Rattle.day_journal.specs.Writers.{WriterState, next_text, with_group}
-use Rattle.line_ledger.specs.Cells.{TokenState, shown}
-use Rattle.line_ledger.specs.Publishing.{GoesOn}
 use Rattle.tape_core.specs.declared.entry.Entry.{Entry}
-use Rattle.live_feed.specs.Journals.{AllKept, Begins, Grows, GrowsAtMostOnce, GrowsBy, IsKept, JournalState, Runs, Steps, entries_of, with_groups}
+use Rattle.live_feed.specs.Journals.{AllKept, Grows, GrowsAtMostOnce, GrowsBy, IsKept, JournalState, Steps, entries_of, with_groups}
 
 -- ---- groups and more of them
 
@@ -75,13 +73,6 @@ appends_twice (Some xs) None c one other first second = absurd first
 appends_twice (Some xs) (Some ys) None one other first second = absurd second
 appends_twice (Some xs) (Some ys) (Some zs) one other first second =
     second ∙ ap (λ (l : List ℕ). l ++ other) first ∙ append_assoc xs one other
-
--- they stay, and then grow
-appends_kept : (a b c : Option (List ℕ)) (text : List ℕ) → Keeps a b → Appends b c text → Appends a c text
-appends_kept None b c text same grows = tt
-appends_kept (Some xs) None c text same grows = absurd same
-appends_kept (Some xs) (Some ys) None text same grows = absurd grows
-appends_kept (Some xs) (Some ys) (Some zs) text same grows = grows ∙ ap (λ (l : List ℕ). l ++ text) same
 
 -- they grow, and then stay
 pub appends_then_kept : (a b c : Option (List ℕ)) (text : List ℕ) → Appends a b text → Keeps b c → Appends a c text
@@ -168,30 +159,6 @@ appended (Ok x) old mid new published next kept is empty queue group written wri
       grows_one old new published none is_group own (subst (λ k. Appends old.contents k (next_text old.writer new.queue)) (sym whole.0) text),
     )
 
--- what was to be published next was published
-pub grows_taken : (old mid new : JournalState) (before after : List TokenState) → GrowsAtMostOnce old (shown before) mid (shown before)
-    → GoesOn before after → drop (length (shown before)) (shown after) ++ new.queue ≡ mid.queue → new.writer ≡ mid.writer → new.kept ≡ mid.kept
-    → GrowsAtMostOnce old (shown before) new (shown after)
-grows_taken old mid new before after (groups, few, grows) (more, on) taken writer kept =
-    let both : shown after ≡ shown before ++ shown more = ap shown on ∙ shown-append before more in
-    let left : drop (length (shown before)) (shown after) ≡ shown more =
-    ap (λ (l : List Entry). drop (length (shown before)) l) both ∙ drop_at (shown before) (shown more) (length (shown before)) refl in
-    let queue : shown more ++ new.queue ≡ mid.queue = ap (λ (l : List Entry). l ++ new.queue) (sym left) ∙ taken in (
-      groups,
-      few,
-      record {
-        are = grows.are;
-        writer = writer ∙ grows.writer;
-        text = subst (λ k. Appends old.contents k (groups_text old.writer.session old.writer.digest groups)) (sym kept) grows.text;
-        entries = ap (λ (l : List Entry). l ++ new.queue) both ∙ append_assoc (shown before) (shown more) new.queue
-            ∙ ap (λ (l : List Entry). shown before ++ l) queue ∙ grows.entries;
-      },
-    )
-  where
-    shown-append : (xs ys : List TokenState) → shown (xs ++ ys) ≡ shown xs ++ shown ys
-    shown-append [] ys = refl
-    shown-append (x ∷ xs) ys = ap (λ (l : List Entry). x.entry ∷ l) (shown-append xs ys)
-
 -- it grew twice
 grows_twice : (a b c : JournalState) (x y z : List Entry) (gs hs : List (List Entry)) → GrowsBy gs a x b y → IsKept b y → GrowsBy hs b y c z
     → GrowsBy (gs ++ hs) a x c z
@@ -220,20 +187,3 @@ steps_on None (Some b) c x y z grows is step = absurd grows
 steps_on (Some a) None c x y z grows is step = absurd grows
 steps_on (Some a) (Some b) None x y z grows is step = absurd step
 steps_on (Some a) (Some b) (Some c) x y z (gs, first) is (hs, few, second) = (gs ++ hs, grows_twice a b c x y z gs hs first is second)
-
--- a day that began where its journal ends, and went on
-pub runs : (a b c : Option JournalState) (x z : List Entry) → Begins a b x → Grows b x c z → Runs a c z
-runs None None None x z began grows = tt
-runs None None (Some c) x z began grows = absurd grows
-runs None (Some b) c x z began grows = absurd began
-runs (Some a) None c x z began grows = absurd began
-runs (Some a) (Some b) None x z began grows = absurd grows
-runs (Some a) (Some b) (Some c) x z (writer, none, same, held) (groups, grows) = (
-  x,
-  groups,
-  sym held,
-  subst (λ (w : WriterState). AreGroups w.session w.held groups) writer grows.are,
-  appends_kept a.contents b.contents c.kept _ same
-      (subst (λ (w : WriterState). Appends b.contents c.kept (groups_text w.session w.digest groups)) writer grows.text),
-  grows.entries ∙ ap (λ (l : List Entry). l ++ entries_of groups) (ap (λ (l : List Entry). x ++ l) none ∙ append-nil x),
-)

@@ -1,10 +1,8 @@
 pub mod Accounts
 pub mod Crossing
-pub mod FollowerLines
 pub mod Following
 pub mod Growing
 pub mod Least
 pub mod Operated
 pub mod RestoredGroups
 pub mod Sendings
-pub mod StatusSums

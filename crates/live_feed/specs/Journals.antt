@@ -38,7 +38,12 @@ pub record IsKept (j : JournalState) (published : List Entry) : Type 0 where
   pub whole : j.kept ≡ j.contents
   pub counted : j.writer.held ≡ length published + length j.queue
 
--- the same of a day that may have no journal
+-- all that the file of a journal has is kept, if there is one
+abbrev pub HasAllKept : Option JournalState → Type 0
+HasAllKept None = Unit {0}
+HasAllKept (Some j) = j.kept ≡ j.contents
+
+-- a journal is kept so, if there is one
 abbrev pub AllKept : Option JournalState → List Entry → Type 0
 AllKept None published = Unit {0}
 AllKept (Some j) published = IsKept j published

@@ -1,16 +1,11 @@
-//! Writes the account of a day's lines: what became of each participant's messages.
-ghost use Rattle.std.specs.Prelude.{◌≡◌, ◌++◌, IfOk, OnOk};
-ghost use Rattle.std.specs.List.{flat_map};
-ghost use Rattle.live_feed.specs.Accounts.{account_lines, account_text, counted_lines, end_words, given_up_line, given_up_text, messages_lines, outcome_line, program_word};
+//! The account of a day's lines: what became of each participant's messages.
 
-use crate::line_counts::{
-    LineStage, MessageCounts, push_absent, push_all_refused, push_counts, push_head, push_text,
-    push_words,
-};
-use participant_lines::LineOutcome;
+use crate::line_counts::{LineStage, MessageCounts, RefusedFor};
+use participant_lines::{ALL_REASONS, LineOutcome};
 use std::alloc::{AllocError, Global};
+use std::fmt;
 use tape_types::Participant;
-use whole_io::push_counted;
+use whole_io::Lines;
 
 /// How a participant's line came out.
 #[derive(Clone, Copy, Debug, PartialEq, Eq)]
@@ -27,122 +22,113 @@ pub(crate) struct LineAccount {
     pub(crate) was_cut: bool,
 }
 
-/// What every line of an account begins with.
-#[tactic(auto, unfolding(crate::specs::Accounts::program_word))]
-fn program_word() -> &'static [u8]
-    ensures { result.now ≡ program_word }
-{
-    b"tapebox: "
+/// What is said of a participant in a line.
+#[derive(Clone, Copy)]
+enum Said {
+    /// What became of its messages.
+    Counts(MessageCounts),
+    /// Its messages that were refused for a reason.
+    Refused(RefusedFor),
+    /// Why it did not connect.
+    Absent(LineStage),
+    /// Why no more of its messages were done.
+    Ended(&'static str),
 }
 
-/// What is said of a line that did not end cleanly, or that was open when the day was ended; nothing of another.
-#[tactic(auto, unfolding(crate::specs::Accounts::end_words))]
-fn end_words(ended: LineOutcome, was_cut: bool) -> &'static [u8]
-    ensures { result.now ≡ end_words ended was_cut }
-{
+/// A line about a participant.
+#[derive(Clone, Copy)]
+struct Of(Participant, Said);
+
+/// How many followers were waited for no longer.
+#[derive(Clone, Copy)]
+struct GivenUp(u32);
+
+impl fmt::Display for Said {
+    fn fmt<W: fmt::Write>(&self, f: &mut fmt::Formatter<W>) -> fmt::Result {
+        match *self {
+            Said::Counts(counts) => write!(f, "{counts}"),
+            Said::Refused(refused) => write!(f, "{refused}"),
+            Said::Absent(stage) => write!(f, "{stage}"),
+            Said::Ended(words) => f.write_str(words),
+        }
+    }
+}
+
+impl fmt::Display for Of {
+    fn fmt<W: fmt::Write>(&self, f: &mut fmt::Formatter<W>) -> fmt::Result {
+        let Of(who, said) = *self;
+        let who = char::from(who.value());
+        write!(f, "{who}: {said}")
+    }
+}
+
+impl fmt::Display for GivenUp {
+    fn fmt<W: fmt::Write>(&self, f: &mut fmt::Formatter<W>) -> fmt::Result {
+        let given_up = self.0;
+        let followers = if given_up == 1 {
+            "follower was"
+        } else {
+            "followers were"
+        };
+        write!(f, "{given_up} {followers} waited for no longer")
+    }
+}
+
+/// What is said of a line that did not end cleanly, or that was open when the day was ended.
+fn end_words(ended: LineOutcome, was_cut: bool) -> Option<&'static str> {
     match (ended, was_cut) {
-        (LineOutcome::Clean, false) => b"",
-        (LineOutcome::Clean, true) => b"the day was ended while the line was open",
-        (LineOutcome::Truncated, false) => b"the line ended within a message",
-        (LineOutcome::Truncated, true) => b"the day was ended within a message",
-        (LineOutcome::Oversize, _) => b"the line ended at a length that no message has",
-        (LineOutcome::ReadFault, _) => b"the line ended at a read that failed",
-        (LineOutcome::TooMany, _) => b"the line ended after as many messages as one may have",
-        (LineOutcome::OutOfMemory, _) => b"the line ended for want of memory",
-        (LineOutcome::Behind, _) => b"the line ended at a tape that disagrees",
+        (LineOutcome::Clean, false) => None,
+        (LineOutcome::Clean, true) => Some("the day was ended while the line was open"),
+        (LineOutcome::Truncated, false) => Some("the line ended within a message"),
+        (LineOutcome::Truncated, true) => Some("the day was ended within a message"),
+        (LineOutcome::Oversize, _) => Some("the line ended at a length that no message has"),
+        (LineOutcome::ReadFault, _) => Some("the line ended at a read that failed"),
+        (LineOutcome::TooMany, _) => {
+            Some("the line ended after as many messages as one may have")
+        }
+        (LineOutcome::OutOfMemory, _) => Some("the line ended for want of memory"),
+        (LineOutcome::Behind, _) => Some("the line ended at a tape that disagrees"),
     }
 }
 
-/// Adds what became of a participant's messages.
-fn push_message_counts(
-    text: &mut Vec<u8>,
-    word: &[u8],
-    account: &LineAccount,
-) -> Result<(), AllocError>
-    ensures { OnOk result (text.new.items ≡ text.old.items ++ counted_lines word.now account.now) }
-{
-    push_head(text, word, account.who)?;
-    push_counts(text, &account.counts)?;
-    push_text(text, b"\n")?;
-    push_all_refused(text, word, account.who, &account.counts.tally)
+/// Appends what became of a participant's messages.
+fn push_messages(lines: &mut Lines, account: &LineAccount) -> Result<(), AllocError> {
+    lines.push(&Of(account.who, Said::Counts(account.counts)))?;
+    for reason in ALL_REASONS {
+        if let Some(frames) = account.counts.tally.of(reason) {
+            let refused = Said::Refused(RefusedFor { reason, frames });
+            lines.push(&Of(account.who, refused))?;
+        }
+    }
+    Ok(())
 }
 
-/// Adds what became of a participant's messages, or nothing if it is not said.
-#[tactic(auto, unfolding(crate::specs::Accounts::messages_lines))]
-fn push_messages(text: &mut Vec<u8>, word: &[u8], account: &LineAccount) -> Result<(), AllocError>
-    ensures { OnOk result (text.new.items ≡ text.old.items ++ messages_lines word.now account.now) }
-{
+/// Appends the lines of a participant.
+fn push_account(lines: &mut Lines, account: &LineAccount) -> Result<(), AllocError> {
     if account.stage.is_counted(&account.counts) {
-        return push_message_counts(text, word, account);
+        push_messages(lines, account)?;
     }
-    Ok(())
-}
-
-/// Adds how a participant's line came out, or nothing if it ended cleanly.
-fn push_outcome(text: &mut Vec<u8>, word: &[u8], account: &LineAccount) -> Result<(), AllocError>
-    ensures { OnOk result (text.new.items ≡ text.old.items ++ outcome_line word.now account.now) }
-{
-    if account.stage.has_connected() {
-        let words = end_words(account.ended, account.was_cut);
-        push_words(text, word, account.who, words)
-    } else {
-        push_absent(text, word, account.who, account.stage)
+    if !account.stage.has_connected() {
+        return lines.push(&Of(account.who, Said::Absent(account.stage)));
     }
-}
-
-/// Adds the lines of a participant.
-fn push_account(text: &mut Vec<u8>, account: &LineAccount) -> Result<(), AllocError>
-    ensures { OnOk result (text.new.items ≡ text.old.items ++ account_lines account.now) }
-{
-    push_messages(text, program_word(), account)?;
-    push_outcome(text, program_word(), account)
-}
-
-/// Adds the lines of these participants, one after another.
-fn push_accounts(text: &mut Vec<u8>, accounts: &[LineAccount]) -> Result<(), AllocError>
-    ensures { OnOk result (text.new.items ≡ text.old.items ++ flat_map account_lines accounts.now) }
-{
-    for account in accounts {
-        push_account(text, account)?;
+    match end_words(account.ended, account.was_cut) {
+        Some(words) => lines.push(&Of(account.who, Said::Ended(words))),
+        None => Ok(()),
     }
-    Ok(())
-}
-
-/// Adds that so many followers were waited for no longer.
-fn push_given(text: &mut Vec<u8>, word: &[u8], given_up: u32) -> Result<(), AllocError>
-    ensures { OnOk result (text.new.items ≡ text.old.items ++ given_up_text word.now given_up) }
-{
-    push_text(text, word)?;
-    push_counted(
-        text,
-        u128::from(given_up),
-        b" follower was",
-        b" followers were",
-    )?;
-    push_text(text, b" waited for no longer\n")
-}
-
-/// Adds how many followers were waited for no longer, if any.
-#[tactic(auto, unfolding(crate::specs::Accounts::given_up_line))]
-fn push_given_up(text: &mut Vec<u8>, given_up: u32) -> Result<(), AllocError>
-    ensures { OnOk result (text.new.items ≡ text.old.items ++ given_up_line given_up) }
-{
-    if given_up == 0 {
-        return Ok(());
-    }
-    push_given(text, program_word(), given_up)
 }
 
 /// The account of a day: the lines of each participant, in listing order, and how many followers were given up.
-pub(crate) fn account_text(
+pub(crate) fn account_of(
     alloc: Global,
     accounts: &[LineAccount],
     given_up: u32,
-) -> Result<Vec<u8>, AllocError>
-    ensures { IfOk result (λ text. text.items ≡ account_text accounts.now given_up) }
-{
-    let mut text = Vec::new(alloc);
-    push_accounts(&mut text, accounts)?;
-    push_given_up(&mut text, given_up)?;
-    Ok(text)
+) -> Result<Lines, AllocError> {
+    let mut lines = Lines::new(alloc);
+    for account in accounts {
+        push_account(&mut lines, account)?;
+    }
+    if given_up > 0 {
+        lines.push(&GivenUp(given_up))?;
+    }
+    Ok(lines)
 }

@@ -1,10 +1,8 @@
-//! Writes what is said of the retransmission's connections.
-ghost use Rattle.std.specs.Prelude.{◌≡◌, ◌++◌, [], OnOk};
-ghost use Rattle.live_feed.specs.Followers.{asked_text, follower_line, follower_lines, followers_line, is_served, left_in, left_text, missing_in, missing_text, place_text, served_in, state_text};
+//! What is known of the retransmission's connections at one moment, and how it prints.
+ghost use Rattle.std.specs.Prelude.{◌≡◌};
+ghost use Rattle.live_feed.specs.Followers.{is_served, left_in, missing_in, served_in};
 
-use crate::line_counts::push_text;
-use std::alloc::AllocError;
-use whole_io::push_number;
+use std::fmt;
 
 /// Whether a connection is served.
 #[derive(Clone, Copy)]
@@ -80,107 +78,52 @@ impl SeenFollowers {
     }
 }
 
-/// How a connection stands, at the end of its line.
-#[tactic(auto, unfolding(crate::specs::Followers::state_text))]
-fn state_text(state: FollowerState) -> &'static [u8]
-    ensures { result.now ≡ state_text state }
-{
-    match state {
-        FollowerState::Served => b" bytes, served\n",
-        FollowerState::Ended => b" bytes, ended\n",
-        FollowerState::GivenUp => b" bytes, given up\n",
+impl fmt::Display for FollowerState {
+    fn fmt<W: fmt::Write>(&self, f: &mut fmt::Formatter<W>) -> fmt::Result {
+        f.write_str(match self {
+            FollowerState::Served => "served",
+            FollowerState::Ended => "ended",
+            FollowerState::GivenUp => "given up",
+        })
     }
 }
 
-/// Adds which connection it is, and since when it was served.
-fn push_place(counts: &FollowerCounts, text: &mut Vec<u8>) -> Result<(), AllocError>
-    ensures { OnOk result (text.new.items ≡ text.old.items ++ place_text counts.now) }
-{
-    text.extend_from_slice(b"follower ")?;
-    push_number(text, counts.place)?;
-    text.extend_from_slice(b": since ")?;
-    push_number(text, counts.since)
-}
-
-/// Adds what it asked for and was given.
-fn push_asked(counts: &FollowerCounts, text: &mut Vec<u8>) -> Result<(), AllocError>
-    ensures { OnOk result (text.new.items ≡ text.old.items ++ asked_text counts.now) }
-{
-    text.extend_from_slice(b" s, asked ")?;
-    push_number(text, counts.asked)?;
-    text.extend_from_slice(b" times, answered ")?;
-    push_number(text, counts.answered)?;
-    text.extend_from_slice(b" times, ")?;
-    push_number(text, counts.bytes)
-}
-
-/// Adds the line of a connection, with this in front.
-fn push_line(front: &[u8], counts: &FollowerCounts, text: &mut Vec<u8>) -> Result<(), AllocError>
-    ensures { OnOk result (text.new.items ≡ text.old.items ++ follower_line front.now counts.now) }
-{
-    text.extend_from_slice(front)?;
-    push_place(counts, text)?;
-    push_asked(counts, text)?;
-    text.extend_from_slice(state_text(counts.state))
-}
-
-/// Adds a line for each connection, in their order, with this in front of each. If memory runs out, some may have been added.
-fn push_lines(front: &[u8], all: &[FollowerCounts], text: &mut Vec<u8>) -> Result<(), AllocError>
-    ensures { OnOk result (text.new.items ≡ text.old.items ++ follower_lines front.now all.now) }
-{
-    for counts in all {
-        push_line(front, counts, text)?;
+impl fmt::Display for FollowerCounts {
+    fn fmt<W: fmt::Write>(&self, f: &mut fmt::Formatter<W>) -> fmt::Result {
+        let FollowerCounts {
+            place,
+            since,
+            asked,
+            answered,
+            bytes,
+            state,
+        } = *self;
+        write!(
+            f,
+            "follower {place}: since {since} s, asked {asked} times, answered {answered} times, {bytes} bytes, {state}\n"
+        )
     }
-    Ok(())
 }
 
-/// Adds a line for each connection that came, in their order. If memory runs out, some may have been added.
-pub(crate) fn push_all_followers(
-    text: &mut Vec<u8>,
-    followers: &SeenFollowers,
-) -> Result<(), AllocError>
-    ensures { OnOk result (text.new.items ≡ text.old.items ++ follower_lines [] followers.now.counts.items) }
-{
-    push_lines(b"", &followers.counts, text)
-}
-
-/// Adds how many followers the day's end waits for, of those that the day serves.
-fn push_left(text: &mut Vec<u8>, followers: &SeenFollowers) -> Result<(), AllocError>
-    ensures { OnOk result (text.new.items ≡ text.old.items ++ left_text followers.now) }
-{
-    push_text(text, b"the end waits for ")?;
-    push_number(text, followers.left())?;
-    push_text(text, b" of ")?;
-    push_number(text, u64::from(followers.serves))?;
-    push_text(text, b" followers: ")
-}
-
-/// Adds how many of these have still to come, and how many are served.
-fn push_missing(text: &mut Vec<u8>, followers: &SeenFollowers) -> Result<(), AllocError>
-    ensures { OnOk result (text.new.items ≡ text.old.items ++ missing_text followers.now) }
-{
-    push_number(text, followers.missing())?;
-    push_text(text, b" not connected, ")?;
-    push_number(text, followers.served())?;
-    push_text(text, b" served\n")
-}
-
-/// Adds what the day's end waits for of the followers. If memory runs out, some of it may have been added.
-#[tactic(auto, unfolding(crate::specs::Followers::followers_line))]
-pub(crate) fn push_followers(
-    text: &mut Vec<u8>,
-    followers: &SeenFollowers,
-) -> Result<(), AllocError>
-    ensures { OnOk result (text.new.items ≡ text.old.items ++ followers_line followers.now) }
-{
-    if followers.serves == 0 {
-        Ok(())
-    } else if followers.is_given_up {
-        push_text(text, b"followers are waited for no longer\n")
-    } else if followers.left() == 0 {
-        push_text(text, b"all followers have ended\n")
-    } else {
-        push_left(text, followers)?;
-        push_missing(text, followers)
+impl fmt::Display for SeenFollowers {
+    fn fmt<W: fmt::Write>(&self, f: &mut fmt::Formatter<W>) -> fmt::Result {
+        let (serves, left, missing, served) = (
+            self.serves,
+            self.left(),
+            self.missing(),
+            self.served(),
+        );
+        if serves == 0 {
+            Ok(())
+        } else if self.is_given_up {
+            f.write_str("followers are waited for no longer\n")
+        } else if left == 0 {
+            f.write_str("all followers have ended\n")
+        } else {
+            write!(
+                f,
+                "the end waits for {left} of {serves} followers: {missing} not connected, {served} served\n"
+            )
+        }
     }
 }

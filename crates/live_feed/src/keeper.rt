@@ -18,8 +18,7 @@ use feed_ends::Fault;
 use line_ledger::{DayName, Published};
 use std::alloc::Global;
 use std::marker::Model;
-use summaries::IndexStore;
-use tape_core::{Entry, Tape};
+use tape_core::{Entry, IndexedTape};
 use tape_frames::{SliceSource, Source};
 
 /// How many entries are gathered for a group at most.
@@ -32,16 +31,21 @@ pub(crate) struct Keeper<J: JournalFile> {
     file: J,
     /// What the journal has and is not published yet.
     queue: Queue,
+    /// Whether all that was written is kept.
+    is_kept: bool,
     /// Whether a write, or keeping what was written, failed.
     failed: bool,
 }
 
 impl<J: JournalFile> Model for Keeper<J> {
+    ghost use Rattle.std.specs.Prelude.{◌≡◌, true};
     ghost use Rattle.live_feed.specs.Journals.{JournalState};
 
     ghost Value = { JournalState };
 
     ghost view = { λ k. record { writer = k.groups; contents = J.contents k.file; kept = J.kept k.file; queue = k.queue; failed = k.failed } };
+
+    ghost invariant = { λ k. k.is_kept ≡ true → J.kept k.file ≡ J.contents k.file };
 }
 
 /// Returns the entries after the first `held`, no more than are gathered at once.
@@ -62,6 +66,7 @@ impl<J: JournalFile> Keeper<J> {
             groups,
             file,
             queue: Queue::new(alloc),
+            is_kept: false,
             failed: false,
         }
     }
@@ -97,21 +102,27 @@ impl<J: JournalFile> Keeper<J> {
         Fault::Write
     }
 
-    /// Keeps all that the file has.
+    /// Keeps all that the file has. If nothing was written since it was kept, it is not kept again.
     pub(crate) fn keep(&mut self) -> Result<(), Fault>
         ensures same { (self.new.writer ≡ self.old.writer) × (self.new.queue ≡ self.old.queue) }
         ensures contents { Keeps self.old.contents self.new.contents }
         ensures kept { OnOk result ((self.new.kept ≡ self.new.contents) × (self.new.failed ≡ self.old.failed)) }
         ensures fault { IfErr result (λ fault. (fault ≡ WriteFault) × (self.new.failed ≡ true)) }
     {
+        if self.is_kept {
+            return Ok(());
+        }
         match self.file.keep() {
-            Ok(()) => Ok(()),
+            Ok(()) => {
+                self.is_kept = true;
+                Ok(())
+            }
             Err(_) => Err(self.fail()),
         }
     }
 
     /// Gathers the tape's next entries that the journal doesn't have. If memory runs out, none are gathered.
-    pub(crate) fn gather(&mut self, tape: &Tape<IndexStore>) -> Result<(), Fault>
+    pub(crate) fn gather(&mut self, tape: &IndexedTape) -> Result<(), Fault>
         ensures ok { OnOk result (self.new ≡ record self.old { queue = take GATHERED_AT_ONCE (drop self.old.writer.held tape.now.entries) }) }
         ensures follow { OnOk result (CanFollow self.new.writer.held self.new.queue) }
         ensures fault { IfErr result (λ fault. (fault ≡ Memory) × (self.new ≡ record self.old { queue = [] })) }
@@ -140,6 +151,7 @@ impl<J: JournalFile> Keeper<J> {
     {
         // For the proof alone: by the clauses of this call what is published is numbered from 1.
         let _ = published.published();
+        self.is_kept = false;
         let gathered = Gathered::new(published, self.queue.as_slice());
         match self.groups.append_group(&gathered, &mut self.file) {
             Ok(()) => self.keep(),

@@ -44,8 +44,8 @@ mod status;
 
 pub use journal::{DayJournal, Restored};
 pub use journal_file::{JournalFile, KeepFault, MemoryJournal};
-pub use live::{FeedTerms, live_over, run_live};
+pub use live::{live_over, run_live};
 pub use loss::{Loss, NoLoss};
-pub use operated_day::{LiveEnd, LiveTerms, live_day};
+pub use operated_day::{LiveEnd, live_day};
 pub use operation::Operation;
 pub use sockets::LiveSockets;

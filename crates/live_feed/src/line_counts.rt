@@ -1,14 +1,12 @@
-//! What is known of a participant's line at one moment, and the text that says it.
-ghost use Rattle.std.specs.Prelude.{◌≡◌, ◌+◌, ◌-◌, ◌^◌, ◌++◌, [], OnOk, min};
-ghost use Rattle.std.specs.List.{flat_map};
-ghost use Rattle.live_feed.specs.Accounts.{absent_line, absent_words, counts_text, first_text, has_connected, head_text, is_awaited, is_counted, open_lines, reason_line, reason_text, refused_lines, refused_text, seen_lines, since_text, span_text, words_line};
+//! What is known of a participant's line at one moment, and how it prints.
+ghost use Rattle.std.specs.Prelude.{◌≡◌, ◌+◌, ◌-◌, ◌^◌, [], min};
+ghost use Rattle.live_feed.specs.Accounts.{has_connected, is_awaited, is_counted};
 ghost use Rattle.live_feed.specs.declared.line_counts.LineStage.TheVariants.{Awaited};
 ghost use Rattle.participant_lines.specs.Tallies.{AreCounted};
 
 use participant_lines::{ALL_REASONS, Reason, RefusedFrames, Tally};
-use std::alloc::AllocError;
+use std::fmt;
 use tape_types::Participant;
-use whole_io::push_number;
 
 /// What became of a line's messages.
 #[derive(Clone, Copy, Debug, PartialEq, Eq)]
@@ -148,205 +146,72 @@ impl SeenLine {
     }
 }
 
-/// Adds these bytes.
-pub(crate) fn push_text(text: &mut Vec<u8>, bytes: &[u8]) -> Result<(), AllocError>
-    ensures { OnOk result (text.new.items ≡ text.old.items ++ bytes.now) }
-{
-    text.extend_from_slice(bytes)
+/// The messages of a line that were refused for a reason. It prints as how many they are, and why.
+#[derive(Clone, Copy)]
+pub(crate) struct RefusedFor {
+    pub(crate) reason: Reason,
+    pub(crate) frames: RefusedFrames,
 }
 
-/// Adds what a line of text about a participant begins with, after its first word.
-pub(crate) fn push_head(text: &mut Vec<u8>, word: &[u8], who: Participant) -> Result<(), AllocError>
-    ensures { OnOk result (text.new.items ≡ text.old.items ++ head_text word.now who) }
-{
-    push_text(text, word)?;
-    text.push(who.value())?;
-    push_text(text, b": ")
-}
-
-/// Adds a line of these words about a participant, or nothing if there are none.
-#[tactic(auto, unfolding(crate::specs::Accounts::words_line))]
-pub(crate) fn push_words(
-    text: &mut Vec<u8>,
-    word: &[u8],
-    who: Participant,
-    words: &[u8],
-) -> Result<(), AllocError>
-    ensures { OnOk result (text.new.items ≡ text.old.items ++ words_line word.now who words.now) }
-{
-    if words.is_empty() {
-        return Ok(());
-    }
-    push_head(text, word, who)?;
-    push_text(text, words)?;
-    push_text(text, b"\n")
-}
-
-/// Adds how many messages were done and admitted, and the number of the last that was.
-pub(crate) fn push_counts(text: &mut Vec<u8>, counts: &MessageCounts) -> Result<(), AllocError>
-    ensures { OnOk result (text.new.items ≡ text.old.items ++ counts_text counts.now) }
-{
-    let messages = u64::from(counts.admitted) + u64::from(counts.tally.refused());
-    push_number(text, messages)?;
-    push_text(text, b" messages, ")?;
-    push_number(text, u64::from(counts.admitted))?;
-    push_text(text, b" admitted, last number ")?;
-    push_number(text, u64::from(counts.last))
-}
-
-/// Adds how many messages were refused by a number and a name.
-fn push_refusals(text: &mut Vec<u8>, count: u64, code: u64, name: &[u8]) -> Result<(), AllocError>
-    ensures { OnOk result (text.new.items ≡ text.old.items ++ refused_text count code name.now) }
-{
-    push_number(text, count)?;
-    push_text(text, b" refused by ")?;
-    push_number(text, code)?;
-    push_text(text, b" ")?;
-    push_text(text, name)
-}
-
-/// Adds how many messages were refused for a reason.
-fn push_reason(text: &mut Vec<u8>, reason: Reason, refused: RefusedFrames) -> Result<(), AllocError>
-    ensures { OnOk result (text.new.items ≡ text.old.items ++ reason_text reason refused) }
-{
-    let (count, code) = (u64::from(refused.count), u64::from(reason.code()));
-    push_refusals(text, count, code, reason.name().as_bytes())
-}
-
-/// Adds the number of the first message that was refused for a reason, if the frame spells a message.
-#[tactic(auto, unfolding(crate::specs::Accounts::first_text))]
-fn push_first(text: &mut Vec<u8>, reason: Reason, refused: RefusedFrames) -> Result<(), AllocError>
-    ensures { OnOk result (text.new.items ≡ text.old.items ++ first_text reason refused) }
-{
-    match reason {
-        Reason::Unspelled(_) => Ok(()),
-        Reason::Refused(_) => {
-            push_text(text, b", the first with number ")?;
-            push_number(text, u64::from(refused.first))
+impl fmt::Display for RefusedFor {
+    fn fmt<W: fmt::Write>(&self, f: &mut fmt::Formatter<W>) -> fmt::Result {
+        let RefusedFor { reason, frames } = *self;
+        let (code, name) = (reason.code(), reason.name());
+        let RefusedFrames { count, first } = frames;
+        write!(f, "{count} refused by {code} {name}")?;
+        match reason {
+            Reason::Unspelled(_) => Ok(()),
+            Reason::Refused(_) => write!(f, ", the first with number {first}"),
         }
     }
 }
 
-/// Adds the line of a reason, or nothing if no message was refused for it.
-fn push_refused(
-    text: &mut Vec<u8>,
-    word: &[u8],
-    who: Participant,
-    tally: &Tally,
-    reason: Reason,
-) -> Result<(), AllocError>
-    ensures { OnOk result (text.new.items ≡ text.old.items ++ reason_line word.now who tally.now reason) }
-{
-    let Some(refused) = tally.of(reason) else {
-        return Ok(());
-    };
-    push_head(text, word, who)?;
-    push_reason(text, reason, refused)?;
-    push_first(text, reason, refused)?;
-    push_text(text, b"\n")
+impl fmt::Display for MessageCounts {
+    fn fmt<W: fmt::Write>(&self, f: &mut fmt::Formatter<W>) -> fmt::Result {
+        let MessageCounts { admitted, last, .. } = *self;
+        let messages = u64::from(admitted) + u64::from(self.tally.refused());
+        write!(
+            f,
+            "{messages} messages, {admitted} admitted, last number {last}"
+        )
+    }
 }
 
-/// Adds the lines of these reasons, one after another.
-fn push_each_refused(
-    text: &mut Vec<u8>,
-    word: &[u8],
+impl fmt::Display for LineStage {
+    fn fmt<W: fmt::Write>(&self, f: &mut fmt::Formatter<W>) -> fmt::Result {
+        match *self {
+            LineStage::Awaited => f.write_str("not connected"),
+            LineStage::Absent(seconds) => write!(f, "did not connect within {seconds} seconds"),
+            LineStage::Unawaited => f.write_str("did not connect before the day was ended"),
+            LineStage::Open(since) => write!(f, "connected since {since} s"),
+            LineStage::Closed(since) => write!(f, "ended, connected since {since} s"),
+        }
+    }
+}
+
+/// Prints the lines of the reasons for which messages were refused, by rising number.
+fn print_refused<W: fmt::Write>(
+    f: &mut fmt::Formatter<W>,
     who: Participant,
     tally: &Tally,
-    reasons: &[Reason],
-) -> Result<(), AllocError>
-    ensures { OnOk result (text.new.items ≡ text.old.items ++ flat_map (reason_line word.now who tally.now) reasons.now) }
-{
-    for reason in reasons {
-        push_refused(text, word, who, tally, *reason)?;
+) -> fmt::Result {
+    let who = char::from(who.value());
+    for reason in ALL_REASONS {
+        if let Some(frames) = tally.of(reason) {
+            let refused = RefusedFor { reason, frames };
+            write!(f, "{who}: {refused}\n")?;
+        }
     }
     Ok(())
 }
 
-/// Adds the lines of all reasons, by rising number.
-pub(crate) fn push_all_refused(
-    text: &mut Vec<u8>,
-    word: &[u8],
-    who: Participant,
-    tally: &Tally,
-) -> Result<(), AllocError>
-    ensures { OnOk result (text.new.items ≡ text.old.items ++ refused_lines word.now who tally.now) }
-{
-    push_each_refused(text, word, who, tally, &ALL_REASONS)
-}
-
-/// Adds what is said of a participant that did not connect, and nothing of another.
-#[tactic(auto, unfolding(crate::specs::Accounts::absent_words))]
-fn push_absent_words(text: &mut Vec<u8>, stage: LineStage) -> Result<(), AllocError>
-    ensures { OnOk result (text.new.items ≡ text.old.items ++ absent_words stage) }
-{
-    match stage {
-        LineStage::Awaited => push_text(text, b"not connected"),
-        LineStage::Unawaited => push_text(text, b"did not connect before the day was ended"),
-        LineStage::Absent(seconds) => {
-            push_text(text, b"did not connect within ")?;
-            push_number(text, u64::from(seconds))?;
-            push_text(text, b" seconds")
+impl fmt::Display for SeenLine {
+    fn fmt<W: fmt::Write>(&self, f: &mut fmt::Formatter<W>) -> fmt::Result {
+        let (who, stage, counts) = (char::from(self.who.value()), self.stage, self.counts);
+        if !stage.is_counted(&counts) {
+            return write!(f, "{who}: {stage}\n");
         }
-        LineStage::Open(_) | LineStage::Closed(_) => Ok(()),
-    }
-}
-
-/// Adds the line of a participant that did not connect.
-pub(crate) fn push_absent(
-    text: &mut Vec<u8>,
-    word: &[u8],
-    who: Participant,
-    stage: LineStage,
-) -> Result<(), AllocError>
-    ensures { OnOk result (text.new.items ≡ text.old.items ++ absent_line word.now who stage) }
-{
-    push_head(text, word, who)?;
-    push_absent_words(text, stage)?;
-    push_text(text, b"\n")
-}
-
-/// Adds these words and this many seconds.
-fn push_span(text: &mut Vec<u8>, words: &[u8], since: u64) -> Result<(), AllocError>
-    ensures { OnOk result (text.new.items ≡ text.old.items ++ span_text words.now since) }
-{
-    push_text(text, words)?;
-    push_number(text, since)?;
-    push_text(text, b" s, ")
-}
-
-/// Adds since when a line is open, or was, or that its participant did not connect.
-#[tactic(auto, unfolding(crate::specs::Accounts::since_text))]
-fn push_since(text: &mut Vec<u8>, stage: LineStage) -> Result<(), AllocError>
-    ensures { OnOk result (text.new.items ≡ text.old.items ++ since_text stage) }
-{
-    match stage {
-        LineStage::Open(since) => push_span(text, b"connected since ", since),
-        LineStage::Closed(since) => push_span(text, b"ended, connected since ", since),
-        LineStage::Awaited | LineStage::Absent(_) | LineStage::Unawaited => {
-            push_absent_words(text, stage)?;
-            push_text(text, b", ")
-        }
-    }
-}
-
-/// Adds the lines of a participant whose counts are said, in a day that runs.
-fn push_open(text: &mut Vec<u8>, line: &SeenLine) -> Result<(), AllocError>
-    ensures { OnOk result (text.new.items ≡ text.old.items ++ open_lines line.now) }
-{
-    push_head(text, b"", line.who)?;
-    push_since(text, line.stage)?;
-    push_counts(text, &line.counts)?;
-    push_text(text, b"\n")?;
-    push_all_refused(text, b"", line.who, &line.counts.tally)
-}
-
-/// Adds the lines of a participant in a day that runs.
-pub(crate) fn push_seen(text: &mut Vec<u8>, line: &SeenLine) -> Result<(), AllocError>
-    ensures { OnOk result (text.new.items ≡ text.old.items ++ seen_lines line.now) }
-{
-    if line.stage.is_counted(&line.counts) {
-        push_open(text, line)
-    } else {
-        push_absent(text, b"", line.who, line.stage)
+        write!(f, "{who}: {stage}, {counts}\n")?;
+        print_refused(f, self.who, &counts.tally)
     }
 }

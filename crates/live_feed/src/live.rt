@@ -13,15 +13,18 @@ ghost use Rattle.feed_ends.specs.declared.fault.Fault.TheVariants.{Disagrees, Wr
 
 use crate::bell::Bell;
 use crate::feed::Feed;
+use crate::keeper::Keeper;
 use crate::line_input::Reader;
 use crate::opening::open_lines;
 use crate::running::{Joined, run_together};
 use crate::seated::Ran;
 use crate::sender::room_for_a_packet;
 use crate::starting::{accept_all, prepare_day};
-use crate::{LiveSockets, Loss};
+use crate::{LiveSockets, Loss, MemoryJournal};
+use day_terms::LiveTerms;
+use days::Day;
 use feed_ends::{Fault, write_day};
-use line_ledger::{Day, DayName, EndFault, LineSeat, Prepared, SharedTape, Sighting};
+use line_ledger::{Day as EndedDay, DayName, EndFault, LineSeat, Prepared, SharedTape, Sighting};
 use sale_matrix::Matrix;
 use std::alloc::Global;
 use std::io::Write;
@@ -31,28 +34,13 @@ use std::os::fd::OwnedFd;
 use std::rt::Clock;
 use std::sync::Wait;
 use std::thread::Threads;
-use tape_types::{Listing, can_start};
-
-/// The terms of a day.
-#[derive(Drop)]
-pub struct FeedTerms {
-    /// The names of the day.
-    pub listing: Listing,
-    /// How many entries the tape takes, from 1 to `TAPE_MOST`.
-    pub limit: u32,
-    /// The sale condition matrix.
-    pub matrix: Matrix,
-    /// The session that its packets name.
-    pub session: u64,
-    /// How many connections of the retransmission are served; with 0 none is awaited.
-    pub serves: u16,
-}
+use tape_types::{Listing, TapeNumber, can_start};
 
 /// Ends the day with a seat of each participant.
 pub(crate) fn end_day<D: DayName>(
     shared: SharedTape<D>,
     seats: Vec<LineSeat<D>>,
-) -> Result<Day, Fault>
+) -> Result<EndedDay, Fault>
     requires { IsOneEach D.terms.listing.participants seats.items }
     ensures legal { IfOk result (λ day. IsLegal day.tape) }
     ensures listed { IfOk result (λ day. day.tape.listing ≡ D.terms.listing) }
@@ -72,7 +60,7 @@ pub(crate) fn end_day<D: DayName>(
 }
 
 /// Whether the day has what was seen in each of the first `many` cells.
-fn confirms_all(day: &Day, tokens: &Vec<Sighting>, many: u32) -> bool
+fn confirms_all(day: &EndedDay, tokens: &Vec<Sighting>, many: u32) -> bool
     requires cells { FirstTokens day.now.names tokens.now.items }
     requires many { length tokens.now.items ≡ many }
     ensures { result ≡ true → HaveAll day.now.tape.entries tokens.now.items }
@@ -87,7 +75,7 @@ fn confirms_all(day: &Day, tokens: &Vec<Sighting>, many: u32) -> bool
 
 /// Whether the day is what was sent of it: it has as many entries as the end told, the sender had a token of each, and each of
 /// these is on its tape. A cell is set once, so its token stands for whatever was sent or served of it.
-fn is_as_sent(day: &Day, tokens: &Vec<Sighting>, number: u32) -> bool
+fn is_as_sent(day: &EndedDay, tokens: &Vec<Sighting>, number: u32) -> bool
     requires { FirstTokens day.now.names tokens.now.items }
     ensures number { result ≡ true → (length tokens.now.items ≡ number) × (length day.now.tape.entries ≡ number) }
     ensures tokens { result ≡ true → HaveAll day.now.tape.entries tokens.now.items }
@@ -101,7 +89,7 @@ fn is_as_sent(day: &Day, tokens: &Vec<Sighting>, number: u32) -> bool
 /// the day, in order.
 #[derive(Drop)]
 pub(crate) struct SentDay {
-    day: Day,
+    day: EndedDay,
     seen: Vec<Sighting>,
     ghost sent: { shown seen.items ≡ day.tape.entries },
 }
@@ -172,7 +160,11 @@ fn run_named<D: DayName + Send + Sync, R: Threads + Wait + Clock + Sync, L: Loss
     ensures within { IfOk result (λ ended. length ended.day.tape.entries ≤ D.terms.limit) }
 {
     let slots = Vec::new(feed.alloc);
-    let (shared, waiting) = open_lines::<D, R>(rt, feed.alloc, prepared, readers, slots, None)?;
+    let none = None::<Keeper<MemoryJournal>>;
+    let opened = open_lines::<D, R, MemoryJournal>(
+        rt, feed.alloc, &none, prepared, readers, slots, None,
+    );
+    let (shared, waiting) = opened?;
     let joined = run_together(rt, feed, &shared, waiting, text);
     finish_day(shared, joined)
 }
@@ -213,19 +205,19 @@ fn readers_of<R: Threads>(
 fn hold_day<R: Threads + Wait + Clock + Sync, L: Loss + Sync>(
     rt: &R,
     feed: &Feed<'_, L>,
-    terms: FeedTerms,
+    terms: LiveTerms,
     lines: Vec<TcpListener>,
 ) -> Result<SentDay, Fault>
     ensures legal { IfOk result (λ ended. IsLegal ended.day.tape) }
-    ensures listed { IfOk result (λ ended. ended.day.tape.listing ≡ terms.listing) }
-    ensures by_matrix { IfOk result (λ ended. ended.day.tape.matrix ≡ terms.matrix) }
-    ensures within { IfOk result (λ ended. length ended.day.tape.entries ≤ terms.limit) }
+    ensures listed { IfOk result (λ ended. ended.day.tape.listing ≡ terms.day.listing) }
+    ensures by_matrix { IfOk result (λ ended. ended.day.tape.matrix ≡ terms.day.matrix) }
+    ensures within { IfOk result (λ ended. length ended.day.tape.entries ≤ terms.day.limit) }
 {
-    if lines.len() != terms.listing.participants().as_slice().len() {
+    if lines.len() != terms.day.listing.participants().as_slice().len() {
         return Err(Fault::Read);
     }
     let mut text = room_for_a_packet(feed.alloc)?;
-    let prepared = prepare_day(feed.alloc, terms.listing, terms.limit, terms.matrix)?;
+    let prepared = prepare_day(feed.alloc, terms.day)?;
     let readers = match readers_of(rt, feed.alloc, lines) {
         Ok(readers) => readers,
         Err(fault) => {
@@ -240,12 +232,12 @@ fn hold_day<R: Threads + Wait + Clock + Sync, L: Loss + Sync>(
 fn live<R: Threads + Wait + Clock + Sync, L: Loss + Sync, W: Write>(
     rt: &R,
     feed: &Feed<'_, L>,
-    terms: FeedTerms,
+    terms: LiveTerms,
     lines: Vec<TcpListener>,
     writer: &mut W,
 ) -> Result<SentDay, Fault>
     ensures report { OnOk result (WritesOneReport (W.contents writer.old) (W.contents writer.new)) }
-    ensures listed { OnOk result (WritesItsReport terms.listing terms.matrix terms.limit (W.contents writer.old) (W.contents writer.new)) }
+    ensures listed { OnOk result (WritesItsReport terms.day.listing terms.day.matrix terms.day.limit (W.contents writer.old) (W.contents writer.new)) }
     ensures sent { IfOk result (λ ended. Appends (W.contents writer.old) (W.contents writer.new) (report_text (report_rows ended.day.tape))) }
     ensures unwritten { IfErr result (λ fault. fault ≢ WriteFault → writer.new ≡ writer.old) }
 {
@@ -269,13 +261,13 @@ pub(crate) fn closing_of(listener: &TcpListener) -> Result<TcpStream, Fault> {
 pub fn run_live<R: Threads + Wait + Clock + Sync, L: Loss + Sync, W: Write>(
     rt: &R,
     alloc: Global,
-    terms: FeedTerms,
+    terms: LiveTerms,
     sockets: LiveSockets,
     loss: &L,
     writer: &mut W,
 ) -> Result<(), Fault>
     ensures report { OnOk result (WritesOneReport (W.contents writer.old) (W.contents writer.new)) }
-    ensures listed { OnOk result (WritesItsReport terms.listing terms.matrix terms.limit (W.contents writer.old) (W.contents writer.new)) }
+    ensures listed { OnOk result (WritesItsReport terms.day.listing terms.day.matrix terms.day.limit (W.contents writer.old) (W.contents writer.new)) }
     ensures unwritten { IfErr result (λ fault. fault ≢ WriteFault → writer.new ≡ writer.old) }
 {
     let LiveSockets {
@@ -295,13 +287,24 @@ pub fn run_live<R: Threads + Wait + Clock + Sync, L: Loss + Sync, W: Write>(
         b: &b,
         loss,
         bell: &bell,
-        session: terms.session,
+        session: terms.day.session,
         serves: terms.serves,
         alloc,
     };
     let ended = live(rt, &feed, terms, lines, writer)?;
     drop(ended);
     Ok(())
+}
+
+/// Returns the status of a day whose limit is out of range: 3 if there is not one listener for each participant, otherwise 7.
+fn status_without_limit(listing: &Listing, sockets: &LiveSockets) -> u8
+    ensures { (result ≡ 3) ⊎ (result ≡ 7) }
+{
+    if sockets.lines.len() == listing.participants().as_slice().len() {
+        7
+    } else {
+        3
+    }
 }
 
 /// Runs a day over sockets, and writes its report to `writer`.
@@ -337,12 +340,20 @@ pub fn live_over<R: Threads + Wait + Clock + Sync, L: Loss + Sync, W: Write>(
     ensures unwritten { result ≢ 0 → result ≢ 4 → writer.new ≡ writer.old }
     ensures status { (result ≡ 0) ⊎ ((3 ≤ result) × (result ≤ 7)) }
 {
-    let terms = FeedTerms {
+    let Some(limit) = TapeNumber::try_new(limit) else {
+        return status_without_limit(&listing, &sockets);
+    };
+    let day = Day {
         listing,
-        limit,
         matrix,
+        limit,
         session,
+    };
+    let terms = LiveTerms {
+        day,
         serves,
+        connect_within: None,
+        followers_wait: None,
     };
     match run_live(rt, alloc, terms, sockets, loss, writer) {
         Ok(()) => 0,

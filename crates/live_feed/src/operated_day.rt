@@ -7,9 +7,8 @@ ghost use Rattle.live_feed.specs.Faults.{FailsEarly, NoneBefore};
 ghost use Rattle.live_feed.specs.Journals.{HasFailed};
 ghost use Rattle.feed_ends.specs.Faults.{fault_status};
 ghost use Rattle.feed_ends.specs.Reports.{WritesItsReport};
-ghost use Rattle.live_feed.specs.Accounts.{HasAccount};
 
-use crate::account::{LineAccount, account_text};
+use crate::account::{LineAccount, account_of};
 use crate::bell::Bell;
 use crate::doors::wait_for_lines;
 use crate::feed::Feed;
@@ -21,15 +20,16 @@ use crate::live::{closing_of, finish_day};
 use crate::opening::open_lines;
 use crate::operation::Operation;
 use crate::patience::Watch;
+use crate::publishing::keep_journal;
 use crate::restoring::JournalPast;
 use crate::running::{Joined, Reported, run_and_report};
 use crate::seated::Ran;
 use crate::sender::room_for_a_packet;
 use crate::starting::prepare_day;
 use crate::{JournalFile, LiveSockets, Loss};
+use day_terms::LiveTerms;
 use feed_ends::Fault;
 use line_ledger::{DayName, Prepared, SharedTape};
-use sale_matrix::Matrix;
 use std::alloc::Global;
 use std::io::Write;
 use std::marker::Brand;
@@ -37,26 +37,8 @@ use std::net::TcpListener;
 use std::rt::Clock;
 use std::sync::{Arc, Wait};
 use std::thread::Threads;
-use tape_types::{Listing, can_start};
-
-/// The terms of a day that is operated.
-#[derive(Drop)]
-pub struct LiveTerms {
-    /// The names of the day.
-    pub listing: Listing,
-    /// How many entries the tape takes, from 1 to `TAPE_MOST`.
-    pub limit: u32,
-    /// The sale condition matrix.
-    pub matrix: Matrix,
-    /// The session that its packets name.
-    pub session: u64,
-    /// How many connections of the retransmission are served; with 0 none is awaited.
-    pub serves: u16,
-    /// After how many seconds a participant that did not connect is given up; never if `None`.
-    pub connect_within: Option<u32>,
-    /// For how many seconds after the end followers may still ask; until the last connection has ended if `None`.
-    pub followers_wait: Option<u32>,
-}
+use tape_types::can_start;
+use whole_io::Lines;
 
 /// How an operated day ended.
 #[derive(Drop)]
@@ -65,9 +47,9 @@ pub struct LiveEnd {
     pub result: Result<(), Fault>,
     /// Whether the report was written whole and flushed, which it may be although a fault was met after it.
     pub is_whole: bool,
-    /// What is said of the day, for standard error: lines that begin with `tapebox: `, for each participant what became of its
-    /// messages. Empty if the lines were not run, or memory ran out for it.
-    pub account: Vec<u8>,
+    /// What is said of the day, for standard error: for each participant what became of its messages. Empty if the lines were
+    /// not run, or memory ran out for it.
+    pub account: Lines,
     /// Whether a write of the journal failed, or keeping what was written. The result is then `Write` or a fault of a lesser
     /// status, no end was sent and no report was written.
     pub journal_failed: bool,
@@ -83,18 +65,18 @@ struct RunEnd {
     journal_failed: bool,
 }
 
-/// The end of a day that was not run, with this fault.
-fn not_held(alloc: Global, fault: Fault) -> RunEnd
+/// The end of a day that was not run, with this fault: that of its journal or another.
+fn not_held(alloc: Global, fault: Fault, journal_failed: bool) -> RunEnd
     ensures result { result.result ≡ Err fault }
     ensures unwritten { result.is_whole ≡ false }
-    ensures kept { result.journal_failed ≡ false }
+    ensures kept { result.journal_failed ≡ journal_failed }
 {
     RunEnd {
         result: Err(fault),
         is_whole: false,
         accounts: Vec::new(alloc),
         given_up: 0,
-        journal_failed: false,
+        journal_failed,
     }
 }
 
@@ -191,7 +173,8 @@ struct ReadyDay {
     readers: Vec<Reader>,
 }
 
-/// Runs the day of what is ready under a name, and writes its report. It goes on with what its journal had, if that is given.
+/// Runs the day of what is ready under a name, and writes its report. It goes on with what its journal had, if that is given:
+/// the journal is kept first, and then restored.
 /// Packets are written to its text.
 fn run_named<
     D: DayName + Send + Sync,
@@ -226,11 +209,16 @@ fn run_named<
         slots,
         readers,
     } = ready;
-    let opened = open_lines::<D, R>(rt, feed.alloc, prepared, readers, slots, past.as_ref());
+    if let Err(fault) = keep_journal(keeper) {
+        drop(prepared);
+        return not_held(feed.alloc, fault, true);
+    }
+    let past_now = past.as_ref();
+    let opened = open_lines::<D, R, J>(rt, feed.alloc, keeper, prepared, readers, slots, past_now);
     drop(past);
     let (shared, waiting) = match opened {
         Ok(opened) => opened,
-        Err(fault) => return not_held(feed.alloc, fault),
+        Err(fault) => return not_held(feed.alloc, fault, false),
     };
     let Reported {
         joined,
@@ -319,18 +307,18 @@ fn ready_day<R: Threads + Wait + Clock>(
     lines: Vec<TcpListener>,
     operation: &Operation,
 ) -> Result<ReadyDay, Fault>
-    ensures many { IfOk result (λ ready. vec_len ready.readers ≡ length terms.listing.participants) }
-    ensures listed { IfOk result (λ ready. ready.prepared.tape.listing ≡ terms.listing) }
-    ensures by_matrix { IfOk result (λ ready. ready.prepared.tape.matrix ≡ terms.matrix) }
-    ensures limited { IfOk result (λ ready. ready.prepared.tape.limit ≡ terms.limit) }
+    ensures many { IfOk result (λ ready. vec_len ready.readers ≡ length terms.day.listing.participants) }
+    ensures listed { IfOk result (λ ready. ready.prepared.tape.listing ≡ terms.day.listing) }
+    ensures by_matrix { IfOk result (λ ready. ready.prepared.tape.matrix ≡ terms.day.matrix) }
+    ensures limited { IfOk result (λ ready. ready.prepared.tape.limit ≡ terms.day.limit) }
 {
-    if lines.len() != terms.listing.participants().as_slice().len() {
+    if lines.len() != terms.day.listing.participants().as_slice().len() {
         return Err(Fault::Read);
     }
     let text = room_for_a_packet(alloc)?;
     let slots = slots_of(alloc, operation)?;
     let connect_within = terms.connect_within;
-    let prepared = prepare_day(alloc, terms.listing, terms.limit, terms.matrix)?;
+    let prepared = prepare_day(alloc, terms.day)?;
     match readers_of(rt, alloc, operation, connect_within, lines) {
         Ok(readers) => Ok(ReadyDay {
             prepared,
@@ -349,7 +337,6 @@ fn ready_day<R: Threads + Wait + Clock>(
 fn end_of(alloc: Global, held: RunEnd) -> LiveEnd
     ensures result { result.result ≡ held.result }
     ensures is_whole { result.is_whole ≡ held.is_whole }
-    ensures account { HasAccount result.account.items }
     ensures journal { result.journal_failed ≡ held.journal_failed }
 {
     let RunEnd {
@@ -359,9 +346,9 @@ fn end_of(alloc: Global, held: RunEnd) -> LiveEnd
         given_up,
         journal_failed,
     } = held;
-    let account = match account_text(alloc, &accounts, given_up) {
+    let account = match account_of(alloc, &accounts, given_up) {
         Ok(account) => account,
-        Err(_) => Vec::new(alloc),
+        Err(_) => Lines::new(alloc),
     };
     LiveEnd {
         result,
@@ -383,8 +370,7 @@ fn end_of(alloc: Global, held: RunEnd) -> LiveEnd
 /// result is the fault of the least status: `Read` if a participant's connection can't be accepted, the listener of the
 /// retransmission is gone, or there is not one listener and one line of the operation for each participant; `Write` for a
 /// failed write of the report; `Memory`; `Worker` if no thread can be started for the lines; `Disagrees` if the tape disagrees
-/// with what was told or sent of it, and for a limit outside 1 to `TAPE_MOST`. Without `Read` and `Write` there is the whole
-/// report or none of it.
+/// with what was told or sent of it. Without `Read` and `Write` there is the whole report or none of it.
 ///
 /// With a `journal` what the lines admit is appended to it as one group, up to 4,096 entries at once, and kept, before any of
 /// it is published or sent; while one group is kept the next gathers. If that fails nothing more is published, and the day ends
@@ -402,13 +388,12 @@ pub fn live_day<R: Threads + Wait + Clock + Sync, L: Loss + Sync, J: JournalFile
     writer: &mut W,
 ) -> LiveEnd
     ensures report { result.is_whole ≡ true
-        → WritesItsReport terms.listing terms.matrix terms.limit (W.contents writer.old) (W.contents writer.new) }
+        → WritesItsReport terms.day.listing terms.day.matrix terms.day.limit (W.contents writer.old) (W.contents writer.new) }
     ensures whole { OnOk result.result (result.is_whole ≡ true) }
     ensures unwritten { result.is_whole ≡ false → IfErr result.result (λ fault. 4 < fault_status fault → writer.new ≡ writer.old) }
-    ensures account { HasAccount result.account.items }
     ensures journal { result.journal_failed ≡ true → FailsEarly result.is_whole result.result }
 {
-    let (session, serves, followers_wait) = (terms.session, terms.serves, terms.followers_wait);
+    let (session, serves, followers_wait) = (terms.day.session, terms.serves, terms.followers_wait);
     let LiveSockets {
         lines,
         retransmission,
@@ -418,11 +403,11 @@ pub fn live_day<R: Threads + Wait + Clock + Sync, L: Loss + Sync, J: JournalFile
     } = sockets;
     let closing = match closing_of(&retransmission) {
         Ok(closing) => closing,
-        Err(fault) => return end_of(alloc, not_held(alloc, fault)),
+        Err(fault) => return end_of(alloc, not_held(alloc, fault, false)),
     };
     let ready = match ready_day(rt, alloc, terms, lines, operation) {
         Ok(ready) => ready,
-        Err(fault) => return end_of(alloc, not_held(alloc, fault)),
+        Err(fault) => return end_of(alloc, not_held(alloc, fault, false)),
     };
     let bell = Bell::new();
     let feed = Feed {

@@ -1,13 +1,12 @@
 //! The operation of a day: its status, and its end before its lines close.
-ghost use Rattle.std.specs.Prelude.{◌≡◌, IfOk, OnOk, length};
+ghost use Rattle.std.specs.Prelude.{◌≡◌, IfOk, OnErr, OnOk, length};
 ghost use Rattle.std.specs.Io.{StartsWith};
-ghost use Rattle.live_feed.specs.Status.{AddsStatus};
 
 use crate::clock::nanos_of;
 use crate::followers::Followers;
 use crate::line_counts::SeenLine;
 use crate::line_slot::LineSlot;
-use crate::status::{DayFigures, push_status};
+use crate::status::DayStatus;
 use std::alloc::{AllocError, Global};
 use std::rt::Clock;
 use std::sync::atomic::{AtomicBool, Ordering};
@@ -104,20 +103,14 @@ impl Operation {
 
     /// Appends the day's status to `text`, as lines: for how long it runs, its tape number and messages a second, each
     /// participant with what became of its messages, each connection of the retransmission, and what the day's end waits for.
-    /// If memory runs out, some of the lines may have been added.
+    /// If memory runs out, nothing is.
     pub fn put_status<R: Wait + Clock>(&self, rt: &R, text: &mut Vec<u8>) -> Result<(), AllocError>
         ensures kept { OnOk result (StartsWith text.new.items text.old.items) }
-        ensures told { OnOk result (AddsStatus text.old.items text.new.items) }
+        ensures same { OnErr result (text.new.items ≡ text.old.items) }
     {
-        let seen = self.seen(rt)?;
-        let followers = self.followers.seen(rt)?;
-        push_status(
-            text,
-            self.seconds(rt),
-            self.is_ended(),
-            DayFigures::of(&seen),
-            &seen,
-            &followers,
-        )
+        let (seen, followers) = (self.seen(rt)?, self.followers.seen(rt)?);
+        let status = DayStatus::new(self.seconds(rt), self.is_ended(), seen, followers);
+        let lines = format!(in self.alloc; "{status}")?;
+        text.extend_from_slice(lines.as_bytes())
     }
 }

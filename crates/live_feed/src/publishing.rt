@@ -1,10 +1,10 @@
 //! Publishes the tape's next entries, once they are kept in the day's journal, if there is one.
-ghost use Rattle.std.specs.Prelude.{◌≡◌, ◌≢◌, ◌≤◌, ◌⊎◌, [], Err, IfOk, OnOk, length, true, ℕ};
+ghost use Rattle.std.specs.Prelude.{◌≡◌, ◌≢◌, ◌≤◌, ◌⊎◌, [], Err, IfErr, IfOk, OnOk, length, true, ℕ};
 ghost use Rattle.line_ledger.specs.Cells.{shown};
 ghost use Rattle.line_ledger.specs.Publishing.{GoesOn};
 ghost use Rattle.line_ledger.specs.declared.publish_fault.PublishFault.TheVariants.{OutOfMemory, Unpublished};
 ghost use Rattle.feed_ends.specs.declared.fault.Fault.TheVariants.{Memory, Disagrees, Write as WriteFault};
-ghost use Rattle.live_feed.specs.Journals.{AllKept, Begins, GrowsAtMostOnce, HasFailed, IsKept, Steps};
+ghost use Rattle.live_feed.specs.Journals.{AllKept, Begins, GrowsAtMostOnce, HasAllKept, HasFailed, IsKept, Steps};
 
 use crate::JournalFile;
 use crate::keeper::Keeper;
@@ -132,6 +132,18 @@ pub(crate) fn publish_next<D: DayName, R: Wait, J: JournalFile>(
     match keeper {
         Some(keeper) => publish_kept(rt, shared, keeper, published),
         None => publish(rt, shared, published, PUBLISHED_AT_ONCE),
+    }
+}
+
+/// Keeps what the file of the day's journal has, if there is one: a process that ended may have written what no disk keeps.
+pub(crate) fn keep_journal<J: JournalFile>(keeper: &mut Option<Keeper<J>>) -> Result<(), Fault>
+    ensures kept { OnOk result (HasAllKept keeper.new) }
+    ensures failed { OnOk result (HasFailed keeper.new → HasFailed keeper.old) }
+    ensures fault { IfErr result (λ fault. fault ≡ WriteFault) }
+{
+    match keeper {
+        Some(keeper) => keeper.keep(),
+        None => Ok(()),
     }
 }
 

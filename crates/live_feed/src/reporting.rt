@@ -20,8 +20,7 @@ use std::rt::Clock;
 use std::sync::Wait;
 use std::thread::Threads;
 use std::time::Duration;
-use summaries::IndexStore;
-use tape_core::Tape;
+use tape_core::IndexedTape;
 
 /// How a day's end went.
 #[derive(Drop)]
@@ -38,7 +37,7 @@ pub(crate) struct Ending {
 /// what was seen of each.
 fn is_as_sent<D: DayName>(
     shared: &SharedTape<D>,
-    tape: &Tape<IndexStore>,
+    tape: &IndexedTape,
     tokens: &Vec<Sighting>,
     number: u32,
 ) -> bool

@@ -2,28 +2,21 @@
 ghost use Rattle.std.specs.Prelude.{◌≡◌, IfOk, vec_len};
 
 use crate::line_input::{LineInput, Reader};
+use days::Day;
 use feed_ends::Fault;
 use line_ledger::{Prepared, prepare};
-use sale_matrix::Matrix;
 use std::alloc::Global;
 use std::io::BufReader;
 use std::net::TcpListener;
-use summaries::IndexStore;
-use tape_core::Tape;
-use tape_types::Listing;
+use tape_core::{IndexedTape, Tape};
 
-/// Makes an empty tape of the listing and the matrix, and allocates the memory of its day.
-pub(crate) fn prepare_day(
-    alloc: Global,
-    listing: Listing,
-    limit: u32,
-    matrix: Matrix,
-) -> Result<Prepared, Fault>
-    ensures listed { IfOk result (λ prepared. prepared.tape.listing ≡ listing) }
-    ensures by_matrix { IfOk result (λ prepared. prepared.tape.matrix ≡ matrix) }
-    ensures limited { IfOk result (λ prepared. prepared.tape.limit ≡ limit) }
+/// Makes the empty tape of a day, and allocates the memory of that day.
+pub(crate) fn prepare_day(alloc: Global, day: Day) -> Result<Prepared, Fault>
+    ensures listed { IfOk result (λ prepared. prepared.tape.listing ≡ day.listing) }
+    ensures by_matrix { IfOk result (λ prepared. prepared.tape.matrix ≡ day.matrix) }
+    ensures limited { IfOk result (λ prepared. prepared.tape.limit ≡ day.limit) }
 {
-    let tape: Tape<IndexStore> = Tape::new(alloc, listing, limit, matrix)?;
+    let tape: IndexedTape = Tape::new(alloc, day.listing, day.limit.value(), day.matrix)?;
     prepare(alloc, tape).map_err(|_| Fault::Memory)
 }
 

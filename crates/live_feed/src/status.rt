@@ -1,13 +1,12 @@
-//! Writes the status of a day that runs.
-ghost use Rattle.std.specs.Prelude.{◌≡◌, ◌<◌, ◌^◌, ◌++◌, OnOk};
-ghost use Rattle.std.specs.List.{flat_map, list_any};
-ghost use Rattle.live_feed.specs.Accounts.{is_awaited, seen_lines};
-ghost use Rattle.live_feed.specs.Status.{AreFigures, admitted_in_all, awaited_name, day_text, ended_line, messages_of, names_line, number_text, rate_text, refused_in_all, restored_in_all, status_text, waits_line};
+//! The status of a day that runs, and how it prints.
+ghost use Rattle.std.specs.Prelude.{◌≡◌, ◌<◌, ◌^◌};
+ghost use Rattle.std.specs.List.{list_any};
+ghost use Rattle.live_feed.specs.Accounts.{is_awaited};
+ghost use Rattle.live_feed.specs.Status.{AreFigures, admitted_in_all, messages_of, refused_in_all, restored_in_all};
 
-use crate::follower_counts::{SeenFollowers, push_all_followers, push_followers};
-use crate::line_counts::{SeenLine, push_seen, push_text};
-use std::alloc::AllocError;
-use whole_io::push_number;
+use crate::follower_counts::{FollowerCounts, SeenFollowers};
+use crate::line_counts::SeenLine;
+use std::fmt;
 
 /// The figures of a day's lines.
 #[derive(Clone, Copy, Debug, PartialEq, Eq)]
@@ -75,23 +74,38 @@ impl DayFigures {
     }
 }
 
-/// Adds for how long the day runs, and its tape number.
-fn push_day(text: &mut Vec<u8>, seconds: u64, figures: DayFigures) -> Result<(), AllocError>
-    ensures { OnOk result (text.new.items ≡ text.old.items ++ number_text seconds figures) }
-{
-    push_text(text, b"since ")?;
-    push_number(text, seconds)?;
-    push_text(text, b" s, tape number ")?;
-    push_number(text, figures.admitted)
+/// A day as it was at one moment. It prints as lines.
+#[derive(Drop)]
+pub(crate) struct DayStatus {
+    /// For how many seconds it runs.
+    seconds: u64,
+    /// Whether it was ended.
+    is_ended: bool,
+    figures: DayFigures,
+    lines: Vec<SeenLine>,
+    followers: SeenFollowers,
+    ghost figures_are: { AreFigures lines.items figures },
 }
 
-/// Adds how many messages came in a second since the day began or went on.
-fn push_rate(text: &mut Vec<u8>, seconds: u64, figures: DayFigures) -> Result<(), AllocError>
-    ensures { OnOk result (text.new.items ≡ text.old.items ++ rate_text seconds figures) }
-{
-    push_text(text, b", ")?;
-    push_number(text, figures.messages() / seconds.max(1))?;
-    push_text(text, b" messages a second\n")
+impl DayStatus {
+    /// The status of a day with these lines and followers.
+    pub(crate) fn new(
+        seconds: u64,
+        is_ended: bool,
+        lines: Vec<SeenLine>,
+        followers: SeenFollowers,
+    ) -> DayStatus
+        ensures time { (result.seconds ≡ seconds) × (result.is_ended ≡ is_ended) }
+        ensures parts { (result.lines ≡ lines) × (result.followers ≡ followers) }
+    {
+        DayStatus {
+            seconds,
+            is_ended,
+            figures: DayFigures::of(&lines),
+            lines,
+            followers,
+        }
+    }
 }
 
 /// Whether a line is waited for.
@@ -106,101 +120,54 @@ fn is_any_awaited(lines: &[SeenLine]) -> bool
     false
 }
 
-/// Adds the name of a participant whose line is waited for.
-fn push_awaited(text: &mut Vec<u8>, line: &SeenLine) -> Result<(), AllocError>
-    ensures { OnOk result (text.new.items ≡ text.old.items ++ awaited_name line.now) }
-{
-    if !line.stage.is_awaited() {
-        return Ok(());
+/// Prints the participants whose lines the day's end waits for.
+fn print_awaited<W: fmt::Write>(f: &mut fmt::Formatter<W>, lines: &[SeenLine]) -> fmt::Result {
+    if !is_any_awaited(lines) {
+        return f.write_str("all lines have ended\n");
     }
-    push_text(text, b" ")?;
-    text.push(line.who.value())?;
-    Ok(())
-}
-
-/// Adds the names of the participants whose lines are waited for.
-fn push_all_awaited(text: &mut Vec<u8>, lines: &[SeenLine]) -> Result<(), AllocError>
-    ensures { OnOk result (text.new.items ≡ text.old.items ++ flat_map awaited_name lines.now) }
-{
+    f.write_str("the end waits for the lines of")?;
     for line in lines {
-        push_awaited(text, line)?;
+        if line.stage.is_awaited() {
+            let who = char::from(line.who.value());
+            write!(f, " {who}")?;
+        }
     }
-    Ok(())
+    f.write_str("\n")
 }
 
-/// Adds the participants whose lines the day's end waits for.
-fn push_names(text: &mut Vec<u8>, lines: &[SeenLine]) -> Result<(), AllocError>
-    ensures { OnOk result (text.new.items ≡ text.old.items ++ names_line lines.now) }
-{
-    push_text(text, b"the end waits for the lines of")?;
-    push_all_awaited(text, lines)?;
-    push_text(text, b"\n")
-}
-
-/// Adds what the day's end waits for.
-#[tactic(auto, unfolding(crate::specs::Status::waits_line))]
-fn push_waits(text: &mut Vec<u8>, lines: &[SeenLine]) -> Result<(), AllocError>
-    ensures { OnOk result (text.new.items ≡ text.old.items ++ waits_line lines.now) }
-{
-    if is_any_awaited(lines) {
-        push_names(text, lines)
-    } else {
-        push_text(text, b"all lines have ended\n")
-    }
-}
-
-/// Adds whether the day was ended.
-#[tactic(auto, unfolding(crate::specs::Status::ended_line))]
-fn push_ended(text: &mut Vec<u8>, is_ended: bool) -> Result<(), AllocError>
-    ensures { OnOk result (text.new.items ≡ text.old.items ++ ended_line is_ended) }
-{
-    if is_ended {
-        return push_text(text, b"the day was ended\n");
-    }
-    Ok(())
-}
-
-/// Adds the lines of all participants.
-fn push_all_seen(text: &mut Vec<u8>, lines: &[SeenLine]) -> Result<(), AllocError>
-    ensures { OnOk result (text.new.items ≡ text.old.items ++ flat_map seen_lines lines.now) }
-{
+/// Prints the lines of all participants.
+fn print_lines<W: fmt::Write>(f: &mut fmt::Formatter<W>, lines: &[SeenLine]) -> fmt::Result {
     for line in lines {
-        push_seen(text, line)?;
+        write!(f, "{line}")?;
     }
     Ok(())
 }
 
-/// Adds for how long the day runs, by its figures, and what its end waits for.
-fn push_state(
-    text: &mut Vec<u8>,
-    seconds: u64,
-    is_ended: bool,
-    figures: DayFigures,
-    lines: &[SeenLine],
-    followers: &SeenFollowers,
-) -> Result<(), AllocError>
-    ensures { OnOk result (text.new.items ≡ text.old.items ++ day_text seconds is_ended figures lines.now followers.now) }
-{
-    push_day(text, seconds, figures)?;
-    push_rate(text, seconds, figures)?;
-    push_ended(text, is_ended)?;
-    push_waits(text, lines)?;
-    push_followers(text, followers)
+/// Prints the lines of all connections of the retransmission.
+fn print_followers<W: fmt::Write>(
+    f: &mut fmt::Formatter<W>,
+    followers: &[FollowerCounts],
+) -> fmt::Result {
+    for follower in followers {
+        write!(f, "{follower}")?;
+    }
+    Ok(())
 }
 
-/// Adds what is said of a day's lines and followers, which run for this many seconds, by its figures. If memory runs out, some
-/// of it may have been added.
-pub(crate) fn push_status(
-    text: &mut Vec<u8>,
-    seconds: u64,
-    is_ended: bool,
-    figures: DayFigures,
-    lines: &[SeenLine],
-    followers: &SeenFollowers,
-) -> Result<(), AllocError>
-    ensures { OnOk result (text.new.items ≡ text.old.items ++ status_text seconds is_ended figures lines.now followers.now) }
-{
-    push_state(text, seconds, is_ended, figures, lines, followers)?;
-    push_all_seen(text, lines)?;
-    push_all_followers(text, followers)
+impl fmt::Display for DayStatus {
+    fn fmt<W: fmt::Write>(&self, f: &mut fmt::Formatter<W>) -> fmt::Result {
+        let (seconds, admitted) = (self.seconds, self.figures.admitted);
+        let rate = self.figures.messages() / seconds.max(1);
+        write!(
+            f,
+            "since {seconds} s, tape number {admitted}, {rate} messages a second\n"
+        )?;
+        if self.is_ended {
+            f.write_str("the day was ended\n")?;
+        }
+        print_awaited(f, &self.lines)?;
+        write!(f, "{}", self.followers)?;
+        print_lines(f, &self.lines)?;
+        print_followers(f, &self.followers.counts)
+    }
 }

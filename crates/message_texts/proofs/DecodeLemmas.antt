@@ -7,8 +7,8 @@ use Rattle.batch.specs.Batch.{line_at, message_lines}
 use Rattle.batch.specs.Lines.{lines_of}
 use Rattle.batch.specs.MessageLine.{line_message}
 use Rattle.batch.specs.declared.batch_refusal.BatchRefusal.{BatchRefusal}
-use Rattle.batch.specs.declared.header_fault.HeaderFault.{HeaderFault}
-use Rattle.batch.specs.declared.header_fault.HeaderFault.TheVariants.{BadListing}
+use Rattle.tape_types.specs.declared.header_fault.HeaderFault.{HeaderFault}
+use Rattle.tape_types.specs.declared.header_fault.HeaderFault.TheVariants.{BadListing}
 use Rattle.tape_types.specs.declared.listing_fault.ListingFault.TheVariants.{OutOfMemory as ListingOutOfMemory}
 use Rattle.std.specs.Option.{option_map}
 use Rattle.reports.specs.declared.message.Message.{Message}
@@ -95,13 +95,6 @@ has_lines-wrong (Some bytes) left now messages line number end some had took the
     ∙ ap (λ (r : Result (List Message) TextEnd). fold with_line r (lines_of rest)) here ∙ lines_wrong end (lines_of rest) in
     let (wrong, same) = line_fault-is number (line_message line) end is in
     rw same (rw same at whole)
-
--- a read failed, or memory ran out
-pub lines_end-read : (known : Option (List ℕ)) (end : TextEnd) → (end ≡ OutOfMemory) ⊎ (end ≡ ReadFault)
-    → IfSome known (λ bytes. IsLinesEnd (lines_of bytes) end)
-lines_end-read None end why = tt
-lines_end-read (Some bytes) end (inl memory) = rw memory tt
-lines_end-read (Some bytes) end (inr read) = rw read tt
 
 -- ## The header
 
@@ -207,9 +200,3 @@ text_wrong (Some bytes) (Some rest) first second (Err (Line number told)) had fi
 text_wrong (Some bytes) (Some rest) first second (Err ReadFault) had fine wrong = tt
 text_wrong (Some bytes) (Some rest) first second (Err OutOfMemory) had fine wrong = tt
 text_wrong (Some bytes) (Some rest) first second (Err WriteFault) had fine wrong = tt
-
--- a read failed, or memory ran out
-pub text_end-read : (known : Option (List ℕ)) (end : TextEnd) → (end ≡ OutOfMemory) ⊎ (end ≡ ReadFault) → IfSome known (λ input. IsTextEnd input end)
-text_end-read None end why = tt
-text_end-read (Some bytes) end (inl memory) = rw memory tt
-text_end-read (Some bytes) end (inr read) = rw read tt

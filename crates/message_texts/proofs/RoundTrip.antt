@@ -10,9 +10,10 @@ use Rattle.hex.specs.Hex.{encode_lower, encode_with, hex_digit_value, lower_digi
 use Rattle.hex.proofs.HexLemmas.{IsDigits, IsDigits-lower_digits, length-encode_with}
 use Rattle.indexmap.specs.IndexSet.{insert_all, insert_key}
 use Rattle.memchr.specs.Find.{is_byte}
-use Rattle.batch.specs.Header.{all_named, name_texts, names_listing, participant_named, pieces_of}
+use Rattle.tape_types.specs.Header.{all_named, name_texts, names_listing, participant_named, pieces_of}
 use Rattle.batch.specs.Lines.{lines_of, without_empty_last}
-use Rattle.batch.specs.MessageLine.{hex_bytes, is_capital, line_message}
+use Rattle.tape_types.specs.Header.{is_capital}
+use Rattle.batch.specs.MessageLine.{hex_bytes, line_message}
 use Rattle.reports.specs.Lemmas.Messages.{message_at-spelling}
 use Rattle.reports.specs.Messages.{header_of}
 use Rattle.reports.specs.Reading.{message_at}

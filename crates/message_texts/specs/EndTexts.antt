@@ -1,7 +1,7 @@
 -- Defines the status and the text of each end, and the number and the name of a line's fault.
 use Rattle.std.specs.Prelude.{ℕ, List, ◌∷◌, ◌++◌, codes, decimal}
 use Rattle.batch.specs.BatchRefusals.{batch_refusal_code, batch_refusal_name}
-use Rattle.batch.specs.Header.{header_fault_code, header_fault_name}
+use Rattle.tape_types.specs.Header.{header_fault_code, header_fault_name}
 use Rattle.message_texts.specs.declared.line_fault.LineFault.{LineFault}
 use Rattle.message_texts.specs.declared.line_fault.LineFault.TheVariants.{Header, Message}
 use Rattle.message_texts.specs.declared.text_end.TextEnd.{TextEnd}

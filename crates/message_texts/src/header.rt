@@ -3,13 +3,13 @@ ghost use Rattle.std.specs.Prelude.{◌≡◌, ◌≢◌, ◌⊎◌, None, Some,
 ghost use Rattle.message_texts.specs.DecodedTexts.{fault_beside, header_fault};
 ghost use Rattle.message_texts.specs.declared.line_fault.LineFault.TheVariants.{Header};
 ghost use Rattle.message_texts.specs.declared.text_end.TextEnd.TheVariants.{Line, OutOfMemory, WriteFault};
-ghost use Rattle.batch.specs.declared.header_fault.HeaderFault.TheVariants.{BadListing};
+ghost use Rattle.tape_types.specs.declared.header_fault.HeaderFault.TheVariants.{BadListing};
 ghost use Rattle.tape_types.specs.declared.listing_fault.ListingFault.TheVariants.{OutOfMemory as ListingOutOfMemory};
 
 use crate::{LineFault, TextEnd};
-use batch::{HeaderFault, read_header};
+use batch::read_header;
 use std::alloc::Global;
-use tape_types::ListingFault;
+use tape_types::{HeaderFault, ListingFault};
 
 /// A line of participants without a fault.
 const ANY_PARTICIPANTS: &[u8] = b"A";

@@ -9,8 +9,6 @@ mod header_text;
 mod laws;
 mod line;
 mod line_fault;
-#[cfg(test)]
-mod tests;
 mod text_end;
 mod text_lines;
 mod writing;

@@ -2,8 +2,9 @@
 ghost use Rattle.std.specs.Prelude.{◌≡◌, Some};
 ghost use Rattle.message_texts.specs.EndTexts.{line_fault_code, line_fault_name, line_fault_text};
 
-use batch::{BatchRefusal, HeaderFault};
+use batch::BatchRefusal;
 use std::fmt;
+use tape_types::HeaderFault;
 use thiserror::Error;
 
 /// What is wrong with a line of a batch.

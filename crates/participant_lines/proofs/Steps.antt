@@ -1,6 +1,6 @@
 -- Shows what a line's frames do, one after the other, and how the line ends.
-use Rattle.std.proofs.Common.{◌≡◌, ◌≢◌, ℕ, ◌+◌, ◌<◌, ◌≤◌, List, [], ◌∷◌, ◌++◌, ◌^◌, Option, Some, None, IfSome, Result, Ok, Err, IfOk, IfErr, inl, inr}
-use Rattle.std.specs.Prelude.{Bool, IfNone, false, true, if◌then◌else◌}
+use Rattle.std.proofs.Common.{◌≡◌, ℕ, ◌+◌, ◌≤◌, List, [], ◌∷◌, ◌++◌, Option, Some, None, Result, Ok, Err, IfOk, IfErr, inl, inr}
+use Rattle.std.specs.Prelude.{Bool, false, true, if◌then◌else◌}
 use Rattle.std.proofs.Common.{length, length-append, append-nil, refl, sym, ap, subst, ◌∙◌, arith}
 use Rattle.std.specs.List.{concat, cons_option}
 use Rattle.std.specs.Io.KnownBytes.{Consumes}
@@ -13,20 +13,18 @@ use Rattle.line_ledger.specs.declared.line_refusal.LineRefusal.{LineRefusal}
 use Rattle.line_ledger.specs.declared.line_refusal.LineRefusal.TheVariants as line
 use Rattle.line_ledger.specs.declared.told.Told.{Told}
 use Rattle.reports.specs.Messages.{header_of}
-use Rattle.reports.specs.Spelling.{Spells}
 use Rattle.reports.specs.declared.message.Message.{Message}
 use Rattle.tape_core.specs.Lemmas.RefusalCodes.{same_number}
 use Rattle.tape_core.specs.Refusals.{is_out_of_memory}
 use Rattle.tape_core.specs.declared.refusal.Refusal.{Refusal}
 use Rattle.tape_core.specs.declared.refusal.Refusal.TheVariants as tape
-use Rattle.participant_lines.specs.Frames.{EndsInput, IsFrame}
-use Rattle.participant_lines.specs.Runs.{AreDone, Does, EndsAfter, IsAnswered, IsDone, Runs, RunsSo, RunsTallied, StopsAt, TakesMessage, effect_of, FRAMES_MOST, refusal_effect}
-use Rattle.participant_lines.specs.Tallies.{AreCounted}
+use Rattle.participant_lines.specs.Frames.{IsFrame}
+use Rattle.participant_lines.specs.Runs.{AreDone, Does, IsAnswered, IsDone, Runs, RunsTallied, StopsAt, TakesMessage, effect_of, refusal_effect}
 use Rattle.participant_lines.specs.declared.tally.RefusedFrame.{RefusedFrame}
 use Rattle.participant_lines.specs.declared.tally.Reason.TheVariants.{Refused as ByTape}
 use Rattle.participant_lines.specs.declared.tally.Tally.{Tally}
 use Rattle.participant_lines.specs.declared.line_end.LineOutcome.{LineOutcome}
-use Rattle.participant_lines.specs.declared.line_end.LineOutcome.TheVariants.{Clean, Truncated, Oversize, ReadFault, TooMany, OutOfMemory, Behind}
+use Rattle.participant_lines.specs.declared.line_end.LineOutcome.TheVariants.{OutOfMemory, Behind}
 
 -- the refusal that an effect counts
 abbrev mark_in : Result (Option RefusedFrame) LineOutcome → Option RefusedFrame
@@ -173,70 +171,7 @@ does_both terms s s' s'' had left rest n m a b many one two all = record {
   same = two.same ∙ one.same;
 }
 
--- an end that the input brings is an end of the line
-pub input_end : (ended : LineOutcome) (terms : Terms) (s : SeatState) (had rest : Option (List ℕ)) → EndsInput ended had rest
-    → EndsAfter ended terms s had rest
-input_end Clean terms s had rest end = end
-input_end Truncated terms s had rest end = end
-input_end Oversize terms s had rest end = end
-input_end ReadFault terms s had rest end = end
-input_end TooMany terms s had rest end = absurd end
-input_end OutOfMemory terms s had rest end = absurd end
-input_end Behind terms s had rest end = absurd end
-
--- an end that a refusal brings is an end of the line
-pub refusal_end : (ended : LineOutcome) (terms : Terms) (s : SeatState) (had rest : Option (List ℕ)) (frame : List ℕ) (m : Message)
-    → Consumes had rest frame → IsFrame frame → Spells frame m → StopsAt ended terms s m → EndsAfter ended terms s had rest
-refusal_end Clean terms s had rest frame m read is spells stop = absurd stop
-refusal_end Truncated terms s had rest frame m read is spells stop = absurd stop
-refusal_end Oversize terms s had rest frame m read is spells stop = absurd stop
-refusal_end ReadFault terms s had rest frame m read is spells stop = absurd stop
-refusal_end TooMany terms s had rest frame m read is spells stop = absurd stop
-refusal_end OutOfMemory terms s had rest frame m read is spells stop = (frame, m, read, is, spells, stop)
-refusal_end Behind terms s had rest frame m read is spells stop = (frame, m, read, is, spells, stop)
-
--- an end that the input brings is not `TooMany`
-pub input_few : (ended : LineOutcome) (had rest : Option (List ℕ)) → EndsInput ended had rest → ended ≢ TooMany
-input_few ended had rest end is = subst (λ (e : LineOutcome). EndsInput e had rest) is end
-
--- nor is an end at a message
-pub refusal_few : (ended : LineOutcome) (terms : Terms) (s : SeatState) (m : Message) → StopsAt ended terms s m → ended ≢ TooMany
-refusal_few ended terms s m stop is = subst (λ (e : LineOutcome). StopsAt e terms s m) is stop
-
--- a line that ended before it did `FRAMES_MOST` frames
-pub runs_ended : (terms : Terms) (s s' s'' : SeatState) (had left rest : Option (List ℕ)) (many : ℕ) (marks : List RefusedFrame) (ended : LineOutcome)
-    → Does terms s had left many marks s' → s'' ≡ s' → EndsAfter ended terms s' left rest → ended ≢ TooMany → many < FRAMES_MOST
-    → RunsSo terms s had rest marks ended s''
-runs_ended terms s s' s'' had left rest many marks ended does same after goes_on fewer =
-    subst (RunsSo terms s had rest marks ended) (sym same) (record {
-      many = many;
-      left = left;
-      does = does;
-      after = after;
-      most = λ is. absurd (goes_on is);
-      fewer = λ _. fewer;
-    })
-
--- a line that did `FRAMES_MOST` frames
-pub runs_most : (terms : Terms) (s s' : SeatState) (had rest : Option (List ℕ)) (many : ℕ) (marks : List RefusedFrame)
-    → Does terms s had rest many marks s' → many ≡ FRAMES_MOST → RunsSo terms s had rest marks TooMany s'
-runs_most terms s s' had rest many marks does all = record {
-  many = many;
-  left = rest;
-  does = does;
-  after = Consumes-nil rest;
-  most = λ _. all;
-  fewer = λ other. absurd (other refl);
-}
-
 -- a run with a tally is one with the count of refused frames
 pub runs_counted : (terms : Terms) (s s' : SeatState) (had rest : Option (List ℕ)) (tally : Tally) (refused : ℕ) (ended : LineOutcome)
     → refused ≡ tally.refused → RunsTallied terms s had rest tally ended s' → Runs terms s had rest refused ended s'
 runs_counted terms s s' had rest tally refused ended is (marks, counted, runs) = (marks, is ∙ counted.all, runs)
-
--- a tally with one more frame, if it is counted
-pub counted_next : (marks : List RefusedFrame) (mark : Option RefusedFrame) (old new : Tally) → IfNone mark (new ≡ old)
-    → IfSome mark (λ m. length marks + 1 < 2 ^ 32 → AreCounted marks old → AreCounted (marks ++ m ∷ []) new)
-    → length marks + 1 < 2 ^ 32 → AreCounted marks old → AreCounted (marks ++ cons_option mark []) new
-counted_next marks None old new none some fits had = subst (λ (l : List RefusedFrame). AreCounted l new) (sym (append-nil marks)) (subst (AreCounted marks) (sym none) had)
-counted_next marks (Some mark) old new none some fits had = some fits had

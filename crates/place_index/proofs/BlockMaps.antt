@@ -17,7 +17,7 @@ use Rattle.place_index.specs.Blocks.{EndsAt, IsBlockFor, IsBlockList, StandsAt, 
 use Rattle.place_index.specs.Places.{IsFirstPlace, IsLastPlace}
 use Rattle.place_index.proofs.BlockOrder.{absent-behind, absent-in, block-rising, blocks-insert, found-in, in-either, inside, set-back, stands-remove}
 use Rattle.place_index.proofs.BlockOrder.{stands-set, under-top, Under}
-use Rattle.place_index.proofs.Parts.{first-in, in-list, last-in, under-found}
+use Rattle.place_index.proofs.Ends.{first-in, in-list, last-in, under-found}
 
 -- with an item of a list that has one
 pub with-item : {A P : Type 0} (es : List A) (i : ℕ) → i < length es → (A → P) → P
@@ -181,7 +181,7 @@ module _ {V : Type 0} where
         subst (λ x. IsBlockList (set bs b x) × (values_of (set bs b x) ≡ map.insert (values_of bs) k v)) (sym new) (stands-set k bs valid b s.0 (stands some) v)
 
     -- a value is removed there
-    pub remove-in_block : IsSome (map.get (values_of bs) k) → ((i : ℕ) → StandsIn k y i → y2 ≡ remove y i)
+    remove-in_block : IsSome (map.get (values_of bs) k) → ((i : ℕ) → StandsIn k y i → y2 ≡ remove y i)
         → HasRisingKeys (joined (set bs b y2)) × ((values_of (set bs b y2) ≡ map.remove (values_of bs) k) × (length y2 ≤ length (get_or bs b [])))
     remove-in_block some taken =
         let s = standing some in
@@ -191,6 +191,19 @@ module _ {V : Type 0} where
           subst (λ x. HasRisingKeys (joined (set bs b x))) (sym new) done.0,
           (ap (λ x. values_of (set bs b x)) new ∙ done.1, omega (arith, ap length new, length-remove (get_or bs b []) s.0 s.1.within)),
         ))
+
+    -- a place that has no value leaves the blocks as they are
+    pub removed-in_block : (r : Option V) → r ≡ map.get (values_in y) k → (r ≡ None → y2 ≡ y) → ((i : ℕ) → StandsIn k y i → y2 ≡ remove y i)
+        → HasRisingKeys (joined (set bs b y2)) × ((values_of (set bs b y2) ≡ map.remove (values_of bs) k) × (length y2 ≤ length (get_or bs b [])))
+    removed-in_block (Some v) found same taken =
+        remove-in_block (subst IsSome (found ∙ ap (λ x. map.get (values_in x) k) is ∙ sym (found-in_block k bs valid b at lt)) refl) taken
+    removed-in_block None found same taken =
+        let old = same refl ∙ is in
+        let here = ap (set bs b) old ∙ set-back bs b lt in
+        let none = found-in_block k bs valid b at lt ∙ sym (found ∙ ap (λ x. map.get (values_in x) k) is) in (
+          subst (λ l. HasRisingKeys (joined l)) (sym here) valid.rising,
+          (ap values_of here ∙ removed-absent (values_of bs) k none, omega (arith, ap length old)),
+        )
 
     -- a value is inserted at a vacant place
     pub vacant-in_block : map.get (values_of bs) k ≡ None → map.get (values_in y) k ≡ None

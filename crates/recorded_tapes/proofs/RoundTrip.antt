@@ -1,6 +1,6 @@
 -- Shows that the readable tape of messages reads back as those messages.
-use Rattle.std.proofs.Common.{◌≡◌, ◌++◌, ◌∙◌, ◌∷◌, [], ℕ, List, Result, Ok, Err, Some, refl, sym, ap, append_assoc, append-nil, map, codes, decimal}
-use Rattle.std.specs.List.{AllByRecursion, fold}
+use Rattle.std.proofs.Common.{◌≡◌, ◌+◌, ◌++◌, ◌∙◌, ◌∷◌, [], ℕ, List, Result, Ok, Err, Some, refl, ap, map, codes, decimal}
+use Rattle.std.specs.List.{AllByRecursion}
 use Rattle.std.proofs.lemmas.List.Elements.{recursion_from_All}
 use Rattle.csv.specs.Machine.{next_record}
 use Rattle.csv.specs.Reading.{Reached, default_config, strip_bom}
@@ -15,7 +15,7 @@ use Rattle.tape_core.specs.declared.refusal.Refusal.{Refusal}
 use Rattle.csv_messages.specs.ColumnNames.{column_named}
 use Rattle.csv_messages.specs.Columns.{fault_from, header_columns, name_fault, place_of}
 use Rattle.csv_messages.specs.Laws.{RowRoundTrip}
-use Rattle.csv_messages.specs.Tables.{fields_message, record_message, records_messages, rows_messages, table_messages, with_record}
+use Rattle.csv_messages.specs.Tables.{fault_of, fields_message, known_messages, message_of, row_faults, row_messages, table_faults}
 use Rattle.csv_messages.specs.TapeColumns.{is_tape_column}
 use Rattle.csv_messages.specs.Writing.{row_fields, row_of}
 use Rattle.csv_messages.specs.declared.columns.Columns.{Columns}
@@ -96,29 +96,32 @@ module _ (row_back : RowRoundTrip) where
       by_answer (Ok number) = row_back row.message is
       by_answer (Err refused) = row_back row.message is
 
-  -- one more row reads back
-  with-back : (before : List Message) (row : TapeRow) → IsMessage row.message
-      → with_record in_order (Ok before) (tape_fields row) ≡ Ok (before ++ row.message ∷ [])
-  unfolding with_record record_message
-  with-back before row is = rw (fields-back row is) refl
+  -- the rows of messages have no fault
+  no-faults : (n : ℕ) (t : TapeState) (messages : List Message) → AllByRecursion IsMessage messages
+      → row_faults in_order n (map tape_fields (tape_rows t messages)) ≡ []
+  unfolding row_faults tape_rows tape_row
+  no-faults n t [] all = refl
+  no-faults n t (m ∷ messages) all =
+      ap (λ read. fault_of n read ++ row_faults in_order (n + 1) (map tape_fields (tape_rows (tape_after t m) messages))) (fields-back (tape_row t m) all.0)
+      ∙ no-faults (n + 1) (tape_after t m) messages all.1
 
-  -- the rows of messages read back, after those before them
-  rows-back : (t : TapeState) (before messages : List Message) → AllByRecursion IsMessage messages
-      → fold (with_record in_order) (Ok before) (map tape_fields (tape_rows t messages)) ≡ Ok (before ++ messages)
-  unfolding tape_rows tape_row
-  rows-back t before [] all = ap Ok (sym (append-nil before))
-  rows-back t before (m ∷ messages) all =
-      ap (λ read. fold (with_record in_order) read (map tape_fields (tape_rows (tape_after t m) messages))) (with-back before (tape_row t m) all.0)
-      ∙ rows-back (tape_after t m) (before ++ m ∷ []) messages all.1 ∙ ap Ok (append_assoc before (m ∷ []) messages)
+  -- they read back
+  rows-back : (t : TapeState) (messages : List Message) → AllByRecursion IsMessage messages
+      → row_messages in_order (map tape_fields (tape_rows t messages)) ≡ messages
+  unfolding row_messages tape_rows tape_row
+  rows-back t [] all = refl
+  rows-back t (m ∷ messages) all =
+      ap (λ read. message_of read ++ row_messages in_order (map tape_fields (tape_rows (tape_after t m) messages))) (fields-back (tape_row t m) all.0)
+      ∙ ap (λ (l : List Message). m ∷ l) (rows-back (tape_after t m) messages all.1)
 
   -- the text of every readable tape of messages reads back as those messages
   pub tape_round_trip : TapeRoundTrip
-  unfolding table_messages rows_messages next_record
+  unfolding table_faults known_messages next_record tape_rows
   tape_round_trip matrix m ms all =
       let t : TapeState = first_tape matrix (m ∷ ms) in
-      let rows : records_messages in_order (map tape_fields (tape_rows t (m ∷ ms))) ≡ Ok (m ∷ ms) =
-      rows-back t [] (m ∷ ms) (recursion_from_All IsMessage (m ∷ ms) all) in (
+      let each = recursion_from_All IsMessage (m ∷ ms) all in (
         tape_columns ∷ map tape_fields (tape_rows t (m ∷ ms)),
         (st.StartRecord, [], rw (no_mark t (m ∷ ms)) (text-reached t (m ∷ ms)), refl),
-        rw (names-columns, rows) refl,
+        rw names-columns (no-faults 2 t (m ∷ ms) each),
+        rw names-columns (rows-back t (m ∷ ms) each),
       )

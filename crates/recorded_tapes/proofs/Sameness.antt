@@ -54,8 +54,8 @@ records-same config s text (row ∷ rows) (next ∷ others) first second =
 -- and so the messages of one table
 pub messages-same : (text : List ℕ) (one other : List Message) → IsTable text one → IsTable text other → one ≡ other
 messages-same text one other first second =
-    let (records, are, read) = first in
-    let (others, those, reads) = second in
+    let (records, are, none, read) = first in
+    let (others, those, nothing, reads) = second in
     let same : records ≡ others = records-same _ _ _ records others are those in
     cc (read, reads, same)
 

@@ -1,14 +1,13 @@
 -- The fields of an answer, read from a reader.
-use Rattle.std.proofs.Common.{◌≡◌, ℕ, ◌<◌, ◌≤◌, Bool, true, false, cond, ltb, List, [], ◌++◌, Option, Result}
-use Rattle.std.proofs.Common.{Ok, Err, length, length-append, append-nil, take, refl, sym, subst, ap, ◌∙◌, arith, inl, inr}
+use Rattle.std.proofs.Common.{◌≡◌, ℕ, ◌<◌, ◌≤◌, Bool, true, false, cond, ltb, List, ◌++◌, Option, Result}
+use Rattle.std.proofs.Common.{Ok, Err, length, length-append, take, refl, sym, ap, arith, inl, inr}
 use Rattle.std.specs.Prelude.{nat_le, ◌&&◌, ◌==◌}
 use Rattle.std.specs.Global.{Vec}
 use Rattle.std.specs.Int.{Width, byte_len, from_be_bytes}
 use Rattle.std.specs.Io.KnownBytes.{Consumes}
 use Rattle.std.proofs.lemmas.Bool.{and_parts, cases_Bool, le-leb, le-ltb, leb-true, lt-ltb, ne_eqb}
 use Rattle.std.proofs.lemmas.List.{length-take, take_at, drop_at}
-use Rattle.reports.specs.Fields.{Reads, bytes_at, number_at, ranged_at}
-use Rattle.reports.specs.Lemmas.Fields.{ok_is}
+use Rattle.reports.specs.Fields.{bytes_at, number_at, ranged_at}
 use Rattle.retransmit.specs.Asking.{Follows, answered_at, as_is, answer_fault, range_at, texts_of}
 use Rattle.retransmit.specs.Faults.{refusal_code}
 use Rattle.whole_io.specs.FailedReads.{ReadsFewer}
@@ -49,41 +48,20 @@ Follows-short view n a b part = record {
   says = bytes_short n part.0 part.2;
 }
 
--- a number of as many bytes as there are
-number_whole : (w : Width) (row : List ℕ) → length row ≡ byte_len w → number_at {F = AskFault} ReadFault w row ≡ Ok (from_be_bytes w row, [])
-unfolding number_at
-number_whole w row size =
-    let whole : bytes_at {F = AskFault} ReadFault (byte_len w) row ≡ Ok (row, []) =
-    subst (λ (l : List ℕ). bytes_at {F = AskFault} ReadFault (byte_len w) l ≡ Ok (row, [])) (append-nil row) (bytes_read (byte_len w) row [] size) in
-    rw whole refl
-
--- a value is not a fault
-ok_err : (x : ℕ × List ℕ) (fault : AskFault) → Ok x ≡ Err fault → ⊥
-ok_err x fault is = absurd cc
-
 -- reading a number returns the one that its bytes spell
-pub Follows-number : (w : Width) (x : ℕ) (row : List ℕ) (a b : Option (List ℕ)) → x ≡ from_be_bytes w row → length row ≡ byte_len w → Consumes a b row
-    → Follows as_is (Ok x) a b (number_at ReadFault w)
+pub Follows-number : (w : Width) (x : ℕ) (row : List ℕ) (a b : Option (List ℕ)) → x ≡ from_be_bytes w row
+    → Follows as_is (Ok row) a b (bytes_at ReadFault (byte_len w)) → Follows as_is (Ok x) a b (number_at ReadFault w)
 unfolding number_at
-Follows-number w x row a b is size taken =
-    Follows-then as_is as_is row (Ok x) a b b (bytes_at ReadFault (byte_len w)) (λ (text : List ℕ × List ℕ). Ok (from_be_bytes w text.0, text.1))
-    (Follows-bytes as_is row (byte_len w) a b size taken)
+Follows-number w x row a b is bytes =
+    Follows-then as_is as_is row (Ok x) a b b (bytes_at ReadFault (byte_len w)) (λ (text : List ℕ × List ℕ). Ok (from_be_bytes w text.0, text.1)) bytes
     (Follows-here as_is x b (λ bytes. Ok (from_be_bytes w row, bytes)) (λ bytes. ap (λ (n : ℕ). Ok (n, bytes)) (sym is)))
 
--- a number read from all its bytes
-pub Follows-whole : (w : Width) (result : Result ℕ AskFault) (rest row : List ℕ) (a b : Option (List ℕ)) → Reads result rest (number_at ReadFault w row)
-    → length row ≡ byte_len w → Consumes a b row → Follows as_is result a b (number_at ReadFault w)
-Follows-whole w (Ok x) rest row a b reads size taken =
-    let same = ok_is ReadFault (x, rest) (from_be_bytes w row, []) (sym reads ∙ number_whole w row size) in
-    Follows-number w x row a b (ap (λ (p : ℕ × List ℕ). p.0) same) size taken
-Follows-whole w (Err fault) rest row a b reads size taken = absurd (ok_err (from_be_bytes w row, []) fault (sym (number_whole w row size) ∙ reads))
-
--- a number with missing bytes
-pub Follows-number-short : (w : Width) (a b : Option (List ℕ)) → ReadsFewer a b (byte_len w) → Follows {A = ℕ} as_is (Err ReadFault) a b (number_at ReadFault w)
+-- a number whose bytes could not be read
+pub Follows-number-stops : (w : Width) (fault : AskFault) (a b : Option (List ℕ)) → Follows {A = List ℕ} as_is (Err fault) a b (bytes_at ReadFault (byte_len w))
+    → Follows {A = ℕ} as_is (Err fault) a b (number_at ReadFault w)
 unfolding number_at
-Follows-number-short w a b part =
-    Follows-stops as_is as_is ReadFault a b (bytes_at ReadFault (byte_len w)) (λ (text : List ℕ × List ℕ). Ok (from_be_bytes w text.0, text.1))
-    (Follows-short as_is (byte_len w) a b part)
+Follows-number-stops w fault a b =
+    Follows-stops as_is as_is fault a b (bytes_at ReadFault (byte_len w)) (λ (text : List ℕ × List ℕ). Ok (from_be_bytes w text.0, text.1))
 
 -- the test of a range
 abbrev tested : ℕ → ℕ → ℕ × List ℕ → Result (ℕ × List ℕ) AskFault
@@ -113,10 +91,11 @@ Follows-beside w low high x a b beside number =
     (Follows-fault as_is BadAnswer b (λ bytes. tested low high (x, bytes)) tt (λ bytes. rw (out_of_range low high x beside) refl))
 
 -- a number that could not be read
-pub Follows-number-stops : (w : Width) (low high : ℕ) (fault : AskFault) (a b : Option (List ℕ)) → Follows {A = ℕ} as_is (Err fault) a b (number_at ReadFault w)
-    → Follows {A = ℕ} as_is (Err fault) a b (ranged_at ReadFault w low high BadAnswer)
+pub Follows-ranged-stops : (w : Width) (low high : ℕ) (fault : AskFault) (a b : Option (List ℕ))
+    → Follows {A = List ℕ} as_is (Err fault) a b (bytes_at ReadFault (byte_len w)) → Follows {A = ℕ} as_is (Err fault) a b (ranged_at ReadFault w low high BadAnswer)
 unfolding ranged_at
-Follows-number-stops w low high fault a b number = Follows-stops as_is as_is fault a b (number_at ReadFault w) (tested low high) number
+Follows-ranged-stops w low high fault a b bytes =
+    Follows-stops as_is as_is fault a b (number_at ReadFault w) (tested low high) (Follows-number-stops w fault a b bytes)
 
 -- ---- the first byte
 

@@ -1,11 +1,11 @@
 -- Slots whose entries are those of a list, each at its place.
-use Rattle.std.proofs.Common.{◌≡◌, ℕ, zero, suc, ◌+◌, List, [], ◌∷◌, ◌++◌, length, drop, Option, None, Some, refl, sym, ap, subst, ◌∙◌, arith}
+use Rattle.std.proofs.Common.{◌≡◌, ℕ, zero, suc, ◌+◌, List, [], ◌∷◌, ◌++◌, Option, None, Some, refl, sym, ap, subst, ◌∙◌, arith}
 use Rattle.std.specs.Prelude.{slice_get, replicate, IfSome}
 use Rattle.std.specs.Option.{option_or}
 use Rattle.std.proofs.lemmas.Option.{none-some, same_Some}
 use Rattle.tape_core.specs.declared.entry.Entry.{Entry}
 use Rattle.arbitration.specs.Deliveries.{entry_numbered, slots_after}
-use Rattle.arbitration.specs.Windows.{flat, ready_entries}
+use Rattle.arbitration.specs.Windows.{flat}
 
 -- each slot is empty or holds the list's entry at its place
 abbrev pub FromDue : List (Option Entry) → List Entry → Type 0
@@ -31,22 +31,6 @@ pub FromDue-append : (slots : List (Option Entry)) (n : ℕ) (due : List Entry) 
 FromDue-append [] n due h = FromDue-replicate n due
 FromDue-append (slot ∷ slots) n [] h = (h.0, FromDue-append slots n [] h.1)
 FromDue-append (slot ∷ slots) n (e ∷ due) h = (h.0, FromDue-append slots n due h.1)
-
--- and when the first slots and entries are taken out
-pub FromDue-drop : (n : ℕ) (slots : List (Option Entry)) (due : List Entry) → FromDue slots due → FromDue (drop n slots) (drop n due)
-FromDue-drop zero slots due h = h
-FromDue-drop (suc n) [] due h = tt
-FromDue-drop (suc zero) (slot ∷ slots) [] h = h.1
-FromDue-drop (suc (suc n)) (slot ∷ slots) [] h = FromDue-drop (suc n) slots [] h.1
-FromDue-drop (suc n) (slot ∷ slots) (e ∷ due) h = FromDue-drop n slots due h.1
-
--- the entries before the first empty slot are the first of the list
-pub ready_first : (slots : List (Option Entry)) (due : List Entry) → FromDue slots due → (rest : List Entry) × (due ≡ ready_entries slots ++ rest)
-ready_first [] due h = (due, refl)
-ready_first (None ∷ slots) due h = (due, refl)
-ready_first (Some e ∷ slots) [] h = absurd (none-some e (sym h.0))
-ready_first (Some e ∷ slots) (x ∷ due) h =
-    let rest = ready_first slots due h.1 in (rest.0, (λ i. sym h.0 i ∷ rest.1 i))
 
 -- a slot after it takes the packet's entry of its number
 slot_from : (slot found : Option Entry) (e : Entry) → IfSome slot (λ other. other ≡ e) → ((x : Entry) → found ≡ Some x → x ≡ e)
@@ -89,10 +73,3 @@ FromDue-at (slot ∷ slots) [] (suc k) e h found = FromDue-at slots [] k e h.1 f
 FromDue-at (None ∷ slots) (d ∷ due) zero e h found = absurd (none-some e found)
 FromDue-at (Some x ∷ slots) (d ∷ due) zero e h found = ap Some (sym h.0) ∙ found
 FromDue-at (slot ∷ slots) (d ∷ due) (suc k) e h found = FromDue-at slots due k e h.1 found
-
--- once all ready entries are taken out, the first slot is empty
-pub after_ready : (slots : List (Option Entry)) (n : ℕ) → flat (slice_get (drop (length (ready_entries slots)) slots ++ replicate n None) 0) ≡ None
-after_ready [] zero = refl
-after_ready [] (suc n) = refl
-after_ready (None ∷ slots) n = refl
-after_ready (Some e ∷ slots) n = after_ready slots n

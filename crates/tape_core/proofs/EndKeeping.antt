@@ -1,5 +1,5 @@
 -- Shows that an `EndTape` keeps what it must of a tape: at the start, for where a message goes, and after each kind of message.
-use Rattle.std.proofs.Common.{◌≡◌, ℕ, ◌+◌, ◌<◌, ◌≤◌, ◌==◌, nat_le, Bool, true, false, cond, not, if◌then◌else◌, List, [], ◌∷◌, ◌++◌, length, map, Some, None, Result, Ok}
+use Rattle.std.proofs.Common.{◌≡◌, ℕ, ◌+◌, ◌<◌, ◌≤◌, ◌==◌, nat_le, true, false, if◌then◌else◌, List, [], ◌∷◌, ◌++◌, length, map, None, Result, Ok}
 use Rattle.std.proofs.Common.{refl, ap, ◌∙◌, sym, subst, arith}
 use Rattle.std.specs.FinMap as map
 use Rattle.std.proofs.lemmas.Bool.Decides.{nat_tests}
@@ -16,17 +16,16 @@ use Rattle.tape_core.specs.declared.change.Change.{Change}
 use Rattle.tape_core.specs.declared.end_route.EndRoute.{EndRoute}
 use Rattle.tape_core.specs.declared.end_tape.EndTape.{EndTape}
 use Rattle.tape_core.specs.declared.refusal.Refusal.{Refusal}
-use Rattle.tape_core.specs.declared.refusal.Refusal.TheVariants.{Full, Stale, NotInMatrix}
 use Rattle.tape_core.specs.Books.{IsRegister}
 use Rattle.tape_core.specs.Changes.{targets_after}
-use Rattle.tape_core.specs.Ending.{CanNote, IsEndRoute, IsSameEnd, KeepsEnd, ListsNames, sent_of}
+use Rattle.tape_core.specs.Ending.{CanNote, IsEndRoute, KeepsEnd, ListsNames, sent_of}
 use Rattle.tape_core.specs.Standing.{last_number}
-use Rattle.tape_core.specs.Tape.{TapeState, empty_tape, is_in_matrix, lists_participant, messages_of, numbered_message, refusal, with_message}
+use Rattle.tape_core.specs.Tape.{TapeState, empty_tape, is_in_matrix, messages_of, numbered_message, refusal, with_message}
 use Rattle.tape_core.specs.Targets.{register_change}
 use Rattle.tape_core.specs.Lemmas.LegalNext.{admissible, IsTape-with_message}
 use Rattle.tape_core.proofs.Appending.{made}
 use Rattle.tape_core.proofs.Keeping.{messages_with, messages-with, newest-last, next_number-by_messages}
-use Rattle.tape_core.proofs.NamedTargets.{IsTarget-standing, IsTarget-cancelled, past, refused, refusal-not_within, refusal-of_target, register_change-faults, register_change-is}
+use Rattle.tape_core.proofs.NamedTargets.{IsTarget-standing, IsTarget-cancelled, refused, refusal-of_target, register_change-faults, register_change-is}
 use Rattle.tape_core.proofs.list.Counters.{last_number-push}
 use Rattle.tape_core.proofs.list.Names.{named_report-above}
 use Rattle.tape_core.proofs.list.Premises.{IsLegal-numbered, IsLegal-targets}
@@ -47,22 +46,6 @@ KeepsEnd-empty listing matrix e columns targets numbers none = record {
   reports = none;
 }
 
--- the same is kept
-pub KeepsEnd-same : (t : TapeState) (old new : EndTape) → IsSameEnd old new → KeepsEnd t old → KeepsEnd t new
-KeepsEnd-same t old new same keeps = record {
-  tape = keeps.tape;
-  unclosed = keeps.unclosed;
-  limit = keeps.limit;
-  matrix = keeps.matrix ∙ sym same.matrix;
-  targets = subst (λ r. IsRegister (messages_of t.entries) (targets_of r)) (sym same.register) keeps.targets;
-  last_numbers = λ who is. ap (λ r. last_number_of r who) same.register ∙ keeps.last_numbers who is;
-  reports = same.reports ∙ keeps.reports;
-}
-
--- a test that holds is answered
-hit : {A : Type 0} (b : Bool) (x y : A) → b ≡ true → cond b x y ≡ x
-hit b x y h = ap (λ c. cond c x y) h
-
 -- there is a report, or nothing, for each entry
 pub kept-length : (t : TapeState) (e : EndTape) → KeepsEnd t e → length e.reports.items ≡ length t.entries
 kept-length t e keeps = ap length keeps.reports ∙ length-map (messages_of t.entries) sent_of ∙ length-map t.entries numbered_message
@@ -82,37 +65,16 @@ module _ (t : TapeState) (e : EndTape) (keeps : KeepsEnd t e) (m : Message) wher
   count-kept : length e.reports.items ≡ length t.entries
   count-kept = kept-length t e keeps
 
-  -- a full tape refuses each message
-  pub full-refused : TAPE_MOST ≤ length e.reports.items → refusal t m ≡ Some Full
-  full-refused many =
-      let within = keeps.tape.within in
-      let limit = keeps.limit in
-      let count = count-kept in
-      past t.closed _ _ keeps.unclosed ∙ hit (length t.entries == t.limit) _ _ (grind (arith, nat_tests))
-
   module _ (fits : length e.reports.items < TAPE_MOST) where
     -- the tape has room
     pub has-room : (length t.entries == t.limit) ≡ false
     has-room = let limit = keeps.limit in let count = count-kept in grind (arith, nat_tests)
 
     module _ (is : IsParticipant sender) (lists : ListsNames t.listing m) where
-      -- a number that is not above the last one is refused
-      pub stale-refused : (header_of m).number ≤ last_number_of e.register sender → refusal t m ≡ Some Stale
-      stale-refused stale =
-          let last = keeps.last_numbers sender is in
-          past t.closed _ _ keeps.unclosed ∙ past (length t.entries == t.limit) _ _ has-room
-          ∙ past (not (lists_participant t.listing sender)) _ _ (ap not lists.participant)
-          ∙ hit (nat_le (header_of m).number (last_number (messages_of t.entries) sender)) _ _ (grind (arith, nat_tests))
-
       module _ (newer : last_number_of e.register sender < (header_of m).number) where
         -- the number is above the last one on the tape
         pub above-there : nat_le (header_of m).number (last_number (messages_of t.entries) sender) ≡ false
         above-there = let last = keeps.last_numbers sender is in grind (arith, nat_tests)
-
-        -- a condition that is not of the matrix is refused
-        pub foreign-refused : is_in_matrix e.matrix m ≡ false → refusal t m ≡ Some NotInMatrix
-        foreign-refused other = refusal-not_within t m keeps.unclosed has-room lists.participant above-there lists.symbol
-            (ap (λ x. is_in_matrix x m) keeps.matrix ∙ other)
 
         -- else what the register has of the target decides
         pub target-decides : is_in_matrix e.matrix m ≡ true → (index : ℕ) (answer : Result Change Refusal) → answer ≡ register_change e.register m index
@@ -139,11 +101,6 @@ module _ (t : TapeState) (e : EndTape) (keeps : KeepsEnd t e) where
   -- the message's number is above its participant's last
   number-above : (m : Message) → refusal t m ≡ None → last_number before (header_of m).participant < (header_of m).number
   number-above m none = let fact = (admissible t m none).above in grind (arith, nat_tests)
-
-  -- the register's last number of the sender is below
-  pub register-below : (m : Message) → refusal t m ≡ None → IsParticipant (header_of m).participant
-      → last_number_of e.register (header_of m).participant < (header_of m).number
-  register-below m none is = let above = number-above m none in let last = keeps.last_numbers (header_of m).participant is in omega arith
 
   -- the register can take the change
   pub can-note : (m : Message) → refusal t m ≡ None → (route : EndRoute) → IsEndRoute t m route → CanNote (targets_of e.register) (header_of m) route.change

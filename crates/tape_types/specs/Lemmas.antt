@@ -1,4 +1,5 @@
 pub mod NumberMaps
 pub mod Pairs
+pub mod Parts
 pub mod RisingEntries
 pub mod Symbols

@@ -1,7 +1,9 @@
+pub mod Header
 pub mod Lemmas
 pub mod ListingFaults
 pub mod Names
 pub mod Pairs
+pub mod Pieces
 pub mod Ranges
 pub mod RisingEntries
 pub mod RisingState

@@ -20,6 +20,13 @@ impl Model for Participant {
     ghost inverse = { λ n. record { letter = n } };
 }
 
+/// The participant `A`.
+impl Default for Participant {
+    fn default() -> Participant {
+        Participant { letter: b'A' }
+    }
+}
+
 impl Participant {
     /// The participant of the letter, or `None` if it is not a capital letter.
     pub fn try_new(letter: u8) -> Option<Self>

@@ -24,6 +24,15 @@ impl Model for Symbol {
     ghost inverse = { λ b. record { bytes = b } };
 }
 
+/// The symbol `A`.
+impl Default for Symbol {
+    fn default() -> Symbol {
+        Symbol {
+            bytes: *b"A       ",
+        }
+    }
+}
+
 impl Symbol {
     /// The symbol that the eight bytes spell, or `None` if they spell none.
     pub fn try_new(bytes: [u8; 8]) -> Option<Self>

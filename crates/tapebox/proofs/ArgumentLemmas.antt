@@ -1,15 +1,12 @@
 -- What the first argument excludes, and what arguments that are read as a fault ask for.
-use Rattle.std.proofs.Common.{◌≡◌, ◌-◌, ◌∷◌, ◌&&◌, Some, None, IfSome, Result, Ok, Err, [], ℕ, List, true, arith, drop, length, nat_eq, take}
+use Rattle.std.proofs.Common.{◌≡◌, ◌-◌, ◌∷◌, ◌&&◌, Some, [], ℕ, List, true, arith, drop, length, nat_eq, take}
 use Rattle.std.proofs.lemmas.Bool.{and_parts}
 use Rattle.std.proofs.lemmas.Bool.Decides.{nat_tests}
 use Rattle.std.proofs.lemmas.Grind.{common_steps}
 use Rattle.std.specs.Option.{is_none}
 use Rattle.std.specs.Str.{bytes_eq}
-use Rattle.feed_words.specs.declared.fault.WordsFault.{WordsFault}
-use Rattle.program_words.specs.declared.command.Asked.{Asked}
-use Rattle.tapebox.specs.declared.command.ProgramCommand.{ProgramCommand}
-use Rattle.tapebox.specs.declared.command.ProgramCommand.TheVariants.{Asked as Asks}
-use Rattle.tapebox.specs.Program.{asked_in, batch_matrix, asks_follow, asks_live, begin_with, follow_word, live_word}
+use Rattle.command_line.specs.declared.command.Asked.{Asked}
+use Rattle.tapebox.specs.Program.{asked_in, asks_follow, asks_live, begin_with, follow_word, live_word}
 
 -- a slice up to the last byte is all that stands behind its start
 pub to_the_last : (start : ℕ) (bytes : List ℕ) → take (length bytes - start) (drop start bytes) ≡ drop start bytes
@@ -35,11 +32,3 @@ in_row words word row asked some =
     let none : is_none (asked_in words) ≡ true = (and_parts (is_none (asked_in words)) (begin_with word words) row).0 in
     let here = rw some at none in
     absurd (cc here)
-
--- arguments that are read as a fault ask for nothing
-pub asks_nothing : (words : List ℕ) (result : Result ProgramCommand WordsFault) (fault : WordsFault)
-    → (batch_matrix words ≡ None → IfSome (asked_in words) (λ asked. result ≡ Ok (Asks asked))) → result ≡ Err fault
-    → batch_matrix words ≡ None → (asked : Asked) → asked_in words ≡ Some asked → ⊥
-asks_nothing words result fault other is none asked some =
-    let here = rw some at other none in
-    absurd (cc (here, is))

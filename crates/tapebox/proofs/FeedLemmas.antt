@@ -1,9 +1,9 @@
 -- What the status of a running day says of its report, and that it is the report of the day which the arguments name.
 use Rattle.std.proofs.Common.{◌≡◌, ◌≢◌, ◌<◌, ◌⊎◌, Bool, true, false, IfErr, IfOk, IfSome, IsOk, OnOk, Result, Ok, Err, List, Option, None, Some, ℕ, ap, arith, inl, inr, refl, subst, sym}
-use Rattle.program_words.specs.Statuses.{status_code}
-use Rattle.program_words.specs.declared.status.Status.{Status}
-use Rattle.program_words.specs.declared.status.Status.TheVariants as of_status
-use Rattle.program_words.specs.declared.status.Status.TheVariants.{Done, Bad, ReadFault, WriteFault, OutOfMemory}
+use Rattle.command_line.specs.Statuses.{status_code}
+use Rattle.command_line.specs.declared.status.Status.{Status}
+use Rattle.command_line.specs.declared.status.Status.TheVariants as of_status
+use Rattle.command_line.specs.declared.status.Status.TheVariants.{Done, Bad, ReadFault, WriteFault, OutOfMemory}
 use Rattle.tape_types.specs.Names.{Names}
 use Rattle.sale_matrix.specs.declared.matrix.Matrix.{Matrix}
 use Rattle.feed_follower.specs.Reported.{WritesReportOf, follow_fault}
@@ -12,8 +12,8 @@ use Rattle.feed_ends.specs.Faults.{fault_status as fault_code}
 use Rattle.feed_ends.specs.Reports.{WritesItsReport}
 use Rattle.feed_ends.specs.declared.fault.Fault.{Fault}
 use Rattle.feed_ends.specs.declared.fault.Fault.TheVariants.{Read, Write, Memory, Worker, Disagrees}
-use Rattle.feed_words.specs.declared.follow_words.FollowWords.{FollowWords}
-use Rattle.feed_words.specs.declared.live_words.LiveWords.{LiveWords}
+use Rattle.day_terms.specs.declared.follow_day.FollowDay.{FollowDay}
+use Rattle.day_terms.specs.declared.live_day.LiveDay.{LiveDay}
 use Rattle.live_feed.specs.declared.operated_day.LiveEnd.{LiveEnd}
 use Rattle.desk_words.specs.RunStatuses.{ended_status}
 use Rattle.tapebox.specs.Feeds.{EndsDay, FollowsDay, IsControlStatus, RunsDay, follow_status}
@@ -52,16 +52,16 @@ module _ {W E : Type 0} (status : Status) (writer_old writer_new : W) (old new :
   }
 
   -- the day that is made
-  pub runs_live : (words : List ℕ) (day : LiveWords) → AskLive words day
-      → RunsFeed (WritesItsReport day.listing day.matrix day.limit) status writer_old writer_new old new errors_old errors_new said_old said_new
+  pub runs_live : (words : List ℕ) (day : LiveDay) → AskLive words day
+      → RunsFeed (WritesItsReport day.terms.day.listing day.terms.day.matrix day.terms.day.limit) status writer_old writer_new old new errors_old errors_new said_old said_new
       → RunsFeed (WritesLiveReport words) status writer_old writer_new old new errors_old errors_new said_old said_new
-  runs_live words day asked run = runs_too (WritesItsReport day.listing day.matrix day.limit) (WritesLiveReport words) (λ report. (day, asked, report)) run
+  runs_live words day asked run = runs_too (WritesItsReport day.terms.day.listing day.terms.day.matrix day.terms.day.limit) (WritesLiveReport words) (λ report. (day, asked, report)) run
 
   -- the day that is followed
-  pub runs_follow : (words : List ℕ) (day : FollowWords) → AskFollow words day
-      → RunsFeed (WritesItsReport day.listing day.matrix day.limit) status writer_old writer_new old new errors_old errors_new said_old said_new
+  pub runs_follow : (words : List ℕ) (day : FollowDay) → AskFollow words day
+      → RunsFeed (WritesItsReport day.terms.day.listing day.terms.day.matrix day.terms.day.limit) status writer_old writer_new old new errors_old errors_new said_old said_new
       → RunsFeed (WritesFollowReport words) status writer_old writer_new old new errors_old errors_new said_old said_new
-  runs_follow words day asked run = runs_too (WritesItsReport day.listing day.matrix day.limit) (WritesFollowReport words) (λ report. (day, asked, report)) run
+  runs_follow words day asked run = runs_too (WritesItsReport day.terms.day.listing day.terms.day.matrix day.terms.day.limit) (WritesFollowReport words) (λ report. (day, asked, report)) run
 
 -- the status of a follower's run is that of a feed
 known_follow : (ended : Result (Unit {0}) FollowFault) → IsFeedStatus (status_code (follow_status ended))

@@ -2,9 +2,9 @@
 use Rattle.std.specs.Prelude.{◌≡◌, ◌≢◌, ◌<◌, ◌⊎◌, ℕ, Bool, true, false, List, Option, None, Result, Ok, Err, IfErr, IfOk, IfSome, OnOk}
 use Rattle.tape_types.specs.Names.{Names}
 use Rattle.sale_matrix.specs.declared.matrix.Matrix.{Matrix}
-use Rattle.program_words.specs.Statuses.{status_code}
-use Rattle.program_words.specs.declared.status.Status.{Status}
-use Rattle.program_words.specs.declared.status.Status.TheVariants as status
+use Rattle.command_line.specs.Statuses.{status_code}
+use Rattle.command_line.specs.declared.status.Status.{Status}
+use Rattle.command_line.specs.declared.status.Status.TheVariants as status
 use Rattle.desk_words.specs.RunStatuses.{fault_status}
 use Rattle.day_control.specs.declared.control_fault.ControlFault.{ControlFault}
 use Rattle.day_control.specs.declared.control_fault.ControlFault.TheVariants as control

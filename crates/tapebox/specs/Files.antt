@@ -1,5 +1,5 @@
--- The files that arguments name, and what is said of them.
-use Rattle.std.specs.Prelude.{◌≡◌, ◌++◌, ℕ, Bool, true, false, drop, get_or, List, [], Option, Some, None, IfOk, IfErr, Result, codes}
+-- The files that arguments name.
+use Rattle.std.specs.Prelude.{◌≡◌, ℕ, Bool, true, false, drop, get_or, List, [], Option, Some, None, IfOk, IfErr, Result}
 use Rattle.std.specs.Option.{unwrap_or}
 use Rattle.std.specs.IoError.{error_kind}
 use Rattle.std.specs.Path.{path_join, path_parent}
@@ -7,10 +7,9 @@ use Rattle.std.specs.Fs.{IsDir, IsFile, file_type, metadata_len}
 use Rattle.std.specs.declared.fs.Metadata.{Metadata}
 use Rattle.std.specs.declared.io.Error.{Error}
 use Rattle.std.specs.declared.io.ErrorKind.TheVariants.{IsADirectory}
-use Rattle.feed_words.specs.Words.{words_of}
-use Rattle.program_words.specs.declared.command.Command.{Command}
-use Rattle.program_words.specs.declared.command.Command.TheVariants.{Tape, Explain}
-use Rattle.whole_io.specs.Writing.{WritesPrefix}
+use Rattle.day_terms.specs.Arguments.{words_of}
+use Rattle.command_line.specs.declared.command.Command.{Command}
+use Rattle.command_line.specs.declared.command.Command.TheVariants.{Tape, Explain}
 
 -- the argument after the word at a place, counted from 0
 abbrev pub argument_in : List ℕ → ℕ → List ℕ
@@ -36,11 +35,3 @@ pub record KnowsLength (metadata : Metadata) (found : Result (Option ℕ) Error)
   pub folder : IfErr found (λ error. IsDir (file_type metadata) × (error_kind error ≡ IsADirectory))
   pub file : IfOk found (λ length. IsFile (file_type metadata) → length ≡ Some (metadata_len metadata))
   pub other : IfOk found (λ length. (IsFile (file_type metadata) → ⊥) → length ≡ None)
-
--- a line about what has this name
-abbrev pub named_line : List ℕ → List ℕ → List ℕ
-named_line name what = codes "tapebox: " ++ name ++ codes ": " ++ what ++ codes "\n"
-
--- something was said of what has this name, or a prefix of it, which is nothing if there was no memory
-abbrev pub SaysOf : List ℕ → Option (List ℕ) → Option (List ℕ) → Type 0
-SaysOf name old new = (what : List ℕ) × WritesPrefix (named_line name what) old new

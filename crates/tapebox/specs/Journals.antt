@@ -1,21 +1,17 @@
--- What the program says of a day's journal, with which status, and what a running day has of it.
-use Rattle.std.specs.Prelude.{◌≡◌, ◌⊎◌, ◌++◌, ◌==◌, ℕ, List, Option, Some, None, codes, if◌then◌else◌}
-use Rattle.std.specs.Global.{Vec}
-use Rattle.journal_start.specs.Texts.{refusal_text}
+-- With which status a day's journal is not opened, and what a running day has of it.
+use Rattle.std.specs.Prelude.{◌≡◌, ◌⊎◌, ◌==◌, ℕ, Option, Some, None, if◌then◌else◌}
 use Rattle.journal_start.specs.declared.journal_refusal.JournalRefusal.{JournalRefusal}
 use Rattle.journal_start.specs.declared.journal_refusal.JournalRefusal.TheVariants.{HeaderDamaged, Damaged}
 use Rattle.journal_start.specs.declared.start_fault.StartFault.{StartFault}
 use Rattle.journal_start.specs.declared.start_fault.StartFault.TheVariants.{Refused, Unread, Unwritten, OutOfMemory}
 use Rattle.journal_start.specs.declared.starting.Past.{Past}
 use Rattle.live_feed.specs.declared.journal.Restored.{Restored}
-use Rattle.program_words.specs.declared.status.Status.{Status}
-use Rattle.program_words.specs.declared.status.Status.TheVariants as status
-use Rattle.tapebox.specs.Files.{named_line}
-use Rattle.tapebox.specs.Outlets.{write_cause_text}
+use Rattle.command_line.specs.declared.status.Status.{Status}
+use Rattle.command_line.specs.declared.status.Status.TheVariants as status
 use Rattle.tapebox.specs.declared.journal_fault.JournalFileFault.{JournalFileFault}
 use Rattle.tapebox.specs.declared.journal_fault.JournalFileFault.TheVariants as fault
 use Rattle.tapebox.specs.declared.journal_held.Unheld.{Unheld}
-use Rattle.tapebox.specs.declared.journal_held.Unheld.TheVariants.{Taken, NoFile, Unopened}
+use Rattle.tapebox.specs.declared.journal_held.Unheld.TheVariants.{Unopened}
 
 -- ## Statuses
 
@@ -45,30 +41,6 @@ journal_status (fault.Unstarted why cause) = start_status why
 -- a status of a journal that was not opened
 abbrev pub IsJournalStatus : Status → Type 0
 IsJournalStatus s = (s ≡ status.Bad) ⊎ (s ≡ status.ReadFault) ⊎ (s ≡ status.WriteFault) ⊎ (s ≡ status.OutOfMemory) ⊎ (s ≡ status.Disagrees)
-
--- ## Texts
-
--- what is said of a file that is not held; the text of a system's error is the kit's
-abbrev pub unheld_text : Unheld → Vec ℕ → Type 0
-unheld_text Taken text = text.items ≡ codes "held by another program"
-unheld_text NoFile text = text.items ≡ codes "no journal"
-unheld_text (Unopened kind) text = Unit {0}
-
--- what is said of a journal that was not opened
-abbrev pub fault_text : JournalFileFault → Vec ℕ → Type 0
-fault_text (fault.Unheld unheld) text = unheld_text unheld text
-fault_text (fault.Unstarted (Refused refusal) cause) text = text.items ≡ refusal_text refusal
-fault_text (fault.Unstarted (Unread kind) cause) text = Unit {0}
-fault_text (fault.Unstarted Unwritten cause) text = text.items ≡ write_cause_text cause
-fault_text (fault.Unstarted OutOfMemory cause) text = text.items ≡ codes "out of memory"
-
--- the name by which the journal of this path is spoken of
-abbrev pub journal_name : List ℕ → List ℕ
-journal_name path = codes "journal " ++ path
-
--- a line about the journal of this path
-abbrev pub journal_line : List ℕ → List ℕ → List ℕ
-journal_line path what = named_line (journal_name path) what
 
 -- ## A day that is continued
 

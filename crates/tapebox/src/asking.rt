@@ -2,16 +2,17 @@
 ghost use Rattle.std.specs.Prelude.{◌≡◌, ◌≢◌, ◌⊎◌, ℕ, List, Option};
 ghost use Rattle.day_control.specs.Asking.{Told};
 ghost use Rattle.day_control.specs.Faults.{fault_status as control_code};
-ghost use Rattle.program_words.specs.Statuses.{status_code};
-ghost use Rattle.program_words.specs.declared.status.Status.TheVariants.{Done, WriteFault};
+ghost use Rattle.command_line.specs.Statuses.{status_code};
+ghost use Rattle.command_line.specs.declared.status.Status.TheVariants.{Done, WriteFault};
+ghost use Rattle.whole_io.specs.Lines.{WritesLines};
 ghost use Rattle.tapebox.specs.Feeds.{IsControlStatus, control_status};
 
+use command_line::Status;
 use day_control::{ControlCommand, ControlFault, ControlPlace, ask_control};
-use desk_words::say_told;
-use program_words::Status;
 use std::alloc::Global;
 use std::io::Write;
 use std::net::{Net, TcpListener, TcpStream};
+use whole_io::say;
 
 /// Returns the status of a fault of a control socket.
 fn control_status(fault: ControlFault) -> Status
@@ -42,10 +43,9 @@ pub fn say_control_fault<E: Write>(
     ensures status { result ≡ control_status fault }
     ensures code { status_code result ≡ control_code fault }
     ensures known { IsControlStatus result }
+    ensures lines { WritesLines (E.contents errors.old) (E.contents errors.new) }
 {
-    if let Ok(text) = format!(in alloc; "control {place}: {fault}") {
-        say_told(alloc, errors, text.as_bytes());
-    }
+    let _said = say(alloc, errors, &format_args!("control {place}: {fault}"));
     control_status(fault)
 }
 

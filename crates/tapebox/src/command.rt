@@ -1,11 +1,11 @@
 //! Reads what the program's arguments ask for.
 ghost use Rattle.std.specs.Prelude.{◌≡◌, ◌⊎◌, IfOk, IfSome, None, Ok, Err, true};
-ghost use Rattle.feed_words.specs.declared.fault.WordsFault.TheVariants.{OutOfMemory};
+ghost use Rattle.day_terms.specs.declared.words_fault.WordsFault.TheVariants.{OutOfMemory};
 ghost use Rattle.tapebox.specs.Program.{AsksFor, asked_in, asks_follow, asks_live, batch_matrix, named_matrix};
 ghost use Rattle.tapebox.specs.declared.command.ProgramCommand.TheVariants.{Asked as Asks, Batch};
 
-use feed_words::{FollowWords, LiveWords, WordsFault, matrix_named};
-use program_words::{Asked, read_arguments};
+use command_line::{Asked, read_arguments};
+use day_terms::{FollowDay, LiveDay, WordsFault, matrix_named};
 use sale_matrix::Matrix;
 use std::alloc::Global;
 
@@ -24,9 +24,9 @@ pub enum ProgramCommand {
     /// A batch by a matrix.
     Batch(Matrix),
     /// A tape that is made from lines and sent.
-    Live(LiveWords),
+    Live(LiveDay),
     /// A tape that is followed.
-    Follow(FollowWords),
+    Follow(FollowDay),
     /// What arguments ask for that don't stand in a row.
     Asked(Asked),
 }
@@ -68,9 +68,9 @@ pub fn read_command(alloc: Global, words: &[u8]) -> Result<ProgramCommand, Words
     } else if let Some(asked) = read_arguments(words) {
         Ok(ProgramCommand::Asked(asked))
     } else if words.starts_with(LIVE) {
-        Ok(ProgramCommand::Live(LiveWords::read(alloc, &words[LIVE.len()..])?))
+        Ok(ProgramCommand::Live(LiveDay::read(alloc, &words[LIVE.len()..])?))
     } else if words.starts_with(FOLLOW) {
-        Ok(ProgramCommand::Follow(FollowWords::read(alloc, &words[FOLLOW.len()..])?))
+        Ok(ProgramCommand::Follow(FollowDay::read(alloc, &words[FOLLOW.len()..])?))
     } else {
         Err(WordsFault::BadArguments)
     }

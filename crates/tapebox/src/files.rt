@@ -2,17 +2,18 @@
 ghost use Rattle.std.specs.Prelude.{◌≡◌, ◌≤◌, IfErr, IfOk, IfSome, length, string_bytes};
 ghost use Rattle.std.specs.IoError.{error_kind};
 ghost use Rattle.std.specs.declared.io.ErrorKind.TheVariants.{OutOfMemory};
-ghost use Rattle.program_words.specs.declared.status.Status.TheVariants.{ReadFault};
-ghost use Rattle.tapebox.specs.Files.{FILE_MOST, KnowsLength, SaysOf, beside_path};
+ghost use Rattle.command_line.specs.declared.status.Status.TheVariants.{ReadFault};
+ghost use Rattle.whole_io.specs.Lines.{WritesLines};
+ghost use Rattle.tapebox.specs.Files.{FILE_MOST, KnowsLength, beside_path};
 
 use crate::sayings::say_of;
+use command_line::Status;
 use desk_words::begins_journal;
-use program_words::Status;
 use std::alloc::Global;
 use std::fs::{File, Files, Metadata, OpenFile};
-use std::io;
 use std::io::{ErrorKind, Read, Write};
 use std::path::Path;
+use std::{fmt, io};
 
 /// The most bytes that a file of a day or of its symbols may have.
 const FILE_MOST: u64 = 16_777_216;
@@ -24,6 +25,19 @@ pub struct Opened<F> {
     pub file: F,
     /// Its length in bytes, or `None` if it is a pipe or a device.
     pub length: Option<u64>,
+}
+
+/// Why a file can't be read, by the kind of the error. It prints as the cause in words.
+#[derive(Clone, Copy, Debug)]
+struct ReadCause(ErrorKind);
+
+impl fmt::Display for ReadCause {
+    fn fmt<W: fmt::Write>(&self, f: &mut fmt::Formatter<W>) -> fmt::Result {
+        match self.0 {
+            ErrorKind::NotFound => f.write_str("no such file"),
+            kind => write!(f, "{kind}"),
+        }
+    }
 }
 
 /// Returns the length of a file in bytes, or `None` if it is a pipe or a device. A folder is an error, `IsADirectory`.
@@ -90,13 +104,10 @@ pub fn beside(alloc: Global, name: &str, file: &str) -> io::Result<String>
 }
 
 /// Says why a file can't be read, unless there is no memory for the line, and returns the status.
-#[tactic(auto, using(crate::proofs::FileLemmas::says_none))]
 pub fn say_unread<E: Write>(alloc: Global, errors: &mut E, name: &str, kind: ErrorKind) -> Status
     ensures status { result ≡ ReadFault }
-    ensures said { SaysOf name.now (E.contents errors.old) (E.contents errors.new) }
+    ensures lines { WritesLines (E.contents errors.old) (E.contents errors.new) }
 {
-    if let Ok(why) = format!(in alloc; "{kind}") {
-        say_of(alloc, errors, name.as_bytes(), why.as_bytes());
-    }
+    say_of(alloc, errors, name, &ReadCause(kind));
     Status::ReadFault
 }

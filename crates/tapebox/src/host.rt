@@ -1,8 +1,8 @@
 //! Runs the program over the process's streams, files and sockets.
 ghost use Rattle.std.specs.Prelude.{◌≡◌, None, Some, false};
 ghost use Rattle.std.specs.Str.{IsUtf8};
-ghost use Rattle.program_words.specs.declared.command.Asked.TheVariants.{Table};
-ghost use Rattle.program_words.specs.declared.command.Command.TheVariants.{Tape};
+ghost use Rattle.command_line.specs.declared.command.Asked.TheVariants.{Table};
+ghost use Rattle.command_line.specs.declared.command.Command.TheVariants.{Tape};
 ghost use Rattle.tapebox.specs.Files.{argument_in, has_rows};
 ghost use Rattle.tapebox.specs.Program.{asked_in};
 
@@ -14,12 +14,12 @@ use crate::operated::run_live_file;
 use crate::outlet::CauseWriter;
 use crate::program::{arguments_of, run, write_own};
 use crate::version::version_text;
-use day_control::ControlCommand;
-use desk_words::{ClearedWriter, PipeWriter, ProgressLine, ToldReader, ToldWriter, watch_row};
-use feed_words::first_argument;
-use program_words::{
+use command_line::{
     Asked, Command, FileCommand, STANDARD_INPUT, Status, Word, argument_at, read_arguments,
 };
+use day_control::ControlCommand;
+use day_terms::first_argument;
+use desk_words::{ClearedWriter, PipeWriter, ProgressLine, ToldReader, ToldWriter, watch_row};
 use std::alloc::{Alloc, Global};
 use std::fs::{File, Files};
 use std::io::{IsTerminal, Read, Stderr, Stdin, Stdout};
@@ -48,7 +48,7 @@ fn argument_text(words: &[u8], place: usize) -> &str
 }
 
 /// Returns the arguments that ask for the readable tape of an input, by no other matrix than its own.
-#[tactic(auto, unfolding(program_words::specs::Arguments::asked_of, feed_words::specs::Words::words_of))]
+#[tactic(auto, unfolding(command_line::specs::Arguments::asked_of, day_terms::specs::Arguments::words_of))]
 fn tape_words() -> &'static [u8]
     ensures { asked_in result.now ≡ Some (Table (record { command = Tape None false; file = None })) }
 {
@@ -186,7 +186,7 @@ where
     /// Watches the day that arguments in a row name, or returns `None` if they ask for something else.
     fn run_watch_row(&self, words: &[u8]) -> Option<Status> {
         let (first, rest) = first_argument(words)?;
-        if first != Word::Watch.name() {
+        if first != Word::Watch.name().as_bytes() {
             return None;
         }
         let mut stderr = self.stderr;

@@ -1,15 +1,14 @@
-//! The reasons why a day's journal was not opened, each with its status and its text.
-ghost use Rattle.std.specs.Prelude.{◌≡◌, IfOk};
-ghost use Rattle.tapebox.specs.Journals.{fault_text, journal_status, refusal_status, start_status, unheld_status, unheld_text};
+//! The reasons why a day's journal was not opened, each with its status.
+ghost use Rattle.std.specs.Prelude.{◌≡◌};
+ghost use Rattle.tapebox.specs.Journals.{journal_status, refusal_status, start_status, unheld_status};
 
 use crate::journal_held::Unheld;
 use crate::write_cause::WriteCause;
+use command_line::Status;
 use journal_start::{JournalRefusal, StartFault};
-use program_words::Status;
-use std::alloc::{AllocError, Global};
-use std::io::ErrorKind;
+use std::fmt;
 
-/// Why a day's journal was not opened.
+/// Why a day's journal was not opened. It prints as the reason, without a line feed.
 #[derive(Clone, Copy, Debug, PartialEq, Eq)]
 pub enum JournalFileFault {
     /// Its file is not held.
@@ -57,22 +56,6 @@ fn start_status(fault: StartFault) -> Status
     }
 }
 
-/// Returns the text of an error of this kind.
-fn kind_text(alloc: Global, kind: ErrorKind) -> Result<Vec<u8>, AllocError> {
-    Ok(format!(in alloc; "{kind}")?.into_bytes())
-}
-
-/// Returns the text of a file that is not held.
-fn unheld_text(alloc: Global, unheld: Unheld) -> Result<Vec<u8>, AllocError>
-    ensures { IfOk result (unheld_text unheld) }
-{
-    match unheld {
-        Unheld::Taken => Vec::from_slice(alloc, b"held by another program"),
-        Unheld::NoFile => Vec::from_slice(alloc, b"no journal"),
-        Unheld::Unopened(kind) => kind_text(alloc, kind),
-    }
-}
-
 impl JournalFileFault {
     /// Returns the status that the program ends with.
     pub fn status(self) -> Status
@@ -83,20 +66,19 @@ impl JournalFileFault {
             JournalFileFault::Unstarted(fault, _) => start_status(fault),
         }
     }
+}
 
-    /// Returns its text, without a line feed. It fails if memory runs out.
-    pub fn text(self, alloc: Global) -> Result<Vec<u8>, AllocError>
-        ensures { IfOk result (fault_text self) }
-    {
+impl fmt::Display for JournalFileFault {
+    fn fmt<W: fmt::Write>(&self, f: &mut fmt::Formatter<W>) -> fmt::Result {
         match self {
-            JournalFileFault::Unheld(unheld) => unheld_text(alloc, unheld),
-            JournalFileFault::Unstarted(StartFault::Refused(refusal), _) => refusal.text(alloc),
-            JournalFileFault::Unstarted(StartFault::Unread(kind), _) => kind_text(alloc, kind),
-            JournalFileFault::Unstarted(StartFault::Unwritten, cause) => {
-                Vec::from_slice(alloc, cause.text())
+            JournalFileFault::Unheld(unheld) => write!(f, "{unheld}"),
+            JournalFileFault::Unstarted(StartFault::Refused(refusal), _) => {
+                write!(f, "{refusal}")
             }
+            JournalFileFault::Unstarted(StartFault::Unread(kind), _) => write!(f, "{kind}"),
+            JournalFileFault::Unstarted(StartFault::Unwritten, cause) => write!(f, "{cause}"),
             JournalFileFault::Unstarted(StartFault::OutOfMemory, _) => {
-                Vec::from_slice(alloc, b"out of memory")
+                f.write_str("out of memory")
             }
         }
     }

@@ -1,11 +1,11 @@
 //! Opens the file of a journal, and holds it so that no other `live` does.
 
-use std::fs;
 use std::fs::{File, Files, OpenOptions, TryLockError};
 use std::io::{Error, ErrorKind};
 use std::path::Path;
+use std::{fmt, fs, io};
 
-/// Why the file of a journal is not held.
+/// Why the file of a journal is not held. It prints as the reason, without a line feed.
 #[derive(Clone, Copy, Debug, PartialEq, Eq)]
 pub enum Unheld {
     /// Another program holds it.
@@ -14,6 +14,18 @@ pub enum Unheld {
     NoFile,
     /// It can't be opened or made.
     Unopened(ErrorKind),
+}
+
+impl fmt::Display for Unheld {
+    fn fmt<W: fmt::Write>(&self, f: &mut fmt::Formatter<W>) -> fmt::Result {
+        match self {
+            Unheld::Taken => f.write_str("held by another program"),
+            Unheld::NoFile => f.write_str("no journal"),
+            // The file itself is made if it isn't there.
+            Unheld::Unopened(ErrorKind::NotFound) => f.write_str("no such folder"),
+            Unheld::Unopened(kind) => write!(f, "{kind}"),
+        }
+    }
 }
 
 impl From<Error> for Unheld {
@@ -48,13 +60,11 @@ pub fn hold_journal<R: Files<File = File>>(files: &R, path: &str) -> Result<File
     Ok(file)
 }
 
-/// Has the disk keep the entry of a path in its folder, if the folder can be opened and synced.
-pub fn sync_folder<R: Files<File = File>>(files: &R, path: &str) {
+/// Has the disk keep the entry of a path in its folder. It fails if the folder can't be opened or synced.
+pub fn sync_folder<R: Files<File = File>>(files: &R, path: &str) -> io::Result<()> {
     let folder = match Path::new(path).parent() {
         Some(folder) if !folder.as_str().is_empty() => folder,
         _ => Path::new("."),
     };
-    if let Ok(folder) = fs::open(files, folder) {
-        let _synced = folder.sync_all();
-    }
+    fs::open(files, folder)?.sync_all()
 }

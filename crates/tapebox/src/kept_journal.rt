@@ -1,20 +1,22 @@
 //! Opens the journal of a day in its file, and says where the day is continued or why the journal is not opened.
 ghost use Rattle.std.specs.Prelude.{◌≡◌, IfErr};
-ghost use Rattle.journal_start.specs.Terms.{terms_of as journal_terms};
+ghost use Rattle.whole_io.specs.Lines.{WritesLines};
 ghost use Rattle.tapebox.specs.Journals.{IsJournalStatus, restored_of};
 
 use crate::file_journal::FileJournal;
 use crate::journal_fault::JournalFileFault;
 use crate::journal_held::{hold_journal, sync_folder};
 use crate::journal_place::JournalPlace;
-use crate::journal_texts::{say_cut, say_journal_fault, say_went_on};
-use feed_words::LiveWords;
-use journal_start::{DayTerms, Past, PastLine, Started, start_journal};
+use crate::sayings::say_of_journal;
+use crate::write_cause::WriteCause;
+use command_line::Status;
+use days::Day;
+use journal_start::{Past, PastLine, StartFault, Started, start_journal};
 use live_feed::{DayJournal, JournalFile, Restored};
-use program_words::Status;
-use std::alloc::Global;
+use std::alloc::{AllocError, Global};
 use std::fs::{File, Files};
 use std::io::Write;
+use whole_io::Lines;
 
 /// The open journal of a day.
 #[derive(Drop)]
@@ -75,34 +77,54 @@ fn day_journal<J: JournalFile>(
     (journal, lines)
 }
 
-/// Returns the terms that a day's journal has too.
-fn terms_of(words: &LiveWords) -> DayTerms<'_>
-    ensures { journal_terms result ≡ record { session = words.now.session; matrix = words.now.matrix; limit = words.now.limit; listing = words.now.listing } }
-{
-    DayTerms {
-        session: words.session,
-        matrix: words.matrix,
-        limit: words.limit,
-        listing: &words.listing,
+/// Has the disk keep that the file of a journal exists, if it is synced.
+fn keep_place<R: Files<File = File>>(rt: &R, place: &JournalPlace) -> Result<(), JournalFileFault> {
+    if !place.is_synced {
+        return Ok(());
     }
+    sync_folder(rt, &place.path).map_err(|error| JournalFileFault::Unstarted(
+        StartFault::Unwritten,
+        WriteCause::of(error.kind()),
+    ))
 }
 
-/// Starts a day's journal in its file.
+/// Starts a day's journal in its file. Its folder is synced first, so that a journal that has a header is in it for good.
 fn start<R: Files<File = File>>(
     rt: &R,
     alloc: Global,
-    words: &LiveWords,
+    day: &Day,
     place: &JournalPlace,
 ) -> Result<(Started, FileJournal), JournalFileFault> {
     let held = hold_journal(rt, &place.path)?;
+    keep_place(rt, place)?;
     let mut file = FileJournal::new(held, place.is_synced);
-    let started = start_journal(alloc, &terms_of(words), &mut file).map_err(
-        |fault| JournalFileFault::Unstarted(fault, file.cause()),
-    )?;
-    if place.is_synced && started.past.is_none() {
-        sync_folder(rt, &place.path);
-    }
+    let started = start_journal(alloc, day, &mut file).map_err(|fault| JournalFileFault::Unstarted(
+        fault,
+        file.cause(),
+    ))?;
     Ok((started, file))
+}
+
+/// Returns what there is to say of a journal that was started: what was cut off, and where the day is continued.
+fn lines_of(alloc: Global, path: &str, started: &Started) -> Result<Lines, AllocError> {
+    let mut lines = Lines::new(alloc);
+    if let Some(cut) = started.cut() {
+        lines.push(&format_args!("journal {path}: {cut}"))?;
+    }
+    if let Some(went_on) = started.went_on() {
+        lines.push(&went_on)?;
+    }
+    Ok(lines)
+}
+
+/// Says what there is to say of a journal that was started, unless there is no memory for it.
+#[tactic(auto, using(crate::proofs::SayingLemmas::no_lines))]
+fn say_started<E: Write>(alloc: Global, errors: &mut E, path: &str, started: &Started)
+    ensures lines { WritesLines (E.contents errors.old) (E.contents errors.new) }
+{
+    if let Ok(lines) = lines_of(alloc, path, started) {
+        let _said = lines.write(errors);
+    }
 }
 
 /// Opens and holds the journal of a day, and says where the day is continued. If it is not opened, that is said and its status
@@ -110,23 +132,22 @@ fn start<R: Files<File = File>>(
 pub fn open_journal<R: Files<File = File>, E: Write>(
     rt: &R,
     alloc: Global,
-    words: &LiveWords,
+    day: &Day,
     place: JournalPlace,
     errors: &mut E,
 ) -> Result<OpenJournal, Status>
-    ensures { IfErr result IsJournalStatus }
+    ensures status { IfErr result IsJournalStatus }
+    ensures lines { WritesLines (E.contents errors.old) (E.contents errors.new) }
 {
-    let (started, file) = match start(rt, alloc, words, &place) {
+    let (started, file) = match start(rt, alloc, day, &place) {
         Ok(started) => started,
-        Err(fault) => return Err(say_journal_fault(alloc, errors, &place.path, fault)),
+        Err(fault) => {
+            say_of_journal(alloc, errors, &place.path, &fault);
+            return Err(fault.status());
+        }
     };
-    if started.cut_off > 0 {
-        say_cut(alloc, errors, &place.path, started.cut_off);
-    }
+    say_started(alloc, errors, &place.path, &started);
     let (journal, lines) = day_journal(alloc, started, file);
-    if journal.groups.held() > 0 {
-        say_went_on(alloc, errors, journal.groups.held(), &lines);
-    }
     Ok(OpenJournal {
         path: place.path,
         journal,

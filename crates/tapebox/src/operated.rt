@@ -3,24 +3,24 @@ ghost use Rattle.std.specs.Prelude.{◌≡◌, ◌⊎◌, IfErr, IfOk, IfSome, I
 ghost use Rattle.std.specs.Thread.{IsSync};
 ghost use Rattle.desk_words.specs.RunStatuses.{ended_status};
 ghost use Rattle.feed_ends.specs.Reports.{WritesItsReport};
-ghost use Rattle.program_words.specs.declared.status.Status.TheVariants.{OutOfMemory, ReadFault};
+ghost use Rattle.command_line.specs.declared.status.Status.TheVariants.{OutOfMemory, ReadFault};
 ghost use Rattle.tapebox.specs.Feeds.{EndsDay, RunsDay};
 
 use crate::asking::say_control_fault;
 use crate::day::LiveFile;
 use crate::file_journal::FileJournal;
-use crate::journal_texts::say_of_journal;
 use crate::kept_journal::{OpenJournal, open_journal};
 use crate::outlet::Outlet;
-use crate::sayings::{say_day_end, say_no_memory, say_unopened};
+use crate::sayings::{say_day_end, say_no_memory, say_of_journal};
 use crate::sockets::{Unopened, open_live};
 use crate::write_cause::WriteCause;
+use command_line::Status;
 use day_control::{ControlListener, Operated, open_control, remove_control, serve_control};
-use desk_words::say;
+use day_terms::{LiveDay, LiveTerms};
+use desk_words::say_socket_fault;
 use feed_ends::Fault;
 use journal_start::PastLine;
-use live_feed::{DayJournal, LiveEnd, LiveSockets, LiveTerms, NoLoss, Operation, live_day};
-use program_words::Status;
+use live_feed::{DayJournal, LiveEnd, LiveSockets, NoLoss, Operation, live_day};
 use std::alloc::{AllocError, Global};
 use std::fs::{File, Files};
 use std::io::Write;
@@ -76,7 +76,7 @@ where
     requires { IsSome parts.old }
     ensures taken { parts.new ≡ None }
     ensures some { IsSome result }
-    ensures end { IfSome parts.old (λ parts. IfSome result (EndsDay parts.terms.listing parts.terms.matrix parts.terms.limit
+    ensures end { IfSome parts.old (λ parts. IfSome result (EndsDay parts.terms.day.listing parts.terms.day.matrix parts.terms.day.limit
         writer.old writer.new (W.contents writer.old) (W.contents writer.new))) }
 {
     let end = match parts.take() {
@@ -107,7 +107,7 @@ fn run_controlled<T, W>(
 where
     T: Threads + Wait + Clock + Sync,
     W: Write,
-    ensures { EndsDay parts.terms.listing parts.terms.matrix parts.terms.limit writer.old writer.new (W.contents writer.old) (W.contents writer.new) result }
+    ensures { EndsDay parts.terms.day.listing parts.terms.day.matrix parts.terms.day.limit writer.old writer.new (W.contents writer.old) (W.contents writer.new) result }
 {
     let mut waiting = Some(parts);
     let operated = OperatedDay { operation };
@@ -117,7 +117,7 @@ where
         &mut || -> Option<LiveEnd>
             requires { IsSync T.row × IsSome waiting }
             ensures { (waiting.exit ≡ None) × IsSome result
-                × IfSome waiting.entry (λ day. IfSome result (EndsDay day.terms.listing day.terms.matrix day.terms.limit
+                × IfSome waiting.entry (λ day. IfSome result (EndsDay day.terms.day.listing day.terms.day.matrix day.terms.day.limit
                 writer.entry.now writer.exit.now (W.contents writer.entry.now) (W.contents writer.exit.now))) }
         { run_parts(rt, alloc, &mut waiting, operation, listener, writer) },
     );
@@ -128,43 +128,25 @@ where
 }
 
 /// Opens the sockets of a day. If one can't be opened or memory runs out, that is said and its status returned.
-fn open_day<T, E>(rt: &T, alloc: Global, day: LiveFile, errors: &mut E) -> Result<OpenDay, Status>
+fn open_day<T, E>(rt: &T, alloc: Global, day: LiveDay, errors: &mut E) -> Result<OpenDay, Status>
 where
     T: Clock + Net<Listener = TcpListener, Stream = TcpStream>,
     E: Write,
     ensures quiet { OnOk result (errors.new ≡ errors.old) }
     ensures status { IfErr result (λ status. (status ≡ ReadFault) ⊎ (status ≡ OutOfMemory)) }
-    ensures listing { IfOk result (λ ready. ready.terms.listing ≡ day.words.listing) }
-    ensures matrix { IfOk result (λ ready. ready.terms.matrix ≡ day.words.matrix) }
-    ensures limit { IfOk result (λ ready. ready.terms.limit ≡ day.words.limit) }
-    ensures session { IfOk result (λ ready. ready.terms.session ≡ day.words.session) }
-    ensures serves { IfOk result (λ ready. ready.terms.serves ≡ day.words.serves) }
-    ensures connect_within { IfOk result (λ ready. ready.terms.connect_within ≡ day.connect_within) }
-    ensures followers_wait { IfOk result (λ ready. ready.terms.followers_wait ≡ day.followers_wait) }
+    ensures terms { IfOk result (λ ready. ready.terms ≡ day.terms) }
 {
-    let LiveFile {
-        words,
-        connect_within,
-        followers_wait,
-        control: _,
-        journal: _,
-    } = day;
-    let sockets = match open_live(rt, alloc, &words) {
+    let sockets = match open_live(rt, alloc, &day) {
         Ok(sockets) => sockets,
-        Err(Unopened::Socket(fault)) => return Err(say_unopened(alloc, errors, fault)),
+        Err(Unopened::Socket(fault)) => {
+            say_socket_fault(alloc, errors, fault);
+            return Err(Status::ReadFault);
+        }
         Err(Unopened::Memory) => return Err(say_no_memory(errors)),
     };
-    let Ok(operation) = Operation::new(rt, alloc, &words.listing, words.serves) else {
+    let terms = day.terms;
+    let Ok(operation) = Operation::new(rt, alloc, &terms.day.listing, terms.serves) else {
         return Err(say_no_memory(errors));
-    };
-    let terms = LiveTerms {
-        listing: words.listing,
-        limit: words.limit,
-        matrix: words.matrix,
-        session: words.session,
-        serves: words.serves,
-        connect_within,
-        followers_wait,
     };
     Ok(OpenDay {
         terms,
@@ -216,7 +198,7 @@ fn say_end<E: Write>(
     let Some(path) = failed_journal else {
         return say_day_end(alloc, errors, ended, reader_gone, cause);
     };
-    say_of_journal(alloc, errors, path, WriteCause::Other.text());
+    say_of_journal(alloc, errors, path, &WriteCause::Other);
     match ended {
         Err(Fault::Write) => Status::WriteFault,
         _ => say_day_end(alloc, errors, ended, reader_gone, cause),
@@ -228,7 +210,7 @@ fn say_end<E: Write>(
 fn run_day<T, W, E>(
     rt: &T,
     alloc: Global,
-    day: LiveFile,
+    day: LiveDay,
     opened: Option<OpenJournal>,
     listener: Option<&ControlListener>,
     writer: &mut W,
@@ -238,7 +220,7 @@ where
     T: Threads + Wait + Clock + Net<Listener = TcpListener, Stream = TcpStream> + Sync,
     W: Outlet,
     E: Write,
-    ensures { RunsDay (WritesItsReport day.words.listing day.words.matrix day.words.limit) result writer.old writer.new (W.contents writer.old) (W.contents writer.new) }
+    ensures { RunsDay (WritesItsReport day.terms.day.listing day.terms.day.matrix day.terms.day.limit) result writer.old writer.new (W.contents writer.old) (W.contents writer.new) }
 {
     let OpenDay {
         terms,
@@ -262,7 +244,7 @@ where
             rt, alloc, terms, sockets, &NoLoss, &operation, journal, writer,
         ),
     };
-    say(errors, &end.account);
+    let _said = end.account.write(errors);
     let failed = if end.journal_failed {
         path.as_deref()
     } else {
@@ -277,7 +259,7 @@ where
 fn run_opened<T, W, E>(
     rt: &T,
     alloc: Global,
-    day: LiveFile,
+    file: LiveFile,
     opened: Option<OpenJournal>,
     writer: &mut W,
     errors: &mut E,
@@ -286,15 +268,15 @@ where
     T: Threads + Wait + Clock + Files + Net<Listener = TcpListener, Stream = TcpStream> + Sync,
     W: Outlet,
     E: Write,
-    ensures { RunsDay (WritesItsReport day.words.listing day.words.matrix day.words.limit) result writer.old writer.new (W.contents writer.old) (W.contents writer.new) }
+    ensures { RunsDay (WritesItsReport file.day.terms.day.listing file.day.terms.day.matrix file.day.terms.day.limit) result writer.old writer.new (W.contents writer.old) (W.contents writer.new) }
 {
-    let mut day = day;
-    let Some(place) = day.control.take() else {
-        return run_day(rt, alloc, day, opened, None, writer, errors);
+    let mut file = file;
+    let Some(place) = file.control.take() else {
+        return run_day(rt, alloc, file.day, opened, None, writer, errors);
     };
     match open_control(rt, &place) {
         Ok(listener) => {
-            let status = run_day(rt, alloc, day, opened, Some(&listener), writer, errors);
+            let status = run_day(rt, alloc, file.day, opened, Some(&listener), writer, errors);
             remove_control(rt, &place);
             status
         }
@@ -310,7 +292,7 @@ where
 pub fn run_live_file<T, W, E>(
     rt: &T,
     alloc: Global,
-    day: LiveFile,
+    file: LiveFile,
     writer: &mut W,
     errors: &mut E,
 ) -> Status
@@ -323,14 +305,14 @@ where
         + Sync,
     W: Outlet,
     E: Write,
-    ensures { RunsDay (WritesItsReport day.words.listing day.words.matrix day.words.limit) result writer.old writer.new (W.contents writer.old) (W.contents writer.new) }
+    ensures { RunsDay (WritesItsReport file.day.terms.day.listing file.day.terms.day.matrix file.day.terms.day.limit) result writer.old writer.new (W.contents writer.old) (W.contents writer.new) }
 {
-    let mut day = day;
-    let Some(place) = day.journal.take() else {
-        return run_opened(rt, alloc, day, None, writer, errors);
+    let mut file = file;
+    let Some(place) = file.journal.take() else {
+        return run_opened(rt, alloc, file, None, writer, errors);
     };
-    match open_journal(rt, alloc, &day.words, place, errors) {
-        Ok(opened) => run_opened(rt, alloc, day, Some(opened), writer, errors),
+    match open_journal(rt, alloc, &file.day.terms.day, place, errors) {
+        Ok(opened) => run_opened(rt, alloc, file, Some(opened), writer, errors),
         Err(status) => status,
     }
 }

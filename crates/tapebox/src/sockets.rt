@@ -3,8 +3,8 @@ ghost use Rattle.std.specs.Prelude.{◌≡◌, IfErr, IfOk};
 ghost use Rattle.tapebox.specs.declared.sockets.Unopened.TheVariants.{Memory, Socket};
 ghost use Rattle.tapebox.specs.Feeds.{unopened_fault};
 
+use day_terms::LiveDay;
 use feed_ends::{Fault, SocketFault, SocketPlace, here};
-use feed_words::LiveWords;
 use live_feed::LiveSockets;
 use std::alloc::{AllocError, AllocFailed, Global};
 use std::net::{Net, TcpListener, TcpStream, UdpSocket};
@@ -82,11 +82,11 @@ fn open_sender<T: Net<Listener = TcpListener, Stream = TcpStream>>(
 fn open_lines<T: Net<Listener = TcpListener, Stream = TcpStream>>(
     rt: &T,
     alloc: Global,
-    words: &LiveWords,
+    day: &LiveDay,
 ) -> Result<Vec<TcpListener>, Unopened> {
     let mut lines = Vec::new(alloc);
-    let ports = words.first_port..=u16::MAX;
-    for (port, participant) in ports.zip(words.listing.participants()) {
+    let ports = day.first_port..=u16::MAX;
+    for (port, participant) in ports.zip(day.terms.day.listing.participants()) {
         lines.push(listen(rt, SocketPlace::Line(*participant), port)?)?;
     }
     Ok(lines)
@@ -97,16 +97,16 @@ fn open_lines<T: Net<Listener = TcpListener, Stream = TcpStream>>(
 pub fn open_live<T: Net<Listener = TcpListener, Stream = TcpStream>>(
     rt: &T,
     alloc: Global,
-    words: &LiveWords,
+    day: &LiveDay,
 ) -> Result<LiveSockets, Unopened>
-    ensures a { IfOk result (λ sockets. sockets.a.items ≡ words.now.a.items) }
-    ensures b { IfOk result (λ sockets. sockets.b.items ≡ words.now.b.items) }
+    ensures a { IfOk result (λ sockets. sockets.a.items ≡ day.now.a.items) }
+    ensures b { IfOk result (λ sockets. sockets.b.items ≡ day.now.b.items) }
 {
     Ok(LiveSockets {
-        lines: open_lines(rt, alloc, words)?,
-        a: Vec::from_slice(alloc, &words.a)?,
-        b: Vec::from_slice(alloc, &words.b)?,
-        retransmission: listen(rt, SocketPlace::Retransmission, words.retransmission)?,
+        lines: open_lines(rt, alloc, day)?,
+        a: Vec::from_slice(alloc, &day.a)?,
+        b: Vec::from_slice(alloc, &day.b)?,
+        retransmission: listen(rt, SocketPlace::Retransmission, day.retransmission)?,
         sender: open_sender(rt)?,
     })
 }

@@ -1,10 +1,11 @@
-//! The causes of a write that failed, each with its text.
+//! The causes of a write that failed.
 ghost use Rattle.std.specs.Prelude.{◌≡◌};
-ghost use Rattle.tapebox.specs.Outlets.{write_cause_of, write_cause_text};
+ghost use Rattle.tapebox.specs.Outlets.{write_cause_of};
 
+use std::fmt;
 use std::io::ErrorKind;
 
-/// Why a write failed.
+/// Why a write failed. It prints as the cause in words.
 #[derive(Clone, Copy, Debug, PartialEq, Eq)]
 pub enum WriteCause {
     /// The disk or the device is full.
@@ -32,17 +33,16 @@ impl WriteCause {
             _ => WriteCause::Other,
         }
     }
+}
 
-    /// Returns the cause in words.
-    pub fn text(self) -> &'static [u8]
-        ensures { result.now ≡ write_cause_text self }
-    {
-        match self {
-            WriteCause::NoSpace => b"no space left",
-            WriteCause::QuotaUsedUp => b"quota used up",
-            WriteCause::TooLarge => b"file too large",
-            WriteCause::Reset => b"connection reset",
-            WriteCause::Other => b"write fault",
-        }
+impl fmt::Display for WriteCause {
+    fn fmt<W: fmt::Write>(&self, f: &mut fmt::Formatter<W>) -> fmt::Result {
+        f.write_str(match self {
+            WriteCause::NoSpace => "no space left",
+            WriteCause::QuotaUsedUp => "quota used up",
+            WriteCause::TooLarge => "file too large",
+            WriteCause::Reset => "connection reset",
+            WriteCause::Other => "write fault",
+        })
     }
 }

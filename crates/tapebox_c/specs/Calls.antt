@@ -1,6 +1,6 @@
 -- Defines the results of the calls from another language.
 use Rattle.std.specs.Prelude.{◌≡◌, ◌==◌, ◌-◌, ℕ, true, List, length, slice_get, Option, None, Some, Result, Ok, Err, option_and_then, unwrap_or, if◌then◌else◌}
-use Rattle.batch.specs.MessageLine.{is_capital}
+use Rattle.tape_types.specs.Header.{is_capital}
 use Rattle.reports.specs.Reading.{message_at}
 use Rattle.reports.specs.declared.fault.MessageFault.{MessageFault}
 use Rattle.reports.specs.declared.message.Message.{Message}

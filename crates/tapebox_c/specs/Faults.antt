@@ -1,6 +1,6 @@
 -- Defines the numbers of the calls' faults.
 use Rattle.std.specs.Prelude.{ℕ}
-use Rattle.batch.specs.Header.{header_fault_code}
+use Rattle.tape_types.specs.Header.{header_fault_code}
 use Rattle.reports.specs.Faults.{message_fault_code}
 use Rattle.retransmit.specs.Faults.{ask_fault_code}
 use Rattle.subscriber.specs.Faults.{delivery_fault_code, stop_code}

@@ -1,7 +1,7 @@
 -- Defines how a tape and a subscriber are made from another language's values.
 use Rattle.std.specs.Prelude.{◌≡◌, ◌⊎◌, ◌==◌, ◌&&◌, ℕ, nat_le, Bool, Option, None, Some, Result, Ok, Err, if◌then◌else◌}
-use Rattle.batch.specs.declared.header_fault.HeaderFault.{HeaderFault}
-use Rattle.batch.specs.declared.header_fault.HeaderFault.TheVariants.{BadListing}
+use Rattle.tape_types.specs.declared.header_fault.HeaderFault.{HeaderFault}
+use Rattle.tape_types.specs.declared.header_fault.HeaderFault.TheVariants.{BadListing}
 use Rattle.sale_matrix.specs.declared.matrix.Matrix.{Matrix}
 use Rattle.sale_matrix.specs.declared.matrix.Matrix.TheVariants.{One, Two}
 use Rattle.subscriber.specs.Subscribers.{SubscriberState, new_subscriber}

@@ -2,12 +2,12 @@
 ghost use Rattle.std.specs.Prelude.{◌≡◌};
 ghost use Rattle.tapebox_c.specs.Faults.{fault_code};
 
-use batch::HeaderFault;
 use reports::MessageFault;
 use retransmit::AskFault;
 use subscriber::{DeliveryFault, Stop};
 use tape_core::{Refusal, TapeFault};
 use tape_frames::{PacketFault, RequestFault};
+use tape_types::HeaderFault;
 
 /// Why a call did nothing, by the number that it returns. 0 is no fault.
 #[derive(Clone, Copy)]

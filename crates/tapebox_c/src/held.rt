@@ -23,8 +23,7 @@ use sale_matrix::Matrix;
 use scratch_fold::Summary;
 use std::alloc::Global;
 use subscriber::{DeliveryFault, DrainFault, Subscriber};
-use summaries::IndexStore;
-use tape_core::{Entry, Figures, Refusal, Tape};
+use tape_core::{Entry, Figures, IndexedTape, Refusal, Tape};
 use tape_frames::{Packet, REQUEST_LENGTH, Request, Version};
 use tape_types::{Participant, Symbol};
 
@@ -32,7 +31,7 @@ use tape_types::{Participant, Symbol};
 #[derive(Drop)]
 pub enum Held {
     /// A tape that admits messages.
-    Tape(Tape<IndexStore>),
+    Tape(IndexedTape),
     /// A subscriber, whose tape follows a feed.
     Subscriber(Subscriber),
     /// A table that was read, with a text of it.
@@ -43,7 +42,7 @@ pub enum Held {
 
 impl Held {
     /// The tape that is held, or the subscriber's own, if one of them is held.
-    pub(crate) fn tape(&self) -> Option<&Tape<IndexStore>>
+    pub(crate) fn tape(&self) -> Option<&IndexedTape>
         ensures { option_copied result ≡ own_tape self.now }
     {
         match self {

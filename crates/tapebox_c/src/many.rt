@@ -7,8 +7,7 @@ use crate::handle::Handle;
 use crate::rows::ManyRow;
 use reports::{MessageFault, decode};
 use std::alloc::Global;
-use summaries::IndexStore;
-use tape_core::Tape;
+use tape_core::IndexedTape;
 
 /// Admits the messages of the bytes, one after the other in their order, and writes a number for each: 0 if it was admitted,
 /// else that of its refusal. It stops at the end of the bytes, if the numbers have no room for another (108), and at bytes that
@@ -37,7 +36,7 @@ pub extern "C" fn tapebox_admit_many(
 
 /// Admits the messages of bytes, and returns how far it came and why it stopped, 0 at the end of the bytes.
 pub(crate) fn admit_each(
-    tape: &mut Tape<IndexStore>,
+    tape: &mut IndexedTape,
     bytes: &[u8],
     numbers: &mut [u32],
 ) -> (ManyRow, u32)
@@ -65,7 +64,7 @@ pub(crate) fn admit_each(
 }
 
 /// Admits the message at a place of bytes, and returns its number and the place after it.
-fn turn(tape: &mut Tape<IndexStore>, bytes: &[u8], at: usize) -> Result<(u32, usize), MessageFault>
+fn turn(tape: &mut IndexedTape, bytes: &[u8], at: usize) -> Result<(u32, usize), MessageFault>
     requires within { at ≤ length bytes.now }
     ensures { TurnAt bytes.now tape.old at result tape.new }
 {

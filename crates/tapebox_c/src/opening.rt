@@ -8,8 +8,7 @@ use batch::read_header;
 use sale_matrix::Matrix;
 use std::alloc::Global;
 use subscriber::Subscriber;
-use summaries::IndexStore;
-use tape_core::{Tape, TapeFault};
+use tape_core::{IndexedTape, Tape, TapeFault};
 use tape_types::TAPE_MOST;
 
 /// The matrix of a number.
@@ -37,7 +36,7 @@ pub(crate) fn open_tape(
     participants: &[u8],
     matrix: u32,
     limit: u32,
-) -> Result<Tape<IndexStore>, CallFault>
+) -> Result<IndexedTape, CallFault>
     ensures ok { IfOk result (λ t. tape_opened (matrix_numbered matrix) limit (header_listing symbols.now participants.now) ≡ Ok t) }
     ensures err { IfErr result (λ f. IsFaultOf f (tape_opened (matrix_numbered matrix) limit (header_listing symbols.now participants.now))) }
 {

@@ -10,8 +10,7 @@ ghost use Rattle.tapebox_c.specs.Sending.{packet_between};
 use retransmit::{Ended, serve};
 use scratch_fold::Summary;
 use std::alloc::Global;
-use summaries::IndexStore;
-use tape_core::{Entry, Figures, Tape};
+use tape_core::{Entry, Figures, IndexedTape};
 use tape_frames::{Packet, REQUEST_LENGTH, SliceSource, Source, Version, cut};
 use tape_types::{Participant, Symbol};
 
@@ -23,7 +22,7 @@ fn participant(letter: u8) -> Option<Participant>
 }
 
 /// The consolidated summary of a symbol, by its name.
-pub(crate) fn summary_in(tape: &Tape<IndexStore>, name: &[u8]) -> Option<Summary>
+pub(crate) fn summary_in(tape: &IndexedTape, name: &[u8]) -> Option<Summary>
     ensures { result ≡ option_and_then (summary_at tape.now) (symbol_named name.now) }
 {
     let symbol = Symbol::of_name(name)?;
@@ -31,7 +30,7 @@ pub(crate) fn summary_in(tape: &Tape<IndexStore>, name: &[u8]) -> Option<Summary
 }
 
 /// A participant's own summary of a symbol, by the symbol's name.
-pub(crate) fn summary_of_in(tape: &Tape<IndexStore>, name: &[u8], letter: u8) -> Option<Summary>
+pub(crate) fn summary_of_in(tape: &IndexedTape, name: &[u8], letter: u8) -> Option<Summary>
     ensures { result ≡ option_and_then (λ symbol. option_and_then (participant_summary_at tape.now symbol) (letter_named letter)) (symbol_named name.now) }
 {
     let symbol = Symbol::of_name(name)?;
@@ -40,7 +39,7 @@ pub(crate) fn summary_of_in(tape: &Tape<IndexStore>, name: &[u8], letter: u8) ->
 }
 
 /// The entry of a number.
-pub(crate) fn entry_in(tape: &Tape<IndexStore>, number: u32) -> Option<Entry>
+pub(crate) fn entry_in(tape: &IndexedTape, number: u32) -> Option<Entry>
     ensures { result ≡ entry_numbered tape.now.entries number }
 {
     if number == 0 {
@@ -50,7 +49,7 @@ pub(crate) fn entry_in(tape: &Tape<IndexStore>, number: u32) -> Option<Entry>
 }
 
 /// What a participant has sent, by its letter.
-pub(crate) fn totals_in(tape: &Tape<IndexStore>, letter: u8) -> Option<Figures>
+pub(crate) fn totals_in(tape: &IndexedTape, letter: u8) -> Option<Figures>
     ensures { result ≡ totals_of tape.now letter }
 {
     let who = participant(letter)?;
@@ -58,7 +57,7 @@ pub(crate) fn totals_in(tape: &Tape<IndexStore>, letter: u8) -> Option<Figures>
 }
 
 /// The symbol at a place of the listing.
-pub(crate) fn symbol_in(tape: &Tape<IndexStore>, place: u32) -> Option<Symbol>
+pub(crate) fn symbol_in(tape: &IndexedTape, place: u32) -> Option<Symbol>
     ensures { result ≡ slice_get tape.now.listing.symbols place }
 {
     let symbols = tape.listing().symbols();
@@ -66,7 +65,7 @@ pub(crate) fn symbol_in(tape: &Tape<IndexStore>, place: u32) -> Option<Symbol>
 }
 
 /// The participant at a place of the listing.
-pub(crate) fn participant_in(tape: &Tape<IndexStore>, place: u32) -> Option<Participant>
+pub(crate) fn participant_in(tape: &IndexedTape, place: u32) -> Option<Participant>
     ensures { result ≡ slice_get tape.now.listing.participants place }
 {
     let participants = tape.listing().participants();
@@ -75,7 +74,7 @@ pub(crate) fn participant_in(tape: &Tape<IndexStore>, place: u32) -> Option<Part
 
 /// The packet of the entries from one number on, up to another.
 pub(crate) fn packet_in(
-    tape: &Tape<IndexStore>,
+    tape: &IndexedTape,
     version: Version,
     session: u64,
     from: u32,
@@ -96,7 +95,7 @@ pub(crate) fn packet_in(
 /// The answer to a request, or `None` if memory runs out.
 pub(crate) fn answer_in(
     alloc: Global,
-    tape: &Tape<IndexStore>,
+    tape: &IndexedTape,
     version: Version,
     session: u64,
     request: &[u8; REQUEST_LENGTH],

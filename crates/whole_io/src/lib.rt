@@ -6,11 +6,13 @@ ghost use Rattle.std.specs.Prelude.{◌≤◌, ◌<◌, IfNone, IfSome, take, le
 ghost use Rattle.std.specs.Io.KnownBytes.{Consumes, IsAtEnd};
 ghost use Rattle.whole_io.specs.FailedReads.{ReadsFewer};
 
+mod lines;
 mod number_text;
 mod reading;
 mod writing;
 mod writing_fault;
 
+pub use lines::{Lines, say};
 pub use number_text::{push_counted, push_number, push_wide_number};
 pub use reading::{ReadFault, read_all};
 use std::io::{ErrorKind, Read};

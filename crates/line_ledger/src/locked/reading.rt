@@ -6,12 +6,11 @@ ghost use Rattle.line_ledger.specs.Ends.{DisagreesAt, FirstTold};
 use super::{LineSeat, Locked};
 use crate::DayName;
 use crate::ends::find_disagreement;
-use summaries::IndexStore;
-use tape_core::Tape;
+use tape_core::IndexedTape;
 
 impl<D: DayName> Locked<D> {
     /// Returns the day's tape, which is open.
-    pub fn tape(&self) -> &Tape<IndexStore>
+    pub fn tape(&self) -> &IndexedTape
         ensures day { IsDay D.terms self.now.tape }
         ensures tape { result.now ≡ self.now.tape }
     {

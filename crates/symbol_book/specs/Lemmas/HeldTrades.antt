@@ -1,6 +1,6 @@
 -- Trades in two sets of columns, and the stores that hold them.
 use Rattle.std.proofs.Common.{◌≡◌, ℕ, Bool, true, false, cond, ◌==◌, List, [], ◌∷◌, map, Option, Some, None, refl, sym, ap, subst, ◌∙◌, arith, Result, Ok, Err}
-use Rattle.std.proofs.Common.{OnErr, OnOk, IsSome, IsSomeAnd}
+use Rattle.std.proofs.Common.{OnErr, OnOk, IsSomeAnd}
 use Rattle.std.specs.Option.{option_map, unwrap_or}
 use Rattle.std.specs.Ordering.{nat_cmp, eq_by_cmp}
 use Rattle.std.specs.Cmp.{nat_cmp_total}
@@ -138,10 +138,6 @@ participant_effects_with-same of_who who w = elim (eq_by_cmp nat_cmp w who) as (
   | false ↦ λ _. refl
 ] refl
 
--- the effects of the changed one
-pub participant_effects_with-here : (of_who : ℕ → Effects) (who : ℕ) (e : Effects) → participant_effects_with of_who who e who ≡ e
-participant_effects_with-here of_who who e = ap (λ (b : Bool). cond b e (of_who who)) (key_itself who)
-
 -- a value inserted at a key is found there
 pub get-inserted : {X : Type 0} (m : map.FinMap nat_cmp X) (k : ℕ) (v : X) → map.get (map.insert m k v) k ≡ Some v
 get-inserted {X = X} m k v = map.get-insert nat_cmp_total m k v k ∙ ap (λ (b : Bool). cond b (Some v) (map.get m k)) (key_itself k)
@@ -232,17 +228,6 @@ trade_there m all of_who k e h is = by (map.get m k) refl
       (let same : ◌≡◌ {A = Option Effect} (Some (consolidated_effect_of t)) (Some e) =
           sym (h.all_are k ∙ ap (option_map consolidated_effect_of) at) ∙ is in ap (λ o. unwrap_or o e) same),
     )
-
--- if the consolidated store has an effect, its participant's own has one
-pub own_there : (m : Trades) (all : Effects) (of_who : ℕ → Effects) (k : ℕ) (e : Effect) → HoldTrades m all of_who → map.get all k ≡ Some e
-    → IsSome (map.get (of_who e.who) k)
-own_there m all of_who k e h is =
-    let at = trade_there m all of_who k e h is in
-    let t : Trade = at.0 in
-    let who : t.who ≡ e.who = ap (λ (x : Effect). x.who) at.2 in
-    subst (λ o. IsSome o)
-    (sym (ap (λ w. map.get (of_who w) k) (sym who) ∙ h.own_are t.who k ∙ ap (own_effect_at t.who) at.1
-    ∙ ap (λ (b : Bool). cond b (Some (own_effect_of t)) None) (eq-eqb t.who t.who refl))) refl
 
 module _ {S : Type 0} (effects_in : S → Effects) (change_in : S → Change) where
   -- a trade is removed from both of its stores

@@ -5,7 +5,7 @@ use arbitration::Line;
 use feed_ends::here;
 use sale_matrix::Matrix;
 use std::alloc::Global;
-use std::io::{Read, Write};
+use std::io::Write;
 use std::net::{Net, TcpListener, TcpStream, UdpSocket};
 use std::process::Abort;
 use std::rt::Clock;
@@ -14,19 +14,20 @@ use std::sync::atomic::{AtomicBool, AtomicU32, Ordering};
 use std::thread;
 use std::thread::Threads;
 use std::time::Duration;
+use tape_frames::{LONGEST_PACKET, Packet, Version, decode_packet};
 use tape_types::{Listing, Participant, Symbol};
 
-/// The reports of each participant.
-pub const REPORTS: u8 = 20;
-
 /// The session of the day.
-pub const SESSION: u64 = 7;
+const SESSION: u64 = 7;
 
-/// A request of session 8.
-const OTHER_SESSION: [u8; 14] = [0, 0, 0, 0, 0, 0, 0, 8, 0, 0, 0, 1, 0, 1];
+/// The limit of the day's tape and of its follower's, in entries.
+const LIMIT: u32 = 1_048_576;
 
-/// The byte that answers it.
-const IS_OTHER_SESSION: u8 = 71;
+/// How many connections are served: the follower's before its restart and after it.
+const SERVES: u16 = 2;
+
+/// How many packets are read from a line, at most.
+const PACKETS_MOST: usize = 100;
 
 /// How many turns of a hundredth of a second the day may take: some ten seconds less than a test may take.
 const TURNS_MOST: u32 = 5_000;
@@ -44,36 +45,17 @@ const REPORT: [u8; 40] = [
 /// A day to be played, apart from what its lines lose.
 #[derive(Clone, Copy)]
 pub struct Plan<'a> {
-    /// The matrix of the day's tape, and that of its follower's.
-    pub matrices: [Matrix; 2],
-    /// The limit of the day's tape, and that of its follower's, in entries.
-    pub limits: [u32; 2],
+    /// The matrix of the day's tape and of its follower's.
+    pub matrix: Matrix,
     /// The last code of each report's condition.
     pub code: u8,
     /// The reports of each participant.
     pub reports: u8,
-    /// Counts the packets that were sent or lost, if each report waits for the one before it. If it is `None`, the participants
-    /// send at once.
-    pub pace: Option<&'a AtomicU32>,
-    /// How many connections are served.
-    pub serves: u16,
-    /// Whether a connection of its own asks, beside the follower's.
-    pub is_asked: bool,
+    /// Counts the packets that were sent or lost. Each report waits for the one before it.
+    pub packets: &'a AtomicU32,
     /// After how many entries the follower restarts.
-    pub restart_after: Option<u32>,
+    pub restart_after: u32,
 }
-
-/// A day whose follower has nothing to ask for.
-pub const STRAIGHT: Plan<'static> = Plan {
-    matrices: [Matrix::One, Matrix::One],
-    limits: [1_048_576, 1_048_576],
-    code: b' ',
-    reports: REPORTS,
-    pace: None,
-    serves: 0,
-    is_asked: false,
-    restart_after: None,
-};
 
 /// Loses on A each packet whose first number is odd, and on B each whose first number is no multiple of 4.
 #[derive(Drop)]
@@ -89,14 +71,15 @@ impl Loss for Lossy {
     }
 }
 
-/// What became of a day: whether the participants' reports were sent and the connection of its own was answered, the statuses
-/// of the day and of its follower, and their reports.
+/// What became of a day: whether the participants' reports were sent, the statuses of the day and of its follower, their
+/// reports, and how many packets of entries came by A and by B to a port that nobody follows, if none of them was to be lost.
 #[derive(Drop)]
 pub struct Played {
     pub is_sent: bool,
     pub statuses: (u8, u8),
     pub written: Vec<u8>,
     pub followed: Vec<u8>,
+    pub heard: [Option<u32>; 2],
 }
 
 /// Returns the report of a participant under this number, at a price of its own.
@@ -120,29 +103,11 @@ fn names_of_two(alloc: Global) -> Option<Listing> {
 }
 
 /// Returns the same listing. If there is none, the test fails.
-pub fn listing_of_two<R: Abort>(rt: &R, alloc: Global) -> Listing {
+fn listing_of_two<R: Abort>(rt: &R, alloc: Global) -> Listing {
     match names_of_two(alloc) {
         Some(listing) => listing,
         None => panic!(rt; "no listing"),
     }
-}
-
-/// Sends the reports of a participant, and returns whether all were sent.
-fn send_line<R: Net<Listener = TcpListener, Stream = TcpStream>>(
-    rt: &R,
-    port: u16,
-    who: u8,
-    plan: &Plan<'_>,
-) -> bool {
-    let Ok(mut stream) = TcpStream::connect(rt, here(port)) else {
-        return false;
-    };
-    for number in 1..=plan.reports {
-        if stream.write_all(&report(who, number, plan.code)).is_err() {
-            return false;
-        }
-    }
-    true
 }
 
 /// Waits until `wanted` packets were sent or lost, and returns whether they were.
@@ -162,7 +127,6 @@ fn send_in_turns<R: Clock + Net<Listener = TcpListener, Stream = TcpStream>>(
     rt: &R,
     ports: [u16; 2],
     plan: &Plan<'_>,
-    packets: &AtomicU32,
 ) -> bool {
     let first = TcpStream::connect(rt, here(ports[0]));
     let second = TcpStream::connect(rt, here(ports[1]));
@@ -173,9 +137,9 @@ fn send_in_turns<R: Clock + Net<Listener = TcpListener, Stream = TcpStream>>(
     for number in 1..=plan.reports {
         wanted = wanted.wrapping_add(2);
         let is_sent = first.write_all(&report(b'Q', number, plan.code)).is_ok()
-            && is_reached(rt, packets, wanted.wrapping_sub(1))
+            && is_reached(rt, plan.packets, wanted.wrapping_sub(1))
             && second.write_all(&report(b'N', number, plan.code)).is_ok()
-            && is_reached(rt, packets, wanted);
+            && is_reached(rt, plan.packets, wanted);
         if !is_sent {
             return false;
         }
@@ -183,19 +147,32 @@ fn send_in_turns<R: Clock + Net<Listener = TcpListener, Stream = TcpStream>>(
     true
 }
 
-/// Returns whether a request on a connection of its own is answered.
-fn is_answered<R: Net<Listener = TcpListener, Stream = TcpStream>>(rt: &R, port: u16) -> bool {
-    let Ok(mut stream) = TcpStream::connect(rt, here(port)) else {
-        return false;
-    };
-    let mut answer = [0u8; 1];
-    stream.write_all(&OTHER_SESSION).is_ok()
-        && stream.read_exact(&mut answer).is_ok()
-        && answer[0] == IS_OTHER_SESSION
+/// Returns how many packets of entries a line has before its end, all in version 2. It returns `None` if one of them was to be
+/// lost, or something else came.
+fn heard_by(line: Line, socket: &UdpSocket) -> Option<u32> {
+    let mut room = [0u8; LONGEST_PACKET];
+    let mut heard = 0u32;
+    for _ in 0..PACKETS_MOST {
+        let (len, _) = socket.recv_from(&mut room).ok()?;
+        let packet = decode_packet(&room[..len]).ok()?;
+        if matches!(packet, Packet::End { .. }) {
+            return Some(heard);
+        }
+        if packet.version() != Version::Two {
+            return None;
+        }
+        if let [entry, ..] = packet.entries() {
+            if Lossy.drops(line, entry.number.value()) {
+                return None;
+            }
+            heard = heard.wrapping_add(1);
+        }
+    }
+    None
 }
 
 /// Fails the test if the day has not ended after its turns.
-pub fn watch<R: Abort + Clock>(rt: &R, ended: &AtomicBool) {
+fn watch<R: Abort + Clock>(rt: &R, ended: &AtomicBool) {
     for _ in 0..TURNS_MOST {
         if ended.load(Ordering::SeqCst) {
             return;
@@ -205,12 +182,13 @@ pub fn watch<R: Abort + Clock>(rt: &R, ended: &AtomicBool) {
     panic!(rt; "the day did not end in its turns");
 }
 
-/// The sockets of a day and of its follower, and the ports of the participants' lines.
+/// The sockets of a day and of its follower, the ports of the participants' lines, and a socket more for A and for B.
 #[derive(Drop)]
-pub struct Opened {
-    pub live: LiveSockets,
-    pub follow: FollowSockets,
-    pub ports: [u16; 2],
+struct Opened {
+    live: LiveSockets,
+    follow: FollowSockets,
+    ports: [u16; 2],
+    heard: [UdpSocket; 2],
 }
 
 /// Returns a listener at a free port, and its port. If there is none, the test fails.
@@ -238,7 +216,7 @@ fn open<R: Abort + Net<Listener = TcpListener, Stream = TcpStream>>(rt: &R) -> (
 }
 
 /// Opens all sockets at free ports.
-pub fn open_all<R: Abort + Net<Listener = TcpListener, Stream = TcpStream>>(
+fn open_all<R: Abort + Net<Listener = TcpListener, Stream = TcpStream>>(
     rt: &R,
     alloc: Global,
 ) -> Opened {
@@ -251,11 +229,13 @@ pub fn open_all<R: Abort + Net<Listener = TcpListener, Stream = TcpStream>>(
     lines.push_reserved(second);
     let (a, at_a) = open(rt);
     let (b, at_b) = open(rt);
+    let (heard_a, also_a) = open(rt);
+    let (heard_b, also_b) = open(rt);
     let (sender, _) = open(rt);
     let (retransmission, asked_at) = listen(rt);
     let (Ok(to_a), Ok(to_b)) = (
-        Vec::from_slice(alloc, &[at_a]),
-        Vec::from_slice(alloc, &[at_b]),
+        Vec::from_slice(alloc, &[at_a, also_a]),
+        Vec::from_slice(alloc, &[at_b, also_b]),
     ) else {
         panic!(rt; "no room for the ports")
     };
@@ -273,6 +253,7 @@ pub fn open_all<R: Abort + Net<Listener = TcpListener, Stream = TcpStream>>(
             retransmission: asked_at,
         },
         ports: [at_first, at_second],
+        heard: [heard_a, heard_b],
     }
 }
 
@@ -298,10 +279,10 @@ fn statuses<
             rt,
             alloc,
             listing,
-            plan.limits[0],
-            plan.matrices[0],
+            LIMIT,
+            plan.matrix,
             SESSION,
-            plan.serves,
+            SERVES,
             live,
             loss,
             written,
@@ -310,11 +291,11 @@ fn statuses<
             rt,
             alloc,
             same,
-            plan.limits[1],
-            plan.matrices[1],
+            LIMIT,
+            plan.matrix,
             SESSION,
             follow,
-            plan.restart_after,
+            Some(plan.restart_after),
             NoSink,
             followed,
         )
@@ -322,44 +303,7 @@ fn statuses<
     )
 }
 
-/// Sends the reports of both participants, and returns whether all were sent.
-fn send_lines<R: Threads + Clock + Net<Listener = TcpListener, Stream = TcpStream> + Sync>(
-    rt: &R,
-    ports: [u16; 2],
-    plan: &Plan<'_>,
-) -> bool {
-    if let Some(packets) = plan.pace {
-        return send_in_turns(rt, ports, plan, packets);
-    }
-    let (first, second) = thread::join(
-        rt,
-        || send_line(rt, ports[0], b'Q', plan),
-        || send_line(rt, ports[1], b'N', plan),
-    );
-    first && second
-}
-
-/// Sends all, and returns whether it was sent, and the connection of its own answered.
-pub fn send_all<R: Threads + Clock + Net<Listener = TcpListener, Stream = TcpStream> + Sync>(
-    rt: &R,
-    ports: [u16; 2],
-    asked_at: u16,
-    plan: &Plan<'_>,
-) -> bool {
-    send_lines(rt, ports, plan) && (!plan.is_asked || is_answered(rt, asked_at))
-}
-
-/// Returns another handle of a listener. If there is none, the test fails.
-fn handle_of<R: Abort>(rt: &R, listener: &TcpListener) -> TcpListener {
-    match listener.try_clone() {
-        Ok(handle) => handle,
-        Err(_) => panic!(rt; "no other handle of a listener"),
-    }
-}
-
-/// Plays a day in one process, and fails if it does not end in its turns. The listener of the retransmission is held until
-/// then, so that a follower which the day does not wait for is not refused, however late it comes. What the lines brought waits
-/// for it in its sockets.
+/// Plays a day in one process, and fails if it does not end in its turns.
 pub fn play<
     R: Abort + Threads + Wait + Clock + Net<Listener = TcpListener, Stream = TcpStream> + Sync,
     L: Loss + Sync,
@@ -368,9 +312,8 @@ pub fn play<
         live,
         follow,
         ports,
+        heard: [a, b],
     } = open_all(rt, alloc);
-    let asked_at = follow.retransmission;
-    let held = handle_of(rt, &live.retransmission);
     let listings = (listing_of_two(rt, alloc), listing_of_two(rt, alloc));
     let (mut written, mut followed) = (Vec::new(alloc), Vec::new(alloc));
     let texts = (&mut written, &mut followed);
@@ -382,17 +325,17 @@ pub fn play<
             let all = thread::join(
                 rt,
                 || statuses(rt, alloc, plan, loss, listings, (live, follow), texts),
-                || send_all(rt, ports, asked_at, plan),
+                || send_in_turns(rt, ports, plan),
             );
             ended.store(true, Ordering::SeqCst);
             all
         },
     );
-    drop(held);
     Played {
         is_sent,
         statuses,
         written,
         followed,
+        heard: [heard_by(Line::A, &a), heard_by(Line::B, &b)],
     }
 }

@@ -5,7 +5,7 @@ use Rattle.csv_days.proofs.DayReadingLemmas.{EndsWith-fault, IsEnding-read, Read
 use Rattle.csv_days.proofs.day_reading.answer_rows.Goals as goal
 
 pub loop-init : goal.loop-init
-loop-init g c = record { reading = c.requires.reading; more = ReadsMore-none g.R.Read.remaining c.args.rows.now c.args.day.now }
+loop-init g c = record { reads = c.requires.reads; more = ReadsMore-none g.R.Read.remaining c.args.rows.now c.args.day.now }
 
 pub answer_all-requires : goal.answer_all-requires
 answer_all-requires g c = record {
@@ -28,7 +28,7 @@ returns-then-piece-clause-all g c =
 
 pub loop-preserved : goal.loop-preserved
 loop-preserved g c = record {
-  reading = c.in_ok-piece.ensures.reading;
+  reads = c.in_ok-piece.ensures.reads;
   more = ReadsMore-piece g.R.Read.remaining c.args.rows.now c.loop.rows c.piece.new.self c.args.day.now c.loop.day c.answer_all.new.self
       c.in_ok-piece.piece.messages.items c.loop.invariant.more (c.in_ok-piece.ensures.more c.if-piece.false)
       (subst (EndsMore c.loop.day c.answer_all.new.self) c.deref.ensures.value c.in_ok-answer_all.ensures.more);

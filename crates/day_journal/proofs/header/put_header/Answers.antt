@@ -5,14 +5,14 @@ use Rattle.day_journal.proofs.header.put_header.Goals as goal
 
 pub returns-clause-text : goal.returns-clause-text
 returns-clause-text c =
-    let day : c.put_day.new.text.items ≡ day_text c.args.session c.args.matrix c.args.limit = search rules in
-    let symbols : c.put_symbols.new.text.items ≡ c.put_day.new.text.items ++ symbols_text c.args.listing.now.symbols = search rules in
-    let participants : c.put_participants.new.text.items ≡ c.put_symbols.new.text.items ++ participants_text c.args.listing.now.participants = search rules in
+    let day : c.put_day.new.text.items ≡ day_text c.args.day.now.session c.args.day.now.matrix c.args.day.now.limit = search rules in
+    let symbols : c.put_symbols.new.text.items ≡ c.put_day.new.text.items ++ symbols_text c.args.day.now.listing.symbols = search rules in
+    let participants : c.put_participants.new.text.items ≡ c.put_symbols.new.text.items ++ participants_text c.args.day.now.listing.participants = search rules in
     let body : c.put_participants.new.text.items
-    ≡ terms_text (record { session = c.args.session; matrix = c.args.matrix; limit = c.args.limit; listing = c.args.listing.now }) =
-    participants ∙ ap (λ (t : List ℕ). t ++ participants_text c.args.listing.now.participants)
-    (symbols ∙ ap (λ (t : List ℕ). t ++ symbols_text c.args.listing.now.symbols) day)
-    ∙ append_assoc (day_text c.args.session c.args.matrix c.args.limit) (symbols_text c.args.listing.now.symbols)
-    (participants_text c.args.listing.now.participants) in
+    ≡ terms_text c.args.day.now =
+    participants ∙ ap (λ (t : List ℕ). t ++ participants_text c.args.day.now.listing.participants)
+    (symbols ∙ ap (λ (t : List ℕ). t ++ symbols_text c.args.day.now.listing.symbols) day)
+    ∙ append_assoc (day_text c.args.day.now.session c.args.day.now.matrix c.args.day.now.limit) (symbols_text c.args.day.now.listing.symbols)
+    (participants_text c.args.day.now.listing.participants) in
     let whole : c.extend_from_slice.new.self.items ≡ c.put_participants.new.text.items ++ sha256 c.put_participants.new.text.items = search rules in
     whole ∙ ap (λ (t : List ℕ). t ++ sha256 t) body

@@ -1,6 +1,6 @@
 use Rattle.std.proofs.Common.{arith, false, rules, true}
 use Rattle.std.proofs.lemmas.Grind.{common_steps}
-use Rattle.program_words.specs.Statuses.{status_code}
+use Rattle.command_line.specs.Statuses.{status_code}
 use Rattle.desk_words.proofs.InputLemmas.{answered}
 use Rattle.desk_words.proofs.inputs.run_command.Goals as goal
 

@@ -16,6 +16,6 @@ returns-clause-report g c =
 pub returns-clause-listed : goal.returns-clause-listed
 returns-clause-listed g c =
     let report = c.report-written.ensures in
-    let held = of_held _ c.in-Ok.subscriber (λ (s : SubscriberState). IsTapeOf c.args.terms.listing c.args.terms.matrix c.args.terms.limit s.tape) c.in-Ok.is
+    let held = of_held _ c.in-Ok.subscriber (λ (s : SubscriberState). IsTapeOf c.args.terms.day.listing c.args.terms.day.matrix c.args.terms.day.limit s.tape) c.in-Ok.is
     c.follow_plainly-held.ensures.tape in
     its_report _ _ _ _ c.in-Ok.subscriber.tape _ _ report.names held report.written

@@ -8,7 +8,8 @@ use Rattle.place_index.proofs.block_list.block_with_room.Goals.{After-top}
 -- the block that is split has two entries or more
 long : (g : Over) (c : After-top g) → 1 < length (get_or c.args.blocks.now.items c.args.at [])
 long g c =
-    let is = block-is c.args.blocks.now.items c.args.at c.index.result.now c.index.ensures c.requires.within in
+    let x = c.index-deref-at.result in
+    let is = block-is c.args.blocks.now.items c.args.at x (c.index-deref-at.is ∙ ap (λ l. get_or l c.args.at x) c.deref.ensures) c.requires.within in
     omega (arith, ap length is, c.len.ensures, c.if-len-lt-BLOCK_MOST.false)
 
 -- it has no more than a block may have
@@ -33,7 +34,8 @@ returns-then-value-top-clause-room g c =
     let b = c.args.at in
     let lt = c.requires.within in
     let after = (goal.at.returns-then-value-top-clause-room g c).After-top in
-    let read = lower-read bs b lt (long g after) (most g after) c.split.new.blocks.items c.index-2.result.now c.index-2.ensures c.in_ok-split.ensures.ok in
+    let read = lower-read bs b lt (long g after) (most g after) c.split.new.blocks.items c.index-deref-at-2.result
+    (c.index-deref-at-2.is ∙ ap (λ l. get_or l b c.index-deref-at-2.result) c.deref-2.ensures) c.in_ok-split.ensures.ok in
     subst (λ l. HasRoomAt c.args.place l b) (sym c.in_ok-split.ensures.ok)
     (split-lower bs b lt (long g after) (most g after) c.args.place c.requires.block
     (omega (arith, read, c.if-value-top.true, c.value.ensures.value, c.top.ensures)))
@@ -50,7 +52,8 @@ returns-else-value-top-clause-room g c =
     let b = c.args.at in
     let lt = c.requires.within in
     let after = (goal.at.returns-else-value-top-clause-room g c).After-top in
-    let read = lower-read bs b lt (long g after) (most g after) c.split.new.blocks.items c.index-2.result.now c.index-2.ensures c.in_ok-split.ensures.ok in
+    let read = lower-read bs b lt (long g after) (most g after) c.split.new.blocks.items c.index-deref-at-2.result
+    (c.index-deref-at-2.is ∙ ap (λ l. get_or l b c.index-deref-at-2.result) c.deref-2.ensures) c.in_ok-split.ensures.ok in
     subst (λ l. HasRoomAt c.args.place l (b + 1)) (sym c.in_ok-split.ensures.ok)
     (subst (HasRoomAt c.args.place _) (sym (add-one b))
     (split-upper bs b lt (long g after) (most g after) c.args.place c.requires.block

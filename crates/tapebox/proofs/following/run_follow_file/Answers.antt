@@ -1,4 +1,3 @@
-use Rattle.tapebox.specs.Feeds.{FollowsDay}
 use Rattle.tapebox.proofs.FeedLemmas.{follow_ends, unfollowed}
 use Rattle.tapebox.proofs.following.run_follow_file.Goals as goal
 
@@ -7,12 +6,10 @@ returns-in-Ok g c =
     let old = g.W.Write.contents c.args.writer.now in
     let new = g.W.Write.contents c.follow_day.new.writer in
     let end = c.follow_day.result.0 in
-    let terms = c.in-Ok.field-0.terms in
-    let ends : FollowsDay terms.listing terms.matrix terms.limit c.args.is_partial c.say_follow_end.result c.args.writer.now c.follow_day.new.writer old new =
-    follow_ends terms.listing terms.matrix terms.limit c.args.writer.now c.follow_day.new.writer old new c.args.is_partial end.ended end.report
+    let day = c.args.day.terms.day in
+    follow_ends day.listing day.matrix day.limit c.args.writer.now c.follow_day.new.writer old new c.args.is_partial end.ended end.report
     c.say_follow_end.result c.say_follow_end.ensures c.follow_day.ensures.listed c.follow_day.ensures.counted c.follow_day.ensures.unwritten
-    c.follow_day.ensures.unmade c.follow_day.ensures.whole in
-    rw c.in-Ok.ensures.listing at rw c.in-Ok.ensures.matrix at rw c.in-Ok.ensures.limit at ends
+    c.follow_day.ensures.unmade c.follow_day.ensures.whole
 
 pub returns-in-Err : goal.returns-in-Err
 returns-in-Err g c =

@@ -2,7 +2,7 @@ use Rattle.std.proofs.Common.{arith}
 use Rattle.std.proofs.lemmas.Grind.{common_steps}
 use Rattle.batch.specs.Lines.{lines_of}
 use Rattle.batch.proofs.LineLemmas.{lines_of-first, lines_of-last, lines_of-some}
-use Rattle.batch.proofs.PartLemmas.{fewer_parts, take-behind}
+use Rattle.tape_types.specs.Lemmas.Parts.{fewer_parts, take-behind}
 use Rattle.batch.proofs.lines.WholeLinesIterator.next.Goals as goal
 
 pub returns-in-None-clause-steps : goal.returns-in-None-clause-steps

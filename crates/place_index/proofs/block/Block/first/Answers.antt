@@ -3,7 +3,7 @@ use Rattle.std.specs.Prelude.{MatchOption}
 use Rattle.place_index.specs.Blocks.{StartsAt}
 use Rattle.place_index.proofs.BlockMaps.{entries-rise, slice-is, starts-first}
 use Rattle.place_index.proofs.BlockOrder.{none-in}
-use Rattle.place_index.proofs.Parts.{match-weaker}
+use Rattle.place_index.proofs.Ends.{match-weaker}
 use Rattle.place_index.proofs.block.Block.first.Goals as goal
 
 pub returns-clause-listed : goal.returns-clause-listed

@@ -3,7 +3,7 @@ use Rattle.std.specs.Prelude.{MatchOption}
 use Rattle.place_index.specs.Blocks.{EndsAt}
 use Rattle.place_index.proofs.BlockMaps.{ends-last, entries-rise, slice-is}
 use Rattle.place_index.proofs.BlockOrder.{none-in}
-use Rattle.place_index.proofs.Parts.{match-weaker}
+use Rattle.place_index.proofs.Ends.{match-weaker}
 use Rattle.place_index.proofs.block.Block.last.Goals as goal
 
 pub returns-clause-listed : goal.returns-clause-listed

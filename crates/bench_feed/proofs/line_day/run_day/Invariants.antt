@@ -1,8 +1,0 @@
-use Rattle.line_ledger.specs.Days.{terms_of}
-use Rattle.bench_feed.proofs.line_day.run_day.Given as goal
-
-abbrev pub ghosts-run_named_day-D-Ledger : goal.ghosts-run_named_day-D-Ledger
-ghosts-run_named_day-D-Ledger g a = record { name = a.prepared.blank.name; parts = a.prepared.blank.parts }
-
-abbrev pub ghosts-run_named_day-D-DayName : goal.ghosts-run_named_day-D-DayName
-ghosts-run_named_day-D-DayName g a = record { terms = terms_of a.prepared.tape }

@@ -1,5 +1,0 @@
-use Rattle.toml.proofs.Views.{table_get}
-use Rattle.day_files.proofs.table.value_of.Goals as goal
-
-pub returns : goal.returns
-returns c = rw (← c.name.ensures.text) (table_get c.get.result c.name.result.now c.args.table.now.entries c.get.ensures.value)

@@ -1,0 +1,14 @@
+pub mod Arguments
+pub mod Days
+pub mod Entries
+pub mod Faults
+pub mod Keys
+pub mod Kinds
+pub mod Lines
+pub mod Listings
+pub mod NamedDays
+pub mod Numbers
+pub mod Places
+pub mod Tables
+pub mod Terms
+pub mod Values

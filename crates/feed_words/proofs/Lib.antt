@@ -1,5 +1,0 @@
-mod DayLemmas
-mod DigitLemmas
-mod Listings
-mod PortLemmas
-mod WordLemmas

@@ -1,2 +1,0 @@
-mod PushLemmas
-mod WordLemmas

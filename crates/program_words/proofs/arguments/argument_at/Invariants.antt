@@ -1,7 +1,0 @@
-use Rattle.std.proofs.Common.{◌≡◌, ◌+◌, [], ℕ, get_or}
-use Rattle.feed_words.specs.Words.{words_of}
-use Rattle.program_words.proofs.arguments.argument_at.Given as goal
-
--- the arguments that are left are those from the counter on
-abbrev pub invariant-loop : goal.invariant-loop
-invariant-loop l = (k : ℕ) → get_or (words_of l.rest) k [] ≡ get_or (words_of l.fn.bytes) (l.counter + k) []

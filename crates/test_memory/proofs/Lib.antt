@@ -1,2 +1,0 @@
-mod Ready
-mod Vacant

@@ -1,8 +1,0 @@
-use Rattle.line_ledger.specs.Days.{terms_of}
-use Rattle.test_memory.proofs.tests.shared.lines.run_line_in_a_day.Given as goal
-
-abbrev pub ghosts-run_line_in-D-Ledger : goal.ghosts-run_line_in-D-Ledger
-ghosts-run_line_in-D-Ledger g a = record { name = a.prepared.blank.name; parts = a.prepared.blank.parts }
-
-abbrev pub ghosts-run_line_in-D-DayName : goal.ghosts-run_line_in-D-DayName
-ghosts-run_line_in-D-DayName g a = record { terms = terms_of a.prepared.tape }

@@ -1,5 +1,0 @@
-//! Tests shared tapes and the lines that admit to them.
-
-mod days;
-mod lines;
-mod publications;
