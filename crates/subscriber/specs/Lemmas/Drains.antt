@@ -162,10 +162,19 @@ HasDrained-next n old now new e so_far next = record {
   state = next.3 ∙ sym (after_entry-admitted now e next.0 next.4) ∙ turn_after n old now e so_far.state next.1;
 }
 
+-- as many as are held more
+pub HasDrained-counted : (n : ℕ) (old now : SubscriberState) → HasDrained n old now
+    → HasDrained (length now.tape.entries - length old.tape.entries) old now
+HasDrained-counted n old now so_far =
+    let is : n ≡ length now.tape.entries - length old.tape.entries = omega (arith, so_far.held) in
+    subst (λ k. HasDrained k old now) is so_far
+
 -- a drain of n entries, and then of others
 after-both : (n k : ℕ) (s : SubscriberState) → subscriber_after (n + k) s ≡ subscriber_after k (subscriber_after n s)
-after-both zero k s = refl
-after-both (suc n) k s = after-both n k (subscriber_after_entry (next_of s.window) s)
+after-both zero k s = ap (λ j. subscriber_after j s) (let none : zero + k ≡ k = omega arith in none)
+after-both (suc n) k s =
+    ap (λ j. subscriber_after j s) (let one : suc n + k ≡ suc (n + k) = omega arith in one)
+    ∙ after-both n k (subscriber_after_entry (next_of s.window) s)
 
 module _ (n : ℕ) (old now new : SubscriberState) (so_far : HasDrained n old now) where
   at : (k : ℕ) → subscriber_after k now ≡ subscriber_after (n + k) old
