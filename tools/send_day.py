@@ -67,7 +67,7 @@ def read_day(path):
             done = subprocess.run([command, "encode"], stdin=table, capture_output=True, check=False)
     except OSError as fault:
         sys.exit(f"send_day.py: {command}: {fault.strerror}")
-    if done.returncode:
+    if done.returncode or not done.stdout:
         lines = done.stderr.decode(errors="replace").strip().splitlines() or [f"{command} ended with status {done.returncode} and no message"]
         sys.exit(f"send_day.py: {path}: {lines[-1].removeprefix('tapebox: ')}")
     return parse_batch(done.stdout.decode())

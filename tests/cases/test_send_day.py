@@ -89,8 +89,12 @@ class Closed(Case):
         with tempfile.NamedTemporaryFile(suffix=".csv") as table:
             table.write(table_of([COLUMNS, *ROWS]))
             table.flush()
-            silent = f"{table.name}: /bin/false ended with status 1 and no message"
-            for program, fault in [("/no/such/program", "/no/such/program: No such file or directory"), ("/bin/false", silent)]:
+            faults = [
+                ("/no/such/program", "/no/such/program: No such file or directory"),
+                ("/bin/false", f"{table.name}: /bin/false ended with status 1 and no message"),
+                ("/bin/true", f"{table.name}: /bin/true ended with status 0 and no message"),
+            ]
+            for program, fault in faults:
                 with self.subTest(program):
                     end = run(["--names", table.name], program=TOOLS / "send_day.py", env=os.environ | {"TAPEBOX": program})
                     self.assert_fails(end, fault, status=1)
