@@ -287,7 +287,7 @@ def decode_many(text: Buffer) -> list[Message]:
 
 def count_of(text: bytes) -> int:
     """How many messages the bytes are. `Refused` has 11 to 21 if what follows them is none, and `taken`, how many bytes they have."""
-    tape, room, row = _library.Handle(False, None), len(text) // SHORTEST_MESSAGE + 1, _library.Many()
+    tape, room, row = _library.Handle(), len(text) // SHORTEST_MESSAGE + 1, _library.Many()
     # A tape that is closed reads each message and admits none.
     checked(library.tapebox_open(tape, b"A", 1, b"N", 1, 1, 1))
     try:
