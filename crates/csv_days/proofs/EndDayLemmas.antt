@@ -5,9 +5,7 @@ use Rattle.std.proofs.lemmas.List.Sums.{fold_push}
 use Rattle.indexmap.specs.IndexSet.{insert_all, insert_key}
 use Rattle.std.specs.Prelude.{Bool}
 use Rattle.tape_types.specs.Names.{Names, symbol_eq}
-use Rattle.tape_types.specs.Ranges.{IsParticipant}
 use Rattle.sale_matrix.specs.declared.matrix.Matrix.{Matrix}
-use Rattle.reports.specs.Messages.{header_of}
 use Rattle.reports.specs.declared.message.Message.{Message}
 use Rattle.tape_core.specs.Ending.{IsKept, IsKeptFor, KeepsEnd, ListsNames}
 use Rattle.tape_core.specs.Tape.{TapeState}
@@ -17,7 +15,7 @@ use Rattle.tape_core.specs.Answers.{answer, answers, tape_after}
 use Rattle.csv_days.specs.Days.{first_tape, names_of, symbol_of, tape_of}
 use Rattle.csv_days.specs.EndDays.{AreNames, EndsMore, HasEnded, IsEnding, tape_by_names}
 use Rattle.csv_days.specs.Refusals.{AreRefusals}
-use Rattle.csv_days.specs.StaleRows.{AreLastNumbers, first_stale, last_at, stale_after, stale_row}
+use Rattle.csv_days.specs.StaleRows.{first_stale, number_before, stale_after, stale_row}
 use Rattle.csv_days.specs.declared.day_names.DayNames.{DayNames}
 use Rattle.csv_days.specs.declared.end_day.EndDay.{EndDay}
 use Rattle.csv_days.proofs.DayLemmas.{answers-push, length-answers}
@@ -53,31 +51,24 @@ pub EndsMore-answer : (old new : EndDay) (m : Message) (answered : Result ℕ Re
     → ((messages : List Message) → AreNames messages old.names → AreNames (messages ++ m ∷ []) new.names)
     → ((t : TapeState) → KeepsEnd t old.tape → ListsNames t.listing m → answered ≡ answer t m)
     → ((t : TapeState) → KeepsEnd t old.tape → ListsNames t.listing m → KeepsEnd (tape_after t m) new.tape)
-    → IsParticipant (header_of m).participant → greatest ≡ last_at old.numbers (header_of m).participant
-    → ((t : TapeState) → answered ≡ answer t m → AreLastNumbers t old.numbers → AreLastNumbers (tape_after t m) new.numbers)
+    → ((t : TapeState) → KeepsEnd t old.tape → greatest ≡ number_before t m)
     → new.refusals.stale ≡ stale_after old.refusals.stale answered (stale_row m greatest)
     → new.row ≡ old.row + 1
     → ((answers : List (Result ℕ Refusal)) → old.row ≡ length answers + FIRST_ROW → AreRefusals answers old.refusals → AreRefusals (answers ++ answered ∷ []) new.refusals)
     → EndsMore old new (m ∷ [])
-EndsMore-answer old new m answered greatest named is tape letter last noted stale row counted matrix before had = record {
+EndsMore-answer old new m answered greatest named is tape last stale row counted matrix before had = record {
   names = named before had.names;
   tape = λ listing all.
       let parts = ListsAll-parts listing before (m ∷ []) all in
       let lists = still-listed matrix listing before m (ListsAll-one listing m parts.1) in
       subst (λ s. KeepsEnd s new.tape) (sym (fold_push tape_after (tape_by_names matrix listing) before m))
       (tape (after matrix listing before) (had.tape listing parts.0) lists);
-  numbers = λ listing all.
-      let parts = ListsAll-parts listing before (m ∷ []) all in
-      let lists = still-listed matrix listing before m (ListsAll-one listing m parts.1) in
-      let s = after matrix listing before in
-      subst (λ s. AreLastNumbers s new.numbers) (sym (fold_push tape_after (tape_by_names matrix listing) before m))
-      (noted s (is s (had.tape listing parts.0) lists) (had.numbers listing parts.0));
   stale = λ listing all.
       let parts = ListsAll-parts listing before (m ∷ []) all in
       let lists = still-listed matrix listing before m (ListsAll-one listing m parts.1) in
       let s = after matrix listing before in
       first_stale-more (tape_by_names matrix listing) s before m answered greatest old.refusals.stale new.refusals.stale refl
-      (is s (had.tape listing parts.0) lists) (last ∙ had.numbers listing parts.0 (header_of m).participant letter) (had.stale listing parts.0) stale;
+      (is s (had.tape listing parts.0) lists) (last s (had.tape listing parts.0)) (had.stale listing parts.0) stale;
   refusals = λ listing all.
       let parts = ListsAll-parts listing before (m ∷ []) all in
       let lists = still-listed matrix listing before m (ListsAll-one listing m parts.1) in
@@ -106,13 +97,12 @@ EndsMore-one old mid new messages i m within is so_far more =
 
 -- a day that has answered nothing
 pub HasEnded-none : (matrix : Matrix) (day : EndDay) → AreNames [] day.names → ((listing : Names) → KeepsEnd (tape_by_names matrix listing) day.tape)
-    → ((who : ℕ) → IsParticipant who → last_at day.numbers who ≡ 0) → AreRefusals [] day.refusals → day.refusals.stale ≡ None → day.row ≡ FIRST_ROW
+    → AreRefusals [] day.refusals → day.refusals.stale ≡ None → day.row ≡ FIRST_ROW
     → HasEnded matrix [] day
 unfolding answers first_stale
-HasEnded-none matrix day names tape numbers refusals stale row = record {
+HasEnded-none matrix day names tape refusals stale row = record {
   names = names;
   tape = λ listing all. tape listing;
-  numbers = λ listing all. numbers;
   refusals = λ listing all. refusals;
   stale = λ listing all. stale;
   row = row;

@@ -14,7 +14,7 @@ use Rattle.csv_messages.specs.declared.row_reader.RowReader.{RowReader}
 use Rattle.tape_core.specs.Answers.{answers, tape_after}
 use Rattle.csv_days.specs.Days.{participants_of, symbol_of, symbols_of}
 use Rattle.csv_days.specs.Refusals.{AreRefusals}
-use Rattle.csv_days.specs.StaleRows.{AreLastNumbers, first_stale}
+use Rattle.csv_days.specs.StaleRows.{first_stale}
 use Rattle.csv_days.specs.TableEnds.{IsTableEnd}
 use Rattle.csv_days.specs.declared.day_names.DayNames.{DayNames}
 use Rattle.csv_days.specs.declared.end_day.EndDay.{EndDay}
@@ -42,7 +42,6 @@ tape_by_names matrix listing = empty_tape listing TAPE_MOST matrix
 pub record HasEnded (matrix : Matrix) (messages : List Message) (day : EndDay) : Type 0 where
   pub names : AreNames messages day.names
   pub tape : (listing : Names) → ListsAll listing messages → KeepsEnd (fold tape_after (tape_by_names matrix listing) messages) day.tape
-  pub numbers : (listing : Names) → ListsAll listing messages → AreLastNumbers (fold tape_after (tape_by_names matrix listing) messages) day.numbers
   pub refusals : (listing : Names) → ListsAll listing messages → AreRefusals (answers (tape_by_names matrix listing) messages) day.refusals
   pub stale : (listing : Names) → ListsAll listing messages → day.refusals.stale ≡ first_stale (tape_by_names matrix listing) messages
   pub row : day.row ≡ length messages + FIRST_ROW

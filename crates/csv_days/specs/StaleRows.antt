@@ -1,6 +1,5 @@
--- The first row that a tape refused as stale, and the participants' last numbers that tell it.
-use Rattle.std.specs.Prelude.{◌≡◌, ℕ, List, [], ◌∷◌, slice_index, Option, Some, None, Result, if◌then◌else◌}
-use Rattle.tape_types.specs.Ranges.{IsParticipant, row_index}
+-- The first row that a tape refused as stale.
+use Rattle.std.specs.Prelude.{◌≡◌, ℕ, List, [], ◌∷◌, Option, Some, None, Result, if◌then◌else◌}
 use Rattle.reports.specs.Messages.{header_of}
 use Rattle.reports.specs.declared.message.Message.{Message}
 use Rattle.tape_core.specs.Standing.{last_number}
@@ -9,7 +8,6 @@ use Rattle.tape_core.specs.declared.refusal.Refusal.{Refusal}
 use Rattle.tape_core.specs.declared.refusal.Refusal.TheVariants.{Stale}
 use Rattle.tape_core.specs.Answers.{answer, tape_after}
 use Rattle.csv_days.specs.Refusals.{is_refusal}
-use Rattle.csv_days.specs.declared.last_numbers.LastNumbers.{LastNumbers}
 use Rattle.csv_days.specs.declared.stale_row.StaleRow.{StaleRow}
 
 -- the participant's greatest number on a tape before a message
@@ -29,11 +27,3 @@ stale_after None answer row = if is_refusal Stale answer then Some row else None
 unfoldable pub first_stale : TapeState → List Message → Option StaleRow
 first_stale t [] = None
 first_stale t (m ∷ ms) = if is_refusal Stale (answer t m) then Some (stale_row m (number_before t m)) else first_stale (tape_after t m) ms
-
--- a participant's last number, 0 for none
-abbrev pub last_at : LastNumbers → ℕ → ℕ
-last_at numbers who = slice_index numbers.by_letter (row_index who)
-
--- these are the last numbers of a tape
-abbrev pub AreLastNumbers : TapeState → LastNumbers → Type 0
-AreLastNumbers t numbers = (who : ℕ) → IsParticipant who → last_at numbers who ≡ last_number (messages_of t.entries) who

@@ -3,7 +3,6 @@ ghost use Rattle.std.specs.Prelude.{◌∷◌, [], OnOk};
 
 use crate::Refusals;
 use crate::day_names::DayNames;
-use crate::last_numbers::LastNumbers;
 use csv_messages::FIRST_ROW;
 use reports::Message;
 use sale_matrix::Matrix;
@@ -18,8 +17,6 @@ pub struct EndDay {
     pub tape: EndTape,
     /// The names in the rows so far.
     pub names: DayNames,
-    /// The participants' last numbers on the tape.
-    pub numbers: LastNumbers,
     /// What it refused of the rows so far.
     pub refusals: Refusals,
     /// The number of the next row.
@@ -36,7 +33,6 @@ impl EndDay {
         EndDay {
             tape: EndTape::new(alloc, matrix),
             names: DayNames::new(alloc),
-            numbers: LastNumbers::none(),
             refusals: Refusals::none(),
             row: FIRST_ROW,
         }
@@ -48,10 +44,9 @@ impl EndDay {
         ensures more { OnOk result (EndsMore self.old self.new (message ∷ [])) }
     {
         self.names.add(&message)?;
-        let greatest = self.numbers.of(message.header().participant);
+        let greatest = self.tape.last_of(message.header().participant);
         let answered = self.tape.answer(message)?;
         self.refusals.count(&answered, self.row, &message, greatest);
-        self.numbers.note(&answered, &message);
         match self.row.checked_add(1) {
             Some(row) => self.row = row,
             None => return Err(AllocError),

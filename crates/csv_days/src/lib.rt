@@ -13,7 +13,6 @@ mod explain;
 mod explained;
 mod fault_counts;
 mod fault_kind;
-mod last_numbers;
 mod messages_report;
 mod refusals;
 mod report;

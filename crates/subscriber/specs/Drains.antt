@@ -58,6 +58,7 @@ abbrev pub DrainsNext : Option Entry → SubscriberState → SubscriberState →
 DrainsNext None old new = (old.failed ≡ false) × (next_of old.window ≡ None) × (new ≡ old)
 DrainsNext (Some entry) old new =
     (old.failed ≡ false) × (next_of old.window ≡ Some entry) × (own_entry old entry.message ≡ entry) × (new ≡ with_entry entry old)
+    × (refusal old.tape entry.message ≡ None)
 
 -- its own tape refuses the next entry's message for this reason, or is out of memory
 pub record IsRefused (why : Refusal) (s : SubscriberState) : Type 0 where

@@ -3,6 +3,7 @@
 ghost use Rattle.std.specs.Prelude.{◌≡◌, ℕ, ◌+◌, ◌-◌, ◌<◌, [], length, All, IfOk, OnOk, OnErr};
 ghost use Rattle.tape_types.specs.Names.{Names};
 ghost use Rattle.tape_types.specs.Ranges.{TAPE_MOST};
+ghost use Rattle.tape_core.specs.Standing.{last_number};
 ghost use Rattle.tape_core.specs.Tape.{TapeState, empty_tape, is_in_matrix, messages_of};
 ghost use Rattle.tape_core.specs.Ending.{AnswersEnd, AreOfAtMost, AreTableOf, CountsMessage, HasMore, IsKept, IsKeptFor, IsRouted, IsSameEnd, KeepsEnd, RoutesEnd, sent_of};
 
@@ -96,6 +97,13 @@ impl EndTape {
         self.register.advance(header.participant, header.number);
         self.reports.push_reserved(sent_of(message));
         Ok(route.number)
+    }
+
+    /// The participant's greatest message number on the tape, 0 if it has none.
+    pub fn last_of(&self, participant: Participant) -> u32
+        ensures last { (t : TapeState) → KeepsEnd t self.now → result ≡ last_number (messages_of t.entries) participant }
+    {
+        self.register.last_number(participant)
     }
 
     /// Returns the summaries of the reports that stand, for each symbol in the order of a listing. It goes over the reports

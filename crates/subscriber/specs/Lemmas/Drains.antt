@@ -2,6 +2,7 @@
 use Rattle.std.proofs.Common.{◌≡◌, ℕ, zero, suc, ◌+◌, ◌-◌, ◌≤◌, ◌<◌, not, Bool, true, false, List, [], ◌∷◌}
 use Rattle.std.proofs.Common.{◌++◌, length, drop, Option, None, Some, refl, sym, ap, subst, ◌∙◌, inl, inr, arith, add-one}
 use Rattle.std.specs.Prelude.{slice_get, IfSome, is_some, count_by, unwrap_or}
+use Rattle.std.proofs.lemmas.List.{length_push}
 use Rattle.std.proofs.lemmas.Bool.{cases_lt, not-false, not-true, true≢false}
 use Rattle.std.proofs.lemmas.Option.{none-some, same_Some}
 use Rattle.tape_core.specs.declared.entry.Entry.{Entry}
@@ -14,9 +15,11 @@ use Rattle.tape_core.specs.Lemmas.Equality.{entry-Decides}
 use Rattle.arbitration.specs.Windows.{WindowState, IsWindow, ArePlaced, flat, next_of, window_past}
 use Rattle.arbitration.specs.Lemmas.Counts.{count_push_no}
 use Rattle.arbitration.specs.Lemmas.Counts.{count_full}
-use Rattle.subscriber.specs.declared.drain_fault.Stop.TheVariants.{Refused, OtherSummary}
+use Rattle.subscriber.specs.declared.drain_fault.DrainFault.{DrainFault}
+use Rattle.subscriber.specs.declared.drain_fault.Stop.{Stop}
+use Rattle.subscriber.specs.declared.drain_fault.Stop.TheVariants.{Refused, OtherSummary, Failed}
 use Rattle.subscriber.specs.Subscribers.{SubscriberState, own_entry, with_entry, subscriber_after_entry, subscriber_after, NextIsOwn}
-use Rattle.subscriber.specs.Drains.{OwnFor, StopsFor, IsRefused}
+use Rattle.subscriber.specs.Drains.{DrainStops, DrainsNext, OwnFor, StopsFor, IsRefused}
 use Rattle.subscriber.specs.Lemmas.Turns.{after_entry-admitted}
 
 -- a drain of one more entry is one more turn at its end
@@ -126,3 +129,72 @@ stops_other n s window tape failed e own running own_so_far is is_own differs =
           let same : own_entry now e.message ≡ e = subst (λ o. IfSome o (λ x. own_entry now x.message ≡ x)) is.next here in
           differs (is_own ∙ same),
     )
+
+-- ## One entry after another
+
+-- n entries more are held since, and each is its own
+pub record HasDrained (n : ℕ) (old now : SubscriberState) : Type 0 where
+  pub failed : now.failed ≡ old.failed
+  pub began : old.failed ≡ true → n ≡ 0
+  pub own : OwnFor n old
+  pub held : length now.tape.entries ≡ length old.tape.entries + n
+  pub state : now ≡ subscriber_after n old
+
+-- none so far
+pub HasDrained-none : (s : SubscriberState) → HasDrained 0 s s
+HasDrained-none s = record {
+  failed = refl;
+  began = λ _. refl;
+  own = λ k below. absurd (omega (arith, below));
+  held = omega arith;
+  state = refl;
+}
+
+-- one more
+pub HasDrained-next : (n : ℕ) (old now new : SubscriberState) (e : Entry) → HasDrained n old now → DrainsNext (Some e) now new
+    → HasDrained (n + 1) old new
+HasDrained-next n old now new e so_far next = record {
+  failed = ap (λ (s : SubscriberState). s.failed) next.3 ∙ ap not ((entry-Decides (own_entry now e.message) e).1 next.2) ∙ sym next.0 ∙ so_far.failed;
+  began = λ failed. absurd (true≢false (sym failed ∙ sym so_far.failed ∙ next.0));
+  own = OwnFor-more n old now e so_far.state next.1 next.2 so_far.own;
+  held = ap (λ (s : SubscriberState). length s.tape.entries) next.3 ∙ length_push now.tape.entries (own_entry now e.message)
+      ∙ ap (λ k. k + 1) so_far.held ∙ omega arith;
+  state = next.3 ∙ sym (after_entry-admitted now e next.0 next.4) ∙ turn_after n old now e so_far.state next.1;
+}
+
+-- a drain of n entries, and then of others
+after-both : (n k : ℕ) (s : SubscriberState) → subscriber_after (n + k) s ≡ subscriber_after k (subscriber_after n s)
+after-both zero k s = refl
+after-both (suc n) k s = after-both n k (subscriber_after_entry (next_of s.window) s)
+
+module _ (n : ℕ) (old now new : SubscriberState) (so_far : HasDrained n old now) where
+  at : (k : ℕ) → subscriber_after k now ≡ subscriber_after (n + k) old
+  at k = ap (λ s. subscriber_after k s) so_far.state ∙ sym (after-both n k old)
+
+  own_for : (k : ℕ) → OwnFor k now → OwnFor (n + k) old
+  own_for k own i below = elim (cases_lt i n) [
+    | inl less ↦ so_far.own i less
+    | inr past ↦
+        let is : n + (i - n) ≡ i = omega arith in
+        subst (λ j. NextIsOwn (subscriber_after j old)) is (subst NextIsOwn (at (i - n)) (own (i - n) (omega arith)))
+  ]
+
+  stops_for : (why : Stop) (k : ℕ) → StopsFor why k now → StopsFor why (n + k) old
+  stops_for (Refused why) k is = (sym so_far.failed ∙ is.0, own_for k is.1, subst (IsRefused why) (at k) is.2)
+  stops_for OtherSummary k is =
+      let back : n + (k - 1) ≡ n + k - 1 = omega (arith, is.1) in (
+        sym so_far.failed ∙ is.0,
+        omega (arith, is.1),
+        subst (λ i. OwnFor i old) back (own_for (k - 1) is.2),
+        λ (claimed : NextIsOwn (subscriber_after (n + k - 1) old)).
+            is.3 (subst NextIsOwn (ap (λ i. subscriber_after i old) (sym back) ∙ sym (at (k - 1))) claimed),
+      )
+  stops_for Failed k is = (sym so_far.failed ∙ is.0, omega (arith, so_far.began (sym so_far.failed ∙ is.0), is.1))
+
+  -- a drain that stops later stops
+  pub HasDrained-stops : (fault : DrainFault) → DrainStops fault now new → DrainStops (record { drained = n + fault.drained; why = fault.why }) old new
+  HasDrained-stops fault stops = record {
+    why = stops_for fault.why fault.drained stops.why;
+    held = stops.held ∙ ap (λ k. k + fault.drained) so_far.held ∙ omega arith;
+    state = stops.state ∙ at fault.drained;
+  }

@@ -1,9 +1,10 @@
-use Rattle.std.proofs.Common.{◌≡◌, ◌+◌, ◌<◌, ℕ, not, length, Some, true, false, refl, sym, ap, subst, ◌∙◌, arith}
+use Rattle.std.proofs.Common.{◌≡◌, ◌+◌, ◌<◌, ℕ, not, length, None, Some, true, false, refl, sym, ap, subst, ◌∙◌, arith}
 use Rattle.std.proofs.lemmas.List.{length_push}
 use Rattle.arbitration.specs.Windows.{next_of}
 use Rattle.tape_core.specs.Laws.{entry_eq}
-use Rattle.tape_core.specs.Tape.{TapeState, next_entry}
+use Rattle.tape_core.specs.Tape.{TapeState, next_entry, refusal}
 use Rattle.tape_core.specs.declared.entry.Entry.{Entry}
+use Rattle.tape_core.specs.Lemmas.WrongNumber.{replay_refusal-next}
 use Rattle.subscriber.specs.Drains.{DrainStops, OwnFor}
 use Rattle.subscriber.specs.Subscribers.{SubscriberState, own_entry, with_entry}
 use Rattle.subscriber.specs.declared.drain_fault.Stop.TheVariants.{OtherSummary, Refused}
@@ -42,16 +43,19 @@ returns-else-ne-clause-ok c =
     let s : SubscriberState = record { window = c.self.inside.window; tape = tape; failed = c.self.inside.failed } in
     let after : SubscriberState = record { window = c.taken.new.self; tape = c.replay.new.self; failed = c.self.inside.failed } in
     let same = same_entry own e (sym c.ne.ensures ∙ c.if-ne.false) in
+    let is = turn 0 s c.self.inside.window tape _ e refl (sym c.in-Some.ensures.value) c.in-Some.ensures.window c.self.invariant.0 in
     let fails : c.self.inside.failed ≡ not (entry_eq (own_entry s e.message) e) =
     c.if-self.false ∙ sym c.if-ne.false ∙ c.ne.ensures ∙ ap (λ (x : Entry). not (entry_eq x e)) c.in-Ok.ensures.replays.1 in
     let step : after ≡ with_entry e s =
     (λ i. record { window = c.taken.ensures.state i; tape = c.in-Ok.ensures.replays.2 i; failed = fails i }) in
-    subst (λ (old : SubscriberState). (old.failed ≡ false) × (next_of old.window ≡ Some own) × (own_entry old own.message ≡ own) × (after ≡ with_entry own old))
+    subst (λ (old : SubscriberState). (old.failed ≡ false) × (next_of old.window ≡ Some own) × (own_entry old own.message ≡ own) × (after ≡ with_entry own old)
+    × (refusal old.tape own.message ≡ None))
     c.self.view_is (
       c.if-self.false,
       sym c.in-Some.ensures.value ∙ ap Some (sym same),
       ap (λ (x : Entry). own_entry s x.message) same ∙ sym c.in-Ok.ensures.replays.1,
       step ∙ ap (λ (x : Entry). with_entry x s) (sym same),
+      ap (λ (x : Entry). refusal tape x.message) same ∙ sym (replay_refusal-next tape e.number e.message is.number) ∙ c.in-Ok.ensures.replays.0,
     )
 
 pub returns-in-Err-clause-err : goal.returns-in-Err-clause-err
