@@ -140,19 +140,14 @@ def dollars(price: int) -> Decimal:
     return Decimal(text.removesuffix("00") if price % 100 == 0 else text)
 
 
+@functools.lru_cache(PRICES_KEPT, typed=True)
 def ten_thousandths(price: Decimal | str | int | None) -> int:
     """A price in dollars as the library has it. `Refused` has 19 if no number of the library is that price. A `float` is a TypeError: it is seldom the
     price that it is written as."""
     if isinstance(price, float):
         raise TypeError(f"a price is a Decimal, and not the float {price}")
-    return scaled_of(price or 0)
-
-
-@functools.lru_cache(PRICES_KEPT)
-def scaled_of(price: Decimal | str | int) -> int:
-    """A price in dollars as the library has it."""
     try:
-        scaled = EXACT.multiply(Decimal(price), PER_DOLLAR)
+        scaled = EXACT.multiply(Decimal(price or 0), PER_DOLLAR)
         if not scaled.is_finite() or scaled != int(scaled):
             raise Refused(19)
     except Inexact as fault:
