@@ -5,23 +5,28 @@
  *     c++ -std=c++17 -I clib PROGRAM.cpp clib/libtapebox.a
  *     rustc --edition 2024 -L clib -l static=tapebox PROGRAM.rs
  *
- * Unless the library is a draft (clib/build --draft), each call is proved (crates/tapebox_c): it is safe, it returns, and it answers as written here, as long as its caller keeps these,
- * which nothing checks:
+ * Unless the library is a draft (clib/build --draft), each call of the crate is proved (crates/tapebox_c): it is safe, it returns, and it answers as
+ * written here. Before it stands a call of clib/calls.c, which is C that no proof covers, and which is tested. It refuses these:
  *
- * 1. A pointer to a struct points to one, written by its owner alone, and no two pointers of a call point to the same. A pointer to
- *    bytes is not null, also for a length of 0, and that many bytes can be read there. Nothing is kept of either after the call.
- * 2. A handle is all zeros before its first call. Only these calls change it. It may be moved, but not copied and used twice.
- * 3. No two calls that run at once have the same handle. One thread at a time uses a handle, and each starts its turn after a lock or a join.
- * 4. malloc, realloc and free are of one allocator. No call is made from a signal handler, or by a forked child of threads.
+ * - 113, before all else: a null handle, a null row, and null for bytes or numbers whose length is not 0. Null with a length of 0 is none of them.
+ * - 112, before all else but 113: a handle that another call is using. There is no lock, and no call waits. So threads may share a handle: of calls at
+ *   once, also of those that only read, one has it, and the others are refused or have it later.
+ *
+ * A caller keeps these, which nothing checks:
+ *
+ * 1. A pointer that is not null points to what its type says, or to as many bytes or numbers as its length says. Until the call returns, nothing else
+ *    uses what it writes to or changes what it reads. No two pointers of a call point to the same. Nothing is kept of them after the call.
+ * 2. A handle is all zeros before its first call. Only these calls change it. It may be moved while no call uses it, but not copied and used twice.
+ * 3. malloc, realloc and free are of one allocator. No call is made from a signal handler, or by a forked child of threads.
  *
  * A handle that holds nothing, holds another kind, or was freed twice is no fault of a caller: such a call answers 101, 102 or 110, or does nothing.
  *
- * A call that returns uint32_t returns 0, or the number of a refusal (docs/RULES.md, "Refusals by number and name", and those below).
- * What a refused call would have changed is as it was before, unless it is said otherwise. */
+ * A call that returns uint32_t returns 0, or the number of a refusal (docs/RULES.md, "Refusals by number and name", and those below). What a refused
+ * call would have changed is as it was before, unless it is said otherwise. A call that only reads what a handle holds takes it as const, and marks
+ * it while it does. */
 #ifndef TAPEBOX_H
 #define TAPEBOX_H
 
-#include <stdbool.h>
 #include <stddef.h>
 #include <stdint.h>
 
@@ -93,7 +98,8 @@ extern "C" {
     ROW(109, OUT_OF_MEMORY, "OutOfMemory") /* memory ran out for a packet, an answer, a table or a text */ \
     ROW(110, NO_TABLE, "NoTable") /* the handle holds no table */ \
     ROW(111, BAD_TABLE, "BadTable") /* the bytes are no table, or have no row or too many symbols; the handle's text says which, and where */ \
-    ROW(112, BUSY, "Busy") /* another thread's call is using the handle: of the Python package alone */
+    ROW(112, BUSY, "Busy") /* another call is using the handle */ \
+    ROW(113, NULL_POINTER, "NullPointer") /* the handle or a row is null, or bytes of a length that is not 0 */
 
 #define TAPEBOX_CONSTANT(code, constant, name) TAPEBOX_##constant = code,
 enum { TAPEBOX_REFUSALS(TAPEBOX_CONSTANT) TAPEBOX_ADMITTED = 0 };
@@ -119,12 +125,16 @@ uint32_t tapebox_version(void);
 #define TAPEBOX_LONGEST_PACKET 1823
 #define TAPEBOX_LONGEST_ANSWER 7370
 
+/* What a call that returns a count or a length returns for a handle that is null or that another call is using. */
+#define TAPEBOX_NO_COUNT UINT32_MAX
+#define TAPEBOX_NO_LENGTH SIZE_MAX
+
 /* What you keep of a tape, of a subscriber or of a table. TAPEBOX_HANDLE is one that holds nothing. */
 typedef struct tapebox_handle {
-    bool is_open;
+    uint8_t state; /* 0 if it holds nothing, 1 if it holds something, 2 while a call uses it */
     void *inside;
 } tapebox_handle;
-#define TAPEBOX_HANDLE {false, NULL}
+#define TAPEBOX_HANDLE {0, NULL}
 
 /* A report that a summary names: its price in ten-thousandths of a dollar, its place and its participant's letter. All 0 for none. */
 typedef struct tapebox_mark {
@@ -249,35 +259,35 @@ uint32_t tapebox_close(tapebox_handle *handle);
 /* The calls from here to tapebox_serve read a tape, or a subscriber's own tape. */
 
 /* The consolidated figures of a symbol, by its name without padding. Refused: 101, 36. */
-uint32_t tapebox_summary(tapebox_handle *handle, const uint8_t *symbol, size_t len, tapebox_figures *row);
+uint32_t tapebox_summary(const tapebox_handle *handle, const uint8_t *symbol, size_t len, tapebox_figures *row);
 
 /* A participant's own figures of a symbol. Refused: 101, 36, 34. */
-uint32_t tapebox_summary_of(tapebox_handle *handle, const uint8_t *symbol, size_t len, uint8_t participant, tapebox_figures *row);
+uint32_t tapebox_summary_of(const tapebox_handle *handle, const uint8_t *symbol, size_t len, uint8_t participant, tapebox_figures *row);
 
-/* How many entries there are, 0 for a handle that holds neither. */
-uint32_t tapebox_count(tapebox_handle *handle);
+/* How many entries there are, 0 for a handle that holds neither, TAPEBOX_NO_COUNT for one that is null or busy. */
+uint32_t tapebox_count(const tapebox_handle *handle);
 
 /* The entry of a tape number, from 1. Refused: 101, 105. */
-uint32_t tapebox_entry(tapebox_handle *handle, uint32_t number, tapebox_entry_row *row);
+uint32_t tapebox_entry(const tapebox_handle *handle, uint32_t number, tapebox_entry_row *row);
 
 /* What a participant has sent; zeros for one that is not listed. Refused: 101, 34 (no letter). */
-uint32_t tapebox_totals(tapebox_handle *handle, uint8_t participant, tapebox_totals_row *row);
+uint32_t tapebox_totals(const tapebox_handle *handle, uint8_t participant, tapebox_totals_row *row);
 
 /* The symbol, or the participant's letter, at a place of the listing, from 0. Refused: 101, and 36 or 34 if there are no more. */
-uint32_t tapebox_symbol(tapebox_handle *handle, uint32_t place, tapebox_name *row);
-uint32_t tapebox_participant(tapebox_handle *handle, uint32_t place, uint8_t *letter);
+uint32_t tapebox_symbol(const tapebox_handle *handle, uint32_t place, tapebox_name *row);
+uint32_t tapebox_participant(const tapebox_handle *handle, uint32_t place, uint8_t *letter);
 
 /* The packet of the entries from the number `from` on: as many as the version takes, but none above `to` (UINT32_MAX for no bound) or
  * above the version's greatest number. Refused: 52 (the version), 101, 105 (`from`), 109. */
-uint32_t tapebox_cut(tapebox_handle *handle, uint32_t version, uint64_t session, uint32_t from, uint32_t to, tapebox_packet *row);
+uint32_t tapebox_cut(const tapebox_handle *handle, uint32_t version, uint64_t session, uint32_t from, uint32_t to, tapebox_packet *row);
 
 /* The answer to a request, with what is on the tape at the time, at the front of `bytes`, and how many bytes it has. A request that can't be
  * served is answered too, by one byte. Refused: 107, 52, 101, 109, 108 (TAPEBOX_LONGEST_ANSWER bytes are always enough). */
-uint32_t tapebox_serve(tapebox_handle *handle, uint32_t version, uint64_t session, const uint8_t *request, size_t request_len, uint8_t *bytes,
+uint32_t tapebox_serve(const tapebox_handle *handle, uint32_t version, uint64_t session, const uint8_t *request, size_t request_len, uint8_t *bytes,
                        size_t bytes_len, size_t *len);
 
-/* Frees what the handle holds, if anything. It holds nothing then, and may be opened again. */
-void tapebox_free(tapebox_handle *handle);
+/* Frees what the handle holds, if anything. It holds nothing then, and may be opened again. Refused: 112, 113. */
+uint32_t tapebox_free(tapebox_handle *handle);
 
 /* Opens a subscriber of a session. Refused as tapebox_open. */
 uint32_t tapebox_subscribe(tapebox_handle *handle, const uint8_t *symbols, size_t symbols_len, const uint8_t *participants,
@@ -291,10 +301,10 @@ uint32_t tapebox_deliver(tapebox_handle *handle, uint32_t line, const uint8_t *p
 uint32_t tapebox_drain(tapebox_handle *handle, uint32_t *drained);
 
 /* A request for the first numbers that are missing; its count is 0 if none is. Refused: 102. */
-uint32_t tapebox_missing(tapebox_handle *handle, tapebox_request *row);
+uint32_t tapebox_missing(const tapebox_handle *handle, tapebox_request *row);
 
 /* What is held, announced, ended and brought. Refused: 102. */
-uint32_t tapebox_news_of(tapebox_handle *handle, tapebox_news *row);
+uint32_t tapebox_news_of(const tapebox_handle *handle, tapebox_news *row);
 
 /* Reads a table (docs/FORMATS.md, "A table") into a handle that holds nothing. Nothing is kept of the bytes. Refused: 103, and the handle is as it
  * was; 109 and 111, and the handle holds what is wrong in words, as `out of memory` or `row 3: size "0" is not 1 to 99999999 in at most 20 digits`;
@@ -309,9 +319,10 @@ uint32_t tapebox_tape(tapebox_handle *handle, uint32_t matrix);
 uint32_t tapebox_explain(tapebox_handle *handle, uint32_t matrix);
 
 /* How many bytes the text has that the handle holds, 0 for none; and those from the byte `from` on, at the front of `bytes`: as many as there are
- * and as it has room for. The second returns how many it copied, 0 at the end of the text. */
-size_t tapebox_text_length(tapebox_handle *handle);
-size_t tapebox_text_copy(tapebox_handle *handle, size_t from, uint8_t *bytes, size_t bytes_len);
+ * and as it has room for. The second returns how many it copied, 0 at the end of the text. Both return TAPEBOX_NO_LENGTH where another call would be
+ * refused by 112 or 113. */
+size_t tapebox_text_length(const tapebox_handle *handle);
+size_t tapebox_text_copy(const tapebox_handle *handle, size_t from, uint8_t *bytes, size_t bytes_len);
 
 /* The bytes of a message made of its fields. Refused: 13, 15 to 21. */
 uint32_t tapebox_encode(const tapebox_fields *fields, tapebox_message *row);

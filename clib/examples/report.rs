@@ -6,7 +6,7 @@ use std::ptr::null_mut;
 
 #[repr(C)]
 struct Handle {
-    is_open: bool,
+    state: u8,
     inside: *mut c_void,
 }
 
@@ -57,7 +57,7 @@ unsafe extern "C" {
         participant: u8,
         row: &mut Figures,
     ) -> u32;
-    fn tapebox_free(handle: &mut Handle);
+    fn tapebox_free(handle: &mut Handle) -> u32;
 }
 
 /// A tape that is freed when it is dropped. A refusal is its number.
@@ -65,7 +65,7 @@ struct Tape(Handle);
 
 impl Tape {
     fn open(symbols: &str, participants: &str) -> Result<Tape, u32> {
-        let mut tape = Tape(Handle { is_open: false, inside: null_mut() });
+        let mut tape = Tape(Handle { state: 0, inside: null_mut() });
         // SAFETY: the pointers are those of slices, and the handle is all zeros.
         let refused = unsafe {
             let (names, letters) = (symbols.as_ptr(), participants.as_ptr());
@@ -94,7 +94,7 @@ impl Tape {
 impl Drop for Tape {
     fn drop(&mut self) {
         // SAFETY: nothing else has the handle.
-        unsafe { tapebox_free(&mut self.0) }
+        unsafe { tapebox_free(&mut self.0) };
     }
 }
 

@@ -1,5 +1,5 @@
 // A tape, a subscriber and a table of the C library as C++17 objects: an example to copy. An object frees what it holds at its end; it moves, and is
-// not copied. Texts and bytes are views, of which nothing is kept. A refused call throws `refused`. One thread at a time uses an object.
+// not copied. Texts and bytes are views, of which nothing is kept. A refused call throws `refused`, with TAPEBOX_BUSY if another thread's call uses the object.
 #ifndef TAPEBOX_HPP
 #define TAPEBOX_HPP
 
@@ -25,8 +25,7 @@ inline void check(uint32_t code) {
     if (code) throw refused(code);
 }
 
-// The bytes of a view. Not null, even for none.
-inline const uint8_t *bytes_of(std::string_view text) { return reinterpret_cast<const uint8_t *>(text.empty() ? "" : text.data()); }
+inline const uint8_t *bytes_of(std::string_view text) { return reinterpret_cast<const uint8_t *>(text.data()); }
 
 // A handle of the library.
 class handle {
@@ -40,14 +39,17 @@ public:
     ~handle() { tapebox_free(&raw); }
 
 protected:
-    // A call that only reads needs a handle that may change too.
-    mutable tapebox_handle raw = TAPEBOX_HANDLE;
+    tapebox_handle raw = TAPEBOX_HANDLE;
 };
 
 // What a tape and a subscriber share: both hold a tape that is read in the same way.
 class readable : public handle {
 public:
-    uint32_t size() const { return tapebox_count(&raw); }
+    uint32_t size() const {
+        uint32_t count = tapebox_count(&raw);
+        if (count == TAPEBOX_NO_COUNT) throw refused(TAPEBOX_BUSY);
+        return count;
+    }
 
     // The consolidated figures of a symbol, or a participant's own.
     tapebox_figures summary(std::string_view symbol, std::optional<char> who = std::nullopt) const {
@@ -133,8 +135,10 @@ public:
 
 private:
     std::string words() const {
-        std::string text(tapebox_text_length(&raw), '\0');
-        tapebox_text_copy(&raw, 0, reinterpret_cast<uint8_t *>(text.data()), text.size());
+        size_t length = tapebox_text_length(&raw);
+        if (length == TAPEBOX_NO_LENGTH) throw refused(TAPEBOX_BUSY);
+        std::string text(length, '\0');
+        if (tapebox_text_copy(&raw, 0, reinterpret_cast<uint8_t *>(text.data()), length) != length) throw refused(TAPEBOX_BUSY);
         return text;
     }
     void check_words(uint32_t code) const {

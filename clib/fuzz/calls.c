@@ -23,7 +23,7 @@ enum {
     SEND_ALL = CALLS, SEND_CHANGED, TRADE, STEPS
 };
 
-enum { PLACES = 4, ROOM = 1 << 14, NUMBERS_END = 112, SESSION = 7 };
+enum { PLACES = 4, ROOM = 1 << 14, NUMBERS_END = 114, SESSION = 7 };
 
 static const char *const NAMES[CALLS] = {
     "open", "subscribe", "free", "admit", "close", "summary", "summary_of", "count", "entry", "totals",
@@ -67,12 +67,12 @@ static uint32_t small(input *in) {
     return (uint32_t)(value == 255 ? number(in, 4) : value);
 }
 
-/* Bytes of the input, after how many they are. */
+/* Bytes of the input, after how many they are. None are null. */
 static bytes text(input *in, int place) {
     size_t len = number(in, 2) & (ROOM - 1);
     if (len > in->left) len = in->left;
-    bytes taken = {room(place, len), len};
-    memcpy(taken.at, in->at, len);
+    bytes taken = {len ? room(place, len) : NULL, len};
+    if (len) memcpy(taken.at, in->at, len);
     in->at += len;
     in->left -= len;
     return taken;
@@ -193,7 +193,7 @@ static void copy_text(tapebox_handle *handle, size_t from, size_t most) {
 static void call_on_numbers(int call, tapebox_handle *handle, input *in) {
     uint32_t value = small(in);
     switch (call) {
-    case FREE: tapebox_free(handle), made[call]++; break;
+    case FREE: answered(call, tapebox_free(handle)); break;
     case CLOSE: answered(call, tapebox_close(handle)); break;
     case COUNT: tapebox_count(handle), made[call]++; break;
     case ENTRY: answered(call, tapebox_entry(handle, value, room(1, sizeof(tapebox_entry_row)))); break;
@@ -314,7 +314,10 @@ int LLVMFuzzerTestOneInput(const uint8_t *data, size_t size) {
         answered(OPEN, tapebox_open(&handles[0], symbols, sizeof symbols, participants, sizeof participants, 1, 4096));
         answered(SUBSCRIBE, tapebox_subscribe(&handles[1], symbols, sizeof symbols, participants, sizeof participants, 1, 4096, SESSION));
     }
-    while (in.left) step(handles, &in);
+    while (in.left) {
+        step(handles, &in);
+        if (handles[0].state > 1 || handles[1].state > 1) fail("a handle", "it stays in use");
+    }
     tapebox_free(&handles[0]);
     tapebox_free(&handles[1]);
     return 0;

@@ -90,7 +90,7 @@ class Cells(c.Structure):
 
 
 class Handle(c.Structure):
-    _fields_ = [("is_open", c.c_bool), ("inside", c.c_void_p)]
+    _fields_ = [("state", c.c_uint8), ("inside", c.c_void_p)]
 
 
 # The layouts of tapebox.h. A library of another layout would write past a row.
@@ -120,7 +120,7 @@ library, released = c.PyDLL(library_path()), c.CDLL(library_path())
 if not hasattr(library, "tapebox_version") or not VERSION <= library.tapebox_version() < VERSION - VERSION % 100 + 100:
     raise ImportError(f"{library_path()} is of another version than {VERSION // 100}.{VERSION % 100} of this package: clib/build makes it anew")
 # What a call returns that returns no number of a refusal.
-RESULTS = {"free": None, "text_length": c.c_size_t, "text_copy": c.c_size_t}
+RESULTS = {"text_length": c.c_size_t, "text_copy": c.c_size_t}
 _handle, _text = c.POINTER(Handle), [c.c_char_p, c.c_size_t]
 for _name, _arguments in {
     "open": [_handle, *_text, *_text, c.c_uint32, c.c_uint32],

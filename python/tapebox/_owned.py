@@ -5,7 +5,7 @@ from collections.abc import Callable
 from typing import Any, NoReturn, Self
 
 from . import _library
-from ._library import library
+from ._library import checked, library
 from .refusals import Refused
 
 # The refusal of a call on an object that another thread's call is using.
@@ -23,7 +23,7 @@ class Owned:
 
     def _begin(self) -> None:
         """Makes a handle that holds nothing."""
-        self._lock, self._handle = threading.Lock(), _library.Handle(False, None)
+        self._lock, self._handle = threading.Lock(), _library.Handle()
 
     def _use(self) -> _library.Handle:
         """The handle, for this thread alone until it releases the lock."""
@@ -41,7 +41,7 @@ class Owned:
 
     def free(self) -> None:
         """Frees it. Every later call is refused: a tape's by 101, a subscriber's by 102, a table's by 110."""
-        self._call(library.tapebox_free)
+        checked(self._call(library.tapebox_free))
 
     def __del__(self) -> None:
         if hasattr(self, "_handle"):

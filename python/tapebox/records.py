@@ -140,19 +140,14 @@ def dollars(price: int) -> Decimal:
     return Decimal(text.removesuffix("00") if price % 100 == 0 else text)
 
 
+@functools.lru_cache(PRICES_KEPT, typed=True)
 def ten_thousandths(price: Decimal | str | int | None) -> int:
     """A price in dollars as the library has it. `Refused` has 19 if no number of the library is that price. A `float` is a TypeError: it is seldom the
     price that it is written as."""
     if isinstance(price, float):
         raise TypeError(f"a price is a Decimal, and not the float {price}")
-    return scaled_of(price or 0)
-
-
-@functools.lru_cache(PRICES_KEPT)
-def scaled_of(price: Decimal | str | int) -> int:
-    """A price in dollars as the library has it."""
     try:
-        scaled = EXACT.multiply(Decimal(price), PER_DOLLAR)
+        scaled = EXACT.multiply(Decimal(price or 0), PER_DOLLAR)
         if not scaled.is_finite() or scaled != int(scaled):
             raise Refused(19)
     except Inexact as fault:
@@ -287,7 +282,7 @@ def decode_many(text: Buffer) -> list[Message]:
 
 def count_of(text: bytes) -> int:
     """How many messages the bytes are. `Refused` has 11 to 21 if what follows them is none, and `taken`, how many bytes they have."""
-    tape, room, row = _library.Handle(False, None), len(text) // SHORTEST_MESSAGE + 1, _library.Many()
+    tape, room, row = _library.Handle(), len(text) // SHORTEST_MESSAGE + 1, _library.Many()
     # A tape that is closed reads each message and admits none.
     checked(library.tapebox_open(tape, b"A", 1, b"N", 1, 1, 1))
     try:

@@ -13,6 +13,7 @@ NAMES = {
     71: "OtherSession", 72: "Beyond", 73: "BadSpan", 74: "ReadFault", 76: "BadAnswer", 77: "Refused", 78: "OutOfMemory",
     101: "NoTape", 102: "NoSubscriber", 103: "InUse", 104: "BadMatrix", 105: "NoEntry", 106: "NoLine", 107: "NoRequest", 108: "NoRoom",
     109: "OutOfMemory", 110: "NoTable", 111: "BadTable", 112: "Busy",
+    113: "NullPointer",
 }
 
 

@@ -16,6 +16,7 @@ from support import CRATES, ROOT, SAMPLES, Case, run
 
 HARNESS = ROOT / "clib" / "fuzz" / "calls.c"
 KEPT = HARNESS.with_name("corpus.txt")
+CALLS = ROOT / "clib" / "calls.c"
 CLANG = os.environ.get("CLANG", "clang")
 SECONDS = int(os.environ.get("FUZZ_SECONDS", "30"))
 # How often each call is made at least, however busy the machine is.
@@ -103,7 +104,12 @@ class Fuzzed(Case):
         probe.write_text("int LLVMFuzzerTestOneInput(const unsigned char *data, unsigned long size) { return !data && size; }\n", encoding="utf-8")
         if subprocess.run([CLANG, *flags, "-o", folder / "probe", probe], capture_output=True, check=False).returncode:
             self.skipTest("this clang has no libFuzzer or AddressSanitizer (Debian's libclang-rt-dev)")
-        done = run([*flags, "-o", folder / "calls", HARNESS, self.library(), kit / "c" / "liblibc_c.a"], program=shutil.which(CLANG))
+        # As clib/build does.
+        names = sorted(set(re.findall(r"\btapebox_inner_(\w+)\(", CALLS.read_text(encoding="utf-8"))))
+        renamed = [f"--redefine-sym=tapebox_{name}=tapebox_inner_{name}" for name in names]
+        done = run([*renamed, self.library(), folder / "inner.a"], program=shutil.which("objcopy"))
+        self.assertEqual((done.status, done.said), (0, b""))
+        done = run([*flags, "-o", folder / "calls", HARNESS, CALLS, folder / "inner.a", kit / "c" / "liblibc_c.a"], program=shutil.which(CLANG))
         self.assertEqual((done.status, done.said), (0, b""))
         return folder / "calls"
 

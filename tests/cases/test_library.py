@@ -45,7 +45,7 @@ STRUCTS = {
     "Cells": "cells_row",
     "Handle": "handle",
 }
-RENAMED = {"from_": "from"}
+RENAMED = {"from_": "from", "is_open": "state"}
 # The crate's structs that the package names otherwise than without `Row`.
 OF_THE_CRATE = {"SummaryRow": "Figures", "EntryRow": "EntryRow"}
 # What crosses to C of the crate's types: a handle's two parts lie as its pointer does, and an allocator has no bytes.
@@ -407,6 +407,47 @@ class Interface(Linked):
                 self.assertRegex(ended.said, rb"ImportError: \S+ is of another version than 1\.0 of this package")
         if shutil.which("readelf"):
             self.assertIn(f"[libtapebox.so.{version // 100}]".encode(), run(["-d", self.library], program="readelf").written)
+
+
+class Misuse(Linked):
+    """What no caller in C has to keep, since clib/calls.c stands before each call."""
+
+    def assert_prints(self, name, wanted, *flags):
+        """A program of tests/calls over the library, under a sanitizer if there is one, prints this."""
+        source = (ROOT / "tests" / "calls" / f"{name}.c").read_text(encoding="utf-8").replace("../../clib/tapebox.h", str(HEADER))
+        sanitizer = "-fsanitize=address,undefined"
+        with tempfile.TemporaryDirectory() as folder:
+            more = [sanitizer] if compiled(Path(folder), "int main(void) { return 0; }\n", sanitizer) else []
+            program = compiled(Path(folder), source, "-Wcast-qual", *more, *flags, self.archive)
+            self.assertTrue(program)
+            self.assert_writes(run([], program=program), wanted)
+
+    def test_null_pointers(self):
+        """clib/tapebox.h: a null handle or row, and null for bytes of a length that is not 0, is refused by 113 and changes nothing; null with a length of
+        0 is as bytes of that length."""
+        self.assert_prints("nulls", b"113 calls\n")
+
+    def test_a_handle_of_two_threads(self):
+        """clib/tapebox.h: while one thread's call uses a handle, another's is refused by 112 or answers of the tape as it was before or after, and nothing
+        of the tape is lost; so it is with two that only read at once."""
+        self.assert_prints("shared", b"1 100000 100000\n", "-pthread")
+
+    def test_a_busy_handle(self):
+        """clib/tapebox.h: each call of a handle that another is using is refused by 112, before all else but 113, and leaves the handle as it is."""
+        self.assert_prints("busy", b"26 calls\n")
+
+    def test_a_constant_handle(self):
+        """clib/tapebox.h: the calls that only read take a const handle, in C and in C++, and one that is a constant holds nothing."""
+        # The numbers of the 13 calls, by hand: without a tape, and of one that has no entry.
+        wanted = "101 101 0 101 101 101 101 101 101 102 102 0 0\n36 36 0 105 0 0 0 105 108 102 102 0 0\n".encode()
+        self.assert_prints("constant", wanted)
+        compiler = shutil.which(os.environ.get("CXX", "c++"))
+        if not compiler:
+            self.skipTest("there is no C++ compiler")
+        words = ["-x", "c++", "-std=c++17", "-Wall", "-Wextra", "-Wcast-qual", "-Werror", "-o", self.folder / "constant", ROOT / "tests" / "calls" / "constant.c"]
+        ended = run([*words, "-x", "none", self.archive], program=compiler)
+        self.assertEqual((ended.status, ended.said), (0, b""))
+        self.assert_writes(run([], program=self.folder / "constant"), wanted)
 
 
 class Package(Linked):
