@@ -72,11 +72,12 @@ fn is_quiet(status: Status, reader_gone: bool) -> bool
 }
 
 /// Says what there is to say of a status, but nothing of a write fault if whoever read what was written is gone.
-#[tactic(auto, using(crate::proofs::LineLemmas::no_lines))]
+#[tactic(auto, using(crate::proofs::LineLemmas::no_lines, crate::proofs::LineLemmas::nothing_said))]
 pub fn say_ended<E: Write>(errors: &mut E, status: Status, reader_gone: bool)
     ensures quiet { status_text status ≡ [] → errors.new ≡ errors.old }
     ensures gone { IsQuietIfGone reader_gone status errors.old errors.new }
-    ensures said { WritesLines (E.contents errors.old) (E.contents errors.new) }
+    ensures said { WritesPrefix (status_text status) (E.contents errors.old) (E.contents errors.new) }
+    ensures lines { WritesLines (E.contents errors.old) (E.contents errors.new) }
 {
     if is_quiet(status, reader_gone) {
         return;

@@ -4,10 +4,11 @@ ghost use Rattle.std.specs.Io.Buffered.{writer_contents};
 ghost use Rattle.feed_ends.specs.declared.fault.Fault.TheVariants.{Write as WriteFault};
 ghost use Rattle.day_terms.specs.Arguments.{words_of};
 ghost use Rattle.day_terms.specs.NamedDays.{NameFollow};
-ghost use Rattle.command_line.specs.Statuses.{status_code};
+ghost use Rattle.command_line.specs.Statuses.{status_code, status_text};
 ghost use Rattle.command_line.specs.declared.status.Status.TheVariants.{Done};
 ghost use Rattle.std.specs.Io.KnownBytes.{Keeps};
 ghost use Rattle.whole_io.specs.Lines.{WritesLines};
+ghost use Rattle.whole_io.specs.Writing.{WritesPrefix};
 ghost use Rattle.desk_words.specs.Outputs.{IsQuietIfGone};
 ghost use Rattle.desk_words.specs.Watches.{IsRunStatus, IsWatchStatus, WritesPartOf, WritesSome, WritesTapeOf, WritesWhole, entry_line, row_fault};
 
@@ -203,7 +204,8 @@ where
     ensures part { WritesSome W.contents day.terms.day.listing day.terms.day.matrix day.terms.day.limit writer result.1 }
     ensures quiet { result.0 ≡ Done → errors.new ≡ errors.old }
     ensures gone { IfSome result.1 (λ back. IsQuietIfGone (W.reader_gone back) result.0 errors.old errors.new) }
-    ensures said { WritesLines (E.contents errors.old) (E.contents errors.new) }
+    ensures said { WritesPrefix (status_text result.0) (E.contents errors.old) (E.contents errors.new) }
+    ensures lines { WritesLines (E.contents errors.old) (E.contents errors.new) }
 {
     let Watched {
         ended,

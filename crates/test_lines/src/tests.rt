@@ -2,6 +2,7 @@
 //! worked rows, lines and readers at once, publications and answers while lines are open, a seeded day, refused memory.
 
 mod days;
+mod differences;
 mod ends;
 mod lines;
 mod messages;
