@@ -10,7 +10,8 @@
  *
  * - 113, before all else: a null handle, a null row, and null for bytes or numbers whose length is not 0. Null with a length of 0 is none of them.
  * - 112, before all else but 113: a handle that another call is using. There is no lock, and no call waits. So threads may share a handle: of calls at
- *   once, also of those that only read, one has it, and the others are refused or have it later.
+ *   once, also of those that only read, one has it, and the others are refused or have it later. A sanitizer of threads sees that order if the library
+ *   is linked for it: CFLAGS=-fsanitize=thread clib/build link.
  *
  * A caller keeps these, which nothing checks:
  *
@@ -294,7 +295,7 @@ uint32_t tapebox_subscribe(tapebox_handle *handle, const uint8_t *symbols, size_
                            size_t participants_len, uint32_t matrix, uint32_t limit, uint64_t session);
 
 /* Takes the packet that the bytes are, by line 0 (A), 1 (B) or 2 (retransmission). Refused: 106, 102, 64, 51 to 57, 61 to 63. A refusal
- * but for 106 and 102 writes `conflict`, and nothing else. */
+ * but for 102, 106, 112 and 113 writes `conflict`, and nothing else. */
 uint32_t tapebox_deliver(tapebox_handle *handle, uint32_t line, const uint8_t *packet, size_t len, tapebox_taken *row);
 
 /* Replays what is ready. `drained` is written also if it stops. Refused: 102 (nothing is written); stops: 31 to 44, 64. */
@@ -343,7 +344,7 @@ uint32_t tapebox_packet_entry(const uint8_t *packet, size_t len, uint32_t place,
 uint32_t tapebox_read_request(const uint8_t *request, size_t len, tapebox_request_fields *row);
 
 /* The answer at the front of the bytes. Refused: 74 (it goes on after them), 76 (it is no answer), 77 (the request was refused), 78 (memory ran
- * out). With each but 78 `taken` is written, with 77 also `refusal`. */
+ * out). With each but 78 and 113 `taken` is written, with 77 also `refusal`. */
 uint32_t tapebox_read_answer(const uint8_t *answer, size_t len, tapebox_reply *row);
 
 /* The packet at a place, from 0, in the answer at the front of the bytes, at the front of `bytes`, and how many bytes it has. What they say

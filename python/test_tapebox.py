@@ -1,16 +1,19 @@
 """Cases of the Python package, after clib/build: python3 -B python/test_tapebox.py"""
 
+import contextlib
 import copy
 import ctypes
 import decimal
 import os
 import random
+import signal
 import struct
 import sys
 import tempfile
 import threading
 import unittest
 import unittest.mock
+from collections.abc import Iterator
 from dataclasses import replace
 from decimal import Decimal
 
@@ -163,6 +166,13 @@ class Cases(unittest.TestCase):
                 with self.assertRaises(Refused) as told:
                     tapebox.encode_many([good, message, good])
                 self.assertEqual((told.exception.code, told.exception.taken), (code, len(good.encode())))
+
+        def broken() -> Iterator[Message]:
+            yield good
+            raise ValueError("the caller's own")
+
+        with self.assertRaisesRegex(ValueError, "the caller's own"):
+            tapebox.encode_many(broken())
         for cut in range(1, 40):
             with self.assertRaises(Refused) as told:
                 tapebox.decode_many(text[:-cut] if cut < 28 else text[:28] + text[28 + cut :])
@@ -188,6 +198,7 @@ class Cases(unittest.TestCase):
         with Tape(["AB"], "NQ") as tape:
             self.assertRaises(TypeError, tape.report, "N", 1, "AB", 10.05, 100, "@___")
             self.assertRaises(TypeError, tapebox.encode_many, [Message("R", "N", 1, "AB", 0, 10.05, 100, "@___")])
+            self.refused(19, tape.report, "N", 1, "AB", "ten", 100, "@___")
             self.assertEqual([tape.report("N", n, "AB", price, 100, "@___") for n, price in enumerate((Decimal("10.05"), "10.05", 10), 1)], [1, 2, 3])
 
     def test_a_busy_handle(self) -> None:
@@ -206,14 +217,28 @@ class Cases(unittest.TestCase):
         thread.join()
         self.assertEqual(len(tape), before + 199_900)
         self.assertGreater(min(busy, went_on), 1)
-        handle = tape._use()
-        for call in (tape.admit, tape.admit_many):
-            self.refused(112, call, REPORT)
-        for call in (tape.__len__, tape.close, tape.free, lambda: next(iter(tape))):
-            self.refused(112, call)
-        self.assertIs(handle, tape._handle)
-        tape._lock.release()
+        with tape._alone():
+            for call in (tape.admit, tape.admit_many):
+                self.refused(112, call, REPORT)
+            for call in (tape.__len__, tape.close, tape.free, lambda: next(iter(tape))):
+                self.refused(112, call)
         self.assertEqual(len(tape), before + 199_900)
+
+    def test_a_signal_in_a_call(self) -> None:
+        """An exception that a signal's handler raises leaves no object busy."""
+
+        def stop(*_: object) -> None:
+            raise InterruptedError
+
+        before = signal.signal(signal.SIGALRM, stop)
+        self.addCleanup(signal.signal, signal.SIGALRM, before)
+        tape = morning()
+        for turn in range(1, 401):
+            with contextlib.suppress(InterruptedError):
+                signal.setitimer(signal.ITIMER_REAL, turn / 1_000_000)
+                while True:
+                    len(tape)
+        self.assertEqual(len(tape), len(list(tape)))
 
     def test_tables(self) -> None:
         head = "participant,number,symbol,target,price,size,condition,#desk\n"

@@ -1,9 +1,12 @@
 """The calls of the C library by ctypes, and the rows that cross, laid out as clib/tapebox.h declares them."""
 
+import array
 import ctypes as c
+import mmap
 import os
 import struct
 from pathlib import Path
+from typing import Any, TypeAlias
 
 from .refusals import Refused
 
@@ -11,7 +14,7 @@ from .refusals import Refused
 LONGEST_PACKET = 1823
 LONGEST_ANSWER = 7370
 # What a call takes bytes from.
-Buffer = bytes | bytearray | memoryview
+Buffer: TypeAlias = "bytes | bytearray | memoryview | array.array[Any] | mmap.mmap"
 # The greatest number that a field has.
 NUMBER_MOST = (1 << 32) - 1
 

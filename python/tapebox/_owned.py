@@ -25,19 +25,16 @@ class Owned:
         """Makes a handle that holds nothing."""
         self._lock, self._handle = threading.Lock(), _library.Handle()
 
-    def _use(self) -> _library.Handle:
-        """The handle, for this thread alone until it releases the lock."""
-        if not self._lock.acquire(False):
+    def _alone(self) -> threading.Lock:
+        """What a `with` takes around calls of the handle. Only a `with` surely gives it back if a signal's handler raises an exception."""
+        if self._lock.locked():
             raise Refused(BUSY)
-        return self._handle
+        return self._lock
 
     def _call(self, call: Callable[..., int], *arguments: Any) -> int:
         """What a call with the handle returns."""
-        handle = self._use()
-        try:
-            return call(handle, *arguments)
-        finally:
-            self._lock.release()
+        with self._alone():
+            return call(self._handle, *arguments)
 
     def free(self) -> None:
         """Frees it. Every later call is refused: a tape's by 101, a subscriber's by 102, a table's by 110."""

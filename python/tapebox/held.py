@@ -49,17 +49,14 @@ class Held(Owned):
 
     def _read(self, number: int, rows: "ctypes.Array[_library.EntryRow]") -> int:
         """Reads the entries from a number on into rows, and returns how many there are."""
-        handle = self._use()
-        try:
-            count = max(min(library.tapebox_count(handle) - number + 1, len(rows)), 0)
+        with self._alone():
+            count = max(min(library.tapebox_count(self._handle) - number + 1, len(rows)), 0)
             entry, at = _library.entry_at, ctypes.addressof(rows)
             for each in range(number, number + count):
-                if code := entry(handle, each, at):
+                if code := entry(self._handle, each, at):
                     raise Refused(code)
                 at += ENTRY.size
             return count
-        finally:
-            self._lock.release()
 
     def summary(self, symbol: str, participant: str | None = None) -> Summary:
         """The figures of a symbol, or of a participant in it. `Refused` has 36 or 34 if the one or the other is not listed."""

@@ -5,7 +5,7 @@ import functools
 import struct
 from collections.abc import Iterable, Iterator
 from dataclasses import dataclass
-from decimal import Context, Decimal, Inexact
+from decimal import Context, Decimal, Inexact, InvalidOperation
 from typing import NamedTuple
 
 from . import _library
@@ -150,7 +150,7 @@ def ten_thousandths(price: Decimal | str | int | None) -> int:
         scaled = EXACT.multiply(Decimal(price or 0), PER_DOLLAR)
         if not scaled.is_finite() or scaled != int(scaled):
             raise Refused(19)
-    except Inexact as fault:
+    except (Inexact, InvalidOperation) as fault:
         raise Refused(19) from fault
     return int(scaled)
 
@@ -193,13 +193,13 @@ def packed_summary(rows: memoryview, place: int) -> Summary:
 def encode_many(messages: Iterable[Message]) -> bytes:
     """The bytes of messages, one after another. `Refused` has the number of the first fault, and `taken`, how many bytes those before it have."""
     texts: list[bytes] = []
-    try:
-        for message in messages:
+    for message in messages:
+        try:
             texts.append(packed_message(message))
-    except (struct.error, TypeError, ValueError, Refused) as fault:
-        count_of(b"".join(texts))
-        code = fault.code if isinstance(fault, Refused) else message._out_of_range()
-        raise Refused(code, taken=sum(map(len, texts))) from fault
+        except (struct.error, TypeError, ValueError, Refused) as fault:
+            count_of(b"".join(texts))
+            code = fault.code if isinstance(fault, Refused) else message._out_of_range()
+            raise Refused(code, taken=sum(map(len, texts))) from fault
     text = b"".join(texts)
     count_of(text)
     return text

@@ -46,12 +46,10 @@ class Tape(Held):
 
     def admit(self, message: Buffer) -> int:
         """Admits the message that the bytes are, and gives its tape number. `Refused` has 11 to 23 of the bytes, and 31 to 44 of the tape."""
-        text, handle = bytes_of(message), self._use()
-        try:
-            code = library.tapebox_admit(handle, text, len(text), self._answer)
+        text = bytes_of(message)
+        with self._alone():
+            code = library.tapebox_admit(self._handle, text, len(text), self._answer)
             number = self._answer.number
-        finally:
-            self._lock.release()
         if code:
             raise Refused(code)
         return number

@@ -44,11 +44,8 @@ class Table(Owned):
         return self._made(released.tapebox_explain, matrix)
 
     def _made(self, call: Callable[..., int], matrix: int) -> str:
-        handle = self._use()
-        try:
-            return self._checked(call(handle, small(matrix)))
-        finally:
-            self._lock.release()
+        with self._alone():
+            return self._checked(call(self._handle, small(matrix)))
 
     def _checked(self, code: int) -> str:
         """The text that the handle holds, unless the call was refused."""

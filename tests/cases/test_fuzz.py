@@ -90,7 +90,7 @@ class Fuzzed(Case):
         """The library with coverage and AddressSanitizer in its own code."""
         if named := os.environ.get("FUZZED_LIBRARY"):
             return Path(named)
-        made = run(["--fuzzed", "tapebox_c"], program=ROOT / "dev" / "draft.py", limit=900)
+        made = run(["--fuzzed", "tapebox_c"], program=ROOT / "dev" / "draft.py", limit=1_800)
         if made.status == 2:
             self.skipTest(made.said.decode())
         self.assertEqual(made.status, 0, made.said.decode())

@@ -20,7 +20,8 @@ CLIB = ROOT / "clib"
 PYTHON = ROOT / "python"
 # The proved library, or else its draft.
 BUILT = CRATES / "tapebox_c" / "out" / "libtapebox_c.a"
-ARCHIVE = BUILT if BUILT.exists() else BUILT.with_suffix(".a.draft")
+# The one that `clib/build link` takes.
+ARCHIVE = max((BUILT, BUILT.with_suffix(".a.draft")), key=lambda file: file.stat().st_mtime if file.exists() else 0)
 HEADER = CLIB / "tapebox.h"
 COMPILER = os.environ.get("CC", "cc")
 TABLES = sorted(SAMPLES.glob("*.csv"))
@@ -183,9 +184,9 @@ class Linked(Case):
         Linked.library, Linked.archive = cls.folder / "libtapebox.so", cls.folder / "libtapebox.a"
 
     @staticmethod
-    def link(folder, compiler=COMPILER):
+    def link(folder, compiler=COMPILER, flags=""):
         """Links the shared library and the examples, with no warning."""
-        done = run(["link", folder], program=CLIB / "build", env=os.environ | {"CC": compiler, "CFLAGS": "-Werror"})
+        done = run(["link", folder], program=CLIB / "build", env=os.environ | {"CC": compiler, "CFLAGS": f"-Werror {flags}"})
         if done.status:
             raise AssertionError(done.said.decode())
 
@@ -431,6 +432,21 @@ class Misuse(Linked):
         """clib/tapebox.h: while one thread's call uses a handle, another's is refused by 112 or answers of the tape as it was before or after, and nothing
         of the tape is lost; so it is with two that only read at once."""
         self.assert_prints("shared", b"1 100000 100000\n", "-pthread")
+
+    def test_two_that_write(self):
+        """clib/tapebox.h: two threads that admit to one handle lose nothing, and a sanitizer of threads finds no race in clib/calls.c."""
+        self.assert_prints("writers", b"40000 40000 40000\n", "-pthread")
+        sanitizer = "-fsanitize=thread"
+        with tempfile.TemporaryDirectory() as name:
+            folder = Path(name)
+            tried = compiled(folder, "int main(void) { return 0; }\n", sanitizer)
+            if not tried or run([], program=tried).status:
+                self.skipTest("there is no sanitizer of threads")
+            self.link(folder, flags=sanitizer)
+            source = (ROOT / "tests" / "calls" / "writers.c").read_text(encoding="utf-8").replace("../../clib/tapebox.h", str(HEADER))
+            program = compiled(folder, source, "-pthread", sanitizer, folder / "libtapebox.a")
+            self.assertTrue(program)
+            self.assert_writes(run([], program=program), b"40000 40000 40000\n")
 
     def test_a_busy_handle(self):
         """clib/tapebox.h: each call of a handle that another is using is refused by 112, before all else but 113, and leaves the handle as it is."""
